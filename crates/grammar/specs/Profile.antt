@@ -7,6 +7,11 @@ pub record Profile : Type 0 where
   pub frames : ℕ  -- the most frames that are open at once
   pub short_circuit : Bool  -- whether && and || leave out their right side, as in C
 
+-- the profile of this many instructions, words and frames, and this choice
+abbrev pub profile_of : ℕ → ℕ → ℕ → Bool → Profile
+profile_of instructions words frames short_circuit =
+    record { instructions = instructions; words = words; frames = frames; short_circuit = short_circuit }
+
 unfoldable pub first_profile : Profile
 first_profile = record { instructions = 2000; words = 500; frames = 64; short_circuit = false }
 

@@ -11,7 +11,7 @@ use Rattle.grammar.specs.declared.names.Var.{Var}
 use Rattle.grammar.specs.declared.names.Var.TheVariants as var
 use Rattle.grammar.specs.Grammar.{Role, Defined, External, Parameter, Typed, Local, Called, Mentioned}
 use Rattle.grammar.specs.Intrinsics.{intrinsic_named, is_intrinsic}
-use Rattle.grammar.specs.Pools.{FunctionNames}
+use Rattle.grammar.specs.Pools.{FunctionNames, Names}
 
 pub record Scope : Type 0 where
   pub externals : List (List ℕ)  -- the externals declared
@@ -20,6 +20,17 @@ pub record Scope : Type 0 where
   pub begun : List ℕ  -- the numbers of those whose definition began, in file order
   pub number : ℕ  -- the number of the function that is being defined
   pub current : FunctionNames  -- its name, and its parameters and variables so far
+
+-- what is known with these names, lines and definitions
+abbrev pub scope_with : Names → List ℕ → List ℕ → ℕ → FunctionNames → Scope
+scope_with pools lines begun number current = record {
+  externals = pools.externals;
+  functions = pools.functions;
+  lines = lines;
+  begun = begun;
+  number = number;
+  current = current;
+}
 
 -- a function without variables
 abbrev pub only_named : List ℕ → FunctionNames

@@ -84,15 +84,6 @@ pub fn code_of(lexical_error: LexicalError) -> Code
     }
 }
 
-/// A source's fault: what it is, and the line of its token, from 1.
-#[derive(Clone, Copy, Debug, PartialEq, Eq)]
-pub struct Diagnostic {
-    /// The line of the fault's token.
-    pub line: u32,
-    /// What is wrong.
-    pub code: Code,
-}
-
 /// Why a parse gave no pools. The builder is given up then.
 #[derive(Clone, Copy, Debug, PartialEq, Eq)]
 pub enum ParseFault {
@@ -102,6 +93,15 @@ pub enum ParseFault {
     Device,
     /// The builder was refused memory.
     Memory,
+}
+
+/// A source's fault: what it is, and the line of its token, from 1.
+#[derive(Clone, Copy, Debug, PartialEq, Eq)]
+pub struct Diagnostic {
+    /// The line of the fault's token.
+    pub line: u32,
+    /// What is wrong.
+    pub code: Code,
 }
 
 impl From<DeviceFault> for ParseFault {

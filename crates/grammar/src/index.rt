@@ -4,7 +4,6 @@ ghost use Rattle.std.specs.Prelude.{◌≡◌, ◌<◌, []};
 ghost use Rattle.grammar.specs.Index.{IsIndexed, Notes, bucket_of, start_of};
 
 use crate::pools::MOST_NAMES;
-use std::marker::Model;
 use tokens::Name;
 
 /// How many buckets there are for the names.
@@ -16,18 +15,10 @@ pub(crate) struct Index {
     earliest: [u8; BUCKETS],
 }
 
-impl Model for Index {
-    ghost use Rattle.std.specs.Prelude.{ℕ, List};
-
-    ghost Value = { List ℕ };
-
-    ghost view = { λ i. i.earliest };
-}
-
 impl Index {
     /// Makes an index of no functions.
     pub(crate) fn new() -> Index
-        ensures { IsIndexed [] result }
+        ensures { IsIndexed [] result.earliest }
     {
         Index {
             earliest: [MOST_NAMES as u8; BUCKETS],
@@ -37,7 +28,7 @@ impl Index {
     /// Returns a number before which no function has this name.
     #[inline(always)]
     pub(crate) fn start(&self, name: &Name) -> usize
-        ensures { result ≡ start_of name.now self.now }
+        ensures { result ≡ start_of name.now self.now.earliest }
     {
         self.earliest[bucket(name)] as usize
     }
@@ -46,7 +37,7 @@ impl Index {
     #[inline(always)]
     #[tactic(auto, using(crate::proofs::IndexLaws::notes))]
     pub(crate) fn note(&mut self, name: &Name, number: u8)
-        ensures { Notes name.now number self.old self.new }
+        ensures { Notes name.now number self.old.earliest self.new.earliest }
     {
         let bucket = bucket(name);
         if number < self.earliest[bucket] {

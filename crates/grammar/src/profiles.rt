@@ -15,23 +15,13 @@ pub struct Profile {
 }
 
 impl Model for Profile {
-    ghost use Rattle.grammar.specs.Profile.{Profile, IsProfile};
+    ghost use Rattle.grammar.specs.Profile.{Profile, IsProfile, profile_of};
 
     ghost Value = { Profile };
 
-    ghost view = { λ p. record {
-      instructions = p.instructions;
-      words = p.words;
-      frames = p.frames;
-      short_circuit = p.short_circuit;
-    } };
+    ghost view = { λ p. profile_of p.instructions p.words p.frames p.short_circuit };
 
-    ghost invariant = { λ p. IsProfile (record {
-      instructions = p.instructions;
-      words = p.words;
-      frames = p.frames;
-      short_circuit = p.short_circuit;
-    }) };
+    ghost invariant = { λ p. IsProfile (view p) };
 
     ghost inverse = { λ p. record {
       instructions = p.instructions;

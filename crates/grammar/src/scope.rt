@@ -72,21 +72,14 @@ pub struct Scope {
 impl Model for Scope {
     ghost use Rattle.grammar.specs.Index.{IsIndexed};
     ghost use Rattle.grammar.specs.Naming.{IsKept};
-    ghost use Rattle.grammar.specs.Scope.{Scope as Known};
+    ghost use Rattle.grammar.specs.Scope.{Scope as Known, scope_with};
 
     ghost Value = { Known };
 
-    ghost view = { λ s. record {
-      externals = s.pools.externals;
-      functions = s.pools.functions;
-      lines = s.lines.items;
-      begun = s.begun.items;
-      number = s.number;
-      current = s.current;
-    } };
+    ghost view = { λ s. scope_with s.pools s.lines.items s.begun.items s.number s.current };
 
     ghost invariant = { λ s. IsKept s.pools.functions s.lines.items s.begun.items
-        × IsIndexed s.pools.functions s.index };
+        × IsIndexed s.pools.functions s.index.earliest };
 }
 
 impl Scope {

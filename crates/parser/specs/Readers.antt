@@ -1,13 +1,22 @@
 -- What each method of a reader needs and keeps. Every contract of the grammar's productions cites these facts.
-use Rattle.std.specs.Prelude.{ℕ, ◌≡◌, [], Result, Ok, Err}
+use Rattle.std.specs.Prelude.{ℕ, ◌≡◌, ◌≤◌, [], Result, Ok, Err}
+use Rattle.grammar.specs.declared.diagnostics.Code.TheVariants as code
 use Rattle.grammar.specs.declared.diagnostics.ParseFault.{ParseFault}
+use Rattle.grammar.specs.declared.diagnostics.ParseFault.TheVariants as refusal
 use Rattle.grammar.specs.Building.{Meaning, StandsOpen}
+use Rattle.grammar.specs.Compiled.{diagnostic}
+use Rattle.parser.specs.declared.parser.TheConstants.{MOST_LEVELS}
 use Rattle.parser.specs.declared.reader.Reader.{Reader}
 use Rattle.parser.specs.Advancing.{IsReady, StayedOrWentOn, Stopped, WentOn}
 use Rattle.parser.specs.Growing.{BreaksOff}
-use Rattle.parser.specs.Position.{Standing, taken_at}
+use Rattle.parser.specs.Position.{Standing, next_at, taken_at}
 use Rattle.parser.specs.Room.{HasPlace, room}
 use Rattle.parser.specs.Stopping.{Stop}
+
+-- the most levels are open, and the next token is refused for that
+pub record IsTooDeep {F B : Type 0} (at : Reader F B) (fault : ParseFault) : Type 0 where
+  pub deep : MOST_LEVELS ≤ at.depth
+  pub is : fault ≡ refusal.Source (diagnostic (next_at at.parser.place).line code.NestedTooDeeply)
 
 -- What a method needs: this room in the builder for the operators from a level on, where so many levels of nesting are
 -- open, a parser that is ready, and these next tokens.

@@ -6,6 +6,7 @@ use Rattle.tokens.specs.Feed.{Account, failed_again}
 use Rattle.tokens.specs.ReadLimits.{most_bytes}
 use Rattle.tokens.specs.Tokens.{is_last, tokens}
 use Rattle.tokens.specs.declared.located_tokens.LocatedToken.{LocatedToken}
+use Rattle.grammar.specs.declared.diagnostics.Code.{Code}
 use Rattle.grammar.specs.declared.diagnostics.Diagnostic.{Diagnostic}
 use Rattle.grammar.specs.declared.diagnostics.ParseFault.{ParseFault}
 use Rattle.grammar.specs.declared.diagnostics.ParseFault.TheVariants as refusal
@@ -87,6 +88,12 @@ pub record IsNoName (next : LocatedToken) (fault : ParseFault) : Type 0 where
   pub sound : is_fault next.token ≡ false
   pub other : name_of_token next.token ≡ None
   pub is : fault ≡ refusal.Source (diagnostic next.line (misfit_code next.token))
+
+-- the name was refused in its role, at the next token
+pub record IsRefused {T : Type 0} (answer : Result T Code) (next : LocatedToken) (fault : ParseFault) : Type 0 where
+  pub code : Code
+  pub answered : answer ≡ Err code
+  pub is : fault ≡ refusal.Source (diagnostic next.line code)
 
 -- the definition of the function of this number began
 pub record BeginsDefinition (number : ℕ) (old new : Position) : Type 0 where

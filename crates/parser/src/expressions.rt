@@ -12,13 +12,11 @@ ghost use Rattle.parser.specs.Expressions.{Parses, ParsesArgs, ParsesLevels, Par
 ghost use Rattle.parser.specs.Signs.{sign_punctuator};
 ghost use Rattle.parser.specs.Starts.{StartsAssignment, StartsCall, StartsNoAssignment, StartsOperand};
 
-use crate::parser::{MOST_LEVELS, Parser};
+use crate::parser::Parser;
 use crate::reader::Reader;
 use crate::signs::{Sign, sign_of, step_of};
 use crate::token_predicates::is_punctuator;
-use grammar::{
-    Binary, Build, BuildFault, Code, Op, ParseFault, StoreOp, operator_from, store_operator,
-};
+use grammar::{Binary, Build, BuildFault, Op, ParseFault, StoreOp, operator_from, store_operator};
 use tokens::{Feed, Punctuator, Token};
 
 impl<F: Feed, B: Build> Reader<'_, '_, '_, F, B> {
@@ -46,16 +44,13 @@ impl<F: Feed, B: Build> Reader<'_, '_, '_, F, B> {
         ensures parses { Parses result B.denied B.stands 1 Expression self.old self.new }
         ensures kept { Proceeds result self.old self.new }
     {
-        if self.depth >= MOST_LEVELS {
-            return Err(self.parser.refusal(Code::NestedTooDeeply));
-        }
+        self.check_level()?;
         let var = self.parser.mention()?;
         self.parser.advance()?;
         self.depth += 1;
         self.right_side()?;
         self.depth -= 1;
-        self.build.store(var, op)?;
-        Ok(())
+        Ok(self.build.store(var, op)?)
     }
 
     /// `expr`, behind the operator of an assignment: most often no further assignment, which is parsed with no further call
@@ -99,8 +94,7 @@ impl<F: Feed, B: Build> Reader<'_, '_, '_, F, B> {
         self.parser.advance()?;
         tell_middle(self.build, binary.op)?;
         self.levels(binary.level + 1)?;
-        self.build.binop(binary.op)?;
-        Ok(())
+        Ok(self.build.binop(binary.op)?)
     }
 
     /// `level11 → operator level11`, `level11 → operator name` and `level11 → primary`
@@ -145,16 +139,13 @@ impl<F: Feed, B: Build> Reader<'_, '_, '_, F, B> {
         ensures parses { Parses result B.denied B.stands 11 Unary self.old self.new }
         ensures kept { Proceeds result self.old self.new }
     {
-        if self.depth >= MOST_LEVELS {
-            return Err(self.parser.refusal(Code::NestedTooDeeply));
-        }
+        self.check_level()?;
         self.parser.advance()?;
         sign.begin(self.build)?;
         self.depth += 1;
         self.unary()?;
         self.depth -= 1;
-        sign.end(self.build)?;
-        Ok(())
+        Ok(sign.end(self.build)?)
     }
 
     /// `primary → constant`, `name ( args )`, `name operator`, `name` and `( expr )`
@@ -166,17 +157,16 @@ impl<F: Feed, B: Build> Reader<'_, '_, '_, F, B> {
         ensures kept { Proceeds result self.old self.new }
     {
         match self.parser.peek().token {
-            Token::Constant(value) => self.constant(value)?,
+            Token::Constant(value) => self.constant(value),
             Token::Name(_) if is_punctuator(self.parser.after(), Punctuator::OpenRound) => {
-                self.call()?;
+                self.call()
             }
-            Token::Name(_) => self.variable()?,
+            Token::Name(_) => self.variable(),
             _ if is_punctuator(&self.parser.peek().token, Punctuator::OpenRound) => {
-                self.bracketed()?;
+                self.bracketed()
             }
-            _ => return Err(self.parser.misfit()),
+            _ => Err(self.parser.misfit()),
         }
-        Ok(())
     }
 
     /// `primary → name ( args )`
@@ -187,9 +177,7 @@ impl<F: Feed, B: Build> Reader<'_, '_, '_, F, B> {
         ensures parses { Parses result B.denied B.stands 11 Primary self.old self.new }
         ensures kept { Proceeds result self.old self.new }
     {
-        if self.depth >= MOST_LEVELS {
-            return Err(self.parser.refusal(Code::NestedTooDeeply));
-        }
+        self.check_level()?;
         let callee = self.parser.callee()?;
         self.build.begin_call()?;
         self.parser.expect(Punctuator::OpenRound)?;
@@ -197,8 +185,7 @@ impl<F: Feed, B: Build> Reader<'_, '_, '_, F, B> {
         self.arguments()?;
         self.depth -= 1;
         self.parser.expect(Punctuator::CloseRound)?;
-        self.build.end_call(callee)?;
-        Ok(())
+        Ok(self.build.end_call(callee)?)
     }
 
     /// `args → expr moreargs`, and empty at the closing bracket; `moreargs → , expr moreargs`
@@ -227,9 +214,7 @@ impl<F: Feed, B: Build> Reader<'_, '_, '_, F, B> {
         ensures parses { Parses result B.denied B.stands 11 Primary self.old self.new }
         ensures kept { Proceeds result self.old self.new }
     {
-        if self.depth >= MOST_LEVELS {
-            return Err(self.parser.refusal(Code::NestedTooDeeply));
-        }
+        self.check_level()?;
         self.parser.advance()?;
         self.depth += 1;
         self.expression()?;

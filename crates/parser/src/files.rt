@@ -127,7 +127,7 @@ impl<F: Feed, B: Build> Reader<'_, '_, '_, F, B> {
         ensures reads { ReadsParts result B.denied B.stands at_source self.old self.new }
         ensures kept { Proceeds result self.old self.new }
     {
-        self.parser.expect_word(Word::Type)?;
+        self.parser.expect_type()?;
         type_words(&mut self.parser)?;
         self.head()?;
         Ok(())

@@ -15,37 +15,6 @@ use crate::token_predicates::{is_punctuator, is_word};
 use grammar::ParseFault;
 use tokens::{Feed, Punctuator, Word};
 
-/// `types → type types`
-pub fn type_words<F: Feed>(parser: &mut Parser<'_, '_, F>) -> Result<(), ParseFault>
-    requires ready { IsReady parser.old }
-    ensures matches { Matches result (Part Types ∷ []) (λ _. []) parser.old parser.new }
-    ensures scope { OnOk result (scope_of parser.new ≡ scope_of parser.old) }
-    ensures kept { Keeps result parser.old parser.new }
-{
-    while is_word(&parser.peek().token, Word::Type) {
-        parser.expect_word(Word::Type)?;
-    }
-    Ok(())
-}
-
-/// `more → , name more`
-#[inline(always)]
-pub fn more_names<F: Feed>(
-    parser: &mut Parser<'_, '_, F>,
-    declared: Declared,
-) -> Result<(), ParseFault>
-    requires ready { IsReady parser.old }
-    ensures matches { Matches result (Part (More (role_of declared)) ∷ []) (λ _. []) parser.old parser.new }
-    ensures stays { OnOk result (StaysAt declared (scope_of parser.old) (scope_of parser.new)) }
-    ensures kept { Keeps result parser.old parser.new }
-{
-    while is_punctuator(&parser.peek().token, Punctuator::Comma) {
-        parser.expect(Punctuator::Comma)?;
-        parser.declare(declared)?;
-    }
-    Ok(())
-}
-
 /// `decls → type types name more ; decls` with locals, and `pdecls` likewise with parameters
 #[inline(always)]
 pub fn declarations<F: Feed>(
@@ -75,9 +44,22 @@ fn declaration<F: Feed>(
     ensures stays { OnOk result (StaysAt declared (scope_of parser.old) (scope_of parser.new)) }
     ensures kept { Advances result parser.old parser.new }
 {
-    parser.expect_word(Word::Type)?;
+    parser.expect_type()?;
     type_words(parser)?;
     names(parser, declared)
+}
+
+/// `types → type types`
+pub fn type_words<F: Feed>(parser: &mut Parser<'_, '_, F>) -> Result<(), ParseFault>
+    requires ready { IsReady parser.old }
+    ensures matches { Matches result (Part Types ∷ []) (λ _. []) parser.old parser.new }
+    ensures scope { OnOk result (scope_of parser.new ≡ scope_of parser.old) }
+    ensures kept { Keeps result parser.old parser.new }
+{
+    while is_word(&parser.peek().token, Word::Type) {
+        parser.expect_type()?;
+    }
+    Ok(())
 }
 
 /// `name more ;`
@@ -91,5 +73,23 @@ pub fn names<F: Feed>(parser: &mut Parser<'_, '_, F>, declared: Declared) -> Res
     parser.declare(declared)?;
     more_names(parser, declared)?;
     parser.expect(Punctuator::Semicolon)?;
+    Ok(())
+}
+
+/// `more → , name more`
+#[inline(always)]
+pub fn more_names<F: Feed>(
+    parser: &mut Parser<'_, '_, F>,
+    declared: Declared,
+) -> Result<(), ParseFault>
+    requires ready { IsReady parser.old }
+    ensures matches { Matches result (Part (More (role_of declared)) ∷ []) (λ _. []) parser.old parser.new }
+    ensures stays { OnOk result (StaysAt declared (scope_of parser.old) (scope_of parser.new)) }
+    ensures kept { Keeps result parser.old parser.new }
+{
+    while is_punctuator(&parser.peek().token, Punctuator::Comma) {
+        parser.expect(Punctuator::Comma)?;
+        parser.declare(declared)?;
+    }
     Ok(())
 }

@@ -38,8 +38,7 @@ impl<F: Feed, B: Build> Reader<'_, '_, '_, F, B> {
             return Ok(());
         }
         let var = self.parser.mention()?;
-        self.build.fetch(var)?;
-        Ok(())
+        Ok(self.build.fetch(var)?)
     }
 
     /// `primary → name operator`
@@ -68,7 +67,6 @@ impl<F: Feed, B: Build> Reader<'_, '_, '_, F, B> {
         self.parser.advance()?;
         let var = self.parser.mention()?;
         self.build.constant(1)?;
-        self.build.store(var, step.store())?;
-        Ok(())
+        Ok(self.build.store(var, step.store())?)
     }
 }

@@ -1,10 +1,11 @@
 //! A parser's state: a cursor over the tokens of a device and the names known, with the calls that consume one token.
 
-ghost use Rattle.std.specs.Prelude.{ℕ, ◌≡◌, ◌<◌, ◌≤◌, [], ◌∷◌, length, false, true, is_some, OnOk, IfOk, IfErr};
+ghost use Rattle.std.specs.Prelude.{ℕ, ◌≡◌, ◌<◌, ◌≤◌, [], ◌∷◌, length, false, true, is_some, Ok, OnOk, IfOk, IfErr};
 ghost use Rattle.tokens.specs.Reading.{Opens, beyond};
 ghost use Rattle.tokens.specs.Tokens.{FitsToken, is_last};
 ghost use Rattle.tokens.specs.Window.{KnowsEnd};
 ghost use Rattle.tokens.specs.declared.located_tokens.Token.TheVariants as token;
+ghost use Rattle.tokens.specs.declared.located_tokens.Word.TheVariants as word;
 ghost use Rattle.grammar.specs.Compiled.{diagnostic, main_name};
 ghost use Rattle.grammar.specs.Derivation.{ACall, AVariable, name_of_token};
 ghost use Rattle.grammar.specs.Faults.{misfit_code};
@@ -17,7 +18,7 @@ ghost use Rattle.parser.specs.Advancing.{IsReadable, most_failures};
 ghost use Rattle.tokens.specs.ReadLimits.{most_bytes};
 ghost use Rattle.parser.specs.Position.{with_scope};
 ghost use Rattle.parser.specs.Roles.{role_of};
-ghost use Rattle.parser.specs.Segment.{Counts, IsNoName, StopsAtFirst};
+ghost use Rattle.parser.specs.Segment.{Counts, IsNoName, IsRefused, StopsAtFirst};
 
 use crate::roles::Declared;
 use crate::token_predicates::{is_punctuator, is_word};
@@ -137,10 +138,7 @@ impl<'s, 'a, F: Feed> Parser<'s, 'a, F> {
     pub fn refusal(&self, code: Code) -> ParseFault
         ensures { result ≡ ParseFault.Source (diagnostic (next_at self.now.place).line code) }
     {
-        ParseFault::Source(Diagnostic {
-            line: self.cursor.peek().line,
-            code,
-        })
+        refusal(self.cursor.peek(), code)
     }
 
     /// Consumes the next token.
@@ -175,14 +173,14 @@ impl<'s, 'a, F: Feed> Parser<'s, 'a, F> {
         Ok(())
     }
 
-    /// Consumes this word, which has to be the next token.
-    pub fn expect_word(&mut self, word: Word) -> Result<(), ParseFault>
+    /// Consumes a type word, which has to be the next token.
+    pub fn expect_type(&mut self) -> Result<(), ParseFault>
         requires ready { IsReady self.old }
-        ensures matches { Matches result (AWord word ∷ []) (λ _. []) self.old self.new }
+        ensures matches { Matches result (AWord word.Type ∷ []) (λ _. []) self.old self.new }
         ensures scope { OnOk result (scope_of self.new ≡ scope_of self.old) }
         ensures kept { Advances result self.old self.new }
     {
-        if !is_word(&self.peek().token, word) {
+        if !is_word(&self.peek().token, Word::Type) {
             return Err(self.misfit());
         }
         self.advance()?;
@@ -199,10 +197,7 @@ impl<'s, 'a, F: Feed> Parser<'s, 'a, F> {
         ensures kept { Advances result self.old self.new }
     {
         let name = name(&self.cursor)?;
-        let var = match self.scope.mention(name) {
-            Ok(var) => var,
-            Err(code) => return Err(self.refusal(code)),
-        };
+        let var = located(self.scope.mention(name), self.cursor.peek())?;
         self.advance()?;
         Ok(var)
     }
@@ -216,11 +211,8 @@ impl<'s, 'a, F: Feed> Parser<'s, 'a, F> {
         ensures kept { Advances result self.old self.new }
     {
         let name = name(&self.cursor)?;
-        let line = self.cursor.peek().line;
-        let callee = match self.scope.call(name, line) {
-            Ok(callee) => callee,
-            Err(code) => return Err(self.refusal(code)),
-        };
+        let next = self.cursor.peek();
+        let callee = located(self.scope.call(name, next.line), next)?;
         self.advance()?;
         Ok(callee)
     }
@@ -229,16 +221,13 @@ impl<'s, 'a, F: Feed> Parser<'s, 'a, F> {
     pub fn define(&mut self) -> Result<u8, ParseFault>
         requires ready { IsReady self.old }
         ensures matches { Matches result (AName Defined ∷ []) (λ _. []) self.old self.new }
+        ensures kept { Advances result self.old self.new }
         ensures begun { IfOk result (λ number.
             BeginsDefinition number self.old.place.position self.new.place.position) }
-        ensures kept { Advances result self.old self.new }
     {
         let name = name(&self.cursor)?;
-        let line = self.cursor.peek().line;
-        let number = match self.scope.define(name, line) {
-            Ok(number) => number,
-            Err(code) => return Err(self.refusal(code)),
-        };
+        let next = self.cursor.peek();
+        let number = located(self.scope.define(name, next.line), next)?;
         self.advance()?;
         Ok(number)
     }
@@ -252,9 +241,7 @@ impl<'s, 'a, F: Feed> Parser<'s, 'a, F> {
         ensures kept { Advances result self.old self.new }
     {
         let name = name(&self.cursor)?;
-        if let Err(code) = declare(self.scope, name, declared) {
-            return Err(self.refusal(code));
-        }
+        located(declare(self.scope, name, declared), self.cursor.peek())?;
         self.advance()?;
         Ok(())
     }
@@ -325,6 +312,18 @@ fn name(cursor: &Cursor) -> Result<&Name, ParseFault>
     }
 }
 
+/// Returns what a scope answered of the name that the next token is, or else the refusal of this token.
+#[inline(always)]
+fn located<T>(answer: Result<T, Code>, next: &LocatedToken) -> Result<T, ParseFault>
+    ensures ok { IfOk result (λ known. answer ≡ Ok known) }
+    ensures refused { IfErr result (λ fault. IsRefused answer next.now fault) }
+{
+    match answer {
+        Ok(known) => Ok(known),
+        Err(code) => Err(refusal(next, code)),
+    }
+}
+
 /// Declares a name in a scope.
 #[inline(always)]
 fn declare(scope: &mut Scope, name: &Name, declared: Declared) -> Result<(), Code>
@@ -351,6 +350,15 @@ fn misfit(located_token: &LocatedToken) -> ParseFault
         Token::Word(Word::Refused) => Code::ReservedWord,
         _ => Code::SyntaxError,
     };
+    refusal(located_token, code)
+}
+
+/// Returns the refusal of a token for this fault.
+#[cold]
+#[inline(never)]
+fn refusal(located_token: &LocatedToken, code: Code) -> ParseFault
+    ensures { result ≡ ParseFault.Source (diagnostic located_token.now.line code) }
+{
     ParseFault::Source(Diagnostic {
         line: located_token.line,
         code,

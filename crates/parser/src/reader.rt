@@ -1,7 +1,10 @@
 //! A reader: a parser, the builder that it reports to, and how many levels are open.
 
-use crate::parser::Parser;
-use grammar::Build;
+ghost use Rattle.std.specs.Prelude.{◌<◌, IfErr, OnOk};
+ghost use Rattle.parser.specs.Readers.{IsTooDeep};
+
+use crate::parser::{MOST_LEVELS, Parser};
+use grammar::{Build, Code, ParseFault};
 use tokens::Feed;
 
 /// Reads a file by its grammar: each production is a method, in the module of its part of the grammar.
@@ -15,4 +18,18 @@ pub struct Reader<'s, 'a, 'b, F: Feed, B: Build> {
     pub build: &'b mut B,
     /// How many levels are open.
     pub depth: u8,
+}
+
+impl<F: Feed, B: Build> Reader<'_, '_, '_, F, B> {
+    /// Refuses the next token if the most levels are open: it would open one more.
+    #[inline(always)]
+    pub fn check_level(&self) -> Result<(), ParseFault>
+        ensures ok { OnOk result (self.now.depth < MOST_LEVELS) }
+        ensures refused { IfErr result (λ fault. IsTooDeep self.now fault) }
+    {
+        if self.depth >= MOST_LEVELS {
+            return Err(self.parser.refusal(Code::NestedTooDeeply));
+        }
+        Ok(())
+    }
 }

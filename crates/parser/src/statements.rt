@@ -13,11 +13,10 @@ ghost use Rattle.parser.specs.Forms.{ParsesCondition, StartsEvaluation};
 ghost use Rattle.parser.specs.Statements.{ParsesBody, ParsesStatements};
 
 use crate::lists::declarations;
-use crate::parser::MOST_LEVELS;
 use crate::reader::Reader;
 use crate::roles::Declared;
 use crate::token_predicates::{is_punctuator, is_word};
-use grammar::{Build, Code, ParseFault};
+use grammar::{Build, ParseFault};
 use tokens::{Feed, Punctuator, Token, Word};
 
 impl<F: Feed, B: Build> Reader<'_, '_, '_, F, B> {
@@ -59,9 +58,7 @@ impl<F: Feed, B: Build> Reader<'_, '_, '_, F, B> {
         ensures parses { ParsesBody result B.denied B.stands Statement self.old self.new }
         ensures kept { Proceeds result self.old self.new }
     {
-        if self.depth >= MOST_LEVELS {
-            return Err(self.parser.refusal(Code::NestedTooDeeply));
-        }
+        self.check_level()?;
         self.parser.advance()?;
         declarations(&mut self.parser, Declared::Locals)?;
         self.depth += 1;
@@ -78,9 +75,7 @@ impl<F: Feed, B: Build> Reader<'_, '_, '_, F, B> {
         ensures parses { ParsesBody result B.denied B.stands Statement self.old self.new }
         ensures kept { Proceeds result self.old self.new }
     {
-        if self.depth >= MOST_LEVELS {
-            return Err(self.parser.refusal(Code::NestedTooDeeply));
-        }
+        self.check_level()?;
         self.parser.advance()?;
         self.depth += 1;
         self.condition()?;
@@ -88,8 +83,7 @@ impl<F: Feed, B: Build> Reader<'_, '_, '_, F, B> {
         self.statement()?;
         self.else_part()?;
         self.depth -= 1;
-        self.build.end_if()?;
-        Ok(())
+        Ok(self.build.end_if()?)
     }
 
     /// `elsepart → else stmt`, and empty where no `else` is next
@@ -115,9 +109,7 @@ impl<F: Feed, B: Build> Reader<'_, '_, '_, F, B> {
         ensures parses { ParsesBody result B.denied B.stands Statement self.old self.new }
         ensures kept { Proceeds result self.old self.new }
     {
-        if self.depth >= MOST_LEVELS {
-            return Err(self.parser.refusal(Code::NestedTooDeeply));
-        }
+        self.check_level()?;
         self.build.begin_while()?;
         self.parser.advance()?;
         self.depth += 1;
@@ -125,8 +117,7 @@ impl<F: Feed, B: Build> Reader<'_, '_, '_, F, B> {
         self.build.while_test()?;
         self.statement()?;
         self.depth -= 1;
-        self.build.end_while()?;
-        Ok(())
+        Ok(self.build.end_while()?)
     }
 
     /// `( expr )`, behind `if` or `while`
@@ -151,8 +142,7 @@ impl<F: Feed, B: Build> Reader<'_, '_, '_, F, B> {
         self.parser.advance()?;
         self.back()?;
         self.parser.expect(Punctuator::Semicolon)?;
-        self.build.give_back()?;
-        Ok(())
+        Ok(self.build.give_back()?)
     }
 
     /// `back → expr`, and empty at the semicolon
@@ -177,7 +167,6 @@ impl<F: Feed, B: Build> Reader<'_, '_, '_, F, B> {
     {
         self.expression()?;
         self.parser.expect(Punctuator::Semicolon)?;
-        self.build.chop()?;
-        Ok(())
+        Ok(self.build.chop()?)
     }
 }

@@ -13,6 +13,18 @@ pub record Supply : Type 0 where
   pub reads_left : ℕ
   pub ended : Bool
 
+-- a device with these bytes still to give, which gave so many, gives so many at most at a read, failed so often, has so
+-- many reads before that, and gave none if it has ended
+abbrev pub supply_of : List ℕ → ℕ → ℕ → ℕ → ℕ → Bool → Supply
+supply_of to_come taken most failures reads_left ended = record {
+  to_come = to_come;
+  taken = taken;
+  most = most;
+  failures = failures;
+  reads_left = reads_left;
+  ended = ended;
+}
+
 -- Devices in memory all have the number 0.
 abbrev pub device_of : Supply → Device
 device_of supply = record {

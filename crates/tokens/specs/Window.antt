@@ -22,6 +22,11 @@ pub record Held : Type 0 where
   pub taken : ℕ
   pub beyond : Beyond
 
+-- a window of this line, this place, these bytes at hand, so many bytes taken, and this beyond
+abbrev pub held_of : ℕ → ℕ → List ℕ → ℕ → Beyond → Held
+held_of line place at_hand taken beyond =
+    record { line = line; place = place; at_hand = at_hand; taken = taken; beyond = beyond }
+
 -- the bytes behind those at hand, up to the limit, by the device's bytes to come
 abbrev pub later : Beyond → ℕ → List ℕ → List ℕ
 later Unread taken to_come = take (source_bytes - taken) (source to_come)

@@ -2,7 +2,7 @@
 
 ghost use Rattle.std.specs.Prelude.{◌≡◌, ◌<◌, Some, false, length};
 ghost use Rattle.tokens.specs.Feed.{Counts, MayRead, Reads, gives_none};
-ghost use Rattle.tokens.specs.Pieces.{GivesPiece, device_of};
+ghost use Rattle.tokens.specs.Pieces.{GivesPiece, device_of, supply_of};
 
 use crate::devices::{DeviceFault, Feed};
 use std::marker::Model;
@@ -20,18 +20,11 @@ pub struct Pieces<'a> {
 
 impl<'a> Model for Pieces<'a> {
     ghost use Rattle.std.specs.Prelude.{ℕ, ◌<◌, ◌≤◌, drop, length};
-    ghost use Rattle.tokens.specs.Pieces.{Supply};
+    ghost use Rattle.tokens.specs.Pieces.{Supply, supply_of};
 
     ghost Value = { Supply };
 
-    ghost view = { λ p. record {
-      to_come = drop p.place p.bytes.now;
-      taken = p.place;
-      most = p.most;
-      failures = p.failures;
-      reads_left = p.reads_left;
-      ended = p.ended;
-    } };
+    ghost view = { λ p. supply_of (drop p.place p.bytes.now) p.place p.most p.failures p.reads_left p.ended };
 
     ghost invariant = { λ p. (p.place ≤ length p.bytes.now) × (0 < p.most) };
 }
@@ -40,14 +33,7 @@ impl<'a> Pieces<'a> {
     /// Makes a device of these bytes, which gives at most so many at a read.
     pub fn new(bytes: &'a [u8], most: usize) -> Self
         requires { 0 < most }
-        ensures { result ≡ record {
-          to_come = bytes.now;
-          taken = 0;
-          most = most;
-          failures = 0;
-          reads_left = usize.MAX;
-          ended = false;
-        } }
+        ensures { result ≡ supply_of bytes.now 0 most 0 usize.MAX false }
     {
         Pieces::failing_at(bytes, most, usize::MAX)
     }
@@ -55,14 +41,7 @@ impl<'a> Pieces<'a> {
     /// Makes the same device, but each read fails from this one on, counted from 0.
     pub fn failing_at(bytes: &'a [u8], most: usize, read: usize) -> Self
         requires { 0 < most }
-        ensures { result ≡ record {
-          to_come = bytes.now;
-          taken = 0;
-          most = most;
-          failures = 0;
-          reads_left = read;
-          ended = false;
-        } }
+        ensures { result ≡ supply_of bytes.now 0 most 0 read false }
     {
         Pieces {
             bytes,

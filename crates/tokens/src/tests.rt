@@ -2,6 +2,7 @@
 
 ghost use Rattle.std.specs.Prelude.{ℕ, Bool, List, ◌<◌, ◌≤◌, ◌-◌, ◌^◌, ◌+◌, ◌≡◌, length, None};
 
+use super::Word::{Else, If, Refused, Return, Type, While};
 use super::*;
 use std::process::Abort;
 use std::test::Fail;
@@ -23,6 +24,17 @@ fn name(bytes: &[u8]) -> Token {
 fn check(rt: &impl Abort, source: &[u8], wanted: &[(Token, u32, u32)]) -> Result<(), DeviceFault> {
     check_pieces(rt, source, WINDOW, wanted)?;
     check_pieces(rt, source, 1, wanted)
+}
+
+/// Compares the one token of a source, which is an error.
+fn check_fault(
+    rt: &impl Abort,
+    source: &[u8],
+    error: LexicalError,
+    line: u32,
+    end: u32,
+) -> Result<(), DeviceFault> {
+    check(rt, source, &[(Token::Fault(error), line, end)])
 }
 
 fn check_pieces(
@@ -59,63 +71,47 @@ fn empty(rt: HostRuntime) -> Result<(), Fail> {
 
 #[test]
 fn longest_match(rt: HostRuntime) -> Result<(), Fail> {
-    check(
-        &rt,
-        b"a+++b",
-        &[
-            (name(b"a"), 1, 1),
-            (Token::Punctuator(Punctuator::PlusPlus), 1, 3),
-            (Token::Punctuator(Punctuator::Plus), 1, 4),
-            (name(b"b"), 1, 5),
-            (Token::End, 1, 5),
-        ],
-    )?;
-    check(
-        &rt,
-        b"<<= << <\n<=!==",
-        &[
-            (Token::Punctuator(Punctuator::ShiftLeftEquals), 1, 3),
-            (Token::Punctuator(Punctuator::ShiftLeft), 1, 6),
-            (Token::Punctuator(Punctuator::Less), 1, 8),
-            (Token::Punctuator(Punctuator::LessEquals), 2, 11),
-            (Token::Punctuator(Punctuator::NotEquals), 2, 13),
-            (Token::Punctuator(Punctuator::Equals), 2, 14),
-            (Token::End, 2, 14),
-        ],
-    )?;
+    let wanted = [
+        (name(b"a"), 1, 1),
+        (Token::Punctuator(Punctuator::PlusPlus), 1, 3),
+        (Token::Punctuator(Punctuator::Plus), 1, 4),
+        (name(b"b"), 1, 5),
+        (Token::End, 1, 5),
+    ];
+    check(&rt, b"a+++b", &wanted)?;
+    let wanted = [
+        (Token::Punctuator(Punctuator::ShiftLeftEquals), 1, 3),
+        (Token::Punctuator(Punctuator::ShiftLeft), 1, 6),
+        (Token::Punctuator(Punctuator::Less), 1, 8),
+        (Token::Punctuator(Punctuator::LessEquals), 2, 11),
+        (Token::Punctuator(Punctuator::NotEquals), 2, 13),
+        (Token::Punctuator(Punctuator::Equals), 2, 14),
+        (Token::End, 2, 14),
+    ];
+    check(&rt, b"<<= << <\n<=!==", &wanted)?;
     Ok(())
 }
 
 #[test]
 fn comments(rt: HostRuntime) -> Result<(), Fail> {
-    check(
-        &rt,
-        b"a/*\n/*\x00\xc8\" **/b/c/***/",
-        &[
-            (name(b"a"), 1, 1),
-            (name(b"b"), 2, 14),
-            (Token::Punctuator(Punctuator::Slash), 2, 15),
-            (name(b"c"), 2, 16),
-            (Token::End, 2, 21),
-        ],
-    )?;
-    check(
-        &rt,
-        b"main(){}\n/* x",
-        &[
-            (name(b"main"), 1, 4),
-            (Token::Punctuator(Punctuator::OpenRound), 1, 5),
-            (Token::Punctuator(Punctuator::CloseRound), 1, 6),
-            (Token::Punctuator(Punctuator::OpenCurly), 1, 7),
-            (Token::Punctuator(Punctuator::CloseCurly), 1, 8),
-            (Token::Fault(LexicalError::CommentNotClosed), 2, 13),
-        ],
-    )?;
-    check(
-        &rt,
-        b"\n/*/\n",
-        &[(Token::Fault(LexicalError::CommentNotClosed), 2, 5)],
-    )?;
+    let wanted = [
+        (name(b"a"), 1, 1),
+        (name(b"b"), 2, 14),
+        (Token::Punctuator(Punctuator::Slash), 2, 15),
+        (name(b"c"), 2, 16),
+        (Token::End, 2, 21),
+    ];
+    check(&rt, b"a/*\n/*\x00\xc8\" **/b/c/***/", &wanted)?;
+    let wanted = [
+        (name(b"main"), 1, 4),
+        (Token::Punctuator(Punctuator::OpenRound), 1, 5),
+        (Token::Punctuator(Punctuator::CloseRound), 1, 6),
+        (Token::Punctuator(Punctuator::OpenCurly), 1, 7),
+        (Token::Punctuator(Punctuator::CloseCurly), 1, 8),
+        (Token::Fault(LexicalError::CommentNotClosed), 2, 13),
+    ];
+    check(&rt, b"main(){}\n/* x", &wanted)?;
+    check_fault(&rt, b"\n/*/\n", LexicalError::CommentNotClosed, 2, 5)?;
     Ok(())
 }
 
@@ -131,86 +127,68 @@ fn long_comment(rt: HostRuntime) -> Result<(), Fail> {
 
 #[test]
 fn names(rt: HostRuntime) -> Result<(), Fail> {
+    let wanted = [
+        (Token::Word(If), 1, 2),
+        (Token::Word(Else), 1, 7),
+        (Token::Word(While), 1, 13),
+        (Token::Word(Return), 1, 20),
+        (Token::Word(Type), 1, 24),
+        (Token::Word(Type), 1, 29),
+        (Token::Word(Type), 1, 34),
+        (Token::Word(Type), 1, 43),
+        (Token::Word(Refused), 1, 47),
+        (name(b"iff"), 1, 51),
+        (Token::End, 1, 51),
+    ];
     check(
         &rt,
         b"if else while return int long auto register for iff",
-        &[
-            (Token::Word(Word::If), 1, 2),
-            (Token::Word(Word::Else), 1, 7),
-            (Token::Word(Word::While), 1, 13),
-            (Token::Word(Word::Return), 1, 20),
-            (Token::Word(Word::Type), 1, 24),
-            (Token::Word(Word::Type), 1, 29),
-            (Token::Word(Word::Type), 1, 34),
-            (Token::Word(Word::Type), 1, 43),
-            (Token::Word(Word::Refused), 1, 47),
-            (name(b"iff"), 1, 51),
-            (Token::End, 1, 51),
-        ],
+        &wanted,
     )?;
     check(&rt, LONGEST, &[(name(LONGEST), 1, 31), (Token::End, 1, 31)])?;
-    check(
+    check_fault(
         &rt,
         b"_2345678901234567890123456789012345;",
-        &[(Token::Fault(LexicalError::NameTooLong), 1, 35)],
+        LexicalError::NameTooLong,
+        1,
+        35,
     )?;
     Ok(())
 }
 
 #[test]
 fn constants(rt: HostRuntime) -> Result<(), Fail> {
-    check(
-        &rt,
-        b"0002147483647,08x",
-        &[
-            (Token::Constant(2147483647), 1, 13),
-            (Token::Punctuator(Punctuator::Comma), 1, 14),
-            (Token::Constant(8), 1, 16),
-            (name(b"x"), 1, 17),
-            (Token::End, 1, 17),
-        ],
-    )?;
-    check(
-        &rt,
-        b"2147483648;",
-        &[(Token::Fault(LexicalError::ConstantTooLarge), 1, 10)],
-    )?;
-    check(
+    let wanted = [
+        (Token::Constant(2147483647), 1, 13),
+        (Token::Punctuator(Punctuator::Comma), 1, 14),
+        (Token::Constant(8), 1, 16),
+        (name(b"x"), 1, 17),
+        (Token::End, 1, 17),
+    ];
+    check(&rt, b"0002147483647,08x", &wanted)?;
+    check_fault(&rt, b"2147483648;", LexicalError::ConstantTooLarge, 1, 10)?;
+    check_fault(
         &rt,
         b"99999999999999999999999999999999999999990;",
-        &[(Token::Fault(LexicalError::ConstantTooLarge), 1, 41)],
+        LexicalError::ConstantTooLarge,
+        1,
+        41,
     )?;
     Ok(())
 }
 
 #[test]
 fn bad_characters(rt: HostRuntime) -> Result<(), Fail> {
-    check(
-        &rt,
-        b" \x00",
-        &[(Token::Fault(LexicalError::BadCharacter), 1, 2)],
-    )?;
-    check(
-        &rt,
-        b"\n\xc8x",
-        &[(Token::Fault(LexicalError::BadCharacter), 2, 2)],
-    )?;
-    check(
-        &rt,
-        b"\"",
-        &[(Token::Fault(LexicalError::BadCharacter), 1, 1)],
-    )?;
+    check_fault(&rt, b" \x00", LexicalError::BadCharacter, 1, 2)?;
+    check_fault(&rt, b"\n\xc8x", LexicalError::BadCharacter, 2, 2)?;
+    check_fault(&rt, b"\"", LexicalError::BadCharacter, 1, 1)?;
     Ok(())
 }
 
 #[test]
 fn byte_26(rt: HostRuntime) -> Result<(), Fail> {
     check(&rt, b"a\n\x1ab", &[(name(b"a"), 1, 1), (Token::End, 2, 2)])?;
-    check(
-        &rt,
-        b"/*\n\x1a*/",
-        &[(Token::Fault(LexicalError::CommentNotClosed), 1, 3)],
-    )?;
+    check_fault(&rt, b"/*\n\x1a*/", LexicalError::CommentNotClosed, 1, 3)?;
     Ok(())
 }
 
@@ -330,23 +308,23 @@ fn device_fails(rt: HostRuntime) -> Result<(), Fail> {
     Ok(())
 }
 
-#[test]
-fn the_end_is_asked_for_once(rt: HostRuntime) -> Result<(), Fail> {
-    let mut feed = Pieces::failing_at(b"", WINDOW, 1);
+/// Compares the first token of a source whose device would fail at the second read, and is not asked again.
+fn check_first(rt: &impl Abort, source: &[u8], wanted: Token) -> Result<(), DeviceFault> {
+    let mut feed = Pieces::failing_at(source, WINDOW, 1);
     let cursor = Cursor::open(&mut feed)?;
-    assert_eq!(rt; cursor.peek().token, Token::End);
+    assert_eq!(rt; cursor.peek().token, wanted);
     assert_eq!(rt; feed.failures(), 0);
     Ok(())
 }
 
 #[test]
+fn the_end_is_asked_for_once(rt: HostRuntime) -> Result<(), Fail> {
+    check_first(&rt, b"", Token::End)?;
+    Ok(())
+}
+
+#[test]
 fn bad_character_is_shown_at_once(rt: HostRuntime) -> Result<(), Fail> {
-    let mut feed = Pieces::failing_at(b"$", WINDOW, 1);
-    let cursor = Cursor::open(&mut feed)?;
-    assert_eq!(rt;
-        cursor.peek().token,
-        Token::Fault(LexicalError::BadCharacter)
-    );
-    assert_eq!(rt; feed.failures(), 0);
+    check_first(&rt, b"$", Token::Fault(LexicalError::BadCharacter))?;
     Ok(())
 }

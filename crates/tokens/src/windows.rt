@@ -39,17 +39,11 @@ pub struct Window {
 
 impl Model for Window {
     ghost use Rattle.std.specs.Prelude.{◌+◌, slice_range};
-    ghost use Rattle.tokens.specs.Window.{Held, IsWindow};
+    ghost use Rattle.tokens.specs.Window.{Held, IsWindow, held_of};
 
     ghost Value = { Held };
 
-    ghost view = { λ w. record {
-      line = w.line;
-      place = w.start + w.next;
-      at_hand = slice_range w.bytes w.next w.filled;
-      taken = w.taken;
-      beyond = w.beyond;
-    } };
+    ghost view = { λ w. held_of w.line (w.start + w.next) (slice_range w.bytes w.next w.filled) w.taken w.beyond };
 
     ghost invariant = { λ w. IsWindow w.next w.filled w.start w.taken w.line w.beyond };
 }

@@ -7,7 +7,7 @@ use Rattle.grammar.specs.declared.names.Callee.{Callee}
 use Rattle.grammar.specs.declared.names.Var.{Var}
 use Rattle.arith.specs.declared.operators.Op.{Op}
 use Rattle.grammar.specs.declared.operators.StoreOp.{StoreOp}
-use Rattle.grammar.specs.Actions.{Action, PushConstant, StoreVariable, ApplyBinop, BeginCall, EndCall, IfTest, ElsePart, EndIf, BeginWhile, WhileTest, EndWhile, GiveBack, BeginFunction, EndFunction, last_return, args_actions, body_actions, expr_actions, function_actions, middle, code_length}
+use Rattle.grammar.specs.Actions.{Action, PushConstant, StoreVariable, ApplyBinop, BeginCall, EndCall, IfTest, ElsePart, EndIf, BeginWhile, WhileTest, EndWhile, GiveBack, Chop, BeginFunction, EndFunction, last_return, args_actions, body_actions, expr_actions, function_actions, middle, code_length}
 use Rattle.grammar.specs.Beginning.{IsBeginning}
 use Rattle.grammar.specs.Building.{Meaning, MayFollow, MayFollowAll, StandsOpen, AppendsAll, Appends, IsOver}
 use Rattle.grammar.specs.Profile.{Profile}
@@ -25,7 +25,7 @@ use Rattle.trees.specs.declared.tree.Function.{Function}
 use Rattle.trees.specs.declared.tree.Statement.{Statement}
 use Rattle.trees.specs.declared.tree.Statement.TheVariants as statement
 use Rattle.trees.proofs.StandingLaws.{follow_inside}
-use Rattle.trees.proofs.TreeLaws.{Tells, tells_arguments, tells_functions, tells_last, tells_split, tells_statements, tree-Binary, tree-Assign, tree-Call, tree-IfStatement, tree-IfElseStatement, tree-While}
+use Rattle.trees.proofs.TreeLaws.{Tells, tells_arguments, tells_functions, tells_last, tells_split, tells_statements, tree-Binary, tree-Assign, tree-Call, tree-ExpressionStatement, tree-IfStatement, tree-IfElseStatement, tree-While, tree-Return}
 use Rattle.grammar.proofs.StandingLaws.{may_front, may_first, may_then, appends_both}
 
 -- the limit is passed with more actions too
@@ -63,6 +63,15 @@ actions-Assign e op v a is = ap (λ e. expr_actions (expr_tree e)) is ∙ ap exp
 pub actions-Call : (e : Expr) (callee : Callee) (es : Vec Expr Global) → e ≡ expr.Call callee es →
     expr_actions (expr_tree e) ≡ BeginCall ∷ (args_actions (arguments (map expr_tree es.items)) ++ EndCall callee ∷ [])
 actions-Call e callee es is = ap (λ e. expr_actions (expr_tree e)) is ∙ ap expr_actions (tree-Call callee es)
+
+pub actions-ExpressionStatement : (s : Statement) (e : Expr) → s ≡ statement.ExpressionStatement e →
+    statement_actions s ≡ expr_actions (expr_tree e) ++ Chop ∷ []
+actions-ExpressionStatement s e is =
+    ap statement_actions is ∙ ap (λ f. body_actions (f Done)) (tree-ExpressionStatement e)
+
+pub actions-Return : (s : Statement) (e : Expr) → s ≡ statement.Return e →
+    statement_actions s ≡ expr_actions (expr_tree e) ++ GiveBack ∷ []
+actions-Return s e is = ap statement_actions is ∙ ap (λ f. body_actions (f Done)) (tree-Return e)
 
 pub actions-IfStatement : (s : Statement) (c : Expr) (t : Vec Statement Global) → s ≡ statement.IfStatement c t →
     statement_actions s ≡

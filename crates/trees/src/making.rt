@@ -9,7 +9,7 @@ ghost use Rattle.trees.specs.Opened.{Continues, Ends, IsAllowed};
 ghost use Rattle.trees.specs.Stacks.{without_last};
 
 use crate::memory::boxed;
-use crate::stack::{Body, Heading, Open, Stack};
+use crate::stack::{Heading, Open, Stack};
 use crate::tree::{Expr, Function, Statement};
 use grammar::{BuildFault, Callee, Op, StoreOp, Var};
 
@@ -100,10 +100,7 @@ impl Stack {
         ensures ok { OnOk result (Continues ElsePart self.old self.new) }
         ensures memory { Refuses result ⊤ }
     {
-        let Body {
-            heading,
-            statements,
-        } = self.body();
+        let (heading, statements) = self.body();
         let Heading::First(condition) = heading else {
             unreachable!()
         };
@@ -116,10 +113,7 @@ impl Stack {
         ensures ok { OnOk result (Continues EndIf self.old self.new) }
         ensures memory { Refuses result ⊤ }
     {
-        let Body {
-            heading,
-            statements,
-        } = self.body();
+        let (heading, statements) = self.body();
         match heading {
             Heading::First(condition) => self.add(Statement::IfStatement(condition, statements)),
             Heading::Second(condition, first) => {
@@ -155,10 +149,7 @@ impl Stack {
         ensures ok { OnOk result (Continues EndWhile self.old self.new) }
         ensures memory { Refuses result ⊤ }
     {
-        let Body {
-            heading,
-            statements,
-        } = self.body();
+        let (heading, statements) = self.body();
         let Heading::Loop(condition) = heading else {
             unreachable!()
         };
@@ -207,10 +198,7 @@ impl Stack {
         requires { IsAllowed (EndFunction variables) self.old }
         ensures { Ends variables self.old self.new result }
     {
-        let Body {
-            heading,
-            statements: mut body,
-        } = self.body();
+        let (heading, mut body) = self.body();
         let Heading::Function(number, parameters) = heading else {
             unreachable!()
         };

@@ -1,7 +1,7 @@
 //! Reports the trees to a builder, action by action.
 
 ghost use Rattle.std.specs.Prelude.{ℤ, pos, [], ◌∷◌, ◌++◌, IsErrOf, IsTrue, OnOk, map};
-ghost use Rattle.grammar.specs.Actions.{BeginWhile, Chop, FetchVariable, GiveBack, IfTest, PushConstant, StoreVariable};
+ghost use Rattle.grammar.specs.Actions.{BeginWhile, Chop, FetchVariable, IfTest, PushConstant, StoreVariable};
 ghost use Rattle.grammar.specs.Actions.{WhileTest, args_actions, body_actions, expr_actions, function_actions};
 ghost use Rattle.grammar.specs.Actions.{last_return, middle};
 ghost use Rattle.grammar.specs.Building.{AppendsAll, MayFollowAll, Refuses, StandsOpen};
@@ -81,7 +81,6 @@ fn tell_statement<B: Build>(statement: &Statement, build: &mut B) -> Result<(), 
     ensures memory { Refuses result B.denied }
 {
     match statement {
-        Statement::ExpressionStatement(expr) => tell_alone(expr, build),
         Statement::IfStatement(condition, branch) => {
             tell_test(condition, build)?;
             tell_statements(branch, build)?;
@@ -99,19 +98,15 @@ fn tell_statement<B: Build>(statement: &Statement, build: &mut B) -> Result<(), 
             tell_statements(body, build)?;
             build.end_while()
         }
-        Statement::Return(expr) => tell_return(expr, build),
+        Statement::ExpressionStatement(expr) => {
+            tell_expr(expr, build)?;
+            build.chop()
+        }
+        Statement::Return(expr) => {
+            tell_expr(expr, build)?;
+            build.give_back()
+        }
     }
-}
-
-/// Reports an expression whose value is dropped.
-fn tell_alone<B: Build>(expr: &Expr, build: &mut B) -> Result<(), BuildFault>
-    requires { MayFollowAll (B.stands build.old) (expr_actions (expr_tree expr.now) ++ Chop ∷ []) }
-    ensures ok { OnOk result (AppendsAll (B.stands build.old) (B.stands build.new)
-        (expr_actions (expr_tree expr.now) ++ Chop ∷ [])) }
-    ensures memory { Refuses result B.denied }
-{
-    tell_expr(expr, build)?;
-    build.chop()
 }
 
 /// Reports the condition of an `if`.
@@ -136,17 +131,6 @@ fn tell_loop_test<B: Build>(condition: &Expr, build: &mut B) -> Result<(), Build
     build.begin_while()?;
     tell_expr(condition, build)?;
     build.while_test()
-}
-
-/// Reports a `return` with its value.
-fn tell_return<B: Build>(expr: &Expr, build: &mut B) -> Result<(), BuildFault>
-    requires { MayFollowAll (B.stands build.old) (expr_actions (expr_tree expr.now) ++ GiveBack ∷ []) }
-    ensures ok { OnOk result (AppendsAll (B.stands build.old) (B.stands build.new)
-        (expr_actions (expr_tree expr.now) ++ GiveBack ∷ [])) }
-    ensures memory { Refuses result B.denied }
-{
-    tell_expr(expr, build)?;
-    build.give_back()
 }
 
 /// Reports an expression.

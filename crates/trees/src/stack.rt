@@ -140,15 +140,21 @@ impl Stack {
         self.value()
     }
 
-    /// Takes the innermost, which is a body.
-    pub fn body(&mut self) -> Body
+    /// Takes the innermost, which is a body: what it is the body of, and its statements.
+    pub fn body(&mut self) -> (Heading, Vec<Statement>)
         requires { ends_in_body self.old ≡ true }
-        ensures { self.old ≡ the_body result ∷ self.new }
+        ensures { self.old ≡ the_body (record { heading = result.0; statements = result.1 }) ∷ self.new }
     {
-        let Open::Body(body) = self.pop() else {
+        let Open::Body(
+            Body {
+                heading,
+                statements,
+            },
+        ) = self.pop()
+        else {
             unreachable!()
         };
-        body
+        (heading, statements)
     }
 
     /// Adds a statement to the innermost, which is a body.
@@ -157,9 +163,12 @@ impl Stack {
         ensures ok { OnOk result (AddsTo statement self.old self.new) }
         ensures memory { Refuses result ⊤ }
     {
-        let mut body = self.body();
-        put(&mut body.statements, statement)?;
-        self.push(Open::Body(body))
+        let (heading, mut statements) = self.body();
+        put(&mut statements, statement)?;
+        self.push(Open::Body(Body {
+            heading,
+            statements,
+        }))
     }
 
     /// Opens a body without statements.

@@ -19,30 +19,14 @@ pub enum Reported {
     Binop(Op),
     /// `logic_middle`
     LogicMiddle(Op),
-    /// `begin_call`
-    BeginCall,
     /// `end_call`
     EndCall(Callee),
-    /// `if_test`
-    IfTest,
-    /// `else_part`
-    ElsePart,
-    /// `end_if`
-    EndIf,
-    /// `begin_while`
-    BeginWhile,
-    /// `while_test`
-    WhileTest,
-    /// `end_while`
-    EndWhile,
-    /// `give_back`
-    GiveBack,
-    /// `chop`
-    Chop,
     /// `begin_function`
     BeginFunction(u8, u8),
     /// `end_function`
     EndFunction(u8),
+    /// A call without arguments, by its name.
+    Plain(&'static str),
 }
 
 /// The actions that the builder inside took.
@@ -109,7 +93,7 @@ impl<B: Build> Build for Recorder<B> {
 
     fn begin_call(&mut self) -> Result<(), BuildFault> {
         self.inner.begin_call()?;
-        self.add(Reported::BeginCall)
+        self.add(Reported::Plain("begin_call"))
     }
 
     fn end_call(&mut self, callee: Callee) -> Result<(), BuildFault> {
@@ -119,42 +103,42 @@ impl<B: Build> Build for Recorder<B> {
 
     fn if_test(&mut self) -> Result<(), BuildFault> {
         self.inner.if_test()?;
-        self.add(Reported::IfTest)
+        self.add(Reported::Plain("if_test"))
     }
 
     fn else_part(&mut self) -> Result<(), BuildFault> {
         self.inner.else_part()?;
-        self.add(Reported::ElsePart)
+        self.add(Reported::Plain("else_part"))
     }
 
     fn end_if(&mut self) -> Result<(), BuildFault> {
         self.inner.end_if()?;
-        self.add(Reported::EndIf)
+        self.add(Reported::Plain("end_if"))
     }
 
     fn begin_while(&mut self) -> Result<(), BuildFault> {
         self.inner.begin_while()?;
-        self.add(Reported::BeginWhile)
+        self.add(Reported::Plain("begin_while"))
     }
 
     fn while_test(&mut self) -> Result<(), BuildFault> {
         self.inner.while_test()?;
-        self.add(Reported::WhileTest)
+        self.add(Reported::Plain("while_test"))
     }
 
     fn end_while(&mut self) -> Result<(), BuildFault> {
         self.inner.end_while()?;
-        self.add(Reported::EndWhile)
+        self.add(Reported::Plain("end_while"))
     }
 
     fn give_back(&mut self) -> Result<(), BuildFault> {
         self.inner.give_back()?;
-        self.add(Reported::GiveBack)
+        self.add(Reported::Plain("give_back"))
     }
 
     fn chop(&mut self) -> Result<(), BuildFault> {
         self.inner.chop()?;
-        self.add(Reported::Chop)
+        self.add(Reported::Plain("chop"))
     }
 
     fn begin_function(&mut self, number: u8, parameters: u8) -> Result<(), BuildFault> {

@@ -15,21 +15,21 @@ loop-parser-preserved g c =
           λ depth. goes_on depth (Part Types ∷ []) (AWord word.Type ∷ []) [] (Part Types ∷ []) _ _ _ (λ stack. refl)
           (opens_on depth (Part Types ∷ []) Types (AWord word.Type ∷ Part Types ∷ []) _ _ sound (types_more _ is)
           (c.loop-parser.invariant.matches depth))
-          (c.in_ok-expect_word.ensures.matches depth);
-      scope = c.in_ok-expect_word.ensures.scope ∙ c.loop-parser.invariant.scope;
-      kept = kept_then _ _ _ c.loop-parser.invariant.kept (on _ _ c.in_ok-expect_word.ensures.kept);
+          (c.in_ok-expect_type.ensures.matches depth);
+      scope = c.in_ok-expect_type.ensures.scope ∙ c.loop-parser.invariant.scope;
+      kept = kept_then _ _ _ c.loop-parser.invariant.kept (on _ _ c.in_ok-expect_type.ensures.kept);
     }
 
-pub returns-in_err-expect_word-clause-matches : goal.returns-in_err-expect_word-clause-matches
-returns-in_err-expect_word-clause-matches g c =
+pub returns-in_err-expect_type-clause-matches : goal.returns-in_err-expect_type-clause-matches
+returns-in_err-expect_type-clause-matches g c =
     let sound : is_fault c.loop-parser.parser.place.position.reading.next.token ≡ false = cc in
     let is : is_word word.Type c.loop-parser.parser.place.position.reading.next.token ≡ true = cc in
     let p = err_from_is_err_and c.from_residual.result c.from_residual.ensures.1 in
     rw (p.1, p.2) (leaves _ (Part Types ∷ []) (AWord word.Type ∷ []) (Part Types ∷ []) _ _
-    c.in_err-expect_word.field-0.0 (λ stack. refl)
+    c.in_err-expect_type.field-0.0 (λ stack. refl)
     (λ depth. opens_on depth (Part Types ∷ []) Types (AWord word.Type ∷ Part Types ∷ []) _ _ sound (types_more _ is)
     (c.loop-parser.invariant.matches depth))
-    c.in_err-expect_word.ensures.matches)
+    c.in_err-expect_type.ensures.matches)
 
 pub returns-clause-matches : goal.returns-clause-matches
 returns-clause-matches g c depth =

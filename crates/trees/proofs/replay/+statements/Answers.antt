@@ -1,13 +1,44 @@
 use Rattle.std.proofs.Common.{[], ◌∷◌, ◌++◌, ◌≡◌, take, sym, subst, arith}
 use Rattle.std.proofs.lemmas.List.{take_all}
 use Rattle.std.proofs.lemmas.Result.{on_ok_weaker}
-use Rattle.grammar.specs.Actions.{BeginWhile, ElsePart, EndIf, EndWhile, IfTest, WhileTest, body_actions, expr_actions}
+use Rattle.grammar.specs.Actions.{BeginWhile, Chop, ElsePart, EndIf, EndWhile, GiveBack, IfTest, WhileTest, body_actions, expr_actions}
 use Rattle.grammar.specs.Building.{AppendsAll, MayFollowAll}
 use Rattle.trees.specs.Trees.{body_tree, expr_tree}
 use Rattle.trees.specs.declared.tree.Statement.{the_lemmas}
-use Rattle.trees.proofs.ReplayLaws.{actions-IfElseStatement, actions-IfStatement, actions-While, may_next, statement_may, statements_more}
+use Rattle.trees.proofs.ReplayLaws.{actions-ExpressionStatement, actions-IfElseStatement, actions-IfStatement, actions-Return, actions-While, may_next, statement_may, statements_more}
 use Rattle.trees.proofs.replay.+statements.Goals as goal
 use Rattle.grammar.proofs.StandingLaws.{appends_both, appends_none, may_first, may_front, may_then}
+
+-- Expressions whose value is dropped.
+
+pub tell_statement-tell_expr-requires : goal.tell_statement-tell_expr-requires
+tell_statement-tell_expr-requires g t c =
+    may_front _ _ (Chop ∷ [])
+    (subst (MayFollowAll (g.B.Build.stands c.args.build.now))
+    (actions-ExpressionStatement _ _ c.in-ExpressionStatement.is) c.requires)
+
+pub tell_statement-chop-requires : goal.tell_statement-chop-requires
+tell_statement-chop-requires g t c =
+    let at = g.B.Build.stands in
+    let whole =
+    subst (MayFollowAll (at c.args.build.now)) (actions-ExpressionStatement _ _ c.in-ExpressionStatement.is)
+    c.requires in
+    record {
+      follows =
+          may_first _ _ _
+          (may_then _ (at c.tell_expr.new.build) _ _ c.in_ok-tell_expr-in-ExpressionStatement.ensures.ok whole);
+    }
+
+pub tell_statement-returns-in_ok-tell_expr-in-ExpressionStatement-clause-ok :
+    goal.tell_statement-returns-in_ok-tell_expr-in-ExpressionStatement-clause-ok
+tell_statement-returns-in_ok-tell_expr-in-ExpressionStatement-clause-ok g t c =
+    let at = g.B.Build.stands in
+    let first = at c.args.build.now in
+    let last = at c.chop.new.self in
+    on_ok_weaker _
+    (λ dropped. subst (AppendsAll first last) (sym (actions-ExpressionStatement _ _ c.in-ExpressionStatement.is))
+    (appends_both first (at c.tell_expr.new.build) last _ (Chop ∷ [])
+    c.in_ok-tell_expr-in-ExpressionStatement.ensures.ok dropped)) c.chop.ensures.ok
 
 -- Ifs without a second branch.
 
@@ -205,6 +236,37 @@ tell_statement-returns-in_ok-tell_statements-in-While-clause-ok g t c =
     on_ok_weaker _ (λ ended. subst (AppendsAll first last) (sym (actions-While _ _ _ c.in-While.is))
     (appends_both first second last _ _ c.in_ok-tell_loop_test-in-While.ensures.ok
     (appends_both second third last _ (EndWhile ∷ []) told ended))) c.end_while.ensures.ok
+
+-- Returns.
+
+pub tell_statement-tell_expr-requires-in-Return : goal.tell_statement-tell_expr-requires-in-Return
+tell_statement-tell_expr-requires-in-Return g t c =
+    may_front _ _ (GiveBack ∷ [])
+    (subst (MayFollowAll (g.B.Build.stands c.args.build.now))
+    (actions-Return _ _ c.in-Return.is) c.requires)
+
+pub tell_statement-give_back-requires : goal.tell_statement-give_back-requires
+tell_statement-give_back-requires g t c =
+    let at = g.B.Build.stands in
+    let whole =
+    subst (MayFollowAll (at c.args.build.now)) (actions-Return _ _ c.in-Return.is)
+    c.requires in
+    record {
+      follows =
+          may_first _ _ _
+          (may_then _ (at c.tell_expr-in-Return.new.build) _ _ c.in_ok-tell_expr-in-Return.ensures.ok whole);
+    }
+
+pub tell_statement-returns-in_ok-tell_expr-in-Return-clause-ok :
+    goal.tell_statement-returns-in_ok-tell_expr-in-Return-clause-ok
+tell_statement-returns-in_ok-tell_expr-in-Return-clause-ok g t c =
+    let at = g.B.Build.stands in
+    let first = at c.args.build.now in
+    let last = at c.give_back.new.self in
+    on_ok_weaker _
+    (λ returned. subst (AppendsAll first last) (sym (actions-Return _ _ c.in-Return.is))
+    (appends_both first (at c.tell_expr-in-Return.new.build) last _ (GiveBack ∷ [])
+    c.in_ok-tell_expr-in-Return.ensures.ok returned)) c.give_back.ensures.ok
 
 -- Rows of statements.
 

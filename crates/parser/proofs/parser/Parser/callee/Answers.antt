@@ -22,38 +22,44 @@ returns-in_err-name-clause-matches g c =
     (subst (λ (p : Standing). IsNoName p.place.position.reading.next c.in_err-name.field-0.0) c.self.view_is
     c.in_err-name.ensures.other))
 
-pub returns-in-Err-clause-matches : goal.returns-in-Err-clause-matches
-returns-in-Err-clause-matches g c =
+pub returns-in_err-callee-clause-matches : goal.returns-in_err-callee-clause-matches
+returns-in_err-callee-clause-matches g c =
     let near : IsNear c.self.inside.cursor =
     subst (λ (p : Standing). IsNear p.place.position.reading) (sym c.self.view_is) c.requires.ready.near in
     let found : c.self.inside.cursor.next.token ≡ token.Name c.in_ok-name.name.now = c.in_ok-name.ensures.found in
-    rw (c.refusal.ensures, sym c.self.view_is)
-    (name_refused _ Called _ c.in-Err.code near found c.in-Err.ensures.refused)
+    let line : c.peek-next.result.now.line ≡ c.self.inside.cursor.next.line =
+    ap (λ (l : LocatedToken). l.line) c.peek-next.ensures.value in
+    let refused = c.in_err-callee.ensures.refused in
+    let p = err_from_is_err_and c.from_residual-in_err-callee.result c.from_residual-in_err-callee.ensures.1 in
+    rw (p.1, p.2, refused.is, line, sym c.self.view_is)
+    (name_refused _ Called _ refused.code near found (rw refused.answered at c.call.ensures.refused))
 
 pub returns-in_err-advance-clause-matches : goal.returns-in_err-advance-clause-matches
 returns-in_err-advance-clause-matches g c =
     let found : c.self.inside.cursor.next.token ≡ token.Name c.in_ok-name.name.now = c.in_ok-name.ensures.found in
-    let line : c.peek.result.now.line ≡ c.self.inside.cursor.next.line =
-    ap (λ (l : LocatedToken). l.line) c.peek.ensures.value in
+    let line : c.peek-next.result.now.line ≡ c.self.inside.cursor.next.line =
+    ap (λ (l : LocatedToken). l.line) c.peek-next.ensures.value in
     let p = err_from_is_err_and c.from_residual-in_err-advance.result c.from_residual-in_err-advance.ensures.1 in
     rw (p.1, p.2, sym c.self.view_is)
     (refused_map _ _ _ ⊥ ⊥ c.in_err-advance.field-0.0
     (name_stops c.self.inside.cursor c.self.inside.scope.now _ _ Called c.in_ok-name.name.now found
     (subst (λ (n : ℕ). Knows Called c.in_ok-name.name.now n c.self.inside.scope.now c.call.new.self) line
-    c.in-Ok.ensures.known.1)) (λ same. same) c.in_err-advance.ensures.consumes)
+    (rw c.in_ok-callee.ensures.ok at c.call.ensures.known).1)) (λ same. same) c.in_err-advance.ensures.consumes)
 
 pub returns-clause-matches : goal.returns-clause-matches
 returns-clause-matches g c =
     let found : c.self.inside.cursor.next.token ≡ token.Name c.in_ok-name.name.now = c.in_ok-name.ensures.found in
-    let line : c.peek.result.now.line ≡ c.self.inside.cursor.next.line =
-    ap (λ (l : LocatedToken). l.line) c.peek.ensures.value in
+    let line : c.peek-next.result.now.line ≡ c.self.inside.cursor.next.line =
+    ap (λ (l : LocatedToken). l.line) c.peek-next.ensures.value in
     rw (sym c.self.view_is)
     (name_derives c.self.inside.cursor c.self.inside.scope.now _ _ _ Called c.in_ok-name.name.now _ found
     (subst (λ (n : ℕ). Knows Called c.in_ok-name.name.now n c.self.inside.scope.now c.call.new.self) line
-    c.in-Ok.ensures.known.1) (ap (λ f. ACall f NoMore ∷ []) c.in-Ok.ensures.known.0)
+    (rw c.in_ok-callee.ensures.ok at c.call.ensures.known).1)
+    (ap (λ f. ACall f NoMore ∷ []) (rw c.in_ok-callee.ensures.ok at c.call.ensures.known).0)
     c.in_ok-advance.ensures.consumes)
 
 pub returns-clause-stays : goal.returns-clause-stays
 returns-clause-stays g c =
     rw (sym c.self.view_is, c.in_ok-advance.ensures.consumes.scope)
-    (called_stays c.in_ok-name.name.now _ c.self.inside.scope.now c.call.new.self c.in-Ok.ensures.known.1)
+    (called_stays c.in_ok-name.name.now _ c.self.inside.scope.now c.call.new.self
+    (rw c.in_ok-callee.ensures.ok at c.call.ensures.known).1)

@@ -21,43 +21,48 @@ returns-in_err-name-clause-matches g c =
     (subst (λ (p : Standing). IsNoName p.place.position.reading.next c.in_err-name.field-0.0) c.self.view_is
     c.in_err-name.ensures.other))
 
-pub returns-in-Err-clause-matches : goal.returns-in-Err-clause-matches
-returns-in-Err-clause-matches g c =
+pub returns-in_err-number-clause-matches : goal.returns-in_err-number-clause-matches
+returns-in_err-number-clause-matches g c =
     let near : IsNear c.self.inside.cursor =
     subst (λ (p : Standing). IsNear p.place.position.reading) (sym c.self.view_is) c.requires.ready.near in
     let found : c.self.inside.cursor.next.token ≡ token.Name c.in_ok-name.name.now = c.in_ok-name.ensures.found in
-    rw (c.refusal.ensures, sym c.self.view_is)
-    (name_refused _ Defined _ c.in-Err.code near found c.in-Err.ensures.refused)
+    let line : c.peek-next.result.now.line ≡ c.self.inside.cursor.next.line =
+    ap (λ (l : LocatedToken). l.line) c.peek-next.ensures.value in
+    let refused = c.in_err-number.ensures.refused in
+    let p = err_from_is_err_and c.from_residual-in_err-number.result c.from_residual-in_err-number.ensures.1 in
+    rw (p.1, p.2, refused.is, line, sym c.self.view_is)
+    (name_refused _ Defined _ refused.code near found (rw refused.answered at c.define.ensures.refused))
 
 pub returns-in_err-advance-clause-matches : goal.returns-in_err-advance-clause-matches
 returns-in_err-advance-clause-matches g c =
     let found : c.self.inside.cursor.next.token ≡ token.Name c.in_ok-name.name.now = c.in_ok-name.ensures.found in
-    let line : c.peek.result.now.line ≡ c.self.inside.cursor.next.line =
-    ap (λ (l : LocatedToken). l.line) c.peek.ensures.value in
+    let line : c.peek-next.result.now.line ≡ c.self.inside.cursor.next.line =
+    ap (λ (l : LocatedToken). l.line) c.peek-next.ensures.value in
     let p = err_from_is_err_and c.from_residual-in_err-advance.result c.from_residual-in_err-advance.ensures.1 in
     rw (p.1, p.2, sym c.self.view_is)
     (refused_map _ _ _ ⊥ ⊥ c.in_err-advance.field-0.0
     (name_stops c.self.inside.cursor c.self.inside.scope.now _ _ Defined c.in_ok-name.name.now found
     (subst (λ (n : ℕ). Knows Defined c.in_ok-name.name.now n c.self.inside.scope.now c.define.new.self) line
-    c.in-Ok.ensures.known)) (λ same. same) c.in_err-advance.ensures.consumes)
+    (rw c.in_ok-number.ensures.ok at c.define.ensures.known))) (λ same. same) c.in_err-advance.ensures.consumes)
 
 pub returns-clause-matches : goal.returns-clause-matches
 returns-clause-matches g c =
     let found : c.self.inside.cursor.next.token ≡ token.Name c.in_ok-name.name.now = c.in_ok-name.ensures.found in
-    let line : c.peek.result.now.line ≡ c.self.inside.cursor.next.line =
-    ap (λ (l : LocatedToken). l.line) c.peek.ensures.value in
+    let line : c.peek-next.result.now.line ≡ c.self.inside.cursor.next.line =
+    ap (λ (l : LocatedToken). l.line) c.peek-next.ensures.value in
     rw (sym c.self.view_is)
     (name_derives c.self.inside.cursor c.self.inside.scope.now _ _ _ Defined c.in_ok-name.name.now _ found
     (subst (λ (n : ℕ). Knows Defined c.in_ok-name.name.now n c.self.inside.scope.now c.define.new.self) line
-    c.in-Ok.ensures.known) (refl) c.in_ok-advance.ensures.consumes)
+    (rw c.in_ok-number.ensures.ok at c.define.ensures.known)) (refl) c.in_ok-advance.ensures.consumes)
 
 pub returns-clause-begun : goal.returns-clause-begun
 returns-clause-begun g c =
-    let known : Knows Defined c.in_ok-name.name.now c.peek.result.now.line (scope_of c.args.self.now) c.define.new.self
+    let known : Knows Defined c.in_ok-name.name.now c.peek-next.result.now.line (scope_of c.args.self.now)
+    c.define.new.self
     =
-    rw (sym c.self.view_is) c.in-Ok.ensures.known in
-    let is : c.in-Ok.number ≡ number_for c.in_ok-name.name.now (scope_of c.args.self.now) =
-    rw (sym c.self.view_is) c.in-Ok.ensures.number.0 in
-    begins c.in-Ok.number c.in_ok-name.name.now c.peek.result.now.line c.args.self.now.place.position
+    rw (sym c.self.view_is) (rw c.in_ok-number.ensures.ok at c.define.ensures.known) in
+    let is : c.in_ok-number.number ≡ number_for c.in_ok-name.name.now (scope_of c.args.self.now) =
+    rw (sym c.self.view_is) (rw c.in_ok-number.ensures.ok at c.define.ensures.number).0 in
+    begins c.in_ok-number.number c.in_ok-name.name.now c.peek-next.result.now.line c.args.self.now.place.position
     c.advance.new.self.place.position c.define.new.self known c.in_ok-advance.ensures.consumes.scope is
-    c.in-Ok.ensures.number.1
+    (rw c.in_ok-number.ensures.ok at c.define.ensures.number).1

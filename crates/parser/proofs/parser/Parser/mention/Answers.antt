@@ -1,6 +1,7 @@
 use Rattle.std.proofs.Common.{◌≡◌, subst, [], ◌∷◌, sym, ap}
 use Rattle.std.proofs.lemmas.Result.{err_from_is_err_and}
 use Rattle.tokens.specs.Reading.{IsNear}
+use Rattle.tokens.specs.declared.located_tokens.LocatedToken.{LocatedToken}
 use Rattle.tokens.specs.declared.located_tokens.Token.TheVariants as token
 use Rattle.grammar.specs.Derivation.{AVariable}
 use Rattle.grammar.specs.Grammar.{Mentioned}
@@ -19,13 +20,17 @@ returns-in_err-name-clause-matches g c =
     (subst (λ (p : Standing). IsNoName p.place.position.reading.next c.in_err-name.field-0.0) c.self.view_is
     c.in_err-name.ensures.other))
 
-pub returns-in-Err-clause-matches : goal.returns-in-Err-clause-matches
-returns-in-Err-clause-matches g c =
+pub returns-in_err-var-clause-matches : goal.returns-in_err-var-clause-matches
+returns-in_err-var-clause-matches g c =
     let near : IsNear c.self.inside.cursor =
     subst (λ (p : Standing). IsNear p.place.position.reading) (sym c.self.view_is) c.requires.ready.near in
     let found : c.self.inside.cursor.next.token ≡ token.Name c.in_ok-name.name.now = c.in_ok-name.ensures.found in
-    rw (c.refusal.ensures, sym c.self.view_is)
-    (name_refused _ Mentioned _ c.in-Err.code near found c.in-Err.ensures.refused)
+    let line : c.peek.result.now.line ≡ c.self.inside.cursor.next.line =
+    ap (λ (l : LocatedToken). l.line) c.peek.ensures.value in
+    let refused = c.in_err-var.ensures.refused in
+    let p = err_from_is_err_and c.from_residual-in_err-var.result c.from_residual-in_err-var.ensures.1 in
+    rw (p.1, p.2, refused.is, line, sym c.self.view_is)
+    (name_refused _ Mentioned _ refused.code near found (rw refused.answered at c.mention.ensures.refused))
 
 pub returns-in_err-advance-clause-matches : goal.returns-in_err-advance-clause-matches
 returns-in_err-advance-clause-matches g c =
@@ -34,17 +39,19 @@ returns-in_err-advance-clause-matches g c =
     rw (p.1, p.2, sym c.self.view_is)
     (refused_map _ _ _ ⊥ ⊥ c.in_err-advance.field-0.0
     (name_stops c.self.inside.cursor c.self.inside.scope.now _ _ Mentioned c.in_ok-name.name.now found
-    (c.in-Ok.ensures.known.1 _)) (λ same. same) c.in_err-advance.ensures.consumes)
+    ((rw c.in_ok-var.ensures.ok at c.mention.ensures.known).1 _)) (λ same. same) c.in_err-advance.ensures.consumes)
 
 pub returns-clause-matches : goal.returns-clause-matches
 returns-clause-matches g c =
     let found : c.self.inside.cursor.next.token ≡ token.Name c.in_ok-name.name.now = c.in_ok-name.ensures.found in
     rw (sym c.self.view_is)
     (name_derives c.self.inside.cursor c.self.inside.scope.now _ _ _ Mentioned c.in_ok-name.name.now _ found
-    (c.in-Ok.ensures.known.1 _) (ap (λ v. AVariable v ∷ []) c.in-Ok.ensures.known.0)
+    ((rw c.in_ok-var.ensures.ok at c.mention.ensures.known).1 _)
+    (ap (λ v. AVariable v ∷ []) (rw c.in_ok-var.ensures.ok at c.mention.ensures.known).0)
     c.in_ok-advance.ensures.consumes)
 
 pub returns-clause-stays : goal.returns-clause-stays
 returns-clause-stays g c =
     rw (sym c.self.view_is, c.in_ok-advance.ensures.consumes.scope)
-    (mentioned_stays c.in_ok-name.name.now 0 c.self.inside.scope.now c.mention.new.self (c.in-Ok.ensures.known.1 0))
+    (mentioned_stays c.in_ok-name.name.now 0 c.self.inside.scope.now c.mention.new.self
+    ((rw c.in_ok-var.ensures.ok at c.mention.ensures.known).1 0))

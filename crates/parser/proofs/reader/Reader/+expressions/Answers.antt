@@ -22,10 +22,12 @@ use Rattle.parser.proofs.SignLaws.{before_follows, behind_follows, operand_refus
 use Rattle.parser.proofs.OperandLaws.{is_named}
 use Rattle.parser.proofs.reader.Reader.+expressions.Goals as goal
 
-pub bracketed-returns-then-self-ge-MOST_LEVELS-clause-parses :
-    goal.bracketed-returns-then-self-ge-MOST_LEVELS-clause-parses
-bracketed-returns-then-self-ge-MOST_LEVELS-clause-parses g t c =
-    rw c.refusal.ensures (record {
+pub bracketed-returns-in_err-check_level-clause-parses :
+    goal.bracketed-returns-in_err-check_level-clause-parses
+bracketed-returns-in_err-check_level-clause-parses g t c =
+    let refused = c.in_err-check_level.ensures.refused in
+    let p = err_from_is_err_and c.from_residual.result c.from_residual.ensures.1 in
+    rw (p.1, p.2, refused.is) (record {
       refused =
           bracket_too_deep c.args.self.now.parser.place _ c.requires.at.ready.near c.args.self.now.depth
           c.requires.at.is
@@ -35,8 +37,8 @@ bracketed-returns-then-self-ge-MOST_LEVELS-clause-parses g t c =
 
 pub bracketed-returns-in_err-advance-clause-parses : goal.bracketed-returns-in_err-advance-clause-parses
 bracketed-returns-in_err-advance-clause-parses g t c =
-    let shallow : c.args.self.now.depth < 64 = omega arith in
-    let p = err_from_is_err_and c.from_residual.result c.from_residual.ensures.1 in
+    let shallow : c.args.self.now.depth < 64 = c.in_ok-check_level.ensures.ok in
+    let p = err_from_is_err_and c.from_residual-in_err-advance.result c.from_residual-in_err-advance.ensures.1 in
     rw (p.1, p.2) (record {
       refused =
           open_ends _ c.args.self.now.parser.place c.args.self.now.depth _ c.in_err-advance.field-0.0 c.requires.at.is
@@ -47,7 +49,7 @@ bracketed-returns-in_err-advance-clause-parses g t c =
 
 pub bracketed-returns-in_err-expression-clause-parses : goal.bracketed-returns-in_err-expression-clause-parses
 bracketed-returns-in_err-expression-clause-parses g t c =
-    let shallow : c.args.self.now.depth < 64 = omega arith in
+    let shallow : c.args.self.now.depth < 64 = c.in_ok-check_level.ensures.ok in
     let p = err_from_is_err_and c.from_residual-in_err-expression.result c.from_residual-in_err-expression.ensures.1 in
     rw (p.1, p.2) (record {
       refused =
@@ -59,7 +61,7 @@ bracketed-returns-in_err-expression-clause-parses g t c =
 
 pub bracketed-returns-in_err-expect-clause-parses : goal.bracketed-returns-in_err-expect-clause-parses
 bracketed-returns-in_err-expect-clause-parses g t c =
-    let shallow : c.args.self.now.depth < 64 = omega arith in
+    let shallow : c.args.self.now.depth < 64 = c.in_ok-check_level.ensures.ok in
     let p = err_from_is_err_and c.from_residual-in_err-expect.result c.from_residual-in_err-expect.ensures.1 in
     rw (p.1, p.2) (record {
       refused = close_refused _ _ _ c.args.self.now.parser.place _ _ c.args.self.now.depth _ c.in_err-expect.field-0.0
@@ -70,14 +72,16 @@ bracketed-returns-in_err-expect-clause-parses g t c =
 
 pub bracketed-returns-clause-parses : goal.bracketed-returns-clause-parses
 bracketed-returns-clause-parses g t c =
-    let shallow : c.args.self.now.depth < 64 = omega arith in
+    let shallow : c.args.self.now.depth < 64 = c.in_ok-check_level.ensures.ok in
     bracket_adds _ _ c.args.self.now.parser.place _ _ _ c.args.self.now.depth c.requires.at.is shallow
     c.in_ok-advance.ensures.consumes c.in_ok-expression.ensures.parses c.in_ok-expect.ensures.matches
     c.in_ok-expect.ensures.kept.ready.sound
 
-pub signed-returns-then-self-ge-MOST_LEVELS-clause-parses : goal.signed-returns-then-self-ge-MOST_LEVELS-clause-parses
-signed-returns-then-self-ge-MOST_LEVELS-clause-parses g t c =
-    rw c.refusal.ensures (record {
+pub signed-returns-in_err-check_level-clause-parses : goal.signed-returns-in_err-check_level-clause-parses
+signed-returns-in_err-check_level-clause-parses g t c =
+    let refused = c.in_err-check_level.ensures.refused in
+    let p = err_from_is_err_and c.from_residual.result c.from_residual.ensures.1 in
+    rw (p.1, p.2, refused.is) (record {
       refused = sign_too_deep c.args.self.now.parser.place _ c.requires.at.ready.near c.args.self.now.depth c.args.sign
           c.requires.at.is (omega arith);
       grown = λ device. absurd (cc);
@@ -85,8 +89,8 @@ signed-returns-then-self-ge-MOST_LEVELS-clause-parses g t c =
 
 pub signed-returns-in_err-advance-clause-parses : goal.signed-returns-in_err-advance-clause-parses
 signed-returns-in_err-advance-clause-parses g t c =
-    let shallow : c.args.self.now.depth < 64 = omega arith in
-    let p = err_from_is_err_and c.from_residual.result c.from_residual.ensures.1 in
+    let shallow : c.args.self.now.depth < 64 = c.in_ok-check_level.ensures.ok in
+    let p = err_from_is_err_and c.from_residual-in_err-advance.result c.from_residual-in_err-advance.ensures.1 in
     rw (p.1, p.2) (record {
       refused = sign_ends _ c.args.self.now.parser.place c.args.self.now.depth c.args.sign _ c.in_err-advance.field-0.0
           c.requires.at.is shallow c.in_err-advance.ensures.consumes;
@@ -99,7 +103,7 @@ signed-begin-requires g t c =
 
 pub signed-returns-in_err-unary-clause-parses : goal.signed-returns-in_err-unary-clause-parses
 signed-returns-in_err-unary-clause-parses g t c =
-    let shallow : c.args.self.now.depth < 64 = omega arith in
+    let shallow : c.args.self.now.depth < 64 = c.in_ok-check_level.ensures.ok in
     let p = err_from_is_err_and c.from_residual-in_err-unary.result c.from_residual-in_err-unary.ensures.1 in
     rw (p.1, p.2) (record {
       refused =
@@ -110,7 +114,7 @@ signed-returns-in_err-unary-clause-parses g t c =
 
 pub signed-end-requires : goal.signed-end-requires
 signed-end-requires g t c =
-    let shallow : c.args.self.now.depth < 64 = omega arith in
+    let shallow : c.args.self.now.depth < 64 = c.in_ok-check_level.ensures.ok in
     record {
       follow =
           behind_follows _ _ _ c.args.sign c.in_ok-unary.ensures.parses.tree c.args.self.now.depth shallow
@@ -120,7 +124,7 @@ signed-end-requires g t c =
 
 pub signed-returns-clause-parses : goal.signed-returns-clause-parses
 signed-returns-clause-parses g t c =
-    let shallow : c.args.self.now.depth < 64 = omega arith in
+    let shallow : c.args.self.now.depth < 64 = c.in_ok-check_level.ensures.ok in
     sign_adds _ _ _ _ c.args.self.now.parser.place _ _ c.args.self.now.depth c.args.sign c.requires.at.is shallow
     c.in_ok-advance.ensures.consumes c.in_ok-begin.ensures.told c.in_ok-unary.ensures.parses
     c.in_ok-end.ensures.told c.in_ok-unary.ensures.kept.parser.ready.sound
@@ -230,9 +234,11 @@ operand-returns-clause-parses g t c = (
   c.in_ok-levels.ensures.parses.1,
 )
 
-pub call-returns-then-self-ge-MOST_LEVELS-clause-parses : goal.call-returns-then-self-ge-MOST_LEVELS-clause-parses
-call-returns-then-self-ge-MOST_LEVELS-clause-parses g t c =
-    rw c.refusal.ensures (record {
+pub call-returns-in_err-check_level-clause-parses : goal.call-returns-in_err-check_level-clause-parses
+call-returns-in_err-check_level-clause-parses g t c =
+    let refused = c.in_err-check_level.ensures.refused in
+    let p = err_from_is_err_and c.from_residual.result c.from_residual.ensures.1 in
+    rw (p.1, p.2, refused.is) (record {
       refused = call_too_deep c.args.self.now.parser.place _ c.requires.at.ready.near c.args.self.now.depth
           (is_named _ c.requires.at.is.named) c.requires.at.is.is (omega arith);
       grown = λ device. absurd (cc);
@@ -240,10 +246,10 @@ call-returns-then-self-ge-MOST_LEVELS-clause-parses g t c =
 
 pub call-returns-in_err-callee-clause-parses : goal.call-returns-in_err-callee-clause-parses
 call-returns-in_err-callee-clause-parses g t c =
-    let shallow : c.args.self.now.depth < 64 = omega arith in
+    let shallow : c.args.self.now.depth < 64 = c.in_ok-check_level.ensures.ok in
     let is : IsCall c.args.self.now.parser.place c.args.self.now.depth =
     record { named = is_named _ c.requires.at.is.named; fits = c.requires.at.is.is; shallow = shallow } in
-    let p = err_from_is_err_and c.from_residual.result c.from_residual.ensures.1 in
+    let p = err_from_is_err_and c.from_residual-in_err-callee.result c.from_residual-in_err-callee.ensures.1 in
     rw (p.1, p.2) (record {
       refused = callee_refused _ c.args.self.now.parser.place c.args.self.now.depth _ c.in_err-callee.field-0.0 is
           c.in_err-callee.ensures.matches;
@@ -252,12 +258,12 @@ call-returns-in_err-callee-clause-parses g t c =
 
 pub call-begin_call-requires : goal.call-begin_call-requires
 call-begin_call-requires g t c =
-    let shallow : c.args.self.now.depth < 64 = omega arith in
+    let shallow : c.args.self.now.depth < 64 = c.in_ok-check_level.ensures.ok in
     record { follows = begin_follows _ c.args.self.now.depth shallow c.requires.at.builder }
 
 pub call-returns-in_err-expect-clause-parses : goal.call-returns-in_err-expect-clause-parses
 call-returns-in_err-expect-clause-parses g t c =
-    let shallow : c.args.self.now.depth < 64 = omega arith in
+    let shallow : c.args.self.now.depth < 64 = c.in_ok-check_level.ensures.ok in
     let is : IsCall c.args.self.now.parser.place c.args.self.now.depth =
     record { named = is_named _ c.requires.at.is.named; fits = c.requires.at.is.is; shallow = shallow } in
     let p = err_from_is_err_and c.from_residual-in_err-expect.result c.from_residual-in_err-expect.ensures.1 in
@@ -269,7 +275,7 @@ call-returns-in_err-expect-clause-parses g t c =
 
 pub call-returns-in_err-arguments-clause-parses : goal.call-returns-in_err-arguments-clause-parses
 call-returns-in_err-arguments-clause-parses g t c =
-    let shallow : c.args.self.now.depth < 64 = omega arith in
+    let shallow : c.args.self.now.depth < 64 = c.in_ok-check_level.ensures.ok in
     let is : IsCall c.args.self.now.parser.place c.args.self.now.depth =
     record { named = is_named _ c.requires.at.is.named; fits = c.requires.at.is.is; shallow = shallow } in
     let p = err_from_is_err_and c.from_residual-in_err-arguments.result c.from_residual-in_err-arguments.ensures.1 in
@@ -283,7 +289,7 @@ call-returns-in_err-arguments-clause-parses g t c =
 
 pub call-returns-in_err-expect-2-clause-parses : goal.call-returns-in_err-expect-2-clause-parses
 call-returns-in_err-expect-2-clause-parses g t c =
-    let shallow : c.args.self.now.depth < 64 = omega arith in
+    let shallow : c.args.self.now.depth < 64 = c.in_ok-check_level.ensures.ok in
     let is : IsCall c.args.self.now.parser.place c.args.self.now.depth =
     record { named = is_named _ c.requires.at.is.named; fits = c.requires.at.is.is; shallow = shallow } in
     let p = err_from_is_err_and c.from_residual-in_err-expect-2.result c.from_residual-in_err-expect-2.ensures.1 in
@@ -299,7 +305,7 @@ call-returns-in_err-expect-2-clause-parses g t c =
 
 pub call-end_call-requires : goal.call-end_call-requires
 call-end_call-requires g t c =
-    let shallow : c.args.self.now.depth < 64 = omega arith in
+    let shallow : c.args.self.now.depth < 64 = c.in_ok-check_level.ensures.ok in
     record {
       follows =
           end_follows _ _ _ c.args.self.now.depth c.in_ok-callee.callee c.in_ok-arguments.ensures.parses.tree shallow
@@ -310,7 +316,7 @@ call-end_call-requires g t c =
 
 pub call-returns-clause-parses : goal.call-returns-clause-parses
 call-returns-clause-parses g t c =
-    let shallow : c.args.self.now.depth < 64 = omega arith in
+    let shallow : c.args.self.now.depth < 64 = c.in_ok-check_level.ensures.ok in
     let is : IsCall c.args.self.now.parser.place c.args.self.now.depth =
     record { named = is_named _ c.requires.at.is.named; fits = c.requires.at.is.is; shallow = shallow } in
     call_adds _ _ _ _ c.args.self.now.parser.place _ _ _ _ c.args.self.now.depth c.in_ok-callee.callee is
@@ -399,12 +405,14 @@ arguments-returns-clause-parses g t c =
     let other : is_punctuator punctuator.Comma c.loop-self.self.parser.place.position.reading.next.token ≡ false = cc in
     arguments_end _ _ c.args.self.now.parser.place _ c.args.self.now.depth c.loop-self.invariant.parsed sound other
 
-pub assignment-returns-then-self-ge-MOST_LEVELS-clause-parses :
-    goal.assignment-returns-then-self-ge-MOST_LEVELS-clause-parses
-assignment-returns-then-self-ge-MOST_LEVELS-clause-parses g t c =
+pub assignment-returns-in_err-check_level-clause-parses :
+    goal.assignment-returns-in_err-check_level-clause-parses
+assignment-returns-in_err-check_level-clause-parses g t c =
     let is : IsAssignment c.args.self.now.parser.place c.args.op =
     record { named = is_named _ c.requires.at.is.named; is = c.requires.at.is.is } in
-    rw c.refusal.ensures (record {
+    let refused = c.in_err-check_level.ensures.refused in
+    let p = err_from_is_err_and c.from_residual.result c.from_residual.ensures.1 in
+    rw (p.1, p.2, refused.is) (record {
       refused =
           store_too_deep c.args.self.now.parser.place _ c.requires.at.ready.near c.args.self.now.depth c.args.op is
           (omega arith);
@@ -413,10 +421,10 @@ assignment-returns-then-self-ge-MOST_LEVELS-clause-parses g t c =
 
 pub assignment-returns-in_err-var-clause-parses : goal.assignment-returns-in_err-var-clause-parses
 assignment-returns-in_err-var-clause-parses g t c =
-    let shallow : c.args.self.now.depth < 64 = omega arith in
+    let shallow : c.args.self.now.depth < 64 = c.in_ok-check_level.ensures.ok in
     let is : IsAssignment c.args.self.now.parser.place c.args.op =
     record { named = is_named _ c.requires.at.is.named; is = c.requires.at.is.is } in
-    let p = err_from_is_err_and c.from_residual.result c.from_residual.ensures.1 in
+    let p = err_from_is_err_and c.from_residual-in_err-var.result c.from_residual-in_err-var.ensures.1 in
     rw (p.1, p.2) (record {
       refused =
           target_refused _ c.args.self.now.parser.place c.args.self.now.depth c.args.op _ c.in_err-var.field-0.0 is
@@ -433,7 +441,7 @@ assignment-advance-requires-clause-more g t c =
 
 pub assignment-returns-in_err-advance-clause-parses : goal.assignment-returns-in_err-advance-clause-parses
 assignment-returns-in_err-advance-clause-parses g t c =
-    let shallow : c.args.self.now.depth < 64 = omega arith in
+    let shallow : c.args.self.now.depth < 64 = c.in_ok-check_level.ensures.ok in
     let is : IsAssignment c.args.self.now.parser.place c.args.op =
     record { named = is_named _ c.requires.at.is.named; is = c.requires.at.is.is } in
     let p = err_from_is_err_and c.from_residual-in_err-advance.result c.from_residual-in_err-advance.ensures.1 in
@@ -445,7 +453,7 @@ assignment-returns-in_err-advance-clause-parses g t c =
 
 pub assignment-returns-in_err-right_side-clause-parses : goal.assignment-returns-in_err-right_side-clause-parses
 assignment-returns-in_err-right_side-clause-parses g t c =
-    let shallow : c.args.self.now.depth < 64 = omega arith in
+    let shallow : c.args.self.now.depth < 64 = c.in_ok-check_level.ensures.ok in
     let is : IsAssignment c.args.self.now.parser.place c.args.op =
     record { named = is_named _ c.requires.at.is.named; is = c.requires.at.is.is } in
     let p = err_from_is_err_and c.from_residual-in_err-right_side.result c.from_residual-in_err-right_side.ensures.1 in
@@ -458,7 +466,7 @@ assignment-returns-in_err-right_side-clause-parses g t c =
 
 pub assignment-store-requires : goal.assignment-store-requires
 assignment-store-requires g t c =
-    let shallow : c.args.self.now.depth < 64 = omega arith in
+    let shallow : c.args.self.now.depth < 64 = c.in_ok-check_level.ensures.ok in
     record {
       follows =
           store_follows _ _ c.args.self.now.depth c.args.op c.in_ok-var.var c.in_ok-right_side.ensures.parses.tree
@@ -469,7 +477,7 @@ assignment-store-requires g t c =
 
 pub assignment-returns-clause-parses : goal.assignment-returns-clause-parses
 assignment-returns-clause-parses g t c =
-    let shallow : c.args.self.now.depth < 64 = omega arith in
+    let shallow : c.args.self.now.depth < 64 = c.in_ok-check_level.ensures.ok in
     let is : IsAssignment c.args.self.now.parser.place c.args.op =
     record { named = is_named _ c.requires.at.is.named; is = c.requires.at.is.is } in
     assignment_adds _ _ _ c.args.self.now.parser.place _ _ _ c.args.self.now.depth c.args.op c.in_ok-var.var is shallow
@@ -507,7 +515,7 @@ arguments-expression-requires-in-loop-self g t c κs within =
 
 pub call-arguments-requires : goal.call-arguments-requires
 call-arguments-requires g t c κs within =
-    let shallow : c.args.self.now.depth < 64 = omega arith in
+    let shallow : c.args.self.now.depth < 64 = c.in_ok-check_level.ensures.ok in
     let opened : HasRoom (g.B.Build.stands c.begin_call.new.self) (room (c.args.self.now.depth + 1) 1) =
     arguments_room (g.B.Build.stands c.args.self.now.build.now) (g.B.Build.stands c.begin_call.new.self)
     c.args.self.now.depth shallow
@@ -543,7 +551,7 @@ operand-levels-requires g t c κs within =
 
 pub signed-unary-requires : goal.signed-unary-requires
 signed-unary-requires g t c κs within =
-    let shallow : c.args.self.now.depth < 64 = omega arith in
+    let shallow : c.args.self.now.depth < 64 = c.in_ok-check_level.ensures.ok in
     let opened : HasRoom (g.B.Build.stands c.begin.new.build) (room (c.args.self.now.depth + 1) 11) =
     operand_room (g.B.Build.stands c.args.self.now.build.now) (g.B.Build.stands c.begin.new.build) c.args.sign
     c.args.self.now.depth
@@ -661,7 +669,7 @@ call-returns-clause-kept g t c = record {
 
 pub signed-returns-in_err-begin-clause-parses : goal.signed-returns-in_err-begin-clause-parses
 signed-returns-in_err-begin-clause-parses g t c =
-    let shallow : c.args.self.now.depth < 64 = omega arith in
+    let shallow : c.args.self.now.depth < 64 = c.in_ok-check_level.ensures.ok in
     let p = err_from_is_err_and c.from_residual-in_err-begin.result c.from_residual-in_err-begin.ensures.1 in
     rw (p.1, p.2) (record {
       refused =
@@ -676,7 +684,7 @@ signed-returns-in_err-begin-clause-parses g t c =
 
 pub signed-returns-in_err-end-clause-parses : goal.signed-returns-in_err-end-clause-parses
 signed-returns-in_err-end-clause-parses g t c =
-    let shallow : c.args.self.now.depth < 64 = omega arith in
+    let shallow : c.args.self.now.depth < 64 = c.in_ok-check_level.ensures.ok in
     let p = err_from_is_err_and c.from_residual-in_err-end.result c.from_residual-in_err-end.ensures.1 in
     rw (p.1, p.2) (record {
       refused = (
@@ -725,7 +733,7 @@ operand-returns-in_err-binop-clause-parses g t c =
 
 pub call-returns-in_err-begin_call-clause-parses : goal.call-returns-in_err-begin_call-clause-parses
 call-returns-in_err-begin_call-clause-parses g t c =
-    let shallow : c.args.self.now.depth < 64 = omega arith in
+    let shallow : c.args.self.now.depth < 64 = c.in_ok-check_level.ensures.ok in
     let is : IsCall c.args.self.now.parser.place c.args.self.now.depth =
     record { named = is_named _ c.requires.at.is.named; fits = c.requires.at.is.is; shallow = shallow } in
     let p = err_from_is_err_and c.from_residual-in_err-begin_call.result c.from_residual-in_err-begin_call.ensures.1 in
@@ -740,7 +748,7 @@ call-returns-in_err-begin_call-clause-parses g t c =
 
 pub call-returns-in_err-end_call-clause-parses : goal.call-returns-in_err-end_call-clause-parses
 call-returns-in_err-end_call-clause-parses g t c =
-    let shallow : c.args.self.now.depth < 64 = omega arith in
+    let shallow : c.args.self.now.depth < 64 = c.in_ok-check_level.ensures.ok in
     let is : IsCall c.args.self.now.parser.place c.args.self.now.depth =
     record { named = is_named _ c.requires.at.is.named; fits = c.requires.at.is.is; shallow = shallow } in
     let p = err_from_is_err_and c.from_residual-in_err-end_call.result c.from_residual-in_err-end_call.ensures.1 in
@@ -759,7 +767,7 @@ call-returns-in_err-end_call-clause-parses g t c =
 
 pub assignment-returns-in_err-store-clause-parses : goal.assignment-returns-in_err-store-clause-parses
 assignment-returns-in_err-store-clause-parses g t c =
-    let shallow : c.args.self.now.depth < 64 = omega arith in
+    let shallow : c.args.self.now.depth < 64 = c.in_ok-check_level.ensures.ok in
     let is : IsAssignment c.args.self.now.parser.place c.args.op =
     record { named = is_named _ c.requires.at.is.named; is = c.requires.at.is.is } in
     let p = err_from_is_err_and c.from_residual-in_err-store.result c.from_residual-in_err-store.ensures.1 in

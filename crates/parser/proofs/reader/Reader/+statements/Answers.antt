@@ -21,17 +21,21 @@ use Rattle.parser.proofs.reader.Reader.+statements.Goals as goal
 
 -- Blocks.
 
-pub block-returns-then-self-ge-MOST_LEVELS-clause-parses : goal.block-returns-then-self-ge-MOST_LEVELS-clause-parses
-block-returns-then-self-ge-MOST_LEVELS-clause-parses g t c = rw c.refusal.ensures (record {
-  refused = block_too_deep _ _ c.requires.at.ready.near c.args.self.now.depth c.requires.at.ready.sound c.requires.at.is
-      (omega arith);
-  grown = λ device. absurd (cc);
-})
+pub block-returns-in_err-check_level-clause-parses : goal.block-returns-in_err-check_level-clause-parses
+block-returns-in_err-check_level-clause-parses g t c =
+    let refused = c.in_err-check_level.ensures.refused in
+    let p = err_from_is_err_and c.from_residual.result c.from_residual.ensures.1 in
+    rw (p.1, p.2, refused.is) (record {
+      refused =
+          block_too_deep _ _ c.requires.at.ready.near c.args.self.now.depth c.requires.at.ready.sound c.requires.at.is
+          (omega arith);
+      grown = λ device. absurd (cc);
+    })
 
 pub block-returns-in_err-advance-clause-parses : goal.block-returns-in_err-advance-clause-parses
 block-returns-in_err-advance-clause-parses g t c =
-    let shallow : c.args.self.now.depth < 64 = omega arith in
-    let p = err_from_is_err_and c.from_residual.result c.from_residual.ensures.1 in
+    let shallow : c.args.self.now.depth < 64 = c.in_ok-check_level.ensures.ok in
+    let p = err_from_is_err_and c.from_residual-in_err-advance.result c.from_residual-in_err-advance.ensures.1 in
     rw (p.1, p.2) (record {
       refused = refused_map _ _ _ ⊥ _ c.in_err-advance.field-0.0
           (brace_stops _ c.args.self.now.depth c.requires.at.ready.sound c.requires.at.is shallow)
@@ -42,7 +46,7 @@ block-returns-in_err-advance-clause-parses g t c =
 
 pub block-returns-in_err-declarations-clause-parses : goal.block-returns-in_err-declarations-clause-parses
 block-returns-in_err-declarations-clause-parses g t c =
-    let shallow : c.args.self.now.depth < 64 = omega arith in
+    let shallow : c.args.self.now.depth < 64 = c.in_ok-check_level.ensures.ok in
     let p =
     err_from_is_err_and c.from_residual-in_err-declarations.result c.from_residual-in_err-declarations.ensures.1 in
     rw (p.1, p.2) (record {
@@ -54,7 +58,7 @@ block-returns-in_err-declarations-clause-parses g t c =
 
 pub block-returns-in_err-statements-clause-parses : goal.block-returns-in_err-statements-clause-parses
 block-returns-in_err-statements-clause-parses g t c =
-    let shallow : c.args.self.now.depth < 64 = omega arith in
+    let shallow : c.args.self.now.depth < 64 = c.in_ok-check_level.ensures.ok in
     let p = err_from_is_err_and c.from_residual-in_err-statements.result c.from_residual-in_err-statements.ensures.1 in
     rw (p.1, p.2) (record {
       refused = refused_map _ _ _ _ _ c.in_err-statements.field-0.0
@@ -66,7 +70,7 @@ block-returns-in_err-statements-clause-parses g t c =
 
 pub block-returns-in_err-expect-clause-parses : goal.block-returns-in_err-expect-clause-parses
 block-returns-in_err-expect-clause-parses g t c =
-    let shallow : c.args.self.now.depth < 64 = omega arith in
+    let shallow : c.args.self.now.depth < 64 = c.in_ok-check_level.ensures.ok in
     let p = err_from_is_err_and c.from_residual-in_err-expect.result c.from_residual-in_err-expect.ensures.1 in
     rw (p.1, p.2) (record {
       refused = refused_map _ _ _ ⊥ _ c.in_err-expect.field-0.0
@@ -78,24 +82,28 @@ block-returns-in_err-expect-clause-parses g t c =
 
 pub block-returns-clause-parses : goal.block-returns-clause-parses
 block-returns-clause-parses g t c =
-    let shallow : c.args.self.now.depth < 64 = omega arith in
+    let shallow : c.args.self.now.depth < 64 = c.in_ok-check_level.ensures.ok in
     block_adds _ _ _ _ _ _ _ c.args.self.now.depth c.requires.at.ready.sound c.requires.at.is shallow
     c.in_ok-advance.ensures.consumes c.in_ok-declarations.ensures.matches c.in_ok-statements.ensures.parses.0
     c.in_ok-expect.ensures.matches c.in_ok-expect.ensures.kept.ready.sound
 
 -- Branches.
 
-pub branch-returns-then-self-ge-MOST_LEVELS-clause-parses : goal.branch-returns-then-self-ge-MOST_LEVELS-clause-parses
-branch-returns-then-self-ge-MOST_LEVELS-clause-parses g t c = rw c.refusal.ensures (record {
-  refused = if_too_deep _ _ c.requires.at.ready.near c.args.self.now.depth c.requires.at.ready.sound c.requires.at.is
-      (omega arith);
-  grown = λ device. absurd (cc);
-})
+pub branch-returns-in_err-check_level-clause-parses : goal.branch-returns-in_err-check_level-clause-parses
+branch-returns-in_err-check_level-clause-parses g t c =
+    let refused = c.in_err-check_level.ensures.refused in
+    let p = err_from_is_err_and c.from_residual.result c.from_residual.ensures.1 in
+    rw (p.1, p.2, refused.is) (record {
+      refused =
+          if_too_deep _ _ c.requires.at.ready.near c.args.self.now.depth c.requires.at.ready.sound c.requires.at.is
+          (omega arith);
+      grown = λ device. absurd (cc);
+    })
 
 pub branch-returns-in_err-advance-clause-parses : goal.branch-returns-in_err-advance-clause-parses
 branch-returns-in_err-advance-clause-parses g t c =
-    let shallow : c.args.self.now.depth < 64 = omega arith in
-    let p = err_from_is_err_and c.from_residual.result c.from_residual.ensures.1 in
+    let shallow : c.args.self.now.depth < 64 = c.in_ok-check_level.ensures.ok in
+    let p = err_from_is_err_and c.from_residual-in_err-advance.result c.from_residual-in_err-advance.ensures.1 in
     rw (p.1, p.2) (record {
       refused = refused_map _ _ _ ⊥ _ c.in_err-advance.field-0.0
           (if_stops _ c.args.self.now.depth c.requires.at.ready.sound c.requires.at.is shallow) (λ never. absurd never)
@@ -105,7 +113,7 @@ branch-returns-in_err-advance-clause-parses g t c =
 
 pub branch-returns-in_err-condition-clause-parses : goal.branch-returns-in_err-condition-clause-parses
 branch-returns-in_err-condition-clause-parses g t c =
-    let shallow : c.args.self.now.depth < 64 = omega arith in
+    let shallow : c.args.self.now.depth < 64 = c.in_ok-check_level.ensures.ok in
     let begun =
     if_past _ _ c.args.self.now.depth c.requires.at.ready.sound c.requires.at.is shallow
     c.in_ok-advance.ensures.consumes in
@@ -120,7 +128,7 @@ branch-returns-in_err-condition-clause-parses g t c =
 pub branch-returns-in_err-statement-clause-parses : goal.branch-returns-in_err-statement-clause-parses
 branch-returns-in_err-statement-clause-parses g t c =
     let stops = rw c.in_ok-condition.ensures.kept.depth at c.in_err-statement.ensures.parses.refused in
-    let shallow : c.args.self.now.depth < 64 = omega arith in
+    let shallow : c.args.self.now.depth < 64 = c.in_ok-check_level.ensures.ok in
     let begun =
     if_past _ _ c.args.self.now.depth c.requires.at.ready.sound c.requires.at.is shallow
     c.in_ok-advance.ensures.consumes in
@@ -141,7 +149,7 @@ branch-returns-in_err-else_part-clause-parses g t c =
     let stops =
     rw (c.in_ok-statement.ensures.kept.depth ∙ c.in_ok-condition.ensures.kept.depth) at
     c.in_err-else_part.ensures.parses.refused in
-    let shallow : c.args.self.now.depth < 64 = omega arith in
+    let shallow : c.args.self.now.depth < 64 = c.in_ok-check_level.ensures.ok in
     let begun =
     if_past _ _ c.args.self.now.depth c.requires.at.ready.sound c.requires.at.is shallow
     c.in_ok-advance.ensures.consumes in
@@ -164,7 +172,7 @@ branch-returns-clause-parses g t c =
     let second =
     rw (c.in_ok-statement.ensures.kept.depth ∙ c.in_ok-condition.ensures.kept.depth) at
     c.in_ok-else_part.ensures.parses in
-    let shallow : c.args.self.now.depth < 64 = omega arith in
+    let shallow : c.args.self.now.depth < 64 = c.in_ok-check_level.ensures.ok in
     let begun =
     if_past _ _ c.args.self.now.depth c.requires.at.ready.sound c.requires.at.is shallow
     c.in_ok-advance.ensures.consumes in
@@ -174,17 +182,21 @@ branch-returns-clause-parses g t c =
 
 -- Loops.
 
-pub repetition-returns-then-self-ge-MOST_LEVELS-clause-parses :
-    goal.repetition-returns-then-self-ge-MOST_LEVELS-clause-parses
-repetition-returns-then-self-ge-MOST_LEVELS-clause-parses g t c = rw c.refusal.ensures (record {
-  refused = while_too_deep _ _ c.requires.at.ready.near c.args.self.now.depth c.requires.at.ready.sound c.requires.at.is
-      (omega arith);
-  grown = λ device. absurd (cc);
-})
+pub repetition-returns-in_err-check_level-clause-parses :
+    goal.repetition-returns-in_err-check_level-clause-parses
+repetition-returns-in_err-check_level-clause-parses g t c =
+    let refused = c.in_err-check_level.ensures.refused in
+    let p = err_from_is_err_and c.from_residual.result c.from_residual.ensures.1 in
+    rw (p.1, p.2, refused.is) (record {
+      refused =
+          while_too_deep _ _ c.requires.at.ready.near c.args.self.now.depth c.requires.at.ready.sound c.requires.at.is
+          (omega arith);
+      grown = λ device. absurd (cc);
+    })
 
 pub repetition-returns-in_err-advance-clause-parses : goal.repetition-returns-in_err-advance-clause-parses
 repetition-returns-in_err-advance-clause-parses g t c =
-    let shallow : c.args.self.now.depth < 64 = omega arith in
+    let shallow : c.args.self.now.depth < 64 = c.in_ok-check_level.ensures.ok in
     let p = err_from_is_err_and c.from_residual-in_err-advance.result c.from_residual-in_err-advance.ensures.1 in
     rw (p.1, p.2) (record {
       refused = refused_map _ _ _ ⊥ _ c.in_err-advance.field-0.0
@@ -196,7 +208,7 @@ repetition-returns-in_err-advance-clause-parses g t c =
 
 pub repetition-returns-in_err-condition-clause-parses : goal.repetition-returns-in_err-condition-clause-parses
 repetition-returns-in_err-condition-clause-parses g t c =
-    let shallow : c.args.self.now.depth < 64 = omega arith in
+    let shallow : c.args.self.now.depth < 64 = c.in_ok-check_level.ensures.ok in
     let begun =
     while_past _ _ c.args.self.now.depth c.requires.at.ready.sound c.requires.at.is shallow
     c.in_ok-advance.ensures.consumes in
@@ -213,7 +225,7 @@ repetition-returns-in_err-condition-clause-parses g t c =
 pub repetition-returns-in_err-statement-clause-parses : goal.repetition-returns-in_err-statement-clause-parses
 repetition-returns-in_err-statement-clause-parses g t c =
     let stops = rw c.in_ok-condition.ensures.kept.depth at c.in_err-statement.ensures.parses.refused in
-    let shallow : c.args.self.now.depth < 64 = omega arith in
+    let shallow : c.args.self.now.depth < 64 = c.in_ok-check_level.ensures.ok in
     let begun =
     while_past _ _ c.args.self.now.depth c.requires.at.ready.sound c.requires.at.is shallow
     c.in_ok-advance.ensures.consumes in
@@ -232,7 +244,7 @@ repetition-returns-in_err-statement-clause-parses g t c =
 pub repetition-returns-clause-parses : goal.repetition-returns-clause-parses
 repetition-returns-clause-parses g t c =
     let body = rw c.in_ok-condition.ensures.kept.depth at c.in_ok-statement.ensures.parses in
-    let shallow : c.args.self.now.depth < 64 = omega arith in
+    let shallow : c.args.self.now.depth < 64 = c.in_ok-check_level.ensures.ok in
     let begun =
     while_past _ _ c.args.self.now.depth c.requires.at.ready.sound c.requires.at.is shallow
     c.in_ok-advance.ensures.consumes in
@@ -244,13 +256,13 @@ repetition-returns-clause-parses g t c =
 
 pub block-statements-requires : goal.block-statements-requires
 block-statements-requires g t c =
-    let shallow : c.args.self.now.depth < 64 = omega arith in
+    let shallow : c.args.self.now.depth < 64 = c.in_ok-check_level.ensures.ok in
     let place = place_deeper _ c.args.self.now.depth shallow c.requires.at.builder in
     search (rules, place)
 
 pub branch-condition-requires : goal.branch-condition-requires
 branch-condition-requires g t c =
-    let shallow : c.args.self.now.depth < 64 = omega arith in
+    let shallow : c.args.self.now.depth < 64 = c.in_ok-check_level.ensures.ok in
     record {
       at =
           record {
@@ -262,7 +274,7 @@ branch-condition-requires g t c =
 
 pub branch-if_test-requires : goal.branch-if_test-requires
 branch-if_test-requires g t c =
-    let shallow : c.args.self.now.depth < 64 = omega arith in
+    let shallow : c.args.self.now.depth < 64 = c.in_ok-check_level.ensures.ok in
     record {
       follows =
           may_test_if _ _ c.args.self.now.depth _ _ _ shallow c.requires.at.builder c.in_ok-condition.ensures.parses;
@@ -270,7 +282,7 @@ branch-if_test-requires g t c =
 
 pub branch-statement-requires : goal.branch-statement-requires
 branch-statement-requires g t c =
-    let shallow : c.args.self.now.depth < 64 = omega arith in
+    let shallow : c.args.self.now.depth < 64 = c.in_ok-check_level.ensures.ok in
     let inside =
     branch_open _ _ _ c.args.self.now.depth _ _ _ shallow c.requires.at.builder c.in_ok-condition.ensures.parses
     c.in_ok-if_test.ensures.ok in
@@ -282,7 +294,7 @@ branch-statement-requires g t c =
 pub branch-else_part-requires : goal.branch-else_part-requires
 branch-else_part-requires g t c =
     let body = rw c.in_ok-condition.ensures.kept.depth at c.in_ok-statement.ensures.parses in
-    let shallow : c.args.self.now.depth < 64 = omega arith in
+    let shallow : c.args.self.now.depth < 64 = c.in_ok-check_level.ensures.ok in
     let inside =
     branch_open _ _ _ c.args.self.now.depth _ _ _ shallow c.requires.at.builder c.in_ok-condition.ensures.parses
     c.in_ok-if_test.ensures.ok in
@@ -299,7 +311,7 @@ branch-end_if-requires g t c =
     let second =
     rw (c.in_ok-statement.ensures.kept.depth ∙ c.in_ok-condition.ensures.kept.depth) at
     c.in_ok-else_part.ensures.parses in
-    let shallow : c.args.self.now.depth < 64 = omega arith in
+    let shallow : c.args.self.now.depth < 64 = c.in_ok-check_level.ensures.ok in
     let inside =
     branch_open _ _ _ c.args.self.now.depth _ _ _ shallow c.requires.at.builder c.in_ok-condition.ensures.parses
     c.in_ok-if_test.ensures.ok in
@@ -324,7 +336,7 @@ repetition-begin_while-requires g t c =
 
 pub repetition-condition-requires : goal.repetition-condition-requires
 repetition-condition-requires g t c =
-    let shallow : c.args.self.now.depth < 64 = omega arith in
+    let shallow : c.args.self.now.depth < 64 = c.in_ok-check_level.ensures.ok in
     record {
       at =
           record {
@@ -337,13 +349,13 @@ repetition-condition-requires g t c =
 
 pub repetition-while_test-requires : goal.repetition-while_test-requires
 repetition-while_test-requires g t c =
-    let shallow : c.args.self.now.depth < 64 = omega arith in
+    let shallow : c.args.self.now.depth < 64 = c.in_ok-check_level.ensures.ok in
     let inside = loop_open _ _ c.args.self.now.depth shallow c.requires.at.builder c.in_ok-begin_while.ensures.ok in
     record { follows = may_test_loop _ _ _ _ _ _ inside c.in_ok-condition.ensures.parses }
 
 pub repetition-statement-requires : goal.repetition-statement-requires
 repetition-statement-requires g t c =
-    let shallow : c.args.self.now.depth < 64 = omega arith in
+    let shallow : c.args.self.now.depth < 64 = c.in_ok-check_level.ensures.ok in
     let inside = loop_open _ _ c.args.self.now.depth shallow c.requires.at.builder c.in_ok-begin_while.ensures.ok in
     let deep : c.condition.new.self.depth ≡ c.args.self.now.depth + 1 = c.in_ok-condition.ensures.kept.depth in
     let place : HasPlace (g.B.Build.stands c.while_test.new.self) (room c.condition.new.self.depth 1) =
@@ -354,7 +366,7 @@ repetition-statement-requires g t c =
 pub repetition-end_while-requires : goal.repetition-end_while-requires
 repetition-end_while-requires g t c =
     let body = rw c.in_ok-condition.ensures.kept.depth at c.in_ok-statement.ensures.parses in
-    let shallow : c.args.self.now.depth < 64 = omega arith in
+    let shallow : c.args.self.now.depth < 64 = c.in_ok-check_level.ensures.ok in
     let inside = loop_open _ _ c.args.self.now.depth shallow c.requires.at.builder c.in_ok-begin_while.ensures.ok in
     record {
       follows =
@@ -529,7 +541,7 @@ else_part-returns-else-is_word-clause-kept g t c = nothing_read c.args.self.now 
 
 pub branch-returns-in_err-if_test-clause-parses : goal.branch-returns-in_err-if_test-clause-parses
 branch-returns-in_err-if_test-clause-parses g t c =
-    let shallow : c.args.self.now.depth < 64 = omega arith in
+    let shallow : c.args.self.now.depth < 64 = c.in_ok-check_level.ensures.ok in
     let begun =
     if_past _ _ c.args.self.now.depth c.requires.at.ready.sound c.requires.at.is shallow
     c.in_ok-advance.ensures.consumes in
@@ -552,7 +564,7 @@ branch-returns-in_err-end_if-clause-parses g t c =
     let second =
     rw (c.in_ok-statement.ensures.kept.depth ∙ c.in_ok-condition.ensures.kept.depth) at
     c.in_ok-else_part.ensures.parses in
-    let shallow : c.args.self.now.depth < 64 = omega arith in
+    let shallow : c.args.self.now.depth < 64 = c.in_ok-check_level.ensures.ok in
     let begun =
     if_past _ _ c.args.self.now.depth c.requires.at.ready.sound c.requires.at.is shallow
     c.in_ok-advance.ensures.consumes in
@@ -572,7 +584,8 @@ branch-returns-in_err-end_if-clause-parses g t c =
 
 pub repetition-returns-in_err-begin_while-clause-parses : goal.repetition-returns-in_err-begin_while-clause-parses
 repetition-returns-in_err-begin_while-clause-parses g t c =
-    let p = err_from_is_err_and c.from_residual.result c.from_residual.ensures.1 in
+    let p =
+    err_from_is_err_and c.from_residual-in_err-begin_while.result c.from_residual-in_err-begin_while.ensures.1 in
     rw (p.1, p.2) (record {
       refused = (
         refuses c.in_err-begin_while.field-0.0 _ c.in_err-begin_while.ensures.memory,
@@ -583,7 +596,7 @@ repetition-returns-in_err-begin_while-clause-parses g t c =
 
 pub repetition-returns-in_err-while_test-clause-parses : goal.repetition-returns-in_err-while_test-clause-parses
 repetition-returns-in_err-while_test-clause-parses g t c =
-    let shallow : c.args.self.now.depth < 64 = omega arith in
+    let shallow : c.args.self.now.depth < 64 = c.in_ok-check_level.ensures.ok in
     let begun =
     while_past _ _ c.args.self.now.depth c.requires.at.ready.sound c.requires.at.is shallow
     c.in_ok-advance.ensures.consumes in
@@ -602,7 +615,7 @@ repetition-returns-in_err-while_test-clause-parses g t c =
 pub repetition-returns-in_err-end_while-clause-parses : goal.repetition-returns-in_err-end_while-clause-parses
 repetition-returns-in_err-end_while-clause-parses g t c =
     let body = rw c.in_ok-condition.ensures.kept.depth at c.in_ok-statement.ensures.parses in
-    let shallow : c.args.self.now.depth < 64 = omega arith in
+    let shallow : c.args.self.now.depth < 64 = c.in_ok-check_level.ensures.ok in
     let begun =
     while_past _ _ c.args.self.now.depth c.requires.at.ready.sound c.requires.at.is shallow
     c.in_ok-advance.ensures.consumes in

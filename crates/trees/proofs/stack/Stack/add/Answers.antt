@@ -6,10 +6,10 @@ pub returns-clause-ok : goal.returns-clause-ok
 returns-clause-ok c =
     on_ok_weaker c.push.result
     (λ is. record {
-      body = c.body-body.result;
+      body = _;
       longer = _;
-      rest = c.body-body.new.self;
-      was = c.body-body.ensures;
+      rest = c.body-heading.new.self;
+      was = c.body-heading.ensures;
       is = is;
       heading = refl;
       adds = c.in_ok-put.ensures.ok;

@@ -9,5 +9,6 @@ returns c =
     let was = c.body-heading.ensures in
     let allowed = subst (λ xs. IsAllowed (EndFunction c.args.variables) xs) was c.requires in
     rw was
-    (function_ends c.body-heading.result c.in-Function.number c.in-Function.parameters c.args.variables
+    (function_ends (record { heading = c.body-heading.result.0; statements = c.body-heading.result.1 })
+    c.in-Function.number c.in-Function.parameters c.args.variables
     c.leave_last.new.statements c.body-heading.new.self c.in-Function.is allowed c.leave_last.ensures)

@@ -6,12 +6,14 @@ pub returns-in-First-clause-ok : goal.returns-in-First-clause-ok
 returns-in-First-clause-ok c =
     rw c.body-heading.ensures
     (on_ok_weaker c.add.result
-    (when_continues c.body-heading.result c.in-First.condition c.body-heading.new.self _ c.in-First.is)
+    (when_continues (record { heading = c.body-heading.result.0; statements = c.body-heading.result.1 })
+    c.in-First.condition c.body-heading.new.self _ c.in-First.is)
     c.add.ensures.ok)
 
 pub returns-in-Second-clause-ok : goal.returns-in-Second-clause-ok
 returns-in-Second-clause-ok c =
     rw c.body-heading.ensures
     (on_ok_weaker c.add-in-Second.result
-    (choose_continues c.body-heading.result c.in-Second.condition c.in-Second.first c.body-heading.new.self _
+    (choose_continues (record { heading = c.body-heading.result.0; statements = c.body-heading.result.1 })
+    c.in-Second.condition c.in-Second.first c.body-heading.new.self _
     c.in-Second.is) c.add-in-Second.ensures.ok)

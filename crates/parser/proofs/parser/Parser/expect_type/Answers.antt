@@ -1,29 +1,30 @@
 use Rattle.std.proofs.Common.{◌≡◌, true, false}
 use Rattle.std.proofs.lemmas.Result.{err_from_is_err_and}
+use Rattle.tokens.specs.declared.located_tokens.Word.TheVariants as word
 use Rattle.grammar.specs.Grammar.{is_fault, is_word}
 use Rattle.parser.proofs.Items.{word_misfits, word_stops, word_derives}
 use Rattle.parser.proofs.Segments.{refused_map}
-use Rattle.parser.proofs.parser.Parser.expect_word.Goals as goal
+use Rattle.parser.proofs.parser.Parser.expect_type.Goals as goal
 
 pub returns-then-not-is_word-clause-matches : goal.returns-then-not-is_word-clause-matches
 returns-then-not-is_word-clause-matches g c =
     let sound : is_fault c.args.self.now.place.position.reading.next.token ≡ false = cc in
-    let misses : is_word c.args.word c.args.self.now.place.position.reading.next.token ≡ false = cc in
-    rw c.misfit.ensures (word_misfits _ c.args.word c.requires.ready.near sound misses)
+    let misses : is_word word.Type c.args.self.now.place.position.reading.next.token ≡ false = cc in
+    rw c.misfit.ensures (word_misfits _ word.Type c.requires.ready.near sound misses)
 
 pub returns-in_err-advance-clause-matches : goal.returns-in_err-advance-clause-matches
 returns-in_err-advance-clause-matches g c =
     let sound : is_fault c.args.self.now.place.position.reading.next.token ≡ false = cc in
-    let fits : is_word c.args.word c.args.self.now.place.position.reading.next.token ≡ true = cc in
+    let fits : is_word word.Type c.args.self.now.place.position.reading.next.token ≡ true = cc in
     let p = err_from_is_err_and c.from_residual.result c.from_residual.ensures.1 in
     rw (p.1, p.2)
     (refused_map _ _ _ ⊥ ⊥ c.in_err-advance.field-0.0
-    (word_stops c.args.self.now.place.position.reading c.args.self.now.place.position.scope _ c.args.word sound
+    (word_stops c.args.self.now.place.position.reading c.args.self.now.place.position.scope _ word.Type sound
     fits) (λ same. same) c.in_err-advance.ensures.consumes)
 
 pub returns-clause-matches : goal.returns-clause-matches
 returns-clause-matches g c =
     let sound : is_fault c.args.self.now.place.position.reading.next.token ≡ false = cc in
-    let fits : is_word c.args.word c.args.self.now.place.position.reading.next.token ≡ true = cc in
-    word_derives c.args.self.now.place.position.reading c.args.self.now.place.position.scope _ _ c.args.word sound fits
+    let fits : is_word word.Type c.args.self.now.place.position.reading.next.token ≡ true = cc in
+    word_derives c.args.self.now.place.position.reading c.args.self.now.place.position.scope _ _ word.Type sound fits
     c.in_ok-advance.ensures.consumes
