@@ -1,15 +1,15 @@
 -- How programs are kept, and looked up.
-use Rattle.std.proofs.Common.{◌≡◌, ℕ, ◌<◌, ◌+◌, zero, suc, List, [], ◌∷◌, ◌++◌, length, map, set, take, Option, Some, None, get_or, arith, refl, sym, ap, subst, ◌≤◌, ◌-◌, ◌∙◌}
+use Rattle.std.proofs.Common.{◌≡◌, ℕ, ◌<◌, ◌+◌, zero, suc, List, [], ◌∷◌, ◌++◌, length, map, take, Option, Some, None, get_or, arith, refl, sym, ap, subst, ◌∙◌}
 use Rattle.std.proofs.lemmas.List.{map-append, take_more}
 use Rattle.std.proofs.lemmas.Grind.{flat_map-append}
 use Rattle.std.proofs.lemmas.Option.{get_or_from_slice_get, slice_get_within}
-use Rattle.std.specs.Prelude.{slice_get, flat_map, min}
+use Rattle.std.specs.Prelude.{slice_get, flat_map}
 use Rattle.std.specs.Option.{option_to_list}
-use Rattle.battles.specs.Pairing.{paired}
 use Rattle.code.specs.Generation.{ObjectCode}
 use Rattle.operations.specs.declared.labels.Operations.{Operations}
 use Rattle.engine.specs.Executables.{Executable, IsTranslated, made_of}
-use Rattle.battles.specs.Programs.{AllSome, AreTranslated}
+use Rattle.battles.specs.Programs.{AllSome}
+use Rattle.battles.specs.Translated.{AreTranslated}
 
 -- what is kept at a place is the program of that place
 pub kept_here : {A : Type 0} (items : List A) (place : ℕ) (d : Option A) → place < length items

@@ -1,4 +1,5 @@
 pub mod Programs
+pub mod Translated
 pub mod Battle
 pub mod Windows
 pub mod Pairing

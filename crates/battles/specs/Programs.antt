@@ -1,10 +1,8 @@
 -- How programs are kept, and by which profile they were made.
-use Rattle.std.specs.Prelude.{◌≡◌, List, [], ◌∷◌, Option, Some, map, flat_map, All}
+use Rattle.std.specs.Prelude.{◌≡◌, List, Option, Some, map, flat_map, All}
 use Rattle.std.specs.Option.{option_to_list}
 use Rattle.grammar.specs.Profile.{Profile}
 use Rattle.code.specs.Generation.{ObjectCode}
-use Rattle.operations.specs.declared.labels.Operations.{Operations}
-use Rattle.engine.specs.Executables.{IsTranslated, made_of}
 
 -- each is there
 abbrev pub AllSome : {A : Type 0} → List (Option A) → Type 0
@@ -13,10 +11,3 @@ AllSome items = items ≡ map (λ x. Some x) (flat_map option_to_list items)
 -- each was made by this profile
 abbrev pub AreOfProfile : Profile → List ObjectCode → Type 0
 AreOfProfile profile codes = All (λ code. code.profile ≡ profile) codes
-
--- the operations of each program, if it has any, are its translation
-abbrev pub AreTranslated : List ObjectCode → List (Option Operations) → Type 0
-AreTranslated [] [] = Unit {0}
-AreTranslated (code ∷ codes) (operations ∷ others) =
-    IsTranslated (made_of code operations) × AreTranslated codes others
-AreTranslated _ _ = ⊥

@@ -3,7 +3,8 @@
 ghost use Rattle.std.specs.Prelude.{◌≡◌, ◌<◌, ◌≤◌, [], ◌∷◌, ◌++◌, List, length, flat_map, slice_get, Some, option_map};
 ghost use Rattle.std.specs.Option.{option_to_list};
 ghost use Rattle.battles.specs.Pairing.{paired};
-ghost use Rattle.battles.specs.Programs.{AllSome, AreOfProfile, AreTranslated};
+ghost use Rattle.battles.specs.Programs.{AllSome, AreOfProfile};
+ghost use Rattle.battles.specs.Translated.{AreTranslated};
 ghost use Rattle.code.specs.Generation.{ObjectCode};
 ghost use Rattle.engine.specs.Executables.{IsTranslated, made_of};
 

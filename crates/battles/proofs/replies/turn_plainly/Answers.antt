@@ -1,4 +1,4 @@
-use Rattle.std.proofs.Common.{◌≡◌, ◌∙◌, FitsSigned, sym, w32, rules}
+use Rattle.std.proofs.Common.{◌∙◌, FitsSigned, sym, w32, rules}
 use Rattle.std.proofs.lemmas.Int.{to_z-of_z}
 use Rattle.battles.proofs.Asking.{restarts, step_asks, step_restarts}
 use Rattle.battles.proofs.replies.turn_plainly.Goals as goal

@@ -1,9 +1,10 @@
-use Rattle.std.proofs.Common.{◌≡◌, List, [], ◌∷◌, ◌++◌, Option, Some, length, sym, ap, subst, ◌∙◌, arith}
+use Rattle.std.proofs.Common.{List, [], ◌∷◌, ◌++◌, Option, Some, length, sym, ap, subst, ◌∙◌, arith}
 use Rattle.std.specs.Prelude.{flat_map}
 use Rattle.std.specs.Option.{option_to_list}
 use Rattle.code.specs.Generation.{ObjectCode}
 use Rattle.operations.specs.declared.labels.Operations.{Operations}
-use Rattle.battles.specs.Programs.{AllSome, AreTranslated}
+use Rattle.battles.specs.Programs.{AllSome}
+use Rattle.battles.specs.Translated.{AreTranslated}
 use Rattle.battles.proofs.ProgramsLemmas.{kept_more, list_more, translated_length, translated_more}
 use Rattle.battles.proofs.programs.Programs.push.Goals as goal
 
@@ -12,10 +13,10 @@ push-requires c =
     let are = c.self.invariant.1 in (
       omega arith,
       omega (
-          arith,
-          c.requires.room,
-          ap (λ (l : List ObjectCode). length l) c.self.view_is,
-          translated_length _ _ are,
+        arith,
+        c.requires.room,
+        ap (λ (l : List ObjectCode). length l) c.self.view_is,
+        translated_length _ _ are,
       ),
     )
 

@@ -1,10 +1,10 @@
-use Rattle.std.proofs.Common.{◌≡◌, ◌<◌, ℕ, List, Option, Some, length, sym, ap, subst, ◌∙◌, arith}
+use Rattle.std.proofs.Common.{◌<◌, List, Option, length, sym, ap, subst, ◌∙◌, arith}
 use Rattle.code.specs.Generation.{ObjectCode}
 use Rattle.operations.specs.declared.labels.Operations.{Operations}
 use Rattle.std.specs.Prelude.{flat_map, slice_get}
 use Rattle.std.specs.Option.{option_to_list}
 use Rattle.engine.specs.Executables.{IsTranslated, made_of}
-use Rattle.battles.specs.Programs.{AreTranslated}
+use Rattle.battles.specs.Translated.{AreTranslated}
 use Rattle.battles.proofs.ProgramsLemmas.{translated_at, translated_length}
 use Rattle.battles.proofs.programs.Programs.translation.Goals as goal
 
