@@ -56,12 +56,8 @@ impl Model for Arena {
 
     ghost Value = { Ground };
 
-    ghost view = { λ a. record {
-      updates = a.updates;
-      robots = a.robots.items;
-      slots = a.missiles;
-      random = a.random;
-    } };
+    ghost view = { λ a.
+        record { updates = a.updates; robots = a.robots.items; slots = a.missiles; random = a.random } };
 
     ghost invariant = { λ a. (a.updates ≤ most_updates) × (length a.missiles ≡ length a.robots.items)
         × (length a.robots.items ≤ 4)
