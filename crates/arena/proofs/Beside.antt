@@ -1,5 +1,5 @@
 -- A point whose bearing is less than a right angle from a degree doesn't reach backwards there.
-use Rattle.std.proofs.Common.{◌≡◌, ◌⊎◌, inl, inr, ℕ, zero, suc, ◌+◌, ◌-◌, ◌*◌, ◌%◌, ◌<◌, ◌≤◌, ℤ, pos, negsuc, unsigned_abs, neg_ℤ, ◌+ℤ◌, ◌-ℤ◌, ◌*ℤ◌, ◌≤ℤ◌, ◌<ℤ◌, nat_lt, nat_le, Bool, true, false, ◌&&◌, refl, sym, ap, ◌∙◌, arith}
+use Rattle.std.proofs.Common.{◌≡◌, ◌⊎◌, inl, inr, ℕ, zero, suc, ◌+◌, ◌-◌, ◌%◌, ◌<◌, ◌≤◌, ℤ, pos, negsuc, unsigned_abs, neg_ℤ, ◌+ℤ◌, ◌-ℤ◌, ◌*ℤ◌, ◌≤ℤ◌, ◌<ℤ◌, nat_lt, nat_le, Bool, true, false, ◌&&◌, refl, sym, ap, ◌∙◌, arith}
 use Rattle.std.specs.Ordering.{int_eq}
 use Rattle.std.proofs.lemmas.Int.{ints, unsigned_abs-mul}
 use Rattle.std.proofs.lemmas.Nat.{mul-le}
@@ -12,40 +12,9 @@ use Rattle.arith.specs.Bearing.{reach_of, bearing_of}
 use Rattle.arith.specs.Furthest.{IsBearing}
 use Rattle.arith.proofs.Below.{passes_below, passes_at}
 use Rattle.arith.proofs.BearingLemmas.{bearing_of-IsBearing}
-use borrow.Author.Differences.{up, down, sum_is_lem, product_is}
+use Rattle.arith.proofs.Products.{distributes, distributes_less, scaled}
 
--- products of signed numbers
-distributes : (k a b : ℤ) → k *ℤ (a +ℤ b) ≡ k *ℤ a +ℤ k *ℤ b
-distributes k a b =
-    let s = sum_is_lem a b in
-    let u = ap (λ x. up k * x) s in
-    let d = ap (λ x. down k * x) s in
-    omega (arith, ints, u, d)
-
-distributes_less : (k a b : ℤ) → k *ℤ (a -ℤ b) ≡ k *ℤ a -ℤ k *ℤ b
-distributes_less k a b =
-    let s : up (a -ℤ b) + down a + up b ≡ down (a -ℤ b) + up a + down b = omega (arith, ints) in
-    let u = ap (λ x. up k * x) s in
-    let d = ap (λ x. down k * x) s in
-    omega (arith, ints, u, d)
-
-swap : (a b c : ℤ) → a *ℤ (b *ℤ c) ≡ b *ℤ (a *ℤ c)
-swap a b c =
-    let p = product_is b c in
-    let q = product_is a c in
-    let pu = ap (λ x. up a * x) p.0 in
-    let pd = ap (λ x. down a * x) p.1 in
-    let qu = ap (λ x. up b * x) q.0 in
-    let qd = ap (λ x. down b * x) q.1 in
-    let pu2 = ap (λ x. down a * x) p.0 in
-    let pd2 = ap (λ x. up a * x) p.1 in
-    let qu2 = ap (λ x. down b * x) q.0 in
-    let qd2 = ap (λ x. up b * x) q.1 in
-    omega (arith, ints, pu, pd, qu, qd, pu2, pd2, qu2, qd2)
-
-scaled : (k dx dy x y : ℤ) → k *ℤ (dx *ℤ x +ℤ dy *ℤ y) ≡ dx *ℤ (k *ℤ x) +ℤ dy *ℤ (k *ℤ y)
-scaled k dx dy x y = distributes k (dx *ℤ x) (dy *ℤ y) ∙ rw (swap k dx x, swap k dy y) refl
-
+-- products with a positive number
 times : (n : ℕ) (z : ℤ) → pos 0 ≤ℤ z → pos 0 ≤ℤ (pos n *ℤ z)
 times n (pos m) h = omega (arith, ints)
 times n (negsuc m) h = absurd (omega (arith, ints))

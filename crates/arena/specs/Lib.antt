@@ -12,6 +12,7 @@ pub mod Placed
 pub mod Answer
 pub mod Sums
 pub mod Ground
+pub mod Tracking
 pub mod Still
 pub mod Drive
 pub mod Calm

@@ -1,7 +1,2 @@
--- A point of the field.
-use Rattle.std.specs.Prelude.{ℕ}
-
--- east and north, in tenths of a metre
-pub record Point : Type 0 where
-  pub x : ℕ
-  pub y : ℕ
+-- A point of the field: east and north, in tenths of a metre.
+pub use Rattle.arena.specs.declared.points.Point.TheInside.{Inside as Point}

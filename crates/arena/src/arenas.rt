@@ -10,7 +10,7 @@ ghost use Rattle.arena.specs.Start.{start};
 ghost use Rattle.arena.specs.Placed.{placed, IsPlace};
 ghost use Rattle.arena.specs.Answer.{answer};
 ghost use Rattle.arena.specs.Ground.{most_updates, Body, body_of, lives};
-ghost use Rattle.arena.specs.Standing.{StandsFor};
+ghost use Rattle.arena.specs.Standing.{StandsFor, Answers};
 
 use crate::limits::MOST_ROBOTS;
 use crate::missiles::Missiles;
@@ -56,12 +56,8 @@ impl Model for Arena {
 
     ghost Value = { Ground };
 
-    ghost view = { λ a. record {
-      updates = a.updates;
-      robots = a.robots.items;
-      slots = a.missiles;
-      random = a.random;
-    } };
+    ghost view = { λ a.
+        record { updates = a.updates; robots = a.robots.items; slots = a.missiles; random = a.random } };
 
     ghost invariant = { λ a. (a.updates ≤ most_updates) × (length a.missiles ≡ length a.robots.items)
         × (length a.robots.items ≤ 4)
@@ -161,13 +157,7 @@ impl Arena {
     #[tactic(auto, using(crate::proofs::Represents::inside_if_lives))]
     pub fn cannon(&mut self, robot: usize, degree: i32, range: i32) -> i32
         requires { lives self.old robot ≡ true }
-        ensures reply { (f : Field) → StandsFor self.old f
-            → result ≡ (answer f robot Cannon (degree ∷ range ∷ [])).0 }
-        ensures stands { (f : Field) → StandsFor self.old f
-            → StandsFor self.new (answer f robot Cannon (degree ∷ range ∷ [])).1 }
-        ensures updates { self.new.updates ≡ self.old.updates }
-        ensures manned { length self.new.robots ≡ length self.old.robots }
-        ensures alive { lives self.new robot ≡ true }
+        ensures { Answers self.old self.new robot Cannon (degree ∷ range ∷ []) result }
     {
         if !self.missiles.may_fire(robot) {
             return 0;
@@ -185,13 +175,7 @@ impl Arena {
     #[tactic(auto, using(crate::proofs::Represents::inside_if_lives))]
     pub fn drive(&mut self, robot: usize, degree: i32, speed: i32) -> i32
         requires { lives self.old robot ≡ true }
-        ensures reply { (f : Field) → StandsFor self.old f
-            → result ≡ (answer f robot Drive (degree ∷ speed ∷ [])).0 }
-        ensures stands { (f : Field) → StandsFor self.old f
-            → StandsFor self.new (answer f robot Drive (degree ∷ speed ∷ [])).1 }
-        ensures updates { self.new.updates ≡ self.old.updates }
-        ensures manned { length self.new.robots ≡ length self.old.robots }
-        ensures alive { lives self.new robot ≡ true }
+        ensures { Answers self.old self.new robot Drive (degree ∷ speed ∷ []) result }
     {
         let speed = clamped(speed, MOST_SPEED) as u8;
         self.is_still = false;

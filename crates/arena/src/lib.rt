@@ -26,4 +26,5 @@ mod ways;
 pub use arenas::Arena;
 pub use bursts::Burst;
 pub use known::known_fields;
-pub use limits::{LAST_PLACE, MOST_BURSTS, MOST_ROBOTS};
+pub use limits::{DEADLY, LAST_PLACE, MOST_BURSTS, MOST_ROBOTS};
+pub use slots::{aimed, flight};

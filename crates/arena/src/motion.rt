@@ -19,9 +19,6 @@ use std::marker::Model;
 /// The greatest speed at which a robot turns.
 const TURNING_SPEED: u8 = 50;
 
-/// By how much the speed changes in an update.
-const ACCELERATION: u8 = 10;
-
 /// A robot's motion: where its leg leads on each axis, as a sum; how much these sums grow in an update; heading, speed,
 /// and what the robot wants. The way is never worked out anew from the leg's origin, and the place only if it is asked. A
 /// robot is steady if it wants the heading and the speed that it has.
@@ -39,41 +36,17 @@ pub struct Motion {
 }
 
 impl Model for Motion {
-    ghost use Rattle.std.specs.Prelude.{◌<◌, ◌≤◌, unsigned_abs};
-    ghost use Rattle.arena.specs.Sums.{place_of, IsInField};
     ghost use Rattle.arena.specs.Ground.{Track};
 
     ghost Value = { Track };
 
-    ghost view = { λ m. record {
-      east = m.east;
-      north = m.north;
-      x = place_of m.east;
-      y = place_of m.north;
-      step_east = m.step_east;
-      step_north = m.step_north;
-      heading = m.heading;
-      speed = m.speed;
-      wanted_heading = m.wanted_heading;
-      wanted_speed = m.wanted_speed;
-      steady = m.steady;
-    } };
+    ghost use Rattle.arena.specs.Tracking.{IsTrack, track, tracked};
 
-    ghost inverse = { λ m. record {
-      east = m.east;
-      north = m.north;
-      step_east = m.step_east;
-      step_north = m.step_north;
-      heading = m.heading;
-      speed = m.speed;
-      wanted_heading = m.wanted_heading;
-      wanted_speed = m.wanted_speed;
-      steady = m.steady;
-    } };
+    ghost view = { track };
 
-    ghost invariant = { λ m. IsInField m.east × IsInField m.north
-        × (unsigned_abs m.step_east ≤ 10000000) × (unsigned_abs m.step_north ≤ 10000000)
-        × (m.heading < 360) × (m.wanted_heading < 360) × (m.speed ≤ 100) × (m.wanted_speed ≤ 100) };
+    ghost inverse = { tracked };
+
+    ghost invariant = { λ m. IsTrack (view m) };
 }
 
 impl Default for Motion {
@@ -362,6 +335,9 @@ fn is_steady(heading: u16, wanted_heading: u16, speed: u8, wanted_speed: u8) -> 
 {
     wanted_heading == heading && speed == wanted_speed
 }
+
+/// By how much the speed changes in an update.
+const ACCELERATION: u8 = 10;
 
 /// Returns the speed after an update, towards the wanted one.
 #[tactic(auto, using(std::proofs::lemmas::Bool::Decides::nat_tests), unfolding(crate::specs::Leg::approached))]

@@ -21,9 +21,9 @@ impl Model for Point {
 
     ghost Value = { Point };
 
-    ghost view = { λ p. record { x = p.x; y = p.y } };
+    ghost view = { λ p. p };
 
-    ghost inverse = { λ p. record { x = p.x; y = p.y } };
+    ghost inverse = { λ p. p };
 
     ghost invariant = { λ p. (p.x ≤ last_place) × (p.y ≤ last_place) };
 }

@@ -68,7 +68,7 @@ impl Missile {
 
 /// Returns how many updates a missile flies to this range in metres.
 #[tactic(auto, unfolding(crate::specs::Shots::flight))]
-fn flight(range: u16) -> u32
+pub fn flight(range: u16) -> u32
     requires { range ≤ 700 }
     ensures value { result ≡ flight range }
     ensures most { result ≤ 14 }
@@ -78,7 +78,7 @@ fn flight(range: u16) -> u32
 
 /// Returns where a missile bursts on an axis, from a place in tenths of a metre and at a range in metres, by the part of
 /// the range that lies on the axis.
-fn aimed(from: u16, range: u16, part: i32) -> u16
+pub fn aimed(from: u16, range: u16, part: i32) -> u16
     requires from { from ≤ last_place }
     requires range { range ≤ 700 }
     requires part { unsigned_abs part ≤ 100000 }

@@ -151,23 +151,21 @@ fn stops_at_a_wall(rt: HostRuntime) {
 
 #[test]
 fn hurts_by_rings(rt: HostRuntime) {
-    let table = [
-        (2050, 1000, 10),
-        (2030, 1040, 10),
-        (2051, 1000, 5),
-        (2036, 1036, 5),
-        (2200, 1000, 5),
-        (2201, 1000, 3),
-        (2400, 1000, 3),
-        (2401, 1000, 0),
+    let rings: [(u8, &[(u16, u16)]); 4] = [
+        (10, &[(2050, 1000), (2030, 1040)]),
+        (5, &[(2051, 1000), (2036, 1036), (2200, 1000)]),
+        (3, &[(2201, 1000), (2400, 1000)]),
+        (0, &[(2401, 1000)]),
     ];
-    for (x, y, want) in table {
-        let mut arena = arena_of(&[(1000, 1000), (x, y)]);
-        assert_eq!(rt; reply(&rt, &mut arena, 0, Intrinsic::Cannon, [0, 100]), 1);
-        arena.update();
-        assert_eq!(rt; arena.damage(1), 0);
-        arena.update();
-        assert_eq!(rt; arena.damage(1), want, "at ({x}, {y})");
+    for (want, places) in rings {
+        for (x, y) in places {
+            let mut arena = arena_of(&[(1000, 1000), (*x, *y)]);
+            assert_eq!(rt; reply(&rt, &mut arena, 0, Intrinsic::Cannon, [0, 100]), 1);
+            arena.update();
+            assert_eq!(rt; arena.damage(1), 0);
+            arena.update();
+            assert_eq!(rt; arena.damage(1), want, "at ({x}, {y})");
+        }
     }
 }
 

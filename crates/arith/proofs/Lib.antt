@@ -6,6 +6,7 @@ pub mod CircleLemmas
 pub mod RootLemmas
 pub mod BearingLemmas
 pub mod LaneLemmas
+pub mod Products
 mod Turning
 mod Arcs
 mod Reached

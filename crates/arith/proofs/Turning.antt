@@ -1,6 +1,5 @@
 -- The ways from each degree of the round to the next turn left. So a point's reach rises along the half round before
--- its
--- bearing, and falls along the half after it.
+-- its bearing, and falls along the half after it.
 use Rattle.std.proofs.Common.{◌≡◌, ℕ, zero, suc, ◌+◌, ◌*◌, ◌-◌, ◌/◌, ◌%◌, ◌<◌, ◌≤◌, ◌⊎◌, inl, inr, ℤ, pos, negsuc, neg_ℤ, ◌+ℤ◌, ◌-ℤ◌, ◌*ℤ◌, ◌≤ℤ◌, ◌<ℤ◌, int_lt, refl, sym, ap, subst, ◌∙◌, Bool, true, arith}
 use Rattle.std.specs.Ordering.{int_eq}
 use Rattle.std.proofs.lemmas.Int.{ints, by_lt_z}
@@ -9,49 +8,9 @@ use Rattle.arith.specs.Table.{sines}
 use Rattle.arith.specs.Circle.{sine_at, cosine_at}
 use Rattle.arith.specs.Bearing.{reach_of}
 use Rattle.arith.proofs.Below.{passes_below, passes_at}
-use borrow.Author.Differences.{up, down, sum_is_lem, product_is, neg_is}
+use Rattle.arith.proofs.Products.{distributes, distributes_less, commutes, swap, negated, scaled}
 
--- products of signed numbers
-distributes : (k a b : ℤ) → k *ℤ (a +ℤ b) ≡ k *ℤ a +ℤ k *ℤ b
-distributes k a b =
-    let s = sum_is_lem a b in
-    let u = ap (λ x. up k * x) s in
-    let d = ap (λ x. down k * x) s in
-    omega (arith, ints, u, d)
-
-distributes_less : (k a b : ℤ) → k *ℤ (a -ℤ b) ≡ k *ℤ a -ℤ k *ℤ b
-distributes_less k a b =
-    let s : up (a -ℤ b) + down a + up b ≡ down (a -ℤ b) + up a + down b = omega (arith, ints) in
-    let u = ap (λ x. up k * x) s in
-    let d = ap (λ x. down k * x) s in
-    omega (arith, ints, u, d)
-
-commutes : (a b : ℤ) → a *ℤ b ≡ b *ℤ a
-commutes a b = omega (arith, ints)
-
-swap : (a b c : ℤ) → a *ℤ (b *ℤ c) ≡ b *ℤ (a *ℤ c)
-swap a b c =
-    let p = product_is b c in
-    let q = product_is a c in
-    let pu = ap (λ x. up a * x) p.0 in
-    let pd = ap (λ x. down a * x) p.1 in
-    let qu = ap (λ x. up b * x) q.0 in
-    let qd = ap (λ x. down b * x) q.1 in
-    let pu2 = ap (λ x. down a * x) p.0 in
-    let pd2 = ap (λ x. up a * x) p.1 in
-    let qu2 = ap (λ x. down b * x) q.0 in
-    let qd2 = ap (λ x. up b * x) q.1 in
-    omega (arith, ints, pu, pd, qu, qd, pu2, pd2, qu2, qd2)
-
-negated : (a b : ℤ) → neg_ℤ a *ℤ b ≡ neg_ℤ (a *ℤ b)
-negated a b =
-    let n = neg_is a in
-    let u = ap (λ x. x * up b) n.0 in
-    let d = ap (λ x. x * down b) n.1 in
-    let u2 = ap (λ x. x * down b) n.0 in
-    let d2 = ap (λ x. x * up b) n.1 in
-    omega (arith, ints, u, d, u2, d2)
-
+-- the signs of products
 both_above : (a b : ℤ) → pos 0 <ℤ a → pos 0 <ℤ b → pos 0 <ℤ (a *ℤ b)
 both_above (pos zero) b h k = absurd (omega (arith, ints))
 both_above (negsuc a) b h k = absurd (omega (arith, ints))
@@ -105,10 +64,6 @@ none_from_product : (k z : ℤ) → pos 0 <ℤ k → k *ℤ z ≡ pos 0 → z �
 none_from_product k z h e =
     by_lt_z (pos 0) z (λ l. absurd (omega (arith, ints, both_above k z h l)))
     (λ l. by_lt_z z (pos 0) (λ m. absurd (omega (arith, ints, above_below k z h m))) (λ m. omega (arith, ints)))
-
--- a scaled sum of two products
-scaled : (k px py x y : ℤ) → k *ℤ (px *ℤ x +ℤ py *ℤ y) ≡ px *ℤ (k *ℤ x) +ℤ py *ℤ (k *ℤ y)
-scaled k px py x y = distributes k (px *ℤ x) (py *ℤ y) ∙ rw (swap k px x, swap k py y) refl
 
 -- a way v by two others, a and c
 combined_x : (ax ay cx cy vx vy : ℤ) →

@@ -49,94 +49,39 @@ fn operators(rt: HostRuntime) {
     }
 }
 
+/// Compares what a function gives for each number with what stands after the number.
+macro_rules! gives {
+    ($rt:expr; $function:ident; $($number:expr => $want:expr),+) => {
+        for (number, want) in [$(($number, $want)),+] {
+            assert_eq!($rt; $function(number), want, "{number}");
+        }
+    };
+}
+
 #[test]
 fn degrees(rt: HostRuntime) {
-    for (degrees, want) in [
-        (0, 0),
-        (359, 359),
-        (360, 0),
-        (725, 5),
-        (-1, 359),
-        (-360, 0),
-        (LEAST, 232),
-    ] {
-        assert_eq!(rt; norm_degree(degrees), want, "{degrees} degrees");
-    }
+    gives!(rt; norm_degree; 0 => 0, 359 => 359, 360 => 0, 725 => 5, -1 => 359, -360 => 0, LEAST => 232);
 }
 
 #[test]
 fn sines_and_tangents(rt: HostRuntime) {
-    for (degrees, want) in [
-        (0, 0),
-        (45, 70711),
-        (-90, -100000),
-        (390, 50000),
-        (150, 50000),
-        (210, -50000),
-    ] {
-        assert_eq!(rt; sin(degrees), want, "sin({degrees})");
-    }
-    for (degrees, want) in [
-        (0, 100000),
-        (60, 50000),
-        (90, 0),
-        (180, -100000),
-        (-60, 50000),
-        (240, -50000),
-    ] {
-        assert_eq!(rt; cos(degrees), want, "cos({degrees})");
-    }
-    for (degrees, want) in [
-        (0, 0),
-        (45, 100000),
-        (90, GREATEST),
-        (270, GREATEST),
-        (135, -100000),
-        (-45, -100000),
-        (89, 5728996),
-    ] {
-        assert_eq!(rt; tan(degrees), want, "tan({degrees})");
-    }
+    gives!(rt; sin; 0 => 0, 45 => 70711, -90 => -100000, 390 => 50000, 150 => 50000, 210 => -50000);
+    gives!(rt; cos; 0 => 100000, 60 => 50000, 90 => 0, 180 => -100000, -60 => 50000, 240 => -50000);
+    gives!(rt; tan; 0 => 0, 45 => 100000, 90 => GREATEST, 270 => GREATEST, 135 => -100000);
+    gives!(rt; tan; -45 => -100000, 89 => 5728996);
 }
 
 #[test]
 fn arctangents(rt: HostRuntime) {
-    let table = [
-        (0, 0),
-        (56582, 29),
-        (56583, 30),
-        (57735, 30),
-        (58909, 30),
-        (58910, 31),
-        (98283, 44),
-        (98284, 45),
-        (100000, 45),
-        (101775, 45),
-        (101776, 46),
-        (-57735, -30),
-        (11457991, 89),
-        (11457992, 90),
-        (GREATEST, 90),
-        (LEAST, -90),
-    ];
-    for (ratio, want) in table {
-        assert_eq!(rt; atan(ratio), want, "atan({ratio})");
-    }
+    gives!(rt; atan; 0 => 0, 56582 => 29, 56583 => 30, 57735 => 30, 58909 => 30, 58910 => 31);
+    gives!(rt; atan; 98283 => 44, 98284 => 45, 100000 => 45, 101775 => 45, 101776 => 46);
+    gives!(rt; atan; -57735 => -30, 11457991 => 89, 11457992 => 90, GREATEST => 90, LEAST => -90);
 }
 
 #[test]
 fn roots(rt: HostRuntime) {
-    for (number, want) in [
-        (0, 0),
-        (15, 3),
-        (16, 4),
-        (-16, 4),
-        (1996002, 1412),
-        (GREATEST, 46340),
-        (LEAST, 46340),
-    ] {
-        assert_eq!(rt; root(number), want, "root({number})");
-    }
+    gives!(rt; root; 0 => 0, 15 => 3, 16 => 4, -16 => 4, 1996002 => 1412);
+    gives!(rt; root; GREATEST => 46340, LEAST => 46340);
 }
 
 #[test]

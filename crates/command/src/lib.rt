@@ -9,6 +9,6 @@ mod running;
 pub use endings::Ending;
 pub use openers::{Disk, OpenFault, Opener};
 pub use process::program_of;
-pub use running::{program, program_over};
+pub use running::program_over;
 pub use sinks::StreamSink;
 pub use tokens::{FileFeed, KnownFeed};

@@ -9,7 +9,8 @@ ghost use Rattle.command.specs.Files.{real_files};
 ghost use Rattle.command.specs.Whole.{Concludes, IsStatusOf, TellsWrites};
 
 use crate::endings::Ending;
-use crate::running::program;
+use crate::openers::Disk;
+use crate::running::program_over;
 use series::Sink;
 use std::alloc::AllocError;
 use std::io;
@@ -39,7 +40,10 @@ pub fn program_of<R: Files + AllocGlobal, O: Sink, E: Sink>(
 {
     match words {
         Ok(words) => match borrowed(rt, words.as_slice()) {
-            Ok(words) => program(rt, after_first(words.as_slice()), out, err),
+            Ok(words) => {
+                let words = after_first(words.as_slice());
+                program_over(rt.alloc(), &Disk::new(rt), words, out, err)
+            }
             Err(_) => Ending::OutOfMemory.end(err),
         },
         Err(fault) => unread(fault.kind()).end(err),

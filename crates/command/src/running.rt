@@ -5,40 +5,21 @@ ghost use Rattle.series.specs.Pieces.{taken};
 ghost use Rattle.series.specs.Failures.{AreReady, accounts, failures};
 ghost use Rattle.arguments.specs.Asked.{asked};
 ghost use Rattle.command.specs.Endings.{Accounts};
-ghost use Rattle.command.specs.Files.{EachShows, HasFailed, real_files};
+ghost use Rattle.command.specs.Files.{EachShows, HasFailed};
 ghost use Rattle.sinks.specs.Puts.{CanFail};
 ghost use Rattle.command.specs.Whole.{Concludes, Ends, IsNotOpened, IsStatusOf, RunsTo, TellsWrites};
 ghost use Rattle.series.specs.Runs.{told_by};
 
 use crate::endings::Ending;
-use crate::openers::{Disk, OpenFault, Opener};
+use crate::openers::{OpenFault, Opener};
 use arguments::read_words;
 use series::{RunFault, Sink, Status, run};
 use settings::{Settings, UseFault};
 use std::alloc::Global;
-use std::rt::Files;
 use tokens::Feed;
 
-/// Runs the program: `words` are those after its name, `out` takes its texts, and `err` takes diagnostics and lines of
-/// its own. Answers the exit status.
-pub fn program<'a, R: Files + AllocGlobal, O: Sink, E: Sink>(
-    rt: &R,
-    words: &'a [&'a str],
-    out: &mut O,
-    err: &mut E,
-) -> u8
-    requires text { CanFail (O.written out.old) }
-    requires faults { (E.written err.old).failures < 2 ^ 64 - 2 }
-    ensures status { IsStatusOf (asked (map (λ word. word.now) words.now)) result }
-    ensures writes { TellsWrites result (O.written out.old) (E.written err.old) (O.written out.new)
-        (E.written err.new) }
-    ensures ended { Concludes real_files (asked (map (λ word. word.now) words.now)) result
-        (O.written out.old) (E.written err.old) (O.written out.new) (E.written err.new) }
-{
-    program_over(rt.alloc(), &Disk::new(rt), words, out, err)
-}
-
-/// Runs the program over files that this opens.
+/// Runs the program over files that `disk` opens: `words` are those after its name, `out` takes its texts, and `err`
+/// takes diagnostics and lines of its own. Answers the exit status.
 pub fn program_over<'a, D: Opener, O: Sink, E: Sink>(
     alloc: Global,
     disk: &D,

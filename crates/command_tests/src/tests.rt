@@ -4,9 +4,7 @@
 ghost use Rattle.std.specs.Prelude.{Some, ⊤};
 
 use arguments::read_words;
-use command::{
-    FileFeed, KnownFeed, OpenFault, Opener, StreamSink, program, program_of, program_over,
-};
+use command::{Disk, FileFeed, KnownFeed, OpenFault, Opener, StreamSink, program_of, program_over};
 use series::{Recorder, Sink};
 use settings::{Mode, UseFault};
 use std::alloc::{Allocator, Global};
@@ -45,7 +43,11 @@ fn check<'a, R: Abort + Files + AllocGlobal>(
 ) -> Result<(), Fail> {
     let mut out = Recorder::new(rt.alloc());
     let mut err = Recorder::new(rt.alloc());
-    assert_eq!(rt; program(rt, words, &mut out, &mut err), status, "{words:?}");
+    assert_eq!(rt;
+        program_over(rt.alloc(), &Disk::new(rt), words, &mut out, &mut err),
+        status,
+        "{words:?}"
+    );
     assert_eq!(rt; taken(rt, &out)?.as_slice(), text, "{words:?}");
     assert_eq!(rt; taken(rt, &err)?.as_slice(), faults, "{words:?}");
     Ok(())
@@ -314,7 +316,11 @@ fn check_full<'a, R: Abort + Files + AllocGlobal>(
 ) -> Result<(), Fail> {
     let mut out = Recorder::new(rt.alloc()).with_room(10);
     let mut err = Recorder::new(rt.alloc());
-    assert_eq!(rt; program(rt, words, &mut out, &mut err), 4, "{words:?}");
+    assert_eq!(rt;
+        program_over(rt.alloc(), &Disk::new(rt), words, &mut out, &mut err),
+        4,
+        "{words:?}"
+    );
     assert_eq!(rt; taken(rt, &out)?.as_slice(), text, "{words:?}");
     let line = b"crobots: cannot write\n".as_slice();
     assert_eq!(rt; taken(rt, &err)?.as_slice(), line, "{words:?}");
@@ -333,7 +339,10 @@ fn not_written(rt: HostRuntime) -> Result<(), Fail> {
 fn own_line_not_written(rt: HostRuntime) -> Result<(), Fail> {
     let mut out = Recorder::new(rt.alloc());
     let mut err = Recorder::new(rt.alloc()).with_room(5);
-    assert_eq!(rt; program(&rt, &["-x"], &mut out, &mut err), 2);
+    assert_eq!(rt;
+        program_over(rt.alloc(), &Disk::new(&rt), &["-x"], &mut out, &mut err),
+        2
+    );
     assert_eq!(rt; taken(&rt, &err)?.as_slice(), b"usage".as_slice());
     Ok(())
 }
@@ -525,8 +534,10 @@ impl Files for NoMemory<'_> {
 fn out_of_memory(rt: HostRuntime) -> Result<(), Fail> {
     let mut out = Recorder::new(rt.alloc());
     let mut err = Recorder::new(rt.alloc());
+    let broken = NoMemory(&rt);
+    let disk = Disk::new(&broken);
     assert_eq!(rt;
-        program(&NoMemory(&rt), &["-c", "a.r"], &mut out, &mut err),
+        program_over(broken.alloc(), &disk, &["-c", "a.r"], &mut out, &mut err),
         5
     );
     assert_eq!(rt; taken(&rt, &out)?.as_slice(), b"".as_slice());

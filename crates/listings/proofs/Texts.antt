@@ -1,11 +1,10 @@
 -- The texts of members, one after another, and what a sink in memory took of one text.
-use Rattle.std.specs.Prelude.{ℕ, zero, suc, ◌+◌, ◌≡◌, ◌<◌, ◌≤◌, List, [], ◌∷◌, ◌++◌, codes, length, map, take, get_or, Result, Ok, Err, Some, None}
+use Rattle.std.specs.Prelude.{ℕ, zero, suc, ◌+◌, ◌≡◌, ◌<◌, List, [], ◌∷◌, ◌++◌, codes, length, map, take, get_or, Some, None}
 use Rattle.std.specs.List.{concat}
 use Rattle.std.proofs.Common.{refl, sym, ap, ◌∙◌, arith, append_assoc, add-zero, add-one}
 use Rattle.std.specs.Fmt.{decimal}
 use Rattle.std.proofs.lemmas.List.{append-nil, length-map}
 use Rattle.sinks.specs.Portions.{Contents, Portions}
-use Rattle.sinks.specs.Puts.{Puts}
 use Rattle.code.specs.declared.opcode.Coded.{Coded}
 use Rattle.code.specs.Opcodes.{instr_in}
 use Rattle.listings.specs.Listing.{code_lines, instr_line, numbered}

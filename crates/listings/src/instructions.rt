@@ -70,16 +70,12 @@ fn add_variable<S: Sink>(pen: &mut Pen, sink: &mut S, variable: Var)
     ensures countable { MayFail pen.new (S.written sink.new) }
     ensures text { Adds (S.written sink.old) pen.old (S.written sink.new) pen.new (variable_text variable) }
 {
-    match variable {
-        Var::External(number) => {
-            pen.push(sink, b'E');
-            pen.number(sink, u32::from(number));
-        }
-        Var::Local(number) => {
-            pen.push(sink, b'L');
-            pen.number(sink, u32::from(number));
-        }
-    }
+    let (letter, number) = match variable {
+        Var::External(number) => (b'E', number),
+        Var::Local(number) => (b'L', number),
+    };
+    pen.push(sink, letter);
+    pen.number(sink, u32::from(number));
 }
 
 /// Adds a constant.
@@ -90,10 +86,8 @@ fn add_value<S: Sink>(pen: &mut Pen, sink: &mut S, value: i32)
 {
     if value < 0 {
         pen.push(sink, b'-');
-        pen.number(sink, value.unsigned_abs());
-    } else {
-        pen.number(sink, value.unsigned_abs());
     }
+    pen.number(sink, value.unsigned_abs());
 }
 
 /// Adds a function's number, or an intrinsic's name.

@@ -19,17 +19,6 @@ pub enum Fault {
     Memory,
 }
 
-impl From<AllocError> for Fault {
-    ghost use Rattle.std.specs.Prelude.{◌≡◌};
-    ghost use Rattle.tools.specs.declared.faults.Fault.TheVariants.{Memory};
-
-    ghost from_gives = { λ _ e. e ≡ Memory };
-
-    fn from(_fault: AllocError) -> Fault {
-        Fault::Memory
-    }
-}
-
 impl Fault {
     /// Returns the status that the program ends with, 1 to 5.
     pub fn status(self) -> u8
@@ -46,5 +35,16 @@ impl Fault {
             Fault::Write => 4,
             Fault::Memory => 5,
         }
+    }
+}
+
+impl From<AllocError> for Fault {
+    ghost use Rattle.std.specs.Prelude.{◌≡◌};
+    ghost use Rattle.tools.specs.declared.faults.Fault.TheVariants.{Memory};
+
+    ghost from_gives = { λ _ e. e ≡ Memory };
+
+    fn from(_fault: AllocError) -> Fault {
+        Fault::Memory
     }
 }

@@ -7,7 +7,7 @@ use crate::tellers::Teller;
 use arena::Arena;
 use playing::{Pilot, Question, Turn, Watcher};
 use std::alloc::AllocError;
-use tools::{Fault, Span};
+use tools::Fault;
 
 /// The names of the columns.
 const COLUMNS: &str = "cycle\trobot\tfunction\tline\tcall\treply";
@@ -16,7 +16,6 @@ const COLUMNS: &str = "cycle\trobot\tfunction\tline\tcall\treply";
 #[derive(Drop)]
 pub struct Asks<'a> {
     rows: Rows<'a>,
-    span: Span,
     notes: &'a [Note],
 }
 
@@ -24,8 +23,7 @@ impl<'a> Asks<'a> {
     /// Makes the questions of a match that was not begun.
     pub fn new(rt: &'a HostRuntime, request: &Request<'_>, notes: &'a [Note]) -> Asks<'a> {
         Asks {
-            rows: Rows::new(rt, COLUMNS),
-            span: request.span,
+            rows: Rows::new(rt, request.span, COLUMNS),
             notes,
         }
     }
@@ -33,7 +31,7 @@ impl<'a> Asks<'a> {
 
 impl Watcher for Asks<'_> {
     fn asked(&mut self, turn: Turn, pilot: &Pilot<'_>, question: Question, _arena: &Arena) {
-        if !self.span.has(turn.cycle, turn.robot) {
+        if !self.rows.span.has(turn.cycle, turn.robot) {
             return;
         }
         let address = pilot.machine().address();

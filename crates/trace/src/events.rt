@@ -10,7 +10,7 @@ use arena::{Arena, MOST_ROBOTS};
 use code::Cause;
 use findings::{Event, Field, Listener, Seen, Stance};
 use playing::{Pilot, Question, Turn, Watcher, word_of};
-use tools::{Fault, Span};
+use tools::Fault;
 
 /// The names of the columns.
 const COLUMNS: &str = "cycle\trobot\tkind\ta\tb\tc\td\te";
@@ -19,7 +19,6 @@ const COLUMNS: &str = "cycle\trobot\tkind\ta\tb\tc\td\te";
 #[derive(Drop)]
 pub struct Events<'a> {
     rows: Rows<'a>,
-    span: Span,
     notes: &'a [Note],
     is_film: bool,
     seen: [Seen; MOST_ROBOTS],
@@ -30,8 +29,7 @@ impl<'a> Events<'a> {
     /// Makes the events of a match that was not begun.
     pub fn new(rt: &'a HostRuntime, request: &Request<'_>, notes: &'a [Note]) -> Events<'a> {
         Events {
-            rows: Rows::new(rt, COLUMNS),
-            span: request.span,
+            rows: Rows::new(rt, request.span, COLUMNS),
             notes,
             is_film: request.is_film(),
             seen: [Seen::default(); MOST_ROBOTS],
@@ -44,7 +42,7 @@ impl<'a> Events<'a> {
         let notes = self.notes;
         for robot in 0..self.robots {
             if let Some(note) = note_of(notes, robot)
-                && self.span.has_robot(robot)
+                && self.rows.span.has_robot(robot)
             {
                 let name = [Field::Text(note.name.as_str())];
                 self.rows.event(0, robot, &Event::new("name", &name));
@@ -54,7 +52,7 @@ impl<'a> Events<'a> {
 
     /// Looks at the robots after an update, or at the begin, up to the last cycle that is looked at.
     fn look(&mut self, cycle: u32, arena: &Arena) {
-        if cycle <= self.span.to {
+        if cycle <= self.rows.span.to {
             for robot in 0..self.robots.min(arena.robot_count()) {
                 self.look_at(cycle, robot, arena);
             }
@@ -72,7 +70,7 @@ impl<'a> Events<'a> {
                 self.tell(cycle, robot, &Event::new("death", &[]));
             }
         }
-        if self.is_film && self.span.has(cycle, robot) {
+        if self.is_film && self.rows.span.has(cycle, robot) {
             self.follow(robot, Stance::of(cycle, robot, arena));
         }
     }
@@ -104,8 +102,8 @@ impl<'a> Events<'a> {
                     .event_before(end.cycle, robot, &Event::stance("at", &end));
             }
         }
-        if self.is_film && self.span.to < cycle {
-            self.tell_damages(self.span.to, "stop");
+        if self.is_film && self.rows.span.to < cycle {
+            self.tell_damages(self.rows.span.to, "stop");
         } else {
             self.tell_damages(cycle, "end");
         }
@@ -125,7 +123,7 @@ impl<'a> Events<'a> {
 impl Listener for Events<'_> {
     /// Writes an event, if its cycle and its robot are looked at.
     fn tell(&mut self, cycle: u32, robot: usize, event: &Event<'_>) {
-        if self.span.has(cycle, robot) {
+        if self.rows.span.has(cycle, robot) {
             self.rows.event(cycle, robot, event);
         }
     }

@@ -1,13 +1,17 @@
 //! Rows of fields with tabs between them, on standard output.
 
 use findings::{Event, Field, MOST_FIELDS};
+use playing::Turn;
 use std::alloc::AllocError;
-use tools::{Fault, Output};
+use tools::{Fault, Output, Span};
 
-/// Rows that are written on standard output. After a fault nothing more is written, and `finish` answers it.
+/// Rows of what is looked at, which are written on standard output. After a fault nothing more is written, and `finish`
+/// answers it.
 #[derive(Drop)]
 pub struct Rows<'a> {
     rt: &'a HostRuntime,
+    /// What is looked at.
+    pub span: Span,
     output: Output,
     pending: String,
     fault: Option<Fault>,
@@ -15,9 +19,10 @@ pub struct Rows<'a> {
 
 impl<'a> Rows<'a> {
     /// Makes rows, the first of which has the names of the columns.
-    pub fn new(rt: &'a HostRuntime, columns: &str) -> Rows<'a> {
+    pub fn new(rt: &'a HostRuntime, span: Span, columns: &str) -> Rows<'a> {
         let mut rows = Rows {
             rt,
+            span,
             output: Output::new(rt.alloc()),
             pending: String::new(rt.alloc()),
             fault: None,
@@ -34,13 +39,13 @@ impl<'a> Rows<'a> {
 
     /// Adds a row of an event: its cycle, its robot, its kind, and its fields.
     pub fn event(&mut self, cycle: u32, robot: usize, event: &Event<'_>) {
-        let added = added_event(&mut self.pending, cycle, robot, event);
+        let added = added_event(&mut self.pending, Turn { cycle, robot }, event);
         self.note(added.map_err(Fault::from));
     }
 
     /// Adds a row of an event in front of those that were added since the last `pass`.
     pub fn event_before(&mut self, cycle: u32, robot: usize, event: &Event<'_>) {
-        let added = added_event(self.output.text(), cycle, robot, event);
+        let added = added_event(self.output.text(), Turn { cycle, robot }, event);
         self.note(added.map_err(Fault::from));
     }
 
@@ -93,13 +98,8 @@ fn added_line(text: &mut String, line: &str) -> Result<(), AllocError> {
 }
 
 /// Adds a row of an event to a text. Fields that it doesn't have are empty.
-fn added_event(
-    text: &mut String,
-    cycle: u32,
-    robot: usize,
-    event: &Event<'_>,
-) -> Result<(), AllocError> {
-    let (number, kind) = (robot.saturating_add(1), event.kind);
+fn added_event(text: &mut String, turn: Turn, event: &Event<'_>) -> Result<(), AllocError> {
+    let (cycle, number, kind) = (turn.cycle, turn.robot.saturating_add(1), event.kind);
     write!(text, "{cycle}\t{number}\t{kind}")?;
     for n in 0..MOST_FIELDS {
         text.push('\t')?;

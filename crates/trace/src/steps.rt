@@ -8,7 +8,7 @@ use listings::instruction_text;
 use playing::{Pilot, Turn, Watcher};
 use std::alloc::AllocError;
 use std::str;
-use tools::{Fault, Span};
+use tools::Fault;
 
 /// The names of the columns.
 const COLUMNS: &str = "cycle\trobot\taddress\tinstruction\tstack";
@@ -17,22 +17,20 @@ const COLUMNS: &str = "cycle\trobot\taddress\tinstruction\tstack";
 #[derive(Drop)]
 pub struct Steps<'a> {
     rows: Rows<'a>,
-    span: Span,
 }
 
 impl<'a> Steps<'a> {
     /// Makes the steps of a match that was not begun.
     pub fn new(rt: &'a HostRuntime, request: &Request<'_>) -> Steps<'a> {
         Steps {
-            rows: Rows::new(rt, COLUMNS),
-            span: request.span,
+            rows: Rows::new(rt, request.span, COLUMNS),
         }
     }
 }
 
 impl Watcher for Steps<'_> {
     fn turn(&mut self, turn: Turn, pilot: &Pilot<'_>) {
-        if !self.span.has(turn.cycle, turn.robot) {
+        if !self.rows.span.has(turn.cycle, turn.robot) {
             return;
         }
         let added = add_step(self.rows.text(), turn, pilot);

@@ -4,14 +4,11 @@ ghost use Rattle.std.specs.Prelude.{◌≡◌, ◌/◌, ◌≤◌, ◌<◌, leng
 ghost use Rattle.std.specs.Option.{option_or};
 
 use crate::requests::View;
-use arena::{Arena, MOST_ROBOTS};
+use arena::{Arena, DEADLY, MOST_ROBOTS};
 use arrayvec::ArrayVec;
 use playing::{Pilot, Question, Turn, UPDATE_CYCLES, Watcher};
 use settings::Settings;
 use trails::{Path, Place, Shot, Shots};
-
-/// The damage in percent at which a robot is dead.
-const DEADLY: u8 = 100;
 
 /// The most times that a robot's damage grows: each time by a percent at least.
 const MOST_GROWTHS: usize = 100;

@@ -1,5 +1,5 @@
 -- A shot, and the last shots of a match.
-use Rattle.std.specs.Prelude.{ℕ, ◌≡◌, ◌+◌, ◌==◌, ◌&&◌, ℤ, Bool, false, true, List, nat_lt, if◌then◌else◌}
+use Rattle.std.specs.Prelude.{ℕ, ◌≡◌, ◌+◌, ◌==◌, ◌&&◌, ℤ, Bool, false, true, nat_lt, if◌then◌else◌}
 use Rattle.arith.specs.Degree.{degree_of}
 use Rattle.arena.specs.Leg.{clamped}
 use Rattle.arena.specs.Shots.{aimed_x, aimed_y, flight, ring}
@@ -25,9 +25,3 @@ hurts_in update place shot = (shot.burst == update) && nat_lt 0 (ring (square pl
 -- a shot is marked once its burst has hurt a robot
 abbrev pub marked : (update : ℕ) → Place → Shot → Shot
 marked update place shot = if hurts_in update place shot then record shot { hit = true } else shot
-
--- the last shots, which of them is the oldest, and how many were fired
-pub record Kept : Type 0 where
-  pub shots : List Shot
-  pub oldest : ℕ
-  pub count : ℕ

@@ -9,25 +9,18 @@ ghost use Rattle.arena.specs.Ground.{most_updates};
 ghost use Rattle.trails.specs.Shots.{IsShotOf, marked};
 
 use crate::places::Place;
-use arena::LAST_PLACE;
+use arena::{aimed, flight};
 use arith::{cosine_at, norm_degree, sine_at};
 use arrayvec::ArrayVec;
-use std::marker::Model;
 
 /// The most shots that are kept: the last ones.
 pub const MOST_SHOTS: usize = 2000;
-
-/// How far a missile flies in an update, in metres.
-const FLIGHT: u16 = 50;
 
 /// The greatest range of a shot, in metres.
 const MOST_RANGE: i32 = 700;
 
 /// The greatest distance at which a burst hurts, in tenths of a metre.
 const REACH: u32 = 400;
-
-/// What a coordinate's sine and cosine are scaled by.
-const SCALE: i64 = 100_000;
 
 /// A shot: who fired it, after how many updates and where, the update and the place of its burst, and whether that hurt
 /// a robot.
@@ -98,47 +91,6 @@ fn range(asked: i32) -> u16
     asked.clamp(0, MOST_RANGE) as u16
 }
 
-/// Returns how many updates a missile flies to this range in metres.
-#[tactic(auto, unfolding(arena::specs::Shots::flight))]
-fn flight(range: u16) -> u32
-    requires { range ≤ 700 }
-    ensures value { result ≡ flight range }
-    ensures most { result ≤ 14 }
-{
-    u32::from(range.div_ceil(FLIGHT).max(1))
-}
-
-/// Returns where a missile bursts on an axis, from a place in tenths of a metre and at a range in metres, by the part
-/// of the range that lies on the axis.
-fn aimed(from: u16, range: u16, part: i32) -> u16
-    requires from { from ≤ LAST_PLACE }
-    requires range { range ≤ 700 }
-    requires part { unsigned_abs part ≤ 100000 }
-    ensures value { result ≡ clamped last_place (along from (pos (10 * range) *ℤ part)) }
-    ensures most { result ≤ LAST_PLACE }
-{
-    let way = i64::from(10 * range) * i64::from(part);
-    clamped(along(from, way))
-}
-
-/// Returns the coordinate to which a way leads, perhaps beyond a wall.
-#[tactic(auto, unfolding(arena::specs::Leg::along))]
-fn along(from: u16, way: i64) -> i64
-    requires { unsigned_abs way < 2 ^ 51 }
-    ensures { result ≡ along from way }
-{
-    i64::from(from) + way / SCALE
-}
-
-/// Returns the nearest coordinate of the field.
-#[tactic(auto, unfolding(arena::specs::Leg::clamped))]
-fn clamped(z: i64) -> u16
-    ensures value { result ≡ clamped last_place z }
-    ensures most { result ≤ LAST_PLACE }
-{
-    z.clamp(0, i64::from(LAST_PLACE)) as u16
-}
-
 /// The last shots of a match, at most 2,000, and how many were fired: when they are full, a new one replaces the
 /// oldest.
 #[derive(Drop)]
@@ -146,23 +98,15 @@ pub struct Shots {
     shots: ArrayVec<Shot, MOST_SHOTS>,
     oldest: usize,
     count: u64,
-}
-
-impl Model for Shots {
-    ghost use Rattle.std.specs.Prelude.{◌<◌, length};
-    ghost use Rattle.trails.specs.Shots.{Kept};
-
-    ghost Value = { Kept };
-
-    ghost view = { λ s. record { shots = s.shots.items; oldest = s.oldest; count = s.count } };
-
-    ghost invariant = { λ s. s.oldest < 2000 };
+    ghost within: { oldest < 2000 },
 }
 
 impl Shots {
     /// Makes no shots.
     pub fn new() -> Shots
-        ensures { result ≡ record { shots = []; oldest = 0; count = 0 } }
+        ensures none { result.shots.items ≡ [] }
+        ensures start { result.oldest ≡ 0 }
+        ensures count { result.count ≡ 0 }
     {
         Shots {
             shots: ArrayVec::new(),
@@ -173,11 +117,11 @@ impl Shots {
 
     /// Keeps a shot, in place of the oldest one if they are full.
     pub fn add(&mut self, shot: Shot)
-        ensures room { length self.old.shots < MOST_SHOTS → self.new.shots ≡ self.old.shots ++ shot ∷ [] }
-        ensures start { length self.old.shots < MOST_SHOTS → self.new.oldest ≡ self.old.oldest }
-        ensures full { length self.old.shots ≡ MOST_SHOTS
-            → self.new.shots ≡ slice_set self.old.shots self.old.oldest shot }
-        ensures next { length self.old.shots ≡ MOST_SHOTS → self.new.oldest ≡ (self.old.oldest + 1) % MOST_SHOTS }
+        ensures room { length self.old.shots.items < MOST_SHOTS → self.new.shots.items ≡ self.old.shots.items ++ shot ∷ [] }
+        ensures start { length self.old.shots.items < MOST_SHOTS → self.new.oldest ≡ self.old.oldest }
+        ensures full { length self.old.shots.items ≡ MOST_SHOTS
+            → self.new.shots.items ≡ slice_set self.old.shots.items self.old.oldest shot }
+        ensures next { length self.old.shots.items ≡ MOST_SHOTS → self.new.oldest ≡ (self.old.oldest + 1) % MOST_SHOTS }
         ensures count { self.old.count < 2 ^ 64 - 1 → self.new.count ≡ self.old.count + 1 }
     {
         self.count = self.count.saturating_add(1);
@@ -191,7 +135,9 @@ impl Shots {
 
     /// Marks the shots whose bursts in this update hurt a robot that is at this place then.
     pub fn mark(&mut self, update: u32, place: Place)
-        ensures { self.new ≡ record self.old { shots = map (marked update place) self.old.shots } }
+        ensures shots { self.new.shots.items ≡ map (marked update place) self.old.shots.items }
+        ensures start { self.new.oldest ≡ self.old.oldest }
+        ensures count { self.new.count ≡ self.old.count }
     {
         mark(self.shots.as_mut_slice(), update, place);
     }
@@ -205,7 +151,7 @@ impl Shots {
 
     /// Returns the shots, in no order.
     pub fn as_slice(&self) -> &[Shot]
-        ensures { result.now ≡ self.now.shots }
+        ensures { result.now ≡ self.now.shots.items }
     {
         self.shots.as_slice()
     }

@@ -1,4 +1,4 @@
-use Rattle.std.proofs.Common.{◌<◌, get_or, sym, ap, subst, refl, ◌∙◌, length, arith}
+use Rattle.std.proofs.Common.{◌<◌, get_or, sym, ap, subst, refl, ◌∙◌, length, arith, rules}
 use Rattle.std.proofs.lemmas.List.{get_or_read, length-set}
 use Rattle.std.proofs.lemmas.Int.{to_z-of_z}
 use Rattle.arena.specs.Field.{no_robot, robot_at}
@@ -36,43 +36,38 @@ invariant_of-self c =
       far,
     )
 
-pub returns-clause-reply : goal.returns-clause-reply
-unfolding answer
-returns-clause-reply c = λ f s. refl
-
-pub returns-clause-stands : goal.returns-clause-stands
+pub returns : goal.returns
 unfolding answer argument robot_at
-returns-clause-stands c = λ f s.
-    let degree_fits = c.ranges.degree in
-    let speed_fits = c.ranges.speed in
-    let items = c.self.inside.robots.items in
-    let now : StandsFor (the_view c.self.inside) f = rw c.self.view_is s in
-    let robots = ap (λ (g : Ground). g.robots) c.self.view_is in
-    let lent = c.deref_mut.ensures.value in
-    let among = inside_if_lives c.args.self.now c.args.robot c.requires in
-    let inside : c.args.robot < length items = omega (arith, ap length robots, among) in
-    let here =
-    sym c.index-deref_mut-robot.is ∙
-    mapped_is body_of c.deref_mut.result.now f.robots c.args.robot _ no_robot (lent ∙ now.robots)
-    (omega (arith, inside, ap length lent)) c.index-deref_mut-robot.is in
-    let body =
-    simp (c.norm_degree.ensures.value, c.clamped-speed.ensures.value, to_z-of_z) at
-    (c.want.ensures.robot (robot_at f c.args.robot) here) in
-    rw (put_is items c.deref_mut.result.now c.args.robot c.want.new.self lent)
-    (directs (the_view c.self.inside) f c.args.robot _ _ c.want.new.self now body)
-
-pub returns-clause-alive : goal.returns-clause-alive
-returns-clause-alive c =
+returns c =
     let items = c.self.inside.robots.items in
     let robots = ap (λ (g : Ground). g.robots) c.self.view_is in
     let lent = c.deref_mut.ensures.value in
     let among = inside_if_lives c.args.self.now c.args.robot c.requires in
     let inside : c.args.robot < length items = omega (arith, ap length robots, among) in
-    let same =
-    sym c.index-deref_mut-robot.is ∙
-    get_or_read c.deref_mut.result.now c.args.robot _ (omega (arith, inside, ap length lent))
-    c.index-deref_mut-robot.is (body_of no_robot) ∙ ap (λ l. get_or l c.args.robot (body_of no_robot)) lent in
-    let damage = c.want.ensures.damage ∙ ap (λ (b : Body). b.damage) same in
-    rw (put_is items c.deref_mut.result.now c.args.robot c.want.new.self lent)
-    (lives_as (the_view c.self.inside) c.args.robot c.want.new.self inside damage ∙
-    ap (λ (g : Ground). lives g c.args.robot) c.self.view_is ∙ c.requires)
+    let put = put_is items c.deref_mut.result.now c.args.robot c.want.new.self lent in
+    record {
+      reply = λ f s. refl;
+      stands = λ f s.
+          let degree_fits = c.ranges.degree in
+          let speed_fits = c.ranges.speed in
+          let now : StandsFor (the_view c.self.inside) f = rw c.self.view_is s in
+          let here =
+          sym c.index-deref_mut-robot.is ∙
+          mapped_is body_of c.deref_mut.result.now f.robots c.args.robot _ no_robot (lent ∙ now.robots)
+          (omega (arith, inside, ap length lent)) c.index-deref_mut-robot.is in
+          let body =
+          simp (c.norm_degree.ensures.value, c.clamped-speed.ensures.value, to_z-of_z) at
+          (c.want.ensures.robot (robot_at f c.args.robot) here) in
+          rw put (directs (the_view c.self.inside) f c.args.robot _ _ c.want.new.self now body);
+      updates = search rules;
+      manned = search rules;
+      alive =
+          let same =
+          sym c.index-deref_mut-robot.is ∙
+          get_or_read c.deref_mut.result.now c.args.robot _ (omega (arith, inside, ap length lent))
+          c.index-deref_mut-robot.is (body_of no_robot) ∙ ap (λ l. get_or l c.args.robot (body_of no_robot)) lent in
+          let damage = c.want.ensures.damage ∙ ap (λ (b : Body). b.damage) same in
+          rw put
+          (lives_as (the_view c.self.inside) c.args.robot c.want.new.self inside damage ∙
+          ap (λ (g : Ground). lives g c.args.robot) c.self.view_is ∙ c.requires);
+    }

@@ -17,7 +17,7 @@ returns-then-self-eq0-2 c = λ e.
             stands = w.if-self-eq0.true;
             wants_none = wants;
             heads = heads;
-            inside = (i.0, i.1);
+            inside = (i.east, i.north);
           })
       | else-self-eq0 w ↦ absurd (w.if-self-eq0.false (grind (arith, nat_tests, w.value-is, known)))
     ]
