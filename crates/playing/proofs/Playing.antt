@@ -1,5 +1,5 @@
 -- A pilot's turn is its robot's step, and what is played is the battle.
-use Rattle.std.proofs.Common.{◌≡◌, ℕ, ℤ, ◌+◌, ◌-◌, ◌<◌, ◌≤◌, zero, suc, true, false, Bool, List, [], ◌∷◌, ◌++◌, length, map, take, set, get_or, replicate, Some, refl, sym, ap, ◌∙◌, arith, inl, inr, ◌≢◌, ◌%◌}
+use Rattle.std.proofs.Common.{◌≡◌, ℕ, ℤ, ◌+◌, ◌-◌, ◌<◌, zero, suc, true, false, Bool, List, [], ◌∷◌, length, map, take, set, get_or, replicate, Some, refl, sym, ap, ◌∙◌, arith, inl, inr, ◌≢◌, ◌%◌}
 use Rattle.std.specs.Prelude.{nat_eq, nat_le, nat_lt, option_map, slice_get}
 use Rattle.std.proofs.lemmas.Bool.{cases_Bool, cases_eq, true≢false}
 use Rattle.std.proofs.lemmas.Bool.Decides.{nat_tests}
@@ -8,23 +8,27 @@ use Rattle.std.proofs.lemmas.Option.{slice_get-get_or, slice_get-map}
 use Rattle.std.proofs.Math.Seq.{map-set_same}
 use Rattle.arena.specs.Field.{Field, is_alive, is_live, live_count}
 use Rattle.arena.specs.Ground.{Body, Ground, body_of, lives}
-use Rattle.arena.specs.Moved.{moved}
 use Rattle.arena.specs.Standing.{StandsFor}
 use Rattle.arena.proofs.Represents.{body_at}
 use Rattle.code.specs.declared.want.Want.{Want}
 use Rattle.code.specs.declared.want.Want.TheVariants.{Ask, Quiet, Restart}
+use Rattle.grammar.specs.Profile.{Profile}
+use Rattle.grammar.specs.Tree.{File}
+use Rattle.code.specs.Codes.{AreCodesOf}
 use Rattle.code.specs.Generation.{ObjectCode}
+use Rattle.engine.specs.Executables.{Executable}
 use Rattle.code.specs.Machine.{State, want_code}
 use Rattle.code.specs.Standing.{IsReached}
 use Rattle.code.proofs.Correct.{want_code_is_want}
-use Rattle.battles.specs.Battle.{Behaviour, Stage, battle, cycle, first_above, granted, is_over, last_cycle, opening, stage_after, step, turn, turns}
-use Rattle.battles.specs.Carrying.{AreRobotsOf, EachIsAt, HasReached, IsAt, IsRobotOf, Runner}
-use Rattle.battles.proofs.Cycles.{cycle_alone, cycle_updates, first_ends, first_is, first_later, first_more, goes_on, over_if_few, stage_more}
+use Rattle.battles.specs.Battle.{Behaviour, Stage, first_above, granted, is_over, last_cycle, stage_after, step, turns}
+use Rattle.battles.specs.Carrying.{AreRobotsOf, EachIsAt, IsRobotOf}
+use Rattle.battles.proofs.Cycles.{cycle_alone, cycle_updates, first_ends, first_is, first_more, over_if_few, stage_more}
 use Rattle.battles.proofs.Running.{at_end, end_at}
 use Rattle.battles.proofs.Stages.{HasStepped, turn_reached, turns_more}
-use Rattle.battles.proofs.Beginnings.{stands_more}
+use Rattle.battles.specs.Pairing.{paired, robots_of}
+use Rattle.battles.proofs.Beginnings.{robots_are, stands_more}
 use Rattle.playing.specs.Pilot.{Seat, TakesTurn}
-use Rattle.playing.specs.Played.{HavePlayed, HaveUpdated, codes_of, runner_of, runners_of}
+use Rattle.playing.specs.Played.{HavePlayed, HaveUpdated, codes_of, engine_of, exes_of, plainly, runner_of, runners_of}
 
 -- what a want makes of the field and of the machine
 granted_takes : (code : ObjectCode) (i : ℕ) (trace : List ℤ) (w : Want) (machine : State) (before after : Ground)
@@ -47,7 +51,8 @@ unfolding step
 step_dead r i f trace dead = rw dead refl
 
 -- a robot wants what its program wants
-wants_code : (r : Behaviour) (code : ObjectCode) (trace : List ℤ) → IsRobotOf code r → r trace ≡ want_code code trace
+wants_code : (r : Behaviour) (code : ObjectCode) (trace : List ℤ) → IsRobotOf (plainly code) r →
+    r trace ≡ want_code code trace
 wants_code r code trace is =
     ap (λ (q : Behaviour). q trace) is.wants ∙ sym (want_code_is_want is.profile is.file is.resolved trace)
     ∙ ap (λ (c : ObjectCode). want_code c trace) (sym is.program)
@@ -61,7 +66,7 @@ pub record HasTurned (i : ℕ) (code : ObjectCode) (old new : State) (before aft
 
 -- is the robot's step
 turn_steps : (i : ℕ) (code : ObjectCode) (old new : State) (before after : Ground) (r : Behaviour) (f : Field)
-    (trace : List ℤ) → HasTurned i code old new before after → IsRobotOf code r → StandsFor before f
+    (trace : List ℤ) → HasTurned i code old new before after → IsRobotOf (plainly code) r → StandsFor before f
     → IsReached old code trace
     → StandsFor after (step r i f trace).0 × IsReached new code (step r i f trace).1
 turn_steps i code old new before after r f trace turned is stands at = elim (cases_Bool (lives before i)) [
@@ -77,13 +82,16 @@ turn_steps i code old new before after r f trace turned is stands at = elim (cas
 
 pub has_stepped : (i : ℕ) (code : ObjectCode) (old new : State) (before after : Ground)
     → HasTurned i code old new before after
-    → HasStepped i code (record { machine = old; ahead = 0 }) (record { machine = new; ahead = 0 }) before after
+    → HasStepped i (plainly code) (record { machine = engine_of old; ahead = 0 })
+    (record { machine = engine_of new; ahead = 0 }) before after
 has_stepped i code old new before after turned = record {
   field = λ r f trace is stands at.
-      (turn_steps i code old new before after r f trace turned is stands (end_at _ code trace refl at)).0;
+      (turn_steps i code old new before after r f trace turned is stands
+      (sym (end_at (record { machine = engine_of old; ahead = 0 }) (plainly code) trace refl at))).0;
   trace = λ r f trace is stands at.
-      at_end new 0 code _ refl
-      (turn_steps i code old new before after r f trace turned is stands (end_at _ code trace refl at)).1;
+      at_end (engine_of new) 0 (plainly code) _ refl
+      (sym (turn_steps i code old new before after r f trace turned is stands
+      (sym (end_at (record { machine = engine_of old; ahead = 0 }) (plainly code) trace refl at))).1);
 }
 
 -- one cycle more, without an update
@@ -151,9 +159,14 @@ code_here seats i none inside =
     slice_get-map (λ (seat : Seat). seat.code) seats i
     ∙ ap (option_map (λ (seat : Seat). seat.code)) (slice_get-get_or seats i none inside)
 
+exe_here : (codes : List ObjectCode) (i : ℕ) (code : ObjectCode) → slice_get codes i ≡ Some code
+    → slice_get (exes_of codes) i ≡ Some (plainly code)
+exe_here codes i code here = slice_get-map plainly codes i ∙ ap (option_map plainly) here
+
 -- the robots so far have had their turns, and one more
 pub one_turned : (codes : List ObjectCode) (robots : List Behaviour) (seats : List Seat) (i : ℕ) (none new : Seat)
-    (before after : Ground) (s : Stage) → AreRobotsOf codes robots → codes_of seats ≡ codes → i < length seats
+    (before after : Ground) (s : Stage) → AreRobotsOf (exes_of codes) robots → codes_of seats ≡ codes
+    → i < length seats
     → HasTurned i (get_or seats i none).code (get_or seats i none).state new.state before after
     → HavePlayed codes seats before (turns robots i s) →
     HavePlayed codes (set seats i new) after (turns robots (i + 1) s)
@@ -162,23 +175,25 @@ one_turned codes robots seats i none new before after s are same inside turned p
     let here : slice_get codes i ≡ Some old.code = rw same at (code_here seats i none inside) in
     let runner : get_or (runners_of seats) i (runner_of none) ≡ runner_of old =
     get_or-map runner_of seats i none (runner_of none) inside in
-    let stepped : HasStepped i old.code (get_or (runners_of seats) i (runner_of none)) (runner_of new) before after =
+    let exe = exe_here codes i old.code here in
+    let stepped : HasStepped i (plainly old.code) (get_or (runners_of seats) i (runner_of none)) (runner_of new) before
+    after =
     rw runner (has_stepped i old.code old.state new.state before after turned) in
     rw (map-set runner_of seats i new, turns_more robots i s)
-    (turn_reached codes robots (runners_of seats) before after (turns robots i s) i old.code (runner_of none)
-    (runner_of new) are played here stepped)
+    (turn_reached (exes_of codes) robots (runners_of seats) before after (turns robots i s) i (plainly old.code)
+    (runner_of none) (runner_of new) are played exe stepped)
 
 -- the pilots so far are at their start, and one more
 pub one_begun : (codes : List ObjectCode) (seats : List Seat) (i : ℕ) (none new : Seat) → codes_of seats ≡ codes
     → i < length seats → IsReached new.state (get_or seats i none).code []
-    → EachIsAt (runners_of (take i seats)) (take i codes) (replicate i [])
-    → EachIsAt (runners_of (take (i + 1) (set seats i new))) (take (i + 1) codes) (replicate (i + 1) [])
+    → EachIsAt (runners_of (take i seats)) (take i (exes_of codes)) (replicate i [])
+    → EachIsAt (runners_of (take (i + 1) (set seats i new))) (take (i + 1) (exes_of codes)) (replicate (i + 1) [])
 one_begun codes seats i none new same inside begins begun =
     let code = (get_or seats i none).code in
     let here : slice_get codes i ≡ Some code = rw same at (code_here seats i none inside) in
     rw (take_more_set seats i new inside, map-append runner_of (take i seats) (new ∷ []))
-    (stands_more (runners_of (take i seats)) codes i (runner_of new) code begun here
-    (at_end new.state 0 code [] refl begins))
+    (stands_more (runners_of (take i seats)) (exes_of codes) i (runner_of new) (plainly code) begun
+    (exe_here codes i code here) (at_end (engine_of new.state) 0 (plainly code) [] refl (sym begins)))
 
 -- a robot of the field lives if it is alive
 pub lives_are : (g : Ground) (f : Field) (i : ℕ) → StandsFor g f → lives g i ≡ is_live f i
@@ -227,3 +242,12 @@ pub ends_at_limit : (robots : List Behaviour) (s : Stage) (n limit : ℕ) → n 
     → first_above (λ k. is_over k (stage_after robots s k)) n (limit - n) ≡ last_cycle robots s limit
     → limit ≡ last_cycle robots s limit
 ends_at_limit robots s n limit all so = first_ends (λ k. is_over k (stage_after robots s k)) n limit _ all so
+
+-- what plain machines run has these codes, so their robots want what the files' trees want
+plain_programs : (codes : List ObjectCode) → map (λ (e : Executable). e.program) (exes_of codes) ≡ codes
+plain_programs [] = refl
+plain_programs (code ∷ codes) = ap (λ (l : List ObjectCode). code ∷ l) (plain_programs codes)
+
+pub plain_robots : (codes : List ObjectCode) (p : Profile) (files : List File) → AreCodesOf codes p files
+    → AreRobotsOf (exes_of (paired codes)) (robots_of p files)
+plain_robots codes p files are = robots_are (exes_of (paired codes)) codes p files (plain_programs (paired codes)) are

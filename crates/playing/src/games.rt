@@ -6,7 +6,7 @@ ghost use Rattle.arena.specs.Ground.{most_updates};
 ghost use Rattle.arena.specs.Standing.{StandsFor};
 ghost use Rattle.battles.specs.Battle.{Behaviour, Stage, turns};
 ghost use Rattle.battles.specs.Carrying.{AreRobotsOf, EachIsAt};
-ghost use Rattle.playing.specs.Played.{HavePlayed, HaveUpdated, IsEndOf, IsPlayed, codes_of, runners_of};
+ghost use Rattle.playing.specs.Played.{HavePlayed, HaveUpdated, IsEndOf, IsPlayed, codes_of, exes_of, runners_of};
 
 use crate::pilot::Pilot;
 use crate::watcher::{Turn, Watcher};
@@ -38,7 +38,7 @@ pub fn play<W: Watcher>(
     requires some { 2 ≤ length pilots.old }
     requires most { length pilots.old ≤ MOST_ROBOTS }
     requires limit { limit ≤ CYCLES_MAX }
-    ensures battle { (robots : List Behaviour) → AreRobotsOf (codes_of pilots.old) robots
+    ensures battle { (robots : List Behaviour) → AreRobotsOf (exes_of (codes_of pilots.old)) robots
         → IsPlayed robots seed number limit result }
     ensures limit { result.cycles ≤ limit }
     ensures ends { (result.cycles ≡ limit) ⊎ (result.cycles ≡ result.cycles / UPDATE_CYCLES * UPDATE_CYCLES) }
@@ -52,7 +52,7 @@ pub fn play<W: Watcher>(
 /// Puts each pilot at the start of its program.
 fn begin(pilots: &mut [Pilot<'_>])
     ensures codes { codes_of pilots.new ≡ codes_of pilots.old }
-    ensures begun { EachIsAt (runners_of pilots.new) (codes_of pilots.old) (replicate (length pilots.old) []) }
+    ensures begun { EachIsAt (runners_of pilots.new) (exes_of (codes_of pilots.old)) (replicate (length pilots.old) []) }
 {
     for robot in 0..pilots.len() {
         pilots[robot].begin();
@@ -69,7 +69,7 @@ fn run<W: Watcher>(
     requires manned { length arena.old.robots ≡ length pilots.old }
     requires updates { arena.old.updates ≡ 0 }
     requires limit { limit ≤ CYCLES_MAX }
-    ensures battle { (robots : List Behaviour) (s : Stage) → AreRobotsOf (codes_of pilots.old) robots
+    ensures battle { (robots : List Behaviour) (s : Stage) → AreRobotsOf (exes_of (codes_of pilots.old)) robots
         → HavePlayed (codes_of pilots.old) pilots.old arena.old s → IsEndOf robots s limit result }
     ensures limit { result.cycles ≤ limit }
     ensures ends { (result.cycles ≡ limit) ⊎ (result.cycles ≡ result.cycles / UPDATE_CYCLES * UPDATE_CYCLES) }
@@ -99,7 +99,7 @@ fn run<W: Watcher>(
 fn turns<W: Watcher>(pilots: &mut [Pilot<'_>], arena: &mut Arena, watcher: &mut W, cycle: u32)
     requires manned { length arena.old.robots ≡ length pilots.old }
     requires cycle { cycle ≤ CYCLES_MAX }
-    ensures stage { (robots : List Behaviour) (s : Stage) → AreRobotsOf (codes_of pilots.old) robots
+    ensures stage { (robots : List Behaviour) (s : Stage) → AreRobotsOf (exes_of (codes_of pilots.old)) robots
         → HavePlayed (codes_of pilots.old) pilots.old arena.old s
         → HavePlayed (codes_of pilots.old) pilots.new arena.new (turns robots (length robots) s) }
     ensures codes { codes_of pilots.new ≡ codes_of pilots.old }

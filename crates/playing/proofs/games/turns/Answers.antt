@@ -1,8 +1,8 @@
 use Rattle.std.proofs.Common.{◌≡◌, ◌∙◌, ap, arith, length, refl}
-use Rattle.std.proofs.lemmas.List.{length-set}
+use Rattle.std.proofs.lemmas.List.{length-map, length-set}
 use Rattle.battles.proofs.Stages.{robots_length, turns_none}
 use Rattle.playing.specs.Pilot.{Seat}
-use Rattle.playing.specs.Played.{codes_of}
+use Rattle.playing.specs.Played.{codes_of, exes_of, plainly}
 use Rattle.playing.proofs.Playing.{codes_length, codes_stay, lives_are, one_turned}
 use Rattle.playing.proofs.games.turns.Goals as goal
 
@@ -40,7 +40,8 @@ returns-clause-stage g c = λ robots s are played.
     let all : c.loop-robot.robot ≡ length robots =
     omega (
       arith,
-      robots_length (codes_of c.args.pilots.now) robots are,
+      robots_length (exes_of (codes_of c.args.pilots.now)) robots are,
+      length-map (codes_of c.args.pilots.now) plainly,
       codes_length c.args.pilots.now,
       c.loop-robot.invariant.pilots,
       c.loop-robot-test.false,
