@@ -1,1 +1,1 @@
-mod Playing
+pub mod Playing
