@@ -21,9 +21,5 @@ pub mod Stacks
 pub mod Closing
 pub mod Machines
 pub mod Coasting
-pub mod Questions
-pub mod Alone
-pub mod Joined
 pub mod Turns
-pub mod Together
 pub mod KnownPrograms

@@ -7,9 +7,7 @@ pub mod Meaning
 pub mod Making
 pub mod Told
 pub mod Finishing
-pub mod Questions
 pub mod Places
-pub mod Opcodes
 pub mod Running
 pub mod Standing
 pub mod Codes

@@ -5,15 +5,14 @@ ghost use Rattle.grammar.specs.declared.names.Intrinsic.{Intrinsic};
 ghost use Rattle.code.specs.Machine.{want_next, want_code};
 ghost use Rattle.code.specs.Causes.{cause_next};
 ghost use Rattle.code.specs.Places.{state_at};
-ghost use Rattle.code.specs.Questions.{intrinsic_of};
 ghost use Rattle.code.specs.Standing.{IsReached, FitsProgram, HasCoasted};
 
 use crate::cause::Cause;
 use crate::cells::{Cells, Place};
-use crate::opcode::Opcode;
+use crate::instr::Instr;
 use crate::program::Program;
 use crate::want::Want;
-use grammar::Intrinsic;
+use grammar::Callee;
 
 /// Where a run without questions led, and how many of its cycles were left.
 #[derive(Clone, Copy, Drop)]
@@ -31,18 +30,17 @@ impl Cells {
         ensures code { (trace : List ℤ) → IsReached (state_at place self.now) program.now trace
             → result ≡ want_code program.now trace }
     {
-        let opcode = self.opcode(program, place);
-        self.wanted(program, place, opcode)
+        let instr = self.instr(program, place);
+        self.wanted(program, place, instr)
     }
 
     /// Reports whether the next instruction asks. A machine that stands there needs no run to find it out.
     #[inline(always)]
-    #[tactic(auto, unfolding(crate::specs::Opcodes::instr_of))]
     pub(crate) fn asks(&self, program: &Program, place: Place) -> bool
         requires { FitsProgram (state_at place self.now) program.now }
         ensures { result ≡ true → want_next program.now (state_at place self.now) ≢ Want.Quiet }
     {
-        matches!(*self.opcode(program, place), Opcode::Ask(_))
+        matches!(*self.instr(program, place), Instr::Fcall(Callee::Intrinsic(_)))
     }
 
     /// Returns what the machine wants if it wants something: a reply or a restart.
@@ -52,34 +50,8 @@ impl Cells {
         requires stopped { want_next program.now (state_at place self.now) ≢ Want.Quiet }
         ensures { result ≡ want_next program.now (state_at place self.now) }
     {
-        let opcode = self.opcode(program, place);
-        self.asked_or_restart(program, place, opcode)
-    }
-
-    /// Returns which intrinsic function the machine asks, if it asks one.
-    #[inline(always)]
-    pub(crate) fn asked(&self, program: &Program, place: Place) -> Option<Intrinsic>
-        requires { FitsProgram (state_at place self.now) program.now }
-        ensures { result ≡ intrinsic_of (want_next program.now (state_at place self.now)) }
-    {
-        let opcode = self.opcode(program, place);
-        self.asked_by(program, place, opcode)
-    }
-
-    /// Returns the arguments of the intrinsic function that the machine asks.
-    #[inline(always)]
-    pub(crate) fn arguments(
-        &self,
-        program: &Program,
-        place: Place,
-        intrinsic: Intrinsic,
-    ) -> [i32; 2]
-        requires fits { FitsProgram (state_at place self.now) program.now }
-        requires asks { intrinsic_of (want_next program.now (state_at place self.now)) ≡ Some intrinsic }
-        ensures { want_next program.now (state_at place self.now) ≡ Want.Ask intrinsic result }
-    {
-        let _opcode = self.opcode(program, place);
-        self.asked_with(place, intrinsic)
+        let instr = self.instr(program, place);
+        self.asked_or_restart(program, place, instr)
     }
 
     /// Returns why the machine wants a restart, if it does.
@@ -87,8 +59,8 @@ impl Cells {
         requires { FitsProgram (state_at place self.now) program.now }
         ensures { result ≡ cause_next program.now (state_at place self.now) }
     {
-        let opcode = self.opcode(program, place);
-        self.lacking(program, place, opcode)
+        let instr = self.instr(program, place);
+        self.lacking(program, place, instr)
     }
 
     /// Takes the reply to what the machine asks.
@@ -101,7 +73,7 @@ impl Cells {
             → IsReached (state_at result self.new) program.now (trace ++ reply ∷ []) }
         ensures fits { FitsProgram (state_at result self.new) program.now }
     {
-        let _opcode = self.opcode(program, place);
+        let _instr = self.instr(program, place);
         self.answer(place, reply)
     }
 
@@ -118,14 +90,12 @@ impl Cells {
         let mut place = from;
         let mut left = most;
         while left > 0 {
-            let opcode = self.opcode(program, place);
-            match self.step(program, room, left, place, opcode) {
-                Some(turn) => {
-                    place = turn.place;
-                    left -= turn.cycles;
-                }
+            let instr = self.instr(program, place);
+            match self.step(program, room, place, instr) {
+                Some(next) => place = next,
                 None => break,
             }
+            left -= 1;
         }
         Coast { place, left }
     }

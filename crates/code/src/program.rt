@@ -1,14 +1,13 @@
 //! The program of a file: its code, without names.
 
-ghost use Rattle.std.specs.Prelude.{◌≡◌, ◌<◌, ◌≤◌, Some, length, map, slice_get};
+ghost use Rattle.std.specs.Prelude.{◌≡◌, ◌<◌, ◌≤◌, length};
 ghost use Rattle.grammar.specs.Profile.{IsProfile};
 ghost use Rattle.code.specs.Finishing.{IsOfSomeFile};
 ghost use Rattle.code.specs.Machine.{address_at, counts_at};
-ghost use Rattle.code.specs.Opcodes.{AreCoded, IsCodedAt, instr_in};
 
 use crate::counts::Counts;
+use crate::instr::Instr;
 use crate::limits::{MOST_FRAMES, MOST_INSTRUCTIONS, MOST_WORDS};
-use crate::opcode::Coded;
 use arrayvec::ArrayVec;
 use grammar::{MOST_NAMES, Profile};
 use std::marker::Model;
@@ -17,7 +16,7 @@ use std::marker::Model;
 #[derive(Drop)]
 pub struct Program {
     pub(crate) profile: Profile,
-    pub(crate) code: ArrayVec<Coded, MOST_INSTRUCTIONS>,
+    pub(crate) code: ArrayVec<Instr, MOST_INSTRUCTIONS>,
     pub(crate) addresses: ArrayVec<u16, MOST_NAMES>,
     pub(crate) functions: ArrayVec<Counts, MOST_NAMES>,
     pub(crate) externals: u8,
@@ -25,9 +24,8 @@ pub struct Program {
 }
 
 impl Model for Program {
-    ghost use Rattle.std.specs.Prelude.{◌≤◌, map};
+    ghost use Rattle.std.specs.Prelude.{◌≤◌};
     ghost use Rattle.code.specs.Generation.{ObjectCode};
-    ghost use Rattle.code.specs.Opcodes.{AreCoded, instr_in};
     ghost use Rattle.code.specs.Finishing.{IsOfSomeFile};
     ghost use Rattle.grammar.specs.Profile.{IsProfile};
     ghost use Rattle.grammar.specs.declared.pools.TheConstants.{MOST_NAMES};
@@ -36,7 +34,7 @@ impl Model for Program {
 
     ghost view = { λ p. record {
       profile = p.profile;
-      instructions = map instr_in p.code.items;
+      instructions = p.code.items;
       addresses = p.addresses.items;
       functions = p.functions.items;
       externals = p.externals;
@@ -46,14 +44,13 @@ impl Model for Program {
     ghost invariant = { λ p. IsProfile p.profile
         × IsOfSomeFile (record {
           profile = p.profile;
-          instructions = map instr_in p.code.items;
+          instructions = p.code.items;
           addresses = p.addresses.items;
           functions = p.functions.items;
           externals = p.externals;
           main = p.main;
         })
-        × (p.externals ≤ MOST_NAMES)
-        × AreCoded (map instr_in p.code.items) p.code.items };
+        × (p.externals ≤ MOST_NAMES) };
 }
 
 impl Program {
@@ -86,26 +83,14 @@ impl Program {
 
     /// Returns the instructions: the address of each is its place.
     #[inline(always)]
-    pub fn instructions(&self) -> &[Coded]
-        ensures code { map instr_in result.now ≡ self.now.instructions }
-        ensures coded { AreCoded self.now.instructions result.now }
+    pub fn instructions(&self) -> &[Instr]
+        ensures code { result.now ≡ self.now.instructions }
         ensures most { length result.now ≤ MOST_INSTRUCTIONS }
         ensures limit { length result.now ≤ self.now.profile.instructions }
         ensures file { IsOfSomeFile self.now }
         ensures known { IsProfile self.now.profile }
     {
         self.code.as_slice()
-    }
-
-    /// Returns the instruction at an address, with those that are run together with it.
-    #[inline(always)]
-    pub(crate) fn coded(&self, at: usize) -> &Coded
-        requires { at < length self.now.instructions }
-        ensures here { slice_get self.now.instructions at ≡ Some (instr_in result.now) }
-        ensures coded { IsCodedAt self.now.instructions at result.now.opcode }
-    {
-        let code = self.instructions();
-        &code[at]
     }
 
     /// Returns the address of each function, by number.

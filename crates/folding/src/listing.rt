@@ -1,18 +1,18 @@
 //! A program's code with each stretch that always gives the same value as one instruction.
 
 use crate::folds::Folds;
-use code::{Coded, Instr};
+use code::Instr;
 use listings::instruction_text;
 use std::alloc::{AllocError, Global};
 use std::str;
 
 /// Returns a line for each instruction that is left, with its new address. Branches lead to where they led.
-pub fn folded(alloc: Global, code: &[Coded], folds: &Folds) -> Result<String, AllocError> {
+pub fn folded(alloc: Global, code: &[Instr], folds: &Folds) -> Result<String, AllocError> {
     let mut text = String::new(alloc);
-    for (index, coded) in code.iter().enumerate() {
+    for (index, instr) in code.iter().enumerate() {
         let address = u32::try_from(index).unwrap_or(u32::MAX);
         match folds.at(address) {
-            None => add_line(&mut text, folds, address, coded.instr())?,
+            None => add_line(&mut text, folds, address, *instr)?,
             Some(fold) if fold.begin == address => {
                 add_line(&mut text, folds, address, Instr::Const(fold.value))?;
             }

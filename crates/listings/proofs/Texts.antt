@@ -1,20 +1,10 @@
 -- The texts of members, one after another, and what a sink in memory took of one text.
-use Rattle.std.specs.Prelude.{ℕ, zero, suc, ◌+◌, ◌≡◌, ◌<◌, List, [], ◌∷◌, ◌++◌, codes, length, map, take, get_or, Some, None}
+use Rattle.std.specs.Prelude.{ℕ, zero, suc, ◌+◌, ◌≡◌, ◌<◌, List, [], ◌∷◌, ◌++◌, length, take, get_or, Some, None}
 use Rattle.std.specs.List.{concat}
 use Rattle.std.proofs.Common.{refl, sym, ap, ◌∙◌, arith, append_assoc, add-zero, add-one}
-use Rattle.std.specs.Fmt.{decimal}
-use Rattle.std.proofs.lemmas.List.{append-nil, length-map}
+use Rattle.std.proofs.lemmas.List.{append-nil}
 use Rattle.sinks.specs.Portions.{Contents, Portions}
-use Rattle.code.specs.declared.opcode.Coded.{Coded}
-use Rattle.code.specs.Opcodes.{instr_in}
-use Rattle.listings.specs.Listing.{code_lines, instr_line, numbered}
-
--- members that are read off others
-pub numbered_map : {A B : Type 0} (text : ℕ → B → List ℕ) (read : A → B) (first : ℕ) (xs : List A) →
-    numbered text first (map read xs) ≡ numbered (λ n x. text n (read x)) first xs
-numbered_map text read first [] = refl
-numbered_map text read first (x ∷ xs) =
-    ap (λ (rest : List ℕ). text first (read x) ++ rest) (numbered_map text read (first + 1) xs)
+use Rattle.listings.specs.Listing.{numbered}
 
 -- one member more
 numbered_more : {A : Type 0} (text : ℕ → A → List ℕ) (first : ℕ) (xs : List A) (n : ℕ) (x : A) → n < length xs →
@@ -60,11 +50,3 @@ pub numbered_get : {A : Type 0} (text : ℕ → A → List ℕ) (before : List �
     → before ++ numbered text 0 (take (n + 1) xs) ≡ (before ++ numbered text 0 (take n xs)) ++ text n (get_or xs n d)
 numbered_get text before xs n d within =
     numbered_then text before xs n (get_or xs n d) within (same_get xs n d within)
-
--- the lines of instructions that are kept by opcodes
-pub code_lines_of : (code : List Coded) →
-    codes "Code " ++ decimal (length code) ++ codes "\n" ++ numbered (λ n c. instr_line n (instr_in c)) 0 code ≡
-    code_lines (map instr_in code)
-unfolding code_lines
-code_lines_of code =
-    rw (length-map code instr_in) (rw (numbered_map instr_line instr_in 0 code) refl)

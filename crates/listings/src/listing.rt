@@ -1,13 +1,12 @@
 //! The listing of a program, line by line.
 
-ghost use Rattle.std.specs.Prelude.{◌≡◌, ◌+◌, ◌-◌, ◌^◌, ◌<◌, ◌≤◌, [], ◌++◌, get_or, length, map};
+ghost use Rattle.std.specs.Prelude.{◌≡◌, ◌+◌, ◌-◌, ◌^◌, ◌<◌, ◌≤◌, [], ◌++◌, get_or, length};
 ghost use Rattle.sinks.specs.Draft.{Adds, MayFail};
 ghost use Rattle.sinks.specs.Puts.{CanFail, Puts};
-ghost use Rattle.code.specs.Opcodes.{instr_in};
 ghost use Rattle.listings.specs.Listing.{code_lines, externals_lines, function_lines, instr_line, listing_of, name_line, numbered};
 
 use crate::instructions::add_instruction;
-use code::{Coded, Instr, MOST_INSTRUCTIONS, Program};
+use code::{Instr, MOST_INSTRUCTIONS, Program};
 use grammar::{Function, MOST_NAMES, Name, Pools};
 use sinks::{DeviceFault, Pen, Sink};
 
@@ -117,12 +116,12 @@ fn add_name<S: Sink>(pen: &mut Pen, sink: &mut S, number: u32, name: &Name)
 }
 
 /// Adds how many instructions there are, and a line for each.
-fn add_code<S: Sink>(pen: &mut Pen, sink: &mut S, instrs: &[Coded])
+fn add_code<S: Sink>(pen: &mut Pen, sink: &mut S, instrs: &[Instr])
     requires few { length instrs.now ≤ MOST_INSTRUCTIONS }
     requires countable { MayFail pen.old (S.written sink.old) }
     ensures countable { MayFail pen.new (S.written sink.new) }
     ensures text { Adds (S.written sink.old) pen.old (S.written sink.new) pen.new
-        (code_lines (map instr_in instrs.now)) }
+        (code_lines instrs.now) }
 {
     pen.add(sink, b"Code ");
     pen.number(sink, instrs.len() as u32);
@@ -131,15 +130,15 @@ fn add_code<S: Sink>(pen: &mut Pen, sink: &mut S, instrs: &[Coded])
 }
 
 /// Adds a line for each instruction.
-fn add_lines<S: Sink>(pen: &mut Pen, sink: &mut S, instrs: &[Coded])
+fn add_lines<S: Sink>(pen: &mut Pen, sink: &mut S, instrs: &[Instr])
     requires few { length instrs.now ≤ MOST_INSTRUCTIONS }
     requires countable { MayFail pen.old (S.written sink.old) }
     ensures countable { MayFail pen.new (S.written sink.new) }
     ensures text { Adds (S.written sink.old) pen.old (S.written sink.new) pen.new
-        (numbered (λ n coded. instr_line n (instr_in coded)) 0 instrs.now) }
+        (numbered instr_line 0 instrs.now) }
 {
-    for (at, coded) in instrs.iter().enumerate() {
-        add_line(pen, sink, at as u32, coded.instr());
+    for (at, instr) in instrs.iter().enumerate() {
+        add_line(pen, sink, at as u32, *instr);
     }
 }
 

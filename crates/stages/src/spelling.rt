@@ -23,7 +23,7 @@ pub fn instruction_at(
         → slice_get program.now.instructions address ≡ Some instr → text.items ≡ instr_text instr)) }
 {
     match program.instructions().get(address) {
-        Some(coded) => Ok(Some(instruction_text(alloc, coded.instr())?)),
+        Some(&instr) => Ok(Some(instruction_text(alloc, instr)?)),
         None => Ok(None),
     }
 }
@@ -31,11 +31,11 @@ pub fn instruction_at(
 /// Returns the name that the instruction of an address speaks of by number: its variable, or the file's function that it
 /// calls.
 pub fn name_at(made: &Compiled, address: usize) -> Option<&str> {
-    match made.program.instructions().get(address)?.instr() {
-        Instr::Fetch(variable) | Instr::Store(variable, _) => {
+    match made.program.instructions().get(address)? {
+        &(Instr::Fetch(variable) | Instr::Store(variable, _)) => {
             variable_at(made, address, variable)
         }
-        Instr::Fcall(Callee::Function(number)) => {
+        &Instr::Fcall(Callee::Function(number)) => {
             let function = made.names.functions().get(usize::from(number))?;
             Some(text_of(function.name()))
         }

@@ -69,6 +69,6 @@ fn add_instruction(text: &mut String, program: &Program, address: usize) -> Resu
     let Some(instr) = program.instructions().get(address) else {
         return Ok(());
     };
-    let instruction = instruction_text(*text.allocator(), instr.instr())?;
+    let instruction = instruction_text(*text.allocator(), *instr)?;
     text.push_str(str::from_utf8(instruction.as_slice()).unwrap_or("?"))
 }

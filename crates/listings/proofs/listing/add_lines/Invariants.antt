@@ -1,5 +1,4 @@
 use Rattle.std.proofs.Common.{take}
-use Rattle.code.specs.Opcodes.{instr_in}
 use Rattle.listings.specs.Listing.{instr_line, numbered}
 use Rattle.sinks.specs.Draft.{MayFail, Adds}
 use Rattle.listings.proofs.listing.add_lines.Given as goal
@@ -10,4 +9,4 @@ invariant-loop-at g l =
     MayFail l.pen (g.S.Sink.written l.sink)
     × Adds (g.S.Sink.written l.fn.sink) l.fn.pen
     (g.S.Sink.written l.sink) l.pen
-    (numbered (λ n coded. instr_line n (instr_in coded)) 0 (take l.at l.instrs))
+    (numbered instr_line 0 (take l.at l.instrs))

@@ -4,7 +4,6 @@ use Rattle.code.specs.declared.instr.Instr.{Instr}
 use Rattle.code.specs.declared.instr.Instr.TheVariants.{Fcall}
 use Rattle.grammar.specs.declared.names.Callee.TheVariants as callee
 use Rattle.code.specs.Machine.{done_with}
-use Rattle.code.specs.Opcodes.{instr_of}
 use Rattle.code.specs.Places.{state_at}
 use Rattle.code.proofs.Coasting.{asking, asked_frame, asked_room}
 use Rattle.code.proofs.Machines.{advances}
@@ -14,25 +13,25 @@ pub answer-requires : goal.answer-requires
 answer-requires c =
     let code = c.args.program.now in
     let m = state_at c.args.place c.args.self.now in
-    let i = instr_of c.opcode-opcode.result.now in
+    let i = c.instr-instr.result.now in
     let asks =
-    asking code m i c.requires.asks.0 c.requires.asks.1 c.opcode-opcode.ensures.next.here c.requires.asks.2 in
-    let frame = asked_frame code m i asks.1.0 asks.1.1 c.opcode-opcode.ensures.next.ready in
+    asking code m i c.requires.asks.0 c.requires.asks.1 c.instr-instr.ensures.next.here c.requires.asks.2 in
+    let frame = asked_frame code m i asks.1.0 asks.1.1 c.instr-instr.ensures.next.ready in
     let room = asked_room code m i asks.1.0 asks.1.1 asks.0 in
     record {
       opened = frame.0;
       there = frame.1;
-      room = omega (arith, room, c.opcode-opcode.ensures.room.words);
-      within = c.opcode-opcode.ensures.next.within;
+      room = omega (arith, room, c.instr-instr.ensures.room.words);
+      within = c.instr-instr.ensures.next.within;
     }
 
 pub returns-clause-stands : goal.returns-clause-stands
 returns-clause-stands c trace stands =
     let code = c.args.program.now in
     let m = state_at c.args.place c.args.self.now in
-    let i = instr_of c.opcode-opcode.result.now in
+    let i = c.instr-instr.result.now in
     let asks =
-    asking code m i c.requires.asks.0 c.requires.asks.1 c.opcode-opcode.ensures.next.here c.requires.asks.2 in
+    asking code m i c.requires.asks.0 c.requires.asks.1 c.instr-instr.ensures.next.here c.requires.asks.2 in
     let done =
     c.answer.ensures code asks.1.0
     ∙
@@ -40,7 +39,7 @@ returns-clause-stands c trace stands =
     (to_z-of_z w32 c.args.reply c.ranges.reply)
     ∙ ap (λ (i : Instr). done_with code c.args.reply m (Some i)) (sym asks.1.1)
     in
-    advances m (state_at c.answer.result c.answer.new.self) code i c.args.reply c.opcode-opcode.ensures.next.here asks.0
+    advances m (state_at c.answer.result c.answer.new.self) code i c.args.reply c.instr-instr.ensures.next.here asks.0
     done
     trace stands
 
