@@ -41,16 +41,7 @@ impl Model for Program {
       main = p.main;
     } };
 
-    ghost invariant = { λ p. IsProfile p.profile
-        × IsOfSomeFile (record {
-          profile = p.profile;
-          instructions = p.code.items;
-          addresses = p.addresses.items;
-          functions = p.functions.items;
-          externals = p.externals;
-          main = p.main;
-        })
-        × (p.externals ≤ MOST_NAMES) };
+    ghost invariant = { λ p. IsProfile p.profile × IsOfSomeFile (view p) × (p.externals ≤ MOST_NAMES) };
 }
 
 impl Program {

@@ -154,6 +154,14 @@ impl Pools {
         }
     }
 
+    /// Forgets all names.
+    pub(crate) fn clear(&mut self)
+        ensures { self.new ≡ record { externals = []; functions = [] } }
+    {
+        self.externals.clear();
+        self.count = 0;
+    }
+
     /// Returns the names of the externals by number.
     pub fn externals(&self) -> &[Name]
         ensures names { result.now ≡ self.now.externals }

@@ -108,6 +108,19 @@ impl Scope {
         }
     }
 
+    /// Forgets all names: nothing is known, as before a file's first token.
+    #[tactic(auto, using(crate::proofs::ScopeLaws::kept_nothing))]
+    pub fn clear(&mut self)
+        ensures { self.new ≡ no_names }
+    {
+        self.pools.clear();
+        self.lines.clear();
+        self.begun.clear();
+        self.number = 0;
+        self.current.restart(&Name::new());
+        self.index = Index::new();
+    }
+
     /// Resolves a mentioned name to its variable. A name that has none becomes the function's next local.
     #[inline(always)]
     #[tactic(auto, using(crate::proofs::ScopeLaws::names))]

@@ -42,9 +42,11 @@ pub(crate) fn compile_into<K: TakesPrograms, F: Feed, O: Sink, E: Sink>(
     let words = settings.words();
     let profile = settings.profile();
     let mut status = Status::Done;
+    // Names are large: those of one file have the room of those before.
+    let mut names = Scope::new();
     for file in 0..feeds.len() {
         let name = name_of(words[file].as_bytes());
-        let mut names = Scope::new();
+        names.clear();
         let put = match compile_file(
             keeper,
             profile,

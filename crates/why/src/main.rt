@@ -28,9 +28,8 @@ struct Why;
 impl Work for Why {
     /// Explains the files one after the other. What is known of the files before one that can't be read is written.
     fn work(&self, rt: &HostRuntime, options: &Options<'_>) -> Result<(), Fault> {
-        let wish = Wish::read(options)?;
         let mut output = Output::new(rt.alloc());
-        let explained = explain_all(rt, &mut output, &wish, options.files());
+        let explained = explain_all(rt, &mut output, &Wish::read(options)?, options.files());
         output.finish(rt)?;
         match explained {
             Ok(false) => Ok(()),
