@@ -31,11 +31,11 @@ const DIGGER: &[u8] = b"
 
 /// A robot that comes to the limit of words.
 ///
-/// Main takes 11 cycles up to its call of `pile`, seven of them for `wide`, and each run of `pile` 15, as a run of `dig`.
-/// At its call the k-th run has 9 * k words below the argument. Of 500 words that of the 55th run needs 504, so its last
-/// cycle restarts: cycle 11 + 55 * 15 = 836. The most words of a run are 31, in `wide`. So operations call where
-/// 9 * k + 31 are at most 500: up to the 52nd run. They ask once in `wide` and in the runs 1 to 53, and the plain machine
-/// in the runs 54 and 55.
+/// Main takes 11 cycles up to its call of `pile`, seven of them for `wide`, and each run of `pile` 15, as a run of
+/// `dig`. At its call the k-th run has 9 * k words below the argument. Of 500 words that of the 55th run needs 504,
+/// so its last cycle restarts: cycle 11 + 55 * 15 = 836. The most words of a run are 31, in `wide`. So operations
+/// call where 9 * k + 31 are at most 500: up to the 52nd run. They ask once in `wide` and in the runs 1 to 53, and
+/// the plain machine in the runs 54 and 55.
 ///
 /// Of 1,000 words operations call up to the 107th run, and the plain machine asks in the runs 109 and 110. The 111th
 /// begins with 999 words and restarts in its second cycle: 11 + 110 * 15 + 2 = 1,663.
