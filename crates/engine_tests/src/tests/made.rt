@@ -1,6 +1,6 @@
 //! Programs of sources, and what engines run, for tests.
 
-ghost use Rattle.std.specs.Prelude.{◌≡◌, Some, option_map};
+ghost use Rattle.std.specs.Prelude.{◌≡◌, Some};
 ghost use Rattle.operations.specs.declared.labels.Operations.{Operations};
 ghost use Rattle.operations.specs.Translation.{IsTranslation};
 

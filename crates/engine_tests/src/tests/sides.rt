@@ -1,7 +1,7 @@
 //! Which side of an engine asks: operations, or the plain machine behind them. The cycles and the counts of each robot
 //! are worked out by hand, from the code of its source (docs/machine.md) and from where operations give up.
 
-ghost use Rattle.std.specs.Prelude.{◌≡◌, ◌≢◌};
+ghost use Rattle.std.specs.Prelude.{◌≡◌};
 ghost use Rattle.code.specs.Standing.{FitsProgram as MachineFits};
 ghost use Rattle.engine.specs.Engines.{FitsProgram, IsStopped};
 ghost use Rattle.engine.specs.Questions.{IsAsked, want_of};
