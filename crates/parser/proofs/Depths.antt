@@ -1,11 +1,10 @@
 -- What a call at a depth did is said of the same depth as its caller names it.
-use Rattle.std.proofs.Common.{◌≡◌, ℕ, ◌+◌, ◌-◌, ◌*◌, ◌<◌, ◌≤◌, List, [], arith, le_refl, subst}
+use Rattle.std.proofs.Common.{◌≡◌, ℕ, ◌+◌, ◌-◌, ◌*◌, ◌<◌, ◌≤◌, List, [], arith, subst}
 use Rattle.grammar.specs.declared.diagnostics.ParseFault.{ParseFault}
 use Rattle.arith.specs.declared.operators.Op.{Op}
 use Rattle.grammar.specs.Building.{Meaning}
 use Rattle.grammar.specs.Grammar.{Item}
 use Rattle.parser.specs.Position.{Place}
-use Rattle.parser.specs.Stopping.{Stop}
 use Rattle.parser.specs.Segment.{FailsAt, Refused}
 use Rattle.parser.specs.Expressions.{AddsExpr, AddsOperand, FailsOperand}
 use Rattle.parser.specs.Branches.{AddsElse, FailsElse}

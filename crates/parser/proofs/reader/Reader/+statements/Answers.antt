@@ -1,6 +1,6 @@
 -- What each exit _ leaves _ to show: the fault goes back to the start, or the segments join; and what a builder may be
 -- told.
-use Rattle.std.proofs.Common.{◌∙◌, ◌≡◌, ◌+◌, ◌<◌, [], ◌∷◌, le_refl, refl, true, false, arith, rules}
+use Rattle.std.proofs.Common.{◌∙◌, ◌≡◌, ◌+◌, ◌<◌, [], ◌∷◌, le_refl, refl, true, false, rules}
 use Rattle.std.proofs.lemmas.Result.{err_from_is_err_and}
 use Rattle.tokens.specs.declared.located_tokens.Punctuator.TheVariants as punctuator
 use Rattle.tokens.specs.declared.located_tokens.Token.TheVariants as token
