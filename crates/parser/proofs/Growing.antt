@@ -1,8 +1,10 @@
 -- Builders that were told further actions.
-use Rattle.std.proofs.Common.{List, [], ◌++◌, sym, subst, append_assoc, append-nil}
+use Rattle.std.proofs.Common.{◌≡◌, List, [], ◌++◌, sym, subst, append_assoc, append-nil}
 use Rattle.std.specs.Prelude.{Err}
 use Rattle.grammar.specs.declared.build.BuildFault.{BuildFault}
 use Rattle.grammar.specs.declared.build.BuildFault.TheVariants as fault
+use Rattle.grammar.specs.declared.diagnostics.Diagnostic.{Diagnostic}
+use Rattle.grammar.specs.declared.diagnostics.ParseFault.TheVariants as refusal
 use Rattle.grammar.specs.Actions.{Action}
 use Rattle.grammar.specs.Building.{Meaning, AppendsAll, Refuses}
 use Rattle.parser.specs.Growing.{HasGrown}
@@ -41,3 +43,12 @@ unknown profile acts = Unit {0}
 pub refuses : (e : BuildFault) (denied : Type 0) → Refuses {A = Unit {0}} (Err e) denied → denied
 refuses fault.Memory denied h = h
 refuses fault.Full denied h = absurd h
+
+-- It is asked how a builder has grown only where the device failed.
+
+pub source_grown : (before after : Meaning) (d : Diagnostic) → refusal.Device ≡ refusal.Source d →
+    HasGrown before after
+source_grown before after d other = absurd (cc)
+
+pub memory_grown : (before after : Meaning) → refusal.Device ≡ refusal.Memory → HasGrown before after
+memory_grown before after other = absurd (cc)

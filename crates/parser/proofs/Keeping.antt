@@ -1,5 +1,5 @@
 -- One call of a reader after another: what they keep.
-use Rattle.std.proofs.Common.{◌≡◌, ℕ, List, refl, ◌∙◌}
+use Rattle.std.proofs.Common.{◌≡◌, ℕ, ◌+◌, ◌-◌, List, refl, ◌∙◌, arith}
 use Rattle.std.specs.Prelude.{Option}
 use Rattle.grammar.specs.declared.diagnostics.ParseFault.{ParseFault}
 use Rattle.grammar.specs.declared.diagnostics.ParseFault.TheVariants as refusal
@@ -50,3 +50,7 @@ refused_left before after left denied told to_come refusal.Device same h = λ by
     let built = h bytes e profile start in
     record { count = built.count; took = built.took; more = built.more; stands = same profile _ built.stands }
 refused_left before after left denied told to_come refusal.Memory same h = h
+
+-- a level that was opened is shut
+pub shut : (depth opened : ℕ) → opened ≡ depth + 1 → opened - 1 ≡ depth
+shut depth opened same = omega arith

@@ -7,6 +7,8 @@ pub mod Parts
 pub mod ListLaws
 pub mod HeadingLaws
 pub mod Growing
+pub mod Tests
+pub mod Depths
 pub mod StrictEnds
 pub mod TellingLaws
 pub mod Productions

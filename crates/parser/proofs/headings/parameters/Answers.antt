@@ -12,7 +12,7 @@ use Rattle.parser.proofs.headings.parameters.Goals as goal
 
 pub returns-in_err-declare-clause-matches : goal.returns-in_err-declare-clause-matches
 returns-in_err-declare-clause-matches g c =
-    let sound : is_fault c.args.parser.now.place.position.reading.next.token ≡ false = cc in
+    let sound : is_fault c.args.parser.now.place.position.reading.next.token ≡ false = c.requires.ready.sound in
     let is : c.args.parser.now.place.position.reading.next.token ≡ token.Name c.in-Name.field-0 = cc in
     let p = err_from_is_err_and c.from_residual.result c.from_residual.ensures.1 in
     rw (p.1, p.2) (leaves _ (Part Parameters ∷ []) (AName Parameter ∷ []) (Part (More Parameter) ∷ []) _ _
@@ -21,7 +21,7 @@ returns-in_err-declare-clause-matches g c =
 
 pub returns-in_err-more_names-clause-matches : goal.returns-in_err-more_names-clause-matches
 returns-in_err-more_names-clause-matches g c =
-    let sound : is_fault c.args.parser.now.place.position.reading.next.token ≡ false = cc in
+    let sound : is_fault c.args.parser.now.place.position.reading.next.token ≡ false = c.requires.ready.sound in
     let is : c.args.parser.now.place.position.reading.next.token ≡ token.Name c.in-Name.field-0 = cc in
     let p = err_from_is_err_and c.from_residual-in_err-more_names.result c.from_residual-in_err-more_names.ensures.1 in
     rw (p.1, p.2) (leaves _ (Part Parameters ∷ []) (Part (More Parameter) ∷ []) [] _ _ c.in_err-more_names.field-0.0
@@ -31,14 +31,14 @@ returns-in_err-more_names-clause-matches g c =
 
 pub returns-in_ok-more_names-clause-matches : goal.returns-in_ok-more_names-clause-matches
 returns-in_ok-more_names-clause-matches g c =
-    let sound : is_fault c.args.parser.now.place.position.reading.next.token ≡ false = cc in
+    let sound : is_fault c.args.parser.now.place.position.reading.next.token ≡ false = c.requires.ready.sound in
     let is : c.args.parser.now.place.position.reading.next.token ≡ token.Name c.in-Name.field-0 = cc in
     item_on (Part Parameters ∷ []) (Part (More Parameter)) [] _ _ _ (λ stack. refl)
     (parameter_first _ _ c.in-Name.field-0 sound is c.in_ok-declare.ensures.matches) c.in_ok-more_names.ensures.matches
 
 pub returns-in_default : goal.returns-in_default
 returns-in_default g c =
-    let sound : is_fault c.args.parser.now.place.position.reading.next.token ≡ false = cc in
+    let sound : is_fault c.args.parser.now.place.position.reading.next.token ≡ false = c.requires.ready.sound in
     record {
       matches = no_parameters _ sound
           (λ bytes is. c.in_default.not-Name bytes (ap (λ (l : LocatedToken). l.token) c.peek.ensures.value ∙ is));

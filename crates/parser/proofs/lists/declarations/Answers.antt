@@ -10,7 +10,8 @@ use Rattle.parser.proofs.lists.declarations.Goals as goal
 
 pub loop-declared-preserved : goal.loop-declared-preserved
 loop-declared-preserved g c =
-    let sound : is_fault c.loop-declared.parser.place.position.reading.next.token ≡ false = cc in
+    let sound : is_fault c.loop-declared.parser.place.position.reading.next.token ≡ false =
+    c.loop-declared.invariant.kept.ready.sound in
     let is : is_word word.Type c.loop-declared.parser.place.position.reading.next.token ≡ true = cc in
     record {
       matches =
@@ -26,7 +27,8 @@ loop-declared-preserved g c =
 
 pub returns-in_err-declaration-clause-matches : goal.returns-in_err-declaration-clause-matches
 returns-in_err-declaration-clause-matches g c =
-    let sound : is_fault c.loop-declared.parser.place.position.reading.next.token ≡ false = cc in
+    let sound : is_fault c.loop-declared.parser.place.position.reading.next.token ≡ false =
+    c.loop-declared.invariant.kept.ready.sound in
     let is : is_word word.Type c.loop-declared.parser.place.position.reading.next.token ≡ true = cc in
     let p = err_from_is_err_and c.from_residual.result c.from_residual.ensures.1 in
     rw (p.1, p.2) (leaves _ (Part (declarations_of c.args.declared) ∷ []) (declaration_items c.args.declared)
@@ -38,7 +40,8 @@ returns-in_err-declaration-clause-matches g c =
 
 pub returns-clause-matches : goal.returns-clause-matches
 returns-clause-matches g c depth =
-    let sound : is_fault c.loop-declared.parser.place.position.reading.next.token ≡ false = cc in
+    let sound : is_fault c.loop-declared.parser.place.position.reading.next.token ≡ false =
+    c.loop-declared.invariant.kept.ready.sound in
     let other : is_word word.Type c.loop-declared.parser.place.position.reading.next.token ≡ false = cc in
     opens_on depth _ (declarations_of c.args.declared) [] _ _ sound
     (declarations_end c.args.declared _ c.requires.blocks other) (c.loop-declared.invariant.matches depth)

@@ -13,7 +13,8 @@ use Rattle.parser.proofs.lists.more_names.Goals as goal
 
 pub returns-in_err-expect-clause-matches : goal.returns-in_err-expect-clause-matches
 returns-in_err-expect-clause-matches g c =
-    let sound : is_fault c.loop-declared.parser.place.position.reading.next.token ≡ false = cc in
+    let sound : is_fault c.loop-declared.parser.place.position.reading.next.token ≡ false =
+    c.loop-declared.invariant.kept.ready.sound in
     let is : is_punctuator punctuator.Comma c.loop-declared.parser.place.position.reading.next.token ≡ true = cc in
     let p = err_from_is_err_and c.from_residual.result c.from_residual.ensures.1 in
     rw (p.1, p.2) (leaves _ (Part (More (role_of c.args.declared)) ∷ []) (Exactly punctuator.Comma ∷ [])
@@ -26,7 +27,8 @@ returns-in_err-expect-clause-matches g c =
 
 pub loop-declared-preserved : goal.loop-declared-preserved
 loop-declared-preserved g c =
-    let sound : is_fault c.loop-declared.parser.place.position.reading.next.token ≡ false = cc in
+    let sound : is_fault c.loop-declared.parser.place.position.reading.next.token ≡ false =
+    c.loop-declared.invariant.kept.ready.sound in
     let is : is_punctuator punctuator.Comma c.loop-declared.parser.place.position.reading.next.token ≡ true = cc in
     record {
       matches =
@@ -44,7 +46,8 @@ loop-declared-preserved g c =
 
 pub returns-in_err-declare-clause-matches : goal.returns-in_err-declare-clause-matches
 returns-in_err-declare-clause-matches g c =
-    let sound : is_fault c.loop-declared.parser.place.position.reading.next.token ≡ false = cc in
+    let sound : is_fault c.loop-declared.parser.place.position.reading.next.token ≡ false =
+    c.loop-declared.invariant.kept.ready.sound in
     let is : is_punctuator punctuator.Comma c.loop-declared.parser.place.position.reading.next.token ≡ true = cc in
     let p = err_from_is_err_and c.from_residual-in_err-declare.result c.from_residual-in_err-declare.ensures.1 in
     rw (p.1, p.2) (leaves _ (Part (More (role_of c.args.declared)) ∷ []) (AName (role_of c.args.declared) ∷ [])
@@ -55,7 +58,8 @@ returns-in_err-declare-clause-matches g c =
 
 pub returns-clause-matches : goal.returns-clause-matches
 returns-clause-matches g c depth =
-    let sound : is_fault c.loop-declared.parser.place.position.reading.next.token ≡ false = cc in
+    let sound : is_fault c.loop-declared.parser.place.position.reading.next.token ≡ false =
+    c.loop-declared.invariant.kept.ready.sound in
     let other : is_punctuator punctuator.Comma c.loop-declared.parser.place.position.reading.next.token ≡ false = cc in
     opens_on depth _ (More (role_of c.args.declared)) [] _ _ sound (names_end _ _ other)
     (c.loop-declared.invariant.matches depth)

@@ -8,7 +8,8 @@ use Rattle.parser.proofs.lists.type_words.Goals as goal
 
 pub loop-parser-preserved : goal.loop-parser-preserved
 loop-parser-preserved g c =
-    let sound : is_fault c.loop-parser.parser.place.position.reading.next.token ≡ false = cc in
+    let sound : is_fault c.loop-parser.parser.place.position.reading.next.token ≡ false =
+    c.loop-parser.invariant.kept.ready.sound in
     let is : is_word word.Type c.loop-parser.parser.place.position.reading.next.token ≡ true = cc in
     record {
       matches =
@@ -22,7 +23,8 @@ loop-parser-preserved g c =
 
 pub returns-in_err-expect_type-clause-matches : goal.returns-in_err-expect_type-clause-matches
 returns-in_err-expect_type-clause-matches g c =
-    let sound : is_fault c.loop-parser.parser.place.position.reading.next.token ≡ false = cc in
+    let sound : is_fault c.loop-parser.parser.place.position.reading.next.token ≡ false =
+    c.loop-parser.invariant.kept.ready.sound in
     let is : is_word word.Type c.loop-parser.parser.place.position.reading.next.token ≡ true = cc in
     let p = err_from_is_err_and c.from_residual.result c.from_residual.ensures.1 in
     rw (p.1, p.2) (leaves _ (Part Types ∷ []) (AWord word.Type ∷ []) (Part Types ∷ []) _ _
@@ -33,6 +35,7 @@ returns-in_err-expect_type-clause-matches g c =
 
 pub returns-clause-matches : goal.returns-clause-matches
 returns-clause-matches g c depth =
-    let sound : is_fault c.loop-parser.parser.place.position.reading.next.token ≡ false = cc in
+    let sound : is_fault c.loop-parser.parser.place.position.reading.next.token ≡ false =
+    c.loop-parser.invariant.kept.ready.sound in
     let other : is_word word.Type c.loop-parser.parser.place.position.reading.next.token ≡ false = cc in
     opens_on depth (Part Types ∷ []) Types [] _ _ sound (types_end _ other) (c.loop-parser.invariant.matches depth)

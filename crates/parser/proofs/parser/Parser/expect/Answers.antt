@@ -7,13 +7,13 @@ use Rattle.parser.proofs.parser.Parser.expect.Goals as goal
 
 pub returns-then-not-is_punctuator-clause-matches : goal.returns-then-not-is_punctuator-clause-matches
 returns-then-not-is_punctuator-clause-matches g c =
-    let sound : is_fault c.args.self.now.place.position.reading.next.token ≡ false = cc in
+    let sound : is_fault c.args.self.now.place.position.reading.next.token ≡ false = c.requires.ready.sound in
     let misses : is_punctuator c.args.punctuator c.args.self.now.place.position.reading.next.token ≡ false = cc in
     rw c.misfit.ensures (punctuator_misfits _ c.args.punctuator c.requires.ready.near sound misses)
 
 pub returns-in_err-advance-clause-matches : goal.returns-in_err-advance-clause-matches
 returns-in_err-advance-clause-matches g c =
-    let sound : is_fault c.args.self.now.place.position.reading.next.token ≡ false = cc in
+    let sound : is_fault c.args.self.now.place.position.reading.next.token ≡ false = c.requires.ready.sound in
     let fits : is_punctuator c.args.punctuator c.args.self.now.place.position.reading.next.token ≡ true = cc in
     let p = err_from_is_err_and c.from_residual.result c.from_residual.ensures.1 in
     rw (p.1, p.2)
@@ -23,7 +23,7 @@ returns-in_err-advance-clause-matches g c =
 
 pub returns-clause-matches : goal.returns-clause-matches
 returns-clause-matches g c =
-    let sound : is_fault c.args.self.now.place.position.reading.next.token ≡ false = cc in
+    let sound : is_fault c.args.self.now.place.position.reading.next.token ≡ false = c.requires.ready.sound in
     let fits : is_punctuator c.args.punctuator c.args.self.now.place.position.reading.next.token ≡ true = cc in
     punctuator_derives c.args.self.now.place.position.reading c.args.self.now.place.position.scope _ _ c.args.punctuator
     sound fits c.in_ok-advance.ensures.consumes

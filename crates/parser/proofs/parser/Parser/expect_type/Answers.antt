@@ -8,13 +8,13 @@ use Rattle.parser.proofs.parser.Parser.expect_type.Goals as goal
 
 pub returns-then-not-is_word-clause-matches : goal.returns-then-not-is_word-clause-matches
 returns-then-not-is_word-clause-matches g c =
-    let sound : is_fault c.args.self.now.place.position.reading.next.token ≡ false = cc in
+    let sound : is_fault c.args.self.now.place.position.reading.next.token ≡ false = c.requires.ready.sound in
     let misses : is_word word.Type c.args.self.now.place.position.reading.next.token ≡ false = cc in
     rw c.misfit.ensures (word_misfits _ word.Type c.requires.ready.near sound misses)
 
 pub returns-in_err-advance-clause-matches : goal.returns-in_err-advance-clause-matches
 returns-in_err-advance-clause-matches g c =
-    let sound : is_fault c.args.self.now.place.position.reading.next.token ≡ false = cc in
+    let sound : is_fault c.args.self.now.place.position.reading.next.token ≡ false = c.requires.ready.sound in
     let fits : is_word word.Type c.args.self.now.place.position.reading.next.token ≡ true = cc in
     let p = err_from_is_err_and c.from_residual.result c.from_residual.ensures.1 in
     rw (p.1, p.2)
@@ -24,7 +24,7 @@ returns-in_err-advance-clause-matches g c =
 
 pub returns-clause-matches : goal.returns-clause-matches
 returns-clause-matches g c =
-    let sound : is_fault c.args.self.now.place.position.reading.next.token ≡ false = cc in
+    let sound : is_fault c.args.self.now.place.position.reading.next.token ≡ false = c.requires.ready.sound in
     let fits : is_word word.Type c.args.self.now.place.position.reading.next.token ≡ true = cc in
     word_derives c.args.self.now.place.position.reading c.args.self.now.place.position.scope _ _ word.Type sound fits
     c.in_ok-advance.ensures.consumes

@@ -1,17 +1,19 @@
 -- What each exit _ leaves _ to show: the fault goes back to the start, or the segments join.
-use Rattle.std.proofs.Common.{rules, [], ◌∷◌, ◌≡◌, ◌+◌, ◌<◌, ◌≤◌, ◌∙◌, ap, refl, true, false, arith}
+use Rattle.std.proofs.Common.{rules, [], ◌∷◌, ◌≡◌, ◌+◌, ◌<◌, ◌≤◌, ◌∙◌, ap, refl, true, false}
 use Rattle.std.specs.Prelude.{None, Some}
 use Rattle.std.proofs.lemmas.Result.{err_from_is_err_and}
 use Rattle.tokens.specs.declared.located_tokens.LocatedToken.{LocatedToken}
 use Rattle.tokens.specs.declared.located_tokens.Punctuator.TheVariants as punctuator
 use Rattle.grammar.specs.declared.diagnostics.ParseFault.TheVariants as refusal
-use Rattle.grammar.specs.Grammar.{Level, Part, Unary, is_fault, is_punctuator}
+use Rattle.grammar.specs.Grammar.{Expression, Level, Part, Unary, is_fault, is_punctuator}
 use Rattle.grammar.specs.Operators.{operator_of}
 use Rattle.grammar.specs.Climbing.{operator_from}
 use Rattle.parser.specs.Room.{HasLeft, HasRoom, room}
 use Rattle.parser.proofs.Advances.{kept_then, on, on_then}
-use Rattle.parser.proofs.Keeping.{went, went_then}
-use Rattle.parser.proofs.Growing.{grown, grown_behind, grown_nothing, refuses, unknown}
+use Rattle.parser.proofs.Keeping.{shut, went, went_then}
+use Rattle.parser.proofs.Growing.{grown, grown_behind, grown_nothing, memory_grown, refuses, source_grown, unknown}
+use Rattle.parser.proofs.Tests.{punctuator_tested}
+use Rattle.parser.proofs.Depths.{expression_at, expression_fails_at, operand_at, operand_fails_at}
 use Rattle.parser.proofs.Segments.{halts, halts_here}
 use Rattle.parser.proofs.AssignmentLaws.{IsAssignment, assignment_adds, plain_adds, plain_parses, plain_refused, sign_goes_on, sign_refused, store_follows, store_too_deep, target_refused, value_refused}
 use Rattle.parser.proofs.CallLaws.{IsCall, callee_halts, argument_adds, argument_refused, arguments_end, arguments_refused, arguments_room, begin_follows, call_adds, call_close_refused, call_open_refused, call_too_deep, callee_refused, comma_refused, end_follows, first_adds, first_refused, next_argument_room, no_arguments}
@@ -31,8 +33,8 @@ bracketed-returns-in_err-check_level-clause-parses g t c =
       refused =
           bracket_too_deep c.args.self.now.parser.place _ c.requires.at.ready.near c.args.self.now.depth
           c.requires.at.is
-          (omega arith);
-      grown = λ device. absurd (cc);
+          refused.deep;
+      grown = source_grown _ _ _;
     })
 
 pub bracketed-returns-in_err-advance-clause-parses : goal.bracketed-returns-in_err-advance-clause-parses
@@ -64,7 +66,9 @@ bracketed-returns-in_err-expect-clause-parses g t c =
     let shallow : c.args.self.now.depth < 64 = c.in_ok-check_level.ensures.ok in
     let p = err_from_is_err_and c.from_residual-in_err-expect.result c.from_residual-in_err-expect.ensures.1 in
     rw (p.1, p.2) (record {
-      refused = close_refused _ _ _ c.args.self.now.parser.place _ _ c.args.self.now.depth _ c.in_err-expect.field-0.0
+      refused = close_refused _ (g.B.Build.stands c.args.self.now.build.now)
+          (g.B.Build.stands c.expression.new.self.build.now) c.args.self.now.parser.place c.advance.new.self.place
+          c.expression.new.self.parser.place c.args.self.now.depth _ c.in_err-expect.field-0.0
           c.requires.at.is shallow c.in_ok-advance.ensures.consumes c.in_ok-expression.ensures.parses
           c.in_err-expect.ensures.matches;
       grown = λ device. grown _ _ _ c.in_ok-expression.ensures.parses.added;
@@ -73,7 +77,9 @@ bracketed-returns-in_err-expect-clause-parses g t c =
 pub bracketed-returns-clause-parses : goal.bracketed-returns-clause-parses
 bracketed-returns-clause-parses g t c =
     let shallow : c.args.self.now.depth < 64 = c.in_ok-check_level.ensures.ok in
-    bracket_adds _ _ c.args.self.now.parser.place _ _ _ c.args.self.now.depth c.requires.at.is shallow
+    bracket_adds (g.B.Build.stands c.args.self.now.build.now) (g.B.Build.stands c.expression.new.self.build.now)
+    c.args.self.now.parser.place c.advance.new.self.place
+    c.expression.new.self.parser.place c.expect.new.self.place c.args.self.now.depth c.requires.at.is shallow
     c.in_ok-advance.ensures.consumes c.in_ok-expression.ensures.parses c.in_ok-expect.ensures.matches
     c.in_ok-expect.ensures.kept.ready.sound
 
@@ -83,8 +89,8 @@ signed-returns-in_err-check_level-clause-parses g t c =
     let p = err_from_is_err_and c.from_residual.result c.from_residual.ensures.1 in
     rw (p.1, p.2, refused.is) (record {
       refused = sign_too_deep c.args.self.now.parser.place _ c.requires.at.ready.near c.args.self.now.depth c.args.sign
-          c.requires.at.is (omega arith);
-      grown = λ device. absurd (cc);
+          c.requires.at.is refused.deep;
+      grown = source_grown _ _ _;
     })
 
 pub signed-returns-in_err-advance-clause-parses : goal.signed-returns-in_err-advance-clause-parses
@@ -125,7 +131,10 @@ signed-end-requires g t c =
 pub signed-returns-clause-parses : goal.signed-returns-clause-parses
 signed-returns-clause-parses g t c =
     let shallow : c.args.self.now.depth < 64 = c.in_ok-check_level.ensures.ok in
-    sign_adds _ _ _ _ c.args.self.now.parser.place _ _ c.args.self.now.depth c.args.sign c.requires.at.is shallow
+    sign_adds (g.B.Build.stands c.args.self.now.build.now) (g.B.Build.stands c.begin.new.build)
+    (g.B.Build.stands c.unary.new.self.build.now)
+    (g.B.Build.stands c.end.new.build) c.args.self.now.parser.place c.advance.new.self.place
+    c.unary.new.self.parser.place c.args.self.now.depth c.args.sign c.requires.at.is shallow
     c.in_ok-advance.ensures.consumes c.in_ok-begin.ensures.told c.in_ok-unary.ensures.parses
     c.in_ok-end.ensures.told c.in_ok-unary.ensures.kept.parser.ready.sound
 
@@ -152,12 +161,14 @@ levels-loop-binary-preserved g t c =
     let here : operator_from c.args.level c.loop-binary.self.parser.place.position.reading.next.token ≡
     Some c.in-Some.binary =
     cc in
-    let parses = rw c.loop-binary.invariant.kept.depth at c.in_ok-operand.ensures.parses in
     record {
       climbs =
           climbs_on _ _ _ c.args.self.now.parser.place _ _ c.args.self.now.depth c.args.level c.in-Some.binary
           c.loop-binary.invariant.climbs here
-          parses.0 parses.1;
+          (operand_at (g.B.Build.stands c.loop-binary.self.build.now) (g.B.Build.stands c.operand.new.self.build.now) _
+          c.args.self.now.depth c.in-Some.binary.level c.in-Some.binary.op c.loop-binary.self.parser.place
+          c.operand.new.self.parser.place c.loop-binary.invariant.kept.depth c.in_ok-operand.ensures.parses.0)
+          c.in_ok-operand.ensures.parses.1;
       kept = went_then _ _ _ c.loop-binary.invariant.kept (went _ _ c.in_ok-operand.ensures.kept);
     }
 
@@ -170,7 +181,9 @@ levels-returns-in_err-operand-clause-parses g t c =
     rw (p.1, p.2) (record {
       refused = climb_refused _ _ _ c.args.self.now.parser.place _ c.args.self.now.depth c.args.level c.in-Some.binary _
           c.in_err-operand.field-0.0 c.loop-binary.invariant.climbs here
-          (rw c.loop-binary.invariant.kept.depth at c.in_err-operand.ensures.parses.refused);
+          (operand_fails_at _ _ c.args.self.now.depth c.in-Some.binary.level c.loop-binary.self.parser.place
+          g.B.Build.denied
+          c.in_err-operand.field-0.0 c.loop-binary.invariant.kept.depth c.in_err-operand.ensures.parses.refused);
       grown =
           λ device. grown_behind _ _ _ _ c.loop-binary.invariant.climbs.adds.added
           (c.in_err-operand.ensures.parses.grown device);
@@ -240,8 +253,8 @@ call-returns-in_err-check_level-clause-parses g t c =
     let p = err_from_is_err_and c.from_residual.result c.from_residual.ensures.1 in
     rw (p.1, p.2, refused.is) (record {
       refused = call_too_deep c.args.self.now.parser.place _ c.requires.at.ready.near c.args.self.now.depth
-          (is_named _ c.requires.at.is.named) c.requires.at.is.is (omega arith);
-      grown = λ device. absurd (cc);
+          (is_named _ c.requires.at.is.named) c.requires.at.is.is refused.deep;
+      grown = source_grown _ _ _;
     })
 
 pub call-returns-in_err-callee-clause-parses : goal.call-returns-in_err-callee-clause-parses
@@ -295,7 +308,10 @@ call-returns-in_err-expect-2-clause-parses g t c =
     let p = err_from_is_err_and c.from_residual-in_err-expect-2.result c.from_residual-in_err-expect-2.ensures.1 in
     rw (p.1, p.2) (record {
       refused =
-          call_close_refused _ _ _ c.args.self.now.parser.place _ _ _ c.args.self.now.depth c.in_ok-callee.callee _
+          call_close_refused _ (g.B.Build.stands c.begin_call.new.self)
+          (g.B.Build.stands c.arguments.new.self.build.now) c.args.self.now.parser.place
+          c.callee.new.self.place c.expect.new.self.place c.arguments.new.self.parser.place c.args.self.now.depth
+          c.in_ok-callee.callee _
           c.in_err-expect-2.field-0.0 is c.in_ok-callee.ensures.matches c.in_ok-expect.ensures.matches
           c.in_ok-arguments.ensures.parses c.in_err-expect-2.ensures.matches;
       grown =
@@ -319,7 +335,10 @@ call-returns-clause-parses g t c =
     let shallow : c.args.self.now.depth < 64 = c.in_ok-check_level.ensures.ok in
     let is : IsCall c.args.self.now.parser.place c.args.self.now.depth =
     record { named = is_named _ c.requires.at.is.named; fits = c.requires.at.is.is; shallow = shallow } in
-    call_adds _ _ _ _ c.args.self.now.parser.place _ _ _ _ c.args.self.now.depth c.in_ok-callee.callee is
+    call_adds (g.B.Build.stands c.args.self.now.build.now) (g.B.Build.stands c.begin_call.new.self)
+    (g.B.Build.stands c.arguments.new.self.build.now)
+    (g.B.Build.stands c.end_call.new.self) c.args.self.now.parser.place c.callee.new.self.place c.expect.new.self.place
+    c.arguments.new.self.parser.place c.expect-2.new.self.place c.args.self.now.depth c.in_ok-callee.callee is
     c.in_ok-callee.ensures.matches c.in_ok-expect.ensures.matches c.in_ok-arguments.ensures.parses
     c.in_ok-expect-2.ensures.matches c.in_ok-callee.ensures.within c.in_ok-expect-2.ensures.kept.ready.sound
     c.in_ok-begin_call.ensures.ok c.in_ok-end_call.ensures.ok
@@ -327,14 +346,17 @@ call-returns-clause-parses g t c =
 pub arguments-returns-then-is_punctuator-clause-parses : goal.arguments-returns-then-is_punctuator-clause-parses
 arguments-returns-then-is_punctuator-clause-parses g t c =
     let fits : is_punctuator punctuator.CloseRound c.args.self.now.parser.place.position.reading.next.token ≡ true =
-    cc in
+    punctuator_tested punctuator.CloseRound c.peek.result.now _ c.is_punctuator.result true c.peek.ensures.value
+    c.is_punctuator.ensures c.if-is_punctuator.true in
     no_arguments _ c.args.self.now.parser.place c.args.self.now.depth fits
 
 pub arguments-returns-in_err-expression-clause-parses : goal.arguments-returns-in_err-expression-clause-parses
 arguments-returns-in_err-expression-clause-parses g t c =
-    let sound : is_fault c.args.self.now.parser.place.position.reading.next.token ≡ false = cc in
+    let sound : is_fault c.args.self.now.parser.place.position.reading.next.token ≡ false =
+    c.requires.at.ready.sound in
     let other : is_punctuator punctuator.CloseRound c.args.self.now.parser.place.position.reading.next.token ≡ false =
-    cc in
+    punctuator_tested punctuator.CloseRound c.peek.result.now _ c.is_punctuator.result false c.peek.ensures.value
+    c.is_punctuator.ensures c.if-is_punctuator.false in
     let p = err_from_is_err_and c.from_residual.result c.from_residual.ensures.1 in
     rw (p.1, p.2) (record {
       refused =
@@ -345,9 +367,11 @@ arguments-returns-in_err-expression-clause-parses g t c =
 
 pub arguments-loop-self-init : goal.arguments-loop-self-init
 arguments-loop-self-init g t c =
-    let sound : is_fault c.args.self.now.parser.place.position.reading.next.token ≡ false = cc in
+    let sound : is_fault c.args.self.now.parser.place.position.reading.next.token ≡ false =
+    c.requires.at.ready.sound in
     let other : is_punctuator punctuator.CloseRound c.args.self.now.parser.place.position.reading.next.token ≡ false =
-    cc in
+    punctuator_tested punctuator.CloseRound c.peek.result.now _ c.is_punctuator.result false c.peek.ensures.value
+    c.is_punctuator.ensures c.if-is_punctuator.false in
     record {
       parsed =
           first_adds _ _ c.args.self.now.parser.place _ c.args.self.now.depth sound other
@@ -358,7 +382,9 @@ arguments-loop-self-init g t c =
 
 pub arguments-returns-in_err-expect-clause-parses : goal.arguments-returns-in_err-expect-clause-parses
 arguments-returns-in_err-expect-clause-parses g t c =
-    let fits : is_punctuator punctuator.Comma c.loop-self.self.parser.place.position.reading.next.token ≡ true = cc in
+    let fits : is_punctuator punctuator.Comma c.loop-self.self.parser.place.position.reading.next.token ≡ true =
+    punctuator_tested punctuator.Comma c.peek-in-loop-self.result.now _ c.is_punctuator-in-loop-self.result true
+    c.peek-in-loop-self.ensures.value c.is_punctuator-in-loop-self.ensures c.loop-self-test.true in
     let p = err_from_is_err_and c.from_residual-in_err-expect.result c.from_residual-in_err-expect.ensures.1 in
     rw (p.1, p.2) (record {
       refused = comma_refused _ _ _ c.args.self.now.parser.place _ c.args.self.now.depth _ c.in_err-expect.field-0.0
@@ -368,11 +394,18 @@ arguments-returns-in_err-expect-clause-parses g t c =
 
 pub arguments-loop-self-preserved : goal.arguments-loop-self-preserved
 arguments-loop-self-preserved g t c =
-    let fits : is_punctuator punctuator.Comma c.loop-self.self.parser.place.position.reading.next.token ≡ true = cc in
+    let fits : is_punctuator punctuator.Comma c.loop-self.self.parser.place.position.reading.next.token ≡ true =
+    punctuator_tested punctuator.Comma c.peek-in-loop-self.result.now _ c.is_punctuator-in-loop-self.result true
+    c.peek-in-loop-self.ensures.value c.is_punctuator-in-loop-self.ensures c.loop-self-test.true in
     record {
       parsed =
           argument_adds _ _ _ c.args.self.now.parser.place _ _ _ c.args.self.now.depth c.loop-self.invariant.parsed fits
-          c.in_ok-expect.ensures.matches (rw c.loop-self.invariant.kept.depth at c.in_ok-expression-2.ensures.parses)
+          c.in_ok-expect.ensures.matches
+          (expression_at (g.B.Build.stands c.loop-self.self.build.now) (g.B.Build.stands
+          c.expression-in-loop-self.new.self.build.now) _
+          c.args.self.now.depth 1 (Part Expression ∷ []) [] c.expect.new.self.place
+          c.expression-in-loop-self.new.self.parser.place c.loop-self.invariant.kept.depth
+          c.in_ok-expression-2.ensures.parses)
           c.in_ok-expression-2.ensures.kept.parser.ready.sound;
       kept = record {
         parser =
@@ -385,7 +418,9 @@ arguments-loop-self-preserved g t c =
 
 pub arguments-returns-in_err-expression-2-clause-parses : goal.arguments-returns-in_err-expression-2-clause-parses
 arguments-returns-in_err-expression-2-clause-parses g t c =
-    let fits : is_punctuator punctuator.Comma c.loop-self.self.parser.place.position.reading.next.token ≡ true = cc in
+    let fits : is_punctuator punctuator.Comma c.loop-self.self.parser.place.position.reading.next.token ≡ true =
+    punctuator_tested punctuator.Comma c.peek-in-loop-self.result.now _ c.is_punctuator-in-loop-self.result true
+    c.peek-in-loop-self.ensures.value c.is_punctuator-in-loop-self.ensures c.loop-self-test.true in
     let p =
     err_from_is_err_and c.from_residual-in_err-expression-2.result c.from_residual-in_err-expression-2.ensures.1 in
     rw (p.1, p.2) (record {
@@ -393,7 +428,9 @@ arguments-returns-in_err-expression-2-clause-parses g t c =
           argument_refused _ _ _ c.args.self.now.parser.place _ _ c.args.self.now.depth _
           c.in_err-expression-2.field-0.0
           c.loop-self.invariant.parsed fits c.in_ok-expect.ensures.matches
-          (rw c.loop-self.invariant.kept.depth at c.in_err-expression-2.ensures.parses.refused);
+          (expression_fails_at _ _ c.args.self.now.depth (Part Expression ∷ []) c.expect.new.self.place
+          g.B.Build.denied c.in_err-expression-2.field-0.0 c.loop-self.invariant.kept.depth
+          c.in_err-expression-2.ensures.parses.refused);
       grown =
           λ device. grown_behind _ _ _ _ c.loop-self.invariant.parsed.added
           (c.in_err-expression-2.ensures.parses.grown device);
@@ -401,8 +438,11 @@ arguments-returns-in_err-expression-2-clause-parses g t c =
 
 pub arguments-returns-clause-parses : goal.arguments-returns-clause-parses
 arguments-returns-clause-parses g t c =
-    let sound : is_fault c.loop-self.self.parser.place.position.reading.next.token ≡ false = cc in
-    let other : is_punctuator punctuator.Comma c.loop-self.self.parser.place.position.reading.next.token ≡ false = cc in
+    let sound : is_fault c.loop-self.self.parser.place.position.reading.next.token ≡ false =
+    c.loop-self.invariant.kept.parser.ready.sound in
+    let other : is_punctuator punctuator.Comma c.loop-self.self.parser.place.position.reading.next.token ≡ false =
+    punctuator_tested punctuator.Comma c.peek-in-loop-self.result.now _ c.is_punctuator-in-loop-self.result false
+    c.peek-in-loop-self.ensures.value c.is_punctuator-in-loop-self.ensures c.loop-self-test.false in
     arguments_end _ _ c.args.self.now.parser.place _ c.args.self.now.depth c.loop-self.invariant.parsed sound other
 
 pub assignment-returns-in_err-check_level-clause-parses :
@@ -415,8 +455,8 @@ assignment-returns-in_err-check_level-clause-parses g t c =
     rw (p.1, p.2, refused.is) (record {
       refused =
           store_too_deep c.args.self.now.parser.place _ c.requires.at.ready.near c.args.self.now.depth c.args.op is
-          (omega arith);
-      grown = λ device. absurd (cc);
+          refused.deep;
+      grown = source_grown _ _ _;
     })
 
 pub assignment-returns-in_err-var-clause-parses : goal.assignment-returns-in_err-var-clause-parses
@@ -573,7 +613,7 @@ primary-returns-in_default-2 g t c =
       parses = rw c.misfit.ensures (record {
         refused = primary_misfits c.args.self.now.parser.place _ c.requires.at.ready.near c.args.self.now.depth
             c.requires.at.ready.sound none;
-        grown = λ device. absurd (cc);
+        grown = source_grown _ _ _;
       });
       kept = rw c.misfit.ensures (record {
         parser = record { borrows = refl; account = refl; took = record { rest = λ total h. h } };
@@ -628,7 +668,7 @@ bracketed-returns-clause-kept g t c = record {
   parser =
       on_then _ _ _ c.in_ok-advance.ensures.kept
       (kept_then _ _ _ (on _ _ c.in_ok-expression.ensures.kept.parser) (on _ _ c.in_ok-expect.ensures.kept));
-  depth = omega (arith, c.in_ok-expression.ensures.kept.depth);
+  depth = shut _ _ c.in_ok-expression.ensures.kept.depth;
   builder = c.in_ok-expression.ensures.kept.builder;
 }
 
@@ -636,7 +676,7 @@ pub signed-returns-clause-kept : goal.signed-returns-clause-kept
 signed-returns-clause-kept g t c = record {
   parser =
       on_then _ _ _ c.in_ok-advance.ensures.kept (on _ _ c.in_ok-unary.ensures.kept.parser);
-  depth = omega (arith, c.in_ok-unary.ensures.kept.depth);
+  depth = shut _ _ c.in_ok-unary.ensures.kept.depth;
   builder = c.in_ok-unary.ensures.kept.builder;
 }
 
@@ -653,7 +693,7 @@ assignment-returns-clause-kept g t c = record {
   parser =
       on_then _ _ _ c.in_ok-var.ensures.kept
       (kept_then _ _ _ (on _ _ c.in_ok-advance.ensures.kept) (on _ _ c.in_ok-right_side.ensures.kept.parser));
-  depth = omega (arith, c.in_ok-right_side.ensures.kept.depth);
+  depth = shut _ _ c.in_ok-right_side.ensures.kept.depth;
   builder = c.in_ok-right_side.ensures.kept.builder;
 }
 
@@ -663,7 +703,7 @@ call-returns-clause-kept g t c = record {
       on_then _ _ _ c.in_ok-callee.ensures.kept
       (kept_then _ _ _ (kept_then _ _ _ (on _ _ c.in_ok-expect.ensures.kept) c.in_ok-arguments.ensures.kept.parser)
       (on _ _ c.in_ok-expect-2.ensures.kept));
-  depth = omega (arith, c.in_ok-arguments.ensures.kept.depth);
+  depth = shut _ _ c.in_ok-arguments.ensures.kept.depth;
   builder = c.in_ok-arguments.ensures.kept.builder;
 }
 
@@ -679,7 +719,7 @@ signed-returns-in_err-begin-clause-parses g t c =
             refuses c.in_err-begin.field-0.0 _ c.in_err-begin.ensures.memory,
             halts_here (c.args.self.now.depth + 1) (Part Unary ∷ []) [] _ _ c.in_ok-advance.ensures.kept.ready.near,
           );
-      grown = λ device. absurd (cc);
+      grown = memory_grown _ _;
     })
 
 pub signed-returns-in_err-end-clause-parses : goal.signed-returns-in_err-end-clause-parses
@@ -690,12 +730,15 @@ signed-returns-in_err-end-clause-parses g t c =
       refused = (
         refuses c.in_err-end.field-0.0 _ c.in_err-end.ensures.memory,
         halts _ _ _ _ _ _ _ _
-            (sign_adds _ _ _ unknown c.args.self.now.parser.place _ _ c.args.self.now.depth c.args.sign c.requires.at.is
+            (sign_adds (g.B.Build.stands c.args.self.now.build.now) (g.B.Build.stands c.begin.new.build)
+            (g.B.Build.stands c.unary.new.self.build.now)
+            unknown c.args.self.now.parser.place c.advance.new.self.place c.unary.new.self.parser.place
+            c.args.self.now.depth c.args.sign c.requires.at.is
             shallow c.in_ok-advance.ensures.consumes c.in_ok-begin.ensures.told
             c.in_ok-unary.ensures.parses (λ profile acts h. tt) c.in_ok-unary.ensures.kept.parser.ready.sound).derives
             c.in_ok-unary.ensures.kept.parser.ready.near,
       );
-      grown = λ device. absurd (cc);
+      grown = memory_grown _ _;
     })
 
 pub operand-returns-in_err-tell_middle-clause-parses : goal.operand-returns-in_err-tell_middle-clause-parses
@@ -711,7 +754,7 @@ operand-returns-in_err-tell_middle-clause-parses g t c =
             halts_here c.args.self.now.depth (Part (Level (c.args.binary.level + 1)) ∷ []) [] _ _
                 c.in_ok-advance.ensures.kept.ready.near,
           );
-      grown = λ device. absurd (cc);
+      grown = memory_grown _ _;
     })
 
 pub operand-returns-in_err-binop-clause-parses : goal.operand-returns-in_err-binop-clause-parses
@@ -728,7 +771,7 @@ operand-returns-in_err-binop-clause-parses g t c =
             c.in_ok-levels.ensures.kept.parser.ready.sound).derives
             left) c.in_ok-levels.ensures.kept.parser.ready.near,
       );
-      grown = λ device. absurd (cc);
+      grown = memory_grown _ _;
     })
 
 pub call-returns-in_err-begin_call-clause-parses : goal.call-returns-in_err-begin_call-clause-parses
@@ -743,7 +786,7 @@ call-returns-in_err-begin_call-clause-parses g t c =
         callee_halts _ c.args.self.now.parser.place _ c.args.self.now.depth c.in_ok-callee.callee is
             c.in_ok-callee.ensures.matches c.in_ok-callee.ensures.kept.ready.near,
       );
-      grown = λ device. absurd (cc);
+      grown = memory_grown _ _;
     })
 
 pub call-returns-in_err-end_call-clause-parses : goal.call-returns-in_err-end_call-clause-parses
@@ -756,13 +799,16 @@ call-returns-in_err-end_call-clause-parses g t c =
       refused = (
         refuses c.in_err-end_call.field-0.0 _ c.in_err-end_call.ensures.memory,
         halts _ _ _ _ _ _ _ _
-            (call_adds _ _ _ unknown c.args.self.now.parser.place _ _ _ _ c.args.self.now.depth c.in_ok-callee.callee is
+            (call_adds (g.B.Build.stands c.args.self.now.build.now) (g.B.Build.stands c.begin_call.new.self)
+            (g.B.Build.stands c.arguments.new.self.build.now)
+            unknown c.args.self.now.parser.place c.callee.new.self.place c.expect.new.self.place
+            c.arguments.new.self.parser.place c.expect-2.new.self.place c.args.self.now.depth c.in_ok-callee.callee is
             c.in_ok-callee.ensures.matches c.in_ok-expect.ensures.matches c.in_ok-arguments.ensures.parses
             c.in_ok-expect-2.ensures.matches c.in_ok-callee.ensures.within
             c.in_ok-expect-2.ensures.kept.ready.sound c.in_ok-begin_call.ensures.ok (λ profile acts h. tt)).derives
             c.in_ok-expect-2.ensures.kept.ready.near,
       );
-      grown = λ device. absurd (cc);
+      grown = memory_grown _ _;
     })
 
 pub assignment-returns-in_err-store-clause-parses : goal.assignment-returns-in_err-store-clause-parses
@@ -782,5 +828,5 @@ assignment-returns-in_err-store-clause-parses g t c =
             c.in_ok-right_side.ensures.kept.parser.ready.sound (λ profile acts h. tt)).derives
             c.in_ok-right_side.ensures.kept.parser.ready.near,
       );
-      grown = λ device. absurd (cc);
+      grown = memory_grown _ _;
     })

@@ -1,6 +1,6 @@
 -- What each exit _ leaves _ to show: the fault goes back to the start, or the segments join; and what a builder may be
 -- told.
-use Rattle.std.proofs.Common.{◌∙◌, ◌≡◌, ◌+◌, ◌<◌, [], ◌∷◌, refl, true, false, arith, rules}
+use Rattle.std.proofs.Common.{◌∙◌, ◌≡◌, ◌+◌, ◌<◌, [], ◌∷◌, le_refl, refl, true, false, rules}
 use Rattle.std.proofs.lemmas.Result.{err_from_is_err_and}
 use Rattle.tokens.specs.declared.located_tokens.Punctuator.TheVariants as punctuator
 use Rattle.tokens.specs.declared.located_tokens.Token.TheVariants as token
@@ -11,8 +11,10 @@ use Rattle.parser.specs.Room.{HasPlace, room}
 use Rattle.grammar.specs.Following.{InBranch}
 use Rattle.parser.specs.Branches.{HasInside, before_else}
 use Rattle.parser.proofs.Advances.{kept_then, on, on_then}
-use Rattle.parser.proofs.Keeping.{nothing_read, stays_then, went}
-use Rattle.parser.proofs.Growing.{grown, grown_behind, grown_nothing, refuses, unknown}
+use Rattle.parser.proofs.Keeping.{nothing_read, shut, stays_then, went}
+use Rattle.parser.proofs.Growing.{grown, grown_behind, grown_nothing, memory_grown, refuses, source_grown, unknown}
+use Rattle.parser.proofs.Tests.{punctuator_tested, word_tested}
+use Rattle.parser.proofs.Depths.{as_deep, body_at, body_fails_at, deeper, else_at, else_fails_at, three}
 use Rattle.parser.proofs.Segments.{halts, halts_here, refused_map}
 use Rattle.parser.proofs.BodyLaws.{block_adds, block_too_deep, brace_fails, brace_stops, branch_adds, declarations_fail, else_adds, else_fails, else_stops, first_fails, if_past, if_closes, if_stops, if_too_deep, no_else_adds, repetition_adds, second_fails, statements_begin, statements_end, statements_fail, statements_more, test_fails, while_past, while_closes, while_stops, while_too_deep, within_fails}
 use Rattle.parser.proofs.SimpleLaws.{empty_adds, empty_fails}
@@ -28,8 +30,8 @@ block-returns-in_err-check_level-clause-parses g t c =
     rw (p.1, p.2, refused.is) (record {
       refused =
           block_too_deep _ _ c.requires.at.ready.near c.args.self.now.depth c.requires.at.ready.sound c.requires.at.is
-          (omega arith);
-      grown = λ device. absurd (cc);
+          refused.deep;
+      grown = source_grown _ _ _;
     })
 
 pub block-returns-in_err-advance-clause-parses : goal.block-returns-in_err-advance-clause-parses
@@ -96,8 +98,8 @@ branch-returns-in_err-check_level-clause-parses g t c =
     rw (p.1, p.2, refused.is) (record {
       refused =
           if_too_deep _ _ c.requires.at.ready.near c.args.self.now.depth c.requires.at.ready.sound c.requires.at.is
-          (omega arith);
-      grown = λ device. absurd (cc);
+          refused.deep;
+      grown = source_grown _ _ _;
     })
 
 pub branch-returns-in_err-advance-clause-parses : goal.branch-returns-in_err-advance-clause-parses
@@ -115,27 +117,35 @@ pub branch-returns-in_err-condition-clause-parses : goal.branch-returns-in_err-c
 branch-returns-in_err-condition-clause-parses g t c =
     let shallow : c.args.self.now.depth < 64 = c.in_ok-check_level.ensures.ok in
     let begun =
-    if_past _ _ c.args.self.now.depth c.requires.at.ready.sound c.requires.at.is shallow
+    if_past c.args.self.now.parser.place c.advance.new.self.place c.args.self.now.depth c.requires.at.ready.sound
+    c.requires.at.is shallow
     c.in_ok-advance.ensures.consumes in
     let p = err_from_is_err_and c.from_residual-in_err-condition.result c.from_residual-in_err-condition.ensures.1 in
     rw (p.1, p.2) (record {
       refused = refused_map _ _ _ _ _ c.in_err-condition.field-0.0
-          (test_fails _ _ c.args.self.now.depth (Part ElsePart ∷ Close ∷ []) if_closes begun) (λ same. same)
+          (test_fails c.args.self.now.parser.place c.advance.new.self.place c.args.self.now.depth
+          (Part ElsePart ∷ Close ∷ []) if_closes begun) (λ same. same)
           c.in_err-condition.ensures.parses.refused;
       grown = c.in_err-condition.ensures.parses.grown;
     })
 
 pub branch-returns-in_err-statement-clause-parses : goal.branch-returns-in_err-statement-clause-parses
 branch-returns-in_err-statement-clause-parses g t c =
-    let stops = rw c.in_ok-condition.ensures.kept.depth at c.in_err-statement.ensures.parses.refused in
+    let stops =
+    body_fails_at _ _ (c.args.self.now.depth + 1) (Part Statement ∷ []) c.condition.new.self.parser.place
+    g.B.Build.denied
+    c.in_err-statement.field-0.0 c.in_ok-condition.ensures.kept.depth c.in_err-statement.ensures.parses.refused in
     let shallow : c.args.self.now.depth < 64 = c.in_ok-check_level.ensures.ok in
     let begun =
-    if_past _ _ c.args.self.now.depth c.requires.at.ready.sound c.requires.at.is shallow
+    if_past c.args.self.now.parser.place c.advance.new.self.place c.args.self.now.depth c.requires.at.ready.sound
+    c.requires.at.is shallow
     c.in_ok-advance.ensures.consumes in
     let p = err_from_is_err_and c.from_residual-in_err-statement.result c.from_residual-in_err-statement.ensures.1 in
     rw (p.1, p.2) (record {
       refused = refused_map _ _ _ _ _ c.in_err-statement.field-0.0
-          (first_fails _ _ _ _ _ c.args.self.now.depth (Part ElsePart ∷ Close ∷ []) if_closes begun
+          (first_fails c.args.self.now.parser.place c.advance.new.self.place c.condition.new.self.parser.place
+          (g.B.Build.stands c.args.self.now.build.now) (g.B.Build.stands c.condition.new.self.build.now)
+          c.args.self.now.depth (Part ElsePart ∷ Close ∷ []) if_closes begun
           c.in_ok-condition.ensures.parses c.in_ok-condition.ensures.kept.parser.ready.sound) (λ same. same)
           stops;
       grown =
@@ -145,18 +155,29 @@ branch-returns-in_err-statement-clause-parses g t c =
 
 pub branch-returns-in_err-else_part-clause-parses : goal.branch-returns-in_err-else_part-clause-parses
 branch-returns-in_err-else_part-clause-parses g t c =
-    let body = rw c.in_ok-condition.ensures.kept.depth at c.in_ok-statement.ensures.parses in
+    let body =
+    body_at (g.B.Build.stands c.if_test.new.self) (g.B.Build.stands c.statement.new.self.build.now) _
+    (c.args.self.now.depth + 1)
+    (Part Statement ∷ []) [] c.condition.new.self.parser.place c.statement.new.self.parser.place
+    c.in_ok-condition.ensures.kept.depth c.in_ok-statement.ensures.parses in
     let stops =
-    rw (c.in_ok-statement.ensures.kept.depth ∙ c.in_ok-condition.ensures.kept.depth) at
+    else_fails_at _ _ (c.args.self.now.depth + 1) c.statement.new.self.parser.place g.B.Build.denied
+    c.in_err-else_part.field-0.0
+    (c.in_ok-statement.ensures.kept.depth ∙ c.in_ok-condition.ensures.kept.depth)
     c.in_err-else_part.ensures.parses.refused in
     let shallow : c.args.self.now.depth < 64 = c.in_ok-check_level.ensures.ok in
     let begun =
-    if_past _ _ c.args.self.now.depth c.requires.at.ready.sound c.requires.at.is shallow
+    if_past c.args.self.now.parser.place c.advance.new.self.place c.args.self.now.depth c.requires.at.ready.sound
+    c.requires.at.is shallow
     c.in_ok-advance.ensures.consumes in
     let p = err_from_is_err_and c.from_residual-in_err-else_part.result c.from_residual-in_err-else_part.ensures.1 in
     rw (p.1, p.2) (record {
       refused = refused_map _ _ _ _ _ c.in_err-else_part.field-0.0
-          (second_fails _ _ _ _ _ _ _ _ c.args.self.now.depth begun c.in_ok-condition.ensures.parses
+          (second_fails c.args.self.now.parser.place c.advance.new.self.place c.condition.new.self.parser.place
+          c.statement.new.self.parser.place
+          (g.B.Build.stands c.args.self.now.build.now) (g.B.Build.stands c.condition.new.self.build.now)
+          (g.B.Build.stands c.if_test.new.self) (g.B.Build.stands c.statement.new.self.build.now)
+          c.args.self.now.depth begun c.in_ok-condition.ensures.parses
           c.in_ok-condition.ensures.kept.parser.ready.sound body) (λ same. same)
           stops;
       grown =
@@ -168,15 +189,25 @@ branch-returns-in_err-else_part-clause-parses g t c =
 
 pub branch-returns-clause-parses : goal.branch-returns-clause-parses
 branch-returns-clause-parses g t c =
-    let body = rw c.in_ok-condition.ensures.kept.depth at c.in_ok-statement.ensures.parses in
+    let body =
+    body_at (g.B.Build.stands c.if_test.new.self) (g.B.Build.stands c.statement.new.self.build.now) _
+    (c.args.self.now.depth + 1)
+    (Part Statement ∷ []) [] c.condition.new.self.parser.place c.statement.new.self.parser.place
+    c.in_ok-condition.ensures.kept.depth c.in_ok-statement.ensures.parses in
     let second =
-    rw (c.in_ok-statement.ensures.kept.depth ∙ c.in_ok-condition.ensures.kept.depth) at
-    c.in_ok-else_part.ensures.parses in
+    else_at (g.B.Build.stands c.statement.new.self.build.now) (g.B.Build.stands c.else_part.new.self.build.now) _
+    (c.args.self.now.depth + 1) c.statement.new.self.parser.place c.else_part.new.self.parser.place
+    (c.in_ok-statement.ensures.kept.depth ∙ c.in_ok-condition.ensures.kept.depth) c.in_ok-else_part.ensures.parses in
     let shallow : c.args.self.now.depth < 64 = c.in_ok-check_level.ensures.ok in
     let begun =
-    if_past _ _ c.args.self.now.depth c.requires.at.ready.sound c.requires.at.is shallow
+    if_past c.args.self.now.parser.place c.advance.new.self.place c.args.self.now.depth c.requires.at.ready.sound
+    c.requires.at.is shallow
     c.in_ok-advance.ensures.consumes in
-    branch_adds _ _ _ _ _ _ _ _ _ _ _ c.args.self.now.depth shallow begun c.in_ok-condition.ensures.parses
+    branch_adds c.args.self.now.parser.place c.advance.new.self.place c.condition.new.self.parser.place
+    c.statement.new.self.parser.place c.else_part.new.self.parser.place (g.B.Build.stands c.args.self.now.build.now)
+    (g.B.Build.stands c.condition.new.self.build.now) (g.B.Build.stands c.if_test.new.self)
+    (g.B.Build.stands c.statement.new.self.build.now) (g.B.Build.stands c.else_part.new.self.build.now)
+    (g.B.Build.stands c.end_if.new.self) c.args.self.now.depth shallow begun c.in_ok-condition.ensures.parses
     c.in_ok-condition.ensures.kept.parser.ready.sound c.in_ok-if_test.ensures.ok body
     second c.in_ok-else_part.ensures.kept.parser.ready.sound c.in_ok-end_if.ensures.ok
 
@@ -190,8 +221,8 @@ repetition-returns-in_err-check_level-clause-parses g t c =
     rw (p.1, p.2, refused.is) (record {
       refused =
           while_too_deep _ _ c.requires.at.ready.near c.args.self.now.depth c.requires.at.ready.sound c.requires.at.is
-          (omega arith);
-      grown = λ device. absurd (cc);
+          refused.deep;
+      grown = source_grown _ _ _;
     })
 
 pub repetition-returns-in_err-advance-clause-parses : goal.repetition-returns-in_err-advance-clause-parses
@@ -210,12 +241,14 @@ pub repetition-returns-in_err-condition-clause-parses : goal.repetition-returns-
 repetition-returns-in_err-condition-clause-parses g t c =
     let shallow : c.args.self.now.depth < 64 = c.in_ok-check_level.ensures.ok in
     let begun =
-    while_past _ _ c.args.self.now.depth c.requires.at.ready.sound c.requires.at.is shallow
+    while_past c.args.self.now.parser.place c.advance.new.self.place c.args.self.now.depth c.requires.at.ready.sound
+    c.requires.at.is shallow
     c.in_ok-advance.ensures.consumes in
     let p = err_from_is_err_and c.from_residual-in_err-condition.result c.from_residual-in_err-condition.ensures.1 in
     rw (p.1, p.2) (record {
       refused = refused_map _ _ _ _ _ c.in_err-condition.field-0.0
-          (test_fails _ _ c.args.self.now.depth (Make Repeat ∷ Close ∷ []) while_closes begun) (λ same. same)
+          (test_fails c.args.self.now.parser.place c.advance.new.self.place c.args.self.now.depth
+          (Make Repeat ∷ Close ∷ []) while_closes begun) (λ same. same)
           c.in_err-condition.ensures.parses.refused;
       grown =
           λ device. grown_behind _ _ _ _ c.in_ok-begin_while.ensures.ok
@@ -224,15 +257,21 @@ repetition-returns-in_err-condition-clause-parses g t c =
 
 pub repetition-returns-in_err-statement-clause-parses : goal.repetition-returns-in_err-statement-clause-parses
 repetition-returns-in_err-statement-clause-parses g t c =
-    let stops = rw c.in_ok-condition.ensures.kept.depth at c.in_err-statement.ensures.parses.refused in
+    let stops =
+    body_fails_at _ _ (c.args.self.now.depth + 1) (Part Statement ∷ []) c.condition.new.self.parser.place
+    g.B.Build.denied
+    c.in_err-statement.field-0.0 c.in_ok-condition.ensures.kept.depth c.in_err-statement.ensures.parses.refused in
     let shallow : c.args.self.now.depth < 64 = c.in_ok-check_level.ensures.ok in
     let begun =
-    while_past _ _ c.args.self.now.depth c.requires.at.ready.sound c.requires.at.is shallow
+    while_past c.args.self.now.parser.place c.advance.new.self.place c.args.self.now.depth c.requires.at.ready.sound
+    c.requires.at.is shallow
     c.in_ok-advance.ensures.consumes in
     let p = err_from_is_err_and c.from_residual-in_err-statement.result c.from_residual-in_err-statement.ensures.1 in
     rw (p.1, p.2) (record {
       refused = refused_map _ _ _ _ _ c.in_err-statement.field-0.0
-          (first_fails _ _ _ _ _ c.args.self.now.depth (Make Repeat ∷ Close ∷ []) while_closes begun
+          (first_fails c.args.self.now.parser.place c.advance.new.self.place c.condition.new.self.parser.place
+          (g.B.Build.stands c.begin_while.new.self) (g.B.Build.stands c.condition.new.self.build.now)
+          c.args.self.now.depth (Make Repeat ∷ Close ∷ []) while_closes begun
           c.in_ok-condition.ensures.parses c.in_ok-condition.ensures.kept.parser.ready.sound) (λ same. same)
           stops;
       grown =
@@ -243,22 +282,34 @@ repetition-returns-in_err-statement-clause-parses g t c =
 
 pub repetition-returns-clause-parses : goal.repetition-returns-clause-parses
 repetition-returns-clause-parses g t c =
-    let body = rw c.in_ok-condition.ensures.kept.depth at c.in_ok-statement.ensures.parses in
+    let body =
+    body_at (g.B.Build.stands c.while_test.new.self) (g.B.Build.stands c.statement.new.self.build.now) _
+    (c.args.self.now.depth + 1)
+    (Part Statement ∷ []) [] c.condition.new.self.parser.place c.statement.new.self.parser.place
+    c.in_ok-condition.ensures.kept.depth c.in_ok-statement.ensures.parses in
     let shallow : c.args.self.now.depth < 64 = c.in_ok-check_level.ensures.ok in
     let begun =
-    while_past _ _ c.args.self.now.depth c.requires.at.ready.sound c.requires.at.is shallow
+    while_past c.args.self.now.parser.place c.advance.new.self.place c.args.self.now.depth c.requires.at.ready.sound
+    c.requires.at.is shallow
     c.in_ok-advance.ensures.consumes in
-    repetition_adds _ _ _ _ _ _ _ _ _ _ c.args.self.now.depth shallow begun c.in_ok-begin_while.ensures.ok
+    repetition_adds c.args.self.now.parser.place c.advance.new.self.place c.condition.new.self.parser.place
+    c.statement.new.self.parser.place (g.B.Build.stands c.args.self.now.build.now)
+    (g.B.Build.stands c.begin_while.new.self)
+    (g.B.Build.stands c.condition.new.self.build.now) (g.B.Build.stands c.while_test.new.self)
+    (g.B.Build.stands c.statement.new.self.build.now) (g.B.Build.stands c.end_while.new.self) c.args.self.now.depth
+    shallow begun c.in_ok-begin_while.ensures.ok
     c.in_ok-condition.ensures.parses c.in_ok-condition.ensures.kept.parser.ready.sound c.in_ok-while_test.ensures.ok
     body c.in_ok-statement.ensures.kept.parser.ready.sound c.in_ok-end_while.ensures.ok
 
 -- What a builder may be told, and where it stands at a call.
 
 pub block-statements-requires : goal.block-statements-requires
-block-statements-requires g t c =
+block-statements-requires g t c κs within =
     let shallow : c.args.self.now.depth < 64 = c.in_ok-check_level.ensures.ok in
-    let place = place_deeper _ c.args.self.now.depth shallow c.requires.at.builder in
-    search (rules, place)
+    let place = place_deeper _ c.args.self.now.depth shallow c.requires.at.builder in (
+      deeper t c.args.self.now.depth (c.args.self.now.depth + 1) 4 c.decreases shallow refl (le_refl 4),
+      (within.0, (within.1, record { builder = place; ready = c.in_ok-declarations.ensures.kept.ready; is = tt })),
+    )
 
 pub branch-condition-requires : goal.branch-condition-requires
 branch-condition-requires g t c =
@@ -267,7 +318,7 @@ branch-condition-requires g t c =
       at =
           record {
             builder = room_in_brackets _ c.args.self.now.depth shallow c.requires.at.builder;
-            ready = search rules;
+            ready = c.in_ok-advance.ensures.kept.ready;
             is = tt;
           };
     }
@@ -281,19 +332,25 @@ branch-if_test-requires g t c =
     }
 
 pub branch-statement-requires : goal.branch-statement-requires
-branch-statement-requires g t c =
+branch-statement-requires g t c κs within =
     let shallow : c.args.self.now.depth < 64 = c.in_ok-check_level.ensures.ok in
     let inside =
     branch_open _ _ _ c.args.self.now.depth _ _ _ shallow c.requires.at.builder c.in_ok-condition.ensures.parses
     c.in_ok-if_test.ensures.ok in
     let deep : c.condition.new.self.depth ≡ c.args.self.now.depth + 1 = c.in_ok-condition.ensures.kept.depth in
     let place : HasPlace (g.B.Build.stands c.if_test.new.self) (room c.condition.new.self.depth 1) =
-    rw deep (branch_place _ _ inside) in
-    search (rules, place, deep)
+    rw deep (branch_place _ _ inside) in (
+      deeper t c.args.self.now.depth _ 3 c.decreases shallow deep three,
+      (within.0, (within.1, record { builder = place; ready = c.in_ok-condition.ensures.kept.parser.ready; is = tt })),
+    )
 
 pub branch-else_part-requires : goal.branch-else_part-requires
-branch-else_part-requires g t c =
-    let body = rw c.in_ok-condition.ensures.kept.depth at c.in_ok-statement.ensures.parses in
+branch-else_part-requires g t c κs within =
+    let body =
+    body_at (g.B.Build.stands c.if_test.new.self) (g.B.Build.stands c.statement.new.self.build.now) _
+    (c.args.self.now.depth + 1)
+    (Part Statement ∷ []) [] c.condition.new.self.parser.place c.statement.new.self.parser.place
+    c.in_ok-condition.ensures.kept.depth c.in_ok-statement.ensures.parses in
     let shallow : c.args.self.now.depth < 64 = c.in_ok-check_level.ensures.ok in
     let inside =
     branch_open _ _ _ c.args.self.now.depth _ _ _ shallow c.requires.at.builder c.in_ok-condition.ensures.parses
@@ -302,15 +359,22 @@ branch-else_part-requires g t c =
     c.in_ok-statement.ensures.kept.depth ∙ c.in_ok-condition.ensures.kept.depth in
     let place : HasInside InBranch (g.B.Build.stands c.statement.new.self.build.now) (room c.statement.new.self.depth 1)
     =
-    rw deep (branch_kept _ _ _ _ _ _ inside body) in
-    search (rules, place, deep)
+    rw deep (branch_kept _ _ _ _ _ _ inside body) in (
+      deeper t c.args.self.now.depth _ 4 c.decreases shallow deep (le_refl 4),
+      (within.0, (within.1, record { builder = place; ready = c.in_ok-statement.ensures.kept.parser.ready; is = tt })),
+    )
 
 pub branch-end_if-requires : goal.branch-end_if-requires
 branch-end_if-requires g t c =
-    let body = rw c.in_ok-condition.ensures.kept.depth at c.in_ok-statement.ensures.parses in
+    let body =
+    body_at (g.B.Build.stands c.if_test.new.self) (g.B.Build.stands c.statement.new.self.build.now) _
+    (c.args.self.now.depth + 1)
+    (Part Statement ∷ []) [] c.condition.new.self.parser.place c.statement.new.self.parser.place
+    c.in_ok-condition.ensures.kept.depth c.in_ok-statement.ensures.parses in
     let second =
-    rw (c.in_ok-statement.ensures.kept.depth ∙ c.in_ok-condition.ensures.kept.depth) at
-    c.in_ok-else_part.ensures.parses in
+    else_at (g.B.Build.stands c.statement.new.self.build.now) (g.B.Build.stands c.else_part.new.self.build.now) _
+    (c.args.self.now.depth + 1) c.statement.new.self.parser.place c.else_part.new.self.parser.place
+    (c.in_ok-statement.ensures.kept.depth ∙ c.in_ok-condition.ensures.kept.depth) c.in_ok-else_part.ensures.parses in
     let shallow : c.args.self.now.depth < 64 = c.in_ok-check_level.ensures.ok in
     let inside =
     branch_open _ _ _ c.args.self.now.depth _ _ _ shallow c.requires.at.builder c.in_ok-condition.ensures.parses
@@ -325,10 +389,12 @@ pub else_part-else_part-requires : goal.else_part-else_part-requires
 else_part-else_part-requires g t c = record { follows = may_tell_else _ _ c.requires.at.builder }
 
 pub else_part-statement-requires : goal.else_part-statement-requires
-else_part-statement-requires g t c =
+else_part-statement-requires g t c κs within =
     let place : HasPlace (g.B.Build.stands c.else_part.new.self) (room c.args.self.now.depth 1) =
-    else_place _ _ _ c.requires.at.builder c.in_ok-else_part.ensures.ok in
-    search (rules, place)
+    else_place _ _ _ c.requires.at.builder c.in_ok-else_part.ensures.ok in (
+      as_deep t c.args.self.now.depth c.args.self.now.depth c.decreases refl,
+      (within.0, (within.1, record { builder = place; ready = c.in_ok-advance.ensures.kept.ready; is = tt })),
+    )
 
 pub repetition-begin_while-requires : goal.repetition-begin_while-requires
 repetition-begin_while-requires g t c =
@@ -342,7 +408,7 @@ repetition-condition-requires g t c =
           record {
             builder = loop_room _ _
                 (loop_open _ _ c.args.self.now.depth shallow c.requires.at.builder c.in_ok-begin_while.ensures.ok);
-            ready = search rules;
+            ready = c.in_ok-advance.ensures.kept.ready;
             is = tt;
           };
     }
@@ -354,18 +420,24 @@ repetition-while_test-requires g t c =
     record { follows = may_test_loop _ _ _ _ _ _ inside c.in_ok-condition.ensures.parses }
 
 pub repetition-statement-requires : goal.repetition-statement-requires
-repetition-statement-requires g t c =
+repetition-statement-requires g t c κs within =
     let shallow : c.args.self.now.depth < 64 = c.in_ok-check_level.ensures.ok in
     let inside = loop_open _ _ c.args.self.now.depth shallow c.requires.at.builder c.in_ok-begin_while.ensures.ok in
     let deep : c.condition.new.self.depth ≡ c.args.self.now.depth + 1 = c.in_ok-condition.ensures.kept.depth in
     let place : HasPlace (g.B.Build.stands c.while_test.new.self) (room c.condition.new.self.depth 1) =
     rw deep (turn_place _ _
-    (turn_open _ _ _ _ _ _ _ inside c.in_ok-condition.ensures.parses c.in_ok-while_test.ensures.ok)) in
-    search (rules, place, deep)
+    (turn_open _ _ _ _ _ _ _ inside c.in_ok-condition.ensures.parses c.in_ok-while_test.ensures.ok)) in (
+      deeper t c.args.self.now.depth _ 3 c.decreases shallow deep three,
+      (within.0, (within.1, record { builder = place; ready = c.in_ok-condition.ensures.kept.parser.ready; is = tt })),
+    )
 
 pub repetition-end_while-requires : goal.repetition-end_while-requires
 repetition-end_while-requires g t c =
-    let body = rw c.in_ok-condition.ensures.kept.depth at c.in_ok-statement.ensures.parses in
+    let body =
+    body_at (g.B.Build.stands c.while_test.new.self) (g.B.Build.stands c.statement.new.self.build.now) _
+    (c.args.self.now.depth + 1)
+    (Part Statement ∷ []) [] c.condition.new.self.parser.place c.statement.new.self.parser.place
+    c.in_ok-condition.ensures.kept.depth c.in_ok-statement.ensures.parses in
     let shallow : c.args.self.now.depth < 64 = c.in_ok-check_level.ensures.ok in
     let inside = loop_open _ _ c.args.self.now.depth shallow c.requires.at.builder c.in_ok-begin_while.ensures.ok in
     record {
@@ -376,11 +448,20 @@ repetition-end_while-requires g t c =
     }
 
 pub statements-statement-requires : goal.statements-statement-requires
-statements-statement-requires g t c =
+statements-statement-requires g t c κs within =
     let deep : c.loop-self.self.depth ≡ c.args.self.now.depth = c.loop-self.invariant.kept.depth in
     let place : HasPlace (g.B.Build.stands c.loop-self.self.build.now) (room c.loop-self.self.depth 1) =
-    rw deep (place_kept _ _ c.args.self.now.depth _ _ _ _ c.requires.at.builder c.loop-self.invariant.parses) in
-    search (rules, place, deep)
+    rw deep (place_kept _ _ c.args.self.now.depth _ _ _ _ c.requires.at.builder c.loop-self.invariant.parses) in (
+      as_deep t c.args.self.now.depth _ c.decreases deep,
+      (
+        within.0,
+        (
+          within.1,
+          record
+              { builder = place; ready = c.loop-self.invariant.kept.parser.ready; is = tt },
+        ),
+      ),
+    )
 
 -- Rows of statements.
 
@@ -392,25 +473,32 @@ statements-loop-self-init g t c = record {
 
 pub statements-loop-self-preserved : goal.statements-loop-self-preserved
 statements-loop-self-preserved g t c =
-    let sound : is_fault c.loop-self.self.parser.place.position.reading.next.token ≡ false = cc in
+    let sound : is_fault c.loop-self.self.parser.place.position.reading.next.token ≡ false =
+    c.loop-self.invariant.kept.parser.ready.sound in
     let other : is_punctuator punctuator.CloseCurly c.loop-self.self.parser.place.position.reading.next.token ≡ false =
-    cc in
+    punctuator_tested punctuator.CloseCurly c.peek.result.now _ c.is_punctuator.result false c.peek.ensures.value
+    c.is_punctuator.ensures c.loop-self-test.true in
     record {
       parses = statements_more _ _ _ _ _ _ c.args.self.now.depth sound other c.loop-self.invariant.parses
-          (rw c.loop-self.invariant.kept.depth at c.in_ok-statement.ensures.parses);
+          (body_at (g.B.Build.stands c.loop-self.self.build.now) (g.B.Build.stands c.statement.new.self.build.now) _
+          c.args.self.now.depth (Part Statement ∷ []) [] c.loop-self.self.parser.place c.statement.new.self.parser.place
+          c.loop-self.invariant.kept.depth c.in_ok-statement.ensures.parses);
       kept = stays_then _ _ _ c.loop-self.invariant.kept (went _ _ c.in_ok-statement.ensures.kept);
     }
 
 pub statements-returns-in_err-statement-clause-parses : goal.statements-returns-in_err-statement-clause-parses
 statements-returns-in_err-statement-clause-parses g t c =
-    let sound : is_fault c.loop-self.self.parser.place.position.reading.next.token ≡ false = cc in
+    let sound : is_fault c.loop-self.self.parser.place.position.reading.next.token ≡ false =
+    c.loop-self.invariant.kept.parser.ready.sound in
     let other : is_punctuator punctuator.CloseCurly c.loop-self.self.parser.place.position.reading.next.token ≡ false =
-    cc in
+    punctuator_tested punctuator.CloseCurly c.peek.result.now _ c.is_punctuator.result false c.peek.ensures.value
+    c.is_punctuator.ensures c.loop-self-test.true in
     let p = err_from_is_err_and c.from_residual.result c.from_residual.ensures.1 in
     rw (p.1, p.2) (record {
       refused = refused_map _ _ _ _ _ c.in_err-statement.field-0.0
           (statements_fail _ _ _ _ c.args.self.now.depth sound other c.loop-self.invariant.parses) (λ same. same)
-          (rw c.loop-self.invariant.kept.depth at c.in_err-statement.ensures.parses.refused);
+          (body_fails_at _ _ c.args.self.now.depth (Part Statement ∷ []) c.loop-self.self.parser.place g.B.Build.denied
+          c.in_err-statement.field-0.0 c.loop-self.invariant.kept.depth c.in_err-statement.ensures.parses.refused);
       grown =
           λ device. grown_behind _ _ _ _ c.loop-self.invariant.parses.added
           (c.in_err-statement.ensures.parses.grown device);
@@ -418,17 +506,21 @@ statements-returns-in_err-statement-clause-parses g t c =
 
 pub statements-returns-clause-parses : goal.statements-returns-clause-parses
 statements-returns-clause-parses g t c =
-    let sound : is_fault c.loop-self.self.parser.place.position.reading.next.token ≡ false = cc in
+    let sound : is_fault c.loop-self.self.parser.place.position.reading.next.token ≡ false =
+    c.loop-self.invariant.kept.parser.ready.sound in
     let is : is_punctuator punctuator.CloseCurly c.loop-self.self.parser.place.position.reading.next.token ≡ true =
-    cc in
+    punctuator_tested punctuator.CloseCurly c.peek.result.now _ c.is_punctuator.result true c.peek.ensures.value
+    c.is_punctuator.ensures c.loop-self-test.false in
     (statements_end _ _ _ _ c.args.self.now.depth sound is c.loop-self.invariant.parses, is)
 
 -- Second branches.
 
 pub else_part-returns-in_err-advance-clause-parses : goal.else_part-returns-in_err-advance-clause-parses
 else_part-returns-in_err-advance-clause-parses g t c =
-    let sound : is_fault c.args.self.now.parser.place.position.reading.next.token ≡ false = cc in
-    let is : is_word word.Else c.args.self.now.parser.place.position.reading.next.token ≡ true = cc in
+    let sound : is_fault c.args.self.now.parser.place.position.reading.next.token ≡ false = c.requires.at.ready.sound in
+    let is : is_word word.Else c.args.self.now.parser.place.position.reading.next.token ≡ true =
+    word_tested word.Else c.peek.result.now _ c.is_word.result true c.peek.ensures.value c.is_word.ensures
+    c.if-is_word.true in
     let p = err_from_is_err_and c.from_residual-in_err-advance.result c.from_residual-in_err-advance.ensures.1 in
     rw (p.1, p.2) (record {
       refused = refused_map _ _ _ ⊥ _ c.in_err-advance.field-0.0 (else_stops _ c.args.self.now.depth sound is)
@@ -438,8 +530,10 @@ else_part-returns-in_err-advance-clause-parses g t c =
 
 pub else_part-returns-in_err-statement-clause-parses : goal.else_part-returns-in_err-statement-clause-parses
 else_part-returns-in_err-statement-clause-parses g t c =
-    let sound : is_fault c.args.self.now.parser.place.position.reading.next.token ≡ false = cc in
-    let is : is_word word.Else c.args.self.now.parser.place.position.reading.next.token ≡ true = cc in
+    let sound : is_fault c.args.self.now.parser.place.position.reading.next.token ≡ false = c.requires.at.ready.sound in
+    let is : is_word word.Else c.args.self.now.parser.place.position.reading.next.token ≡ true =
+    word_tested word.Else c.peek.result.now _ c.is_word.result true c.peek.ensures.value c.is_word.ensures
+    c.if-is_word.true in
     let p = err_from_is_err_and c.from_residual-in_err-statement.result c.from_residual-in_err-statement.ensures.1 in
     rw (p.1, p.2) (record {
       refused = refused_map _ _ _ _ _ c.in_err-statement.field-0.0
@@ -451,16 +545,20 @@ else_part-returns-in_err-statement-clause-parses g t c =
 
 pub else_part-returns-in_ok-statement-clause-parses : goal.else_part-returns-in_ok-statement-clause-parses
 else_part-returns-in_ok-statement-clause-parses g t c =
-    let sound : is_fault c.args.self.now.parser.place.position.reading.next.token ≡ false = cc in
-    let is : is_word word.Else c.args.self.now.parser.place.position.reading.next.token ≡ true = cc in
+    let sound : is_fault c.args.self.now.parser.place.position.reading.next.token ≡ false = c.requires.at.ready.sound in
+    let is : is_word word.Else c.args.self.now.parser.place.position.reading.next.token ≡ true =
+    word_tested word.Else c.peek.result.now _ c.is_word.result true c.peek.ensures.value c.is_word.ensures
+    c.if-is_word.true in
     else_adds _ _ _ _ _ _ c.args.self.now.depth sound is c.in_ok-advance.ensures.consumes
     c.in_ok-advance.ensures.kept.ready.sound c.in_ok-else_part.ensures.ok c.in_ok-statement.ensures.parses
     c.in_ok-statement.ensures.kept.parser.ready.sound
 
 pub else_part-returns-else-is_word-clause-parses : goal.else_part-returns-else-is_word-clause-parses
 else_part-returns-else-is_word-clause-parses g t c =
-    let sound : is_fault c.args.self.now.parser.place.position.reading.next.token ≡ false = cc in
-    let other : is_word word.Else c.args.self.now.parser.place.position.reading.next.token ≡ false = cc in
+    let sound : is_fault c.args.self.now.parser.place.position.reading.next.token ≡ false = c.requires.at.ready.sound in
+    let other : is_word word.Else c.args.self.now.parser.place.position.reading.next.token ≡ false =
+    word_tested word.Else c.peek.result.now _ c.is_word.result false c.peek.ensures.value c.is_word.ensures
+    c.if-is_word.false in
     no_else_adds _ _ c.args.self.now.depth sound other
 
 -- Empty statements.
@@ -468,7 +566,7 @@ else_part-returns-else-is_word-clause-parses g t c =
 pub statement-returns-in_err-expect-in-Punctuator-Semicolon-clause-parses :
     goal.statement-returns-in_err-expect-in-Punctuator-Semicolon-clause-parses
 statement-returns-in_err-expect-in-Punctuator-Semicolon-clause-parses g t c =
-    let sound : is_fault c.args.self.now.parser.place.position.reading.next.token ≡ false = cc in
+    let sound : is_fault c.args.self.now.parser.place.position.reading.next.token ≡ false = c.requires.at.ready.sound in
     let at : c.args.self.now.parser.place.position.reading.next.token ≡ token.Punctuator punctuator.Semicolon =
     search rules in
     let is : is_punctuator punctuator.Semicolon c.args.self.now.parser.place.position.reading.next.token ≡ true =
@@ -484,7 +582,7 @@ statement-returns-in_err-expect-in-Punctuator-Semicolon-clause-parses g t c =
 pub statement-returns-in_ok-expect-in-Punctuator-Semicolon-clause-parses :
     goal.statement-returns-in_ok-expect-in-Punctuator-Semicolon-clause-parses
 statement-returns-in_ok-expect-in-Punctuator-Semicolon-clause-parses g t c =
-    let sound : is_fault c.args.self.now.parser.place.position.reading.next.token ≡ false = cc in
+    let sound : is_fault c.args.self.now.parser.place.position.reading.next.token ≡ false = c.requires.at.ready.sound in
     let at : c.args.self.now.parser.place.position.reading.next.token ≡ token.Punctuator punctuator.Semicolon =
     search rules in
     let is : is_punctuator punctuator.Semicolon c.args.self.now.parser.place.position.reading.next.token ≡ true =
@@ -499,7 +597,7 @@ block-returns-clause-kept g t c = record {
       on_then _ _ _ c.in_ok-advance.ensures.kept
       (kept_then _ _ _ c.in_ok-declarations.ensures.kept
       (kept_then _ _ _ c.in_ok-statements.ensures.kept.parser (on _ _ c.in_ok-expect.ensures.kept)));
-  depth = omega (arith, c.in_ok-statements.ensures.kept.depth);
+  depth = shut _ _ c.in_ok-statements.ensures.kept.depth;
   builder = c.in_ok-statements.ensures.kept.builder;
 }
 
@@ -509,12 +607,9 @@ branch-returns-clause-kept g t c = record {
       on_then _ _ _ c.in_ok-advance.ensures.kept
       (kept_then _ _ _ (on _ _ c.in_ok-condition.ensures.kept.parser)
       (kept_then _ _ _ (on _ _ c.in_ok-statement.ensures.kept.parser) c.in_ok-else_part.ensures.kept.parser));
-  depth = omega (
-    arith,
-    c.in_ok-condition.ensures.kept.depth,
-    c.in_ok-statement.ensures.kept.depth,
-    c.in_ok-else_part.ensures.kept.depth,
-  );
+  depth = shut _ _
+      (c.in_ok-else_part.ensures.kept.depth ∙ c.in_ok-statement.ensures.kept.depth ∙
+      c.in_ok-condition.ensures.kept.depth);
   builder = c.in_ok-else_part.ensures.kept.builder ∙ c.in_ok-statement.ensures.kept.builder ∙
       c.in_ok-condition.ensures.kept.builder;
 }
@@ -524,7 +619,7 @@ repetition-returns-clause-kept g t c = record {
   parser =
       on_then _ _ _ c.in_ok-advance.ensures.kept
       (kept_then _ _ _ (on _ _ c.in_ok-condition.ensures.kept.parser) (on _ _ c.in_ok-statement.ensures.kept.parser));
-  depth = omega (arith, c.in_ok-condition.ensures.kept.depth, c.in_ok-statement.ensures.kept.depth);
+  depth = shut _ _ (c.in_ok-statement.ensures.kept.depth ∙ c.in_ok-condition.ensures.kept.depth);
   builder = c.in_ok-statement.ensures.kept.builder ∙ c.in_ok-condition.ensures.kept.builder;
 }
 
@@ -543,43 +638,57 @@ pub branch-returns-in_err-if_test-clause-parses : goal.branch-returns-in_err-if_
 branch-returns-in_err-if_test-clause-parses g t c =
     let shallow : c.args.self.now.depth < 64 = c.in_ok-check_level.ensures.ok in
     let begun =
-    if_past _ _ c.args.self.now.depth c.requires.at.ready.sound c.requires.at.is shallow
+    if_past c.args.self.now.parser.place c.advance.new.self.place c.args.self.now.depth c.requires.at.ready.sound
+    c.requires.at.is shallow
     c.in_ok-advance.ensures.consumes in
     let p = err_from_is_err_and c.from_residual-in_err-if_test.result c.from_residual-in_err-if_test.ensures.1 in
     rw (p.1, p.2) (record {
       refused = (
         refuses c.in_err-if_test.field-0.0 _ c.in_err-if_test.ensures.memory,
-        first_fails _ _ _ _ _ c.args.self.now.depth (Part ElsePart ∷ Close ∷ []) if_closes begun
+        first_fails c.args.self.now.parser.place c.advance.new.self.place c.condition.new.self.parser.place
+            (g.B.Build.stands c.args.self.now.build.now) (g.B.Build.stands c.condition.new.self.build.now)
+            c.args.self.now.depth (Part ElsePart ∷ Close ∷ []) if_closes begun
             c.in_ok-condition.ensures.parses
             c.in_ok-condition.ensures.kept.parser.ready.sound _
             (λ b. halts_here _ (Part Statement ∷ []) (ABody b ∷ []) _ _
             c.in_ok-condition.ensures.kept.parser.ready.near),
       );
-      grown = λ device. absurd (cc);
+      grown = memory_grown _ _;
     })
 
 pub branch-returns-in_err-end_if-clause-parses : goal.branch-returns-in_err-end_if-clause-parses
 branch-returns-in_err-end_if-clause-parses g t c =
-    let body = rw c.in_ok-condition.ensures.kept.depth at c.in_ok-statement.ensures.parses in
+    let body =
+    body_at (g.B.Build.stands c.if_test.new.self) (g.B.Build.stands c.statement.new.self.build.now) _
+    (c.args.self.now.depth + 1)
+    (Part Statement ∷ []) [] c.condition.new.self.parser.place c.statement.new.self.parser.place
+    c.in_ok-condition.ensures.kept.depth c.in_ok-statement.ensures.parses in
     let second =
-    rw (c.in_ok-statement.ensures.kept.depth ∙ c.in_ok-condition.ensures.kept.depth) at
-    c.in_ok-else_part.ensures.parses in
+    else_at (g.B.Build.stands c.statement.new.self.build.now) (g.B.Build.stands c.else_part.new.self.build.now) _
+    (c.args.self.now.depth + 1) c.statement.new.self.parser.place c.else_part.new.self.parser.place
+    (c.in_ok-statement.ensures.kept.depth ∙ c.in_ok-condition.ensures.kept.depth) c.in_ok-else_part.ensures.parses in
     let shallow : c.args.self.now.depth < 64 = c.in_ok-check_level.ensures.ok in
     let begun =
-    if_past _ _ c.args.self.now.depth c.requires.at.ready.sound c.requires.at.is shallow
+    if_past c.args.self.now.parser.place c.advance.new.self.place c.args.self.now.depth c.requires.at.ready.sound
+    c.requires.at.is shallow
     c.in_ok-advance.ensures.consumes in
     let p = err_from_is_err_and c.from_residual-in_err-end_if.result c.from_residual-in_err-end_if.ensures.1 in
     rw (p.1, p.2) (record {
       refused = (
         refuses c.in_err-end_if.field-0.0 _ c.in_err-end_if.ensures.memory,
         λ b. halts _ _ _ _ _ _ _ _
-            ((branch_adds _ _ _ _ _ _ _ _ _ _ unknown c.args.self.now.depth shallow begun
+            ((branch_adds c.args.self.now.parser.place c.advance.new.self.place c.condition.new.self.parser.place
+            c.statement.new.self.parser.place c.else_part.new.self.parser.place
+            (g.B.Build.stands c.args.self.now.build.now)
+            (g.B.Build.stands c.condition.new.self.build.now) (g.B.Build.stands c.if_test.new.self)
+            (g.B.Build.stands c.statement.new.self.build.now) (g.B.Build.stands c.else_part.new.self.build.now) unknown
+            c.args.self.now.depth shallow begun
             c.in_ok-condition.ensures.parses c.in_ok-condition.ensures.kept.parser.ready.sound
             c.in_ok-if_test.ensures.ok body second
             c.in_ok-else_part.ensures.kept.parser.ready.sound (λ profile acts h. tt)).derives b)
             c.in_ok-else_part.ensures.kept.parser.ready.near,
       );
-      grown = λ device. absurd (cc);
+      grown = memory_grown _ _;
     })
 
 pub repetition-returns-in_err-begin_while-clause-parses : goal.repetition-returns-in_err-begin_while-clause-parses
@@ -591,46 +700,58 @@ repetition-returns-in_err-begin_while-clause-parses g t c =
         refuses c.in_err-begin_while.field-0.0 _ c.in_err-begin_while.ensures.memory,
         λ b. halts_here _ (Part Statement ∷ []) (ABody b ∷ []) _ _ c.requires.at.ready.near,
       );
-      grown = λ device. absurd (cc);
+      grown = memory_grown _ _;
     })
 
 pub repetition-returns-in_err-while_test-clause-parses : goal.repetition-returns-in_err-while_test-clause-parses
 repetition-returns-in_err-while_test-clause-parses g t c =
     let shallow : c.args.self.now.depth < 64 = c.in_ok-check_level.ensures.ok in
     let begun =
-    while_past _ _ c.args.self.now.depth c.requires.at.ready.sound c.requires.at.is shallow
+    while_past c.args.self.now.parser.place c.advance.new.self.place c.args.self.now.depth c.requires.at.ready.sound
+    c.requires.at.is shallow
     c.in_ok-advance.ensures.consumes in
     let p = err_from_is_err_and c.from_residual-in_err-while_test.result c.from_residual-in_err-while_test.ensures.1 in
     rw (p.1, p.2) (record {
       refused = (
         refuses c.in_err-while_test.field-0.0 _ c.in_err-while_test.ensures.memory,
-        first_fails _ _ _ _ _ c.args.self.now.depth (Make Repeat ∷ Close ∷ []) while_closes begun
+        first_fails c.args.self.now.parser.place c.advance.new.self.place c.condition.new.self.parser.place
+            (g.B.Build.stands c.begin_while.new.self) (g.B.Build.stands c.condition.new.self.build.now)
+            c.args.self.now.depth (Make Repeat ∷ Close ∷ []) while_closes begun
             c.in_ok-condition.ensures.parses c.in_ok-condition.ensures.kept.parser.ready.sound _
             (λ b. halts_here _ (Part Statement ∷ []) (ABody b ∷ []) _ _
             c.in_ok-condition.ensures.kept.parser.ready.near),
       );
-      grown = λ device. absurd (cc);
+      grown = memory_grown _ _;
     })
 
 pub repetition-returns-in_err-end_while-clause-parses : goal.repetition-returns-in_err-end_while-clause-parses
 repetition-returns-in_err-end_while-clause-parses g t c =
-    let body = rw c.in_ok-condition.ensures.kept.depth at c.in_ok-statement.ensures.parses in
+    let body =
+    body_at (g.B.Build.stands c.while_test.new.self) (g.B.Build.stands c.statement.new.self.build.now) _
+    (c.args.self.now.depth + 1)
+    (Part Statement ∷ []) [] c.condition.new.self.parser.place c.statement.new.self.parser.place
+    c.in_ok-condition.ensures.kept.depth c.in_ok-statement.ensures.parses in
     let shallow : c.args.self.now.depth < 64 = c.in_ok-check_level.ensures.ok in
     let begun =
-    while_past _ _ c.args.self.now.depth c.requires.at.ready.sound c.requires.at.is shallow
+    while_past c.args.self.now.parser.place c.advance.new.self.place c.args.self.now.depth c.requires.at.ready.sound
+    c.requires.at.is shallow
     c.in_ok-advance.ensures.consumes in
     let p = err_from_is_err_and c.from_residual-in_err-end_while.result c.from_residual-in_err-end_while.ensures.1 in
     rw (p.1, p.2) (record {
       refused = (
         refuses c.in_err-end_while.field-0.0 _ c.in_err-end_while.ensures.memory,
         λ b. halts _ _ _ _ _ _ _ _
-            ((repetition_adds _ _ _ _ _ _ _ _ _ unknown c.args.self.now.depth shallow begun
+            ((repetition_adds c.args.self.now.parser.place c.advance.new.self.place c.condition.new.self.parser.place
+            c.statement.new.self.parser.place (g.B.Build.stands c.args.self.now.build.now)
+            (g.B.Build.stands c.begin_while.new.self)
+            (g.B.Build.stands c.condition.new.self.build.now) (g.B.Build.stands c.while_test.new.self)
+            (g.B.Build.stands c.statement.new.self.build.now) unknown c.args.self.now.depth shallow begun
             c.in_ok-begin_while.ensures.ok c.in_ok-condition.ensures.parses
             c.in_ok-condition.ensures.kept.parser.ready.sound c.in_ok-while_test.ensures.ok
             body c.in_ok-statement.ensures.kept.parser.ready.sound
             (λ profile acts h. tt)).derives b) c.in_ok-statement.ensures.kept.parser.ready.near,
       );
-      grown = λ device. absurd (cc);
+      grown = memory_grown _ _;
     })
 
 pub else_part-returns-in_err-else_part-clause-parses : goal.else_part-returns-in_err-else_part-clause-parses
@@ -641,5 +762,5 @@ else_part-returns-in_err-else_part-clause-parses g t c =
         refuses c.in_err-else_part.field-0.0 _ c.in_err-else_part.ensures.memory,
         λ s e b. halts_here _ (Part ElsePart ∷ []) (before_else s e b) _ _ c.requires.at.ready.near,
       );
-      grown = λ device. absurd (cc);
+      grown = memory_grown _ _;
     })

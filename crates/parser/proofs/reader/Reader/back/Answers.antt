@@ -4,7 +4,7 @@ use Rattle.tokens.specs.declared.located_tokens.Punctuator.TheVariants as punctu
 use Rattle.grammar.specs.Grammar.{Back, Part, is_fault, is_punctuator}
 use Rattle.parser.proofs.Advances.{stays_ready}
 use Rattle.parser.proofs.Keeping.{went}
-use Rattle.parser.proofs.Growing.{refuses}
+use Rattle.parser.proofs.Growing.{memory_grown, refuses}
 use Rattle.parser.proofs.Segments.{halts_here, refused_map}
 use Rattle.parser.specs.Room.{room}
 use Rattle.parser.proofs.Openings.{may_push}
@@ -16,13 +16,13 @@ constant-requires g c = record { follows = may_push _ (room c.args.self.now.dept
 
 pub returns-then-is_punctuator-clause-parses : goal.returns-then-is_punctuator-clause-parses
 returns-then-is_punctuator-clause-parses g c =
-    let sound : is_fault c.args.self.now.parser.place.position.reading.next.token ≡ false = cc in
+    let sound : is_fault c.args.self.now.parser.place.position.reading.next.token ≡ false = c.requires.at.ready.sound in
     let is : is_punctuator punctuator.Semicolon c.args.self.now.parser.place.position.reading.next.token ≡ true = cc in
     zero_adds _ _ _ c.args.self.now.depth sound is c.in_ok-constant.ensures.ok
 
 pub returns-in_err-expression-clause-parses : goal.returns-in_err-expression-clause-parses
 returns-in_err-expression-clause-parses g c =
-    let sound : is_fault c.args.self.now.parser.place.position.reading.next.token ≡ false = cc in
+    let sound : is_fault c.args.self.now.parser.place.position.reading.next.token ≡ false = c.requires.at.ready.sound in
     let other : is_punctuator punctuator.Semicolon c.args.self.now.parser.place.position.reading.next.token ≡ false =
     cc in
     let p = err_from_is_err_and c.from_residual-in_err-expression.result c.from_residual-in_err-expression.ensures.1 in
@@ -34,7 +34,7 @@ returns-in_err-expression-clause-parses g c =
 
 pub returns-clause-parses : goal.returns-clause-parses
 returns-clause-parses g c =
-    let sound : is_fault c.args.self.now.parser.place.position.reading.next.token ≡ false = cc in
+    let sound : is_fault c.args.self.now.parser.place.position.reading.next.token ≡ false = c.requires.at.ready.sound in
     let other : is_punctuator punctuator.Semicolon c.args.self.now.parser.place.position.reading.next.token ≡ false =
     cc in
     back_adds _ _ _ _ c.args.self.now.depth sound other c.in_ok-expression.ensures.parses
@@ -54,5 +54,5 @@ returns-in_err-constant-clause-parses g c =
         refuses c.in_err-constant.field-0.0 _ c.in_err-constant.ensures.memory,
         halts_here _ (Part Back ∷ []) [] _ _ c.requires.at.ready.near,
       );
-      grown = λ device. absurd (cc);
+      grown = memory_grown _ _;
     })

@@ -3,7 +3,7 @@ use Rattle.std.proofs.lemmas.Int.{to_z_pos}
 use Rattle.std.proofs.lemmas.Result.{err_from_is_err_and}
 use Rattle.grammar.specs.Actions.{PushConstant}
 use Rattle.grammar.specs.Grammar.{Part, Primary}
-use Rattle.parser.proofs.Growing.{grown, refuses}
+use Rattle.parser.proofs.Growing.{grown, memory_grown, refuses}
 use Rattle.parser.proofs.Segments.{halts_here}
 use Rattle.parser.proofs.OperandLaws.{constant_adds, constant_ends, constant_follows}
 use Rattle.parser.proofs.reader.Reader.constant.Goals as goal
@@ -37,5 +37,5 @@ returns-in_err-constant-clause-parses g c =
         refuses c.in_err-constant.field-0.0 _ c.in_err-constant.ensures.memory,
         λ depth. halts_here depth (Part Primary ∷ []) [] _ _ c.requires.at.ready.near,
       );
-      grown = λ device. absurd (cc);
+      grown = memory_grown _ _;
     })

@@ -1,6 +1,6 @@
 use Rattle.std.proofs.lemmas.Result.{err_from_is_err_and}
 use Rattle.parser.proofs.Advances.{on, on_then}
-use Rattle.parser.proofs.Growing.{grown, refuses, unknown}
+use Rattle.parser.proofs.Growing.{grown, memory_grown, refuses, unknown}
 use Rattle.parser.proofs.Segments.{halts, refused_map}
 use Rattle.parser.specs.Room.{room}
 use Rattle.parser.proofs.Openings.{may_chop, value_inside}
@@ -62,5 +62,5 @@ returns-in_err-chop-clause-parses g c =
             c.in_ok-expect.ensures.kept.ready.sound (λ profile acts h. tt)).derives b)
             c.in_ok-expect.ensures.kept.ready.near,
       );
-      grown = λ device. absurd (cc);
+      grown = memory_grown _ _;
     })

@@ -7,7 +7,7 @@ use Rattle.grammar.specs.Tree.{Done}
 use Rattle.parser.specs.Segment.{FailsAt}
 use Rattle.parser.specs.Statements.{FailsBody}
 use Rattle.parser.proofs.Advances.{kept_then, on_then}
-use Rattle.parser.proofs.Growing.{grown_nothing}
+use Rattle.parser.proofs.Growing.{grown_nothing, source_grown}
 use Rattle.parser.proofs.Segments.{exit, refused_map}
 use Rattle.parser.specs.Progress.{at_brace}
 use Rattle.parser.proofs.Inside.{block_adds, block_declared, block_opened, brace_misfits, brace_stops}
@@ -15,12 +15,12 @@ use Rattle.parser.proofs.reader.Reader.function_block.Goals as goal
 
 pub returns-then-not-is_punctuator-clause-parses : goal.returns-then-not-is_punctuator-clause-parses
 returns-then-not-is_punctuator-clause-parses g c =
-    let sound : is_fault c.args.self.now.parser.place.position.reading.next.token ≡ false = cc in
+    let sound : is_fault c.args.self.now.parser.place.position.reading.next.token ≡ false = c.requires.at.ready.sound in
     let misses : is_punctuator punctuator.OpenCurly c.args.self.now.parser.place.position.reading.next.token ≡ false =
     cc in
     rw c.misfit.ensures (record {
       refused = brace_misfits _ _ c.requires.at.ready.near sound misses;
-      grown = λ device. absurd (cc);
+      grown = source_grown _ _ _;
     })
 
 pub returns-in_err-advance-clause-parses : goal.returns-in_err-advance-clause-parses

@@ -4,7 +4,7 @@ use Rattle.grammar.specs.Actions.{GiveBack}
 use Rattle.grammar.specs.Following.{AValue, is_number}
 use Rattle.grammar.proofs.FollowingLaws.{origin_of}
 use Rattle.parser.proofs.Advances.{kept_then, on, on_then}
-use Rattle.parser.proofs.Growing.{grown, grown_nothing, refuses, unknown}
+use Rattle.parser.proofs.Growing.{grown, grown_nothing, memory_grown, refuses, unknown}
 use Rattle.parser.proofs.Segments.{halts, refused_map}
 use Rattle.parser.specs.Room.{room}
 use Rattle.parser.proofs.Openings.{may_end, value_inside}
@@ -81,5 +81,5 @@ returns-in_err-give_back-clause-parses g c =
             c.in_ok-expect.ensures.kept.ready.sound (λ profile acts h. tt)).derives b)
             c.in_ok-expect.ensures.kept.ready.near,
       );
-      grown = λ device. absurd (cc);
+      grown = memory_grown _ _;
     })

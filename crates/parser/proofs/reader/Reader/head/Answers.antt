@@ -33,7 +33,7 @@ returns-in_err-externals-in-Name-2-clause-reads g c =
 
 pub returns-in_default : goal.returns-in_default
 returns-in_default g c =
-    let sound : is_fault c.args.self.now.parser.place.position.reading.next.token ≡ false = cc in
+    let sound : is_fault c.args.self.now.parser.place.position.reading.next.token ≡ false = c.requires.at.ready.sound in
     record {
       reads = rw c.misfit.ensures
           (head_misfits (g.B.Build.stands c.args.self.now.build.now) _ _ c.requires.at.ready.near sound

@@ -20,7 +20,7 @@ returns-in_err-function-clause-reads g c =
 
 pub returns-in_default : goal.returns-in_default
 returns-in_default g c =
-    let sound : is_fault c.args.self.now.parser.place.position.reading.next.token ≡ false = cc in
+    let sound : is_fault c.args.self.now.parser.place.position.reading.next.token ≡ false = c.requires.at.ready.sound in
     let other : is_word word.Type c.args.self.now.parser.place.position.reading.next.token ≡ false = cc in
     record {
       reads =

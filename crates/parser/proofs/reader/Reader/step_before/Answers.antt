@@ -3,7 +3,7 @@ use Rattle.std.proofs.lemmas.Result.{err_from_is_err_and}
 use Rattle.grammar.specs.Actions.{PushConstant, StoreVariable}
 use Rattle.grammar.specs.Tree.{Assign, Constant}
 use Rattle.parser.proofs.Advances.{on, on_then}
-use Rattle.parser.proofs.Growing.{grown_nothing, refuses, unknown}
+use Rattle.parser.proofs.Growing.{grown_nothing, memory_grown, refuses, unknown}
 use Rattle.parser.proofs.Segments.{halts}
 use Rattle.parser.specs.Signs.{step_store}
 use Rattle.parser.proofs.TellingLaws.{next_follows}
@@ -65,7 +65,7 @@ returns-in_err-constant-clause-parses g c =
             c.in_ok-var.ensures.kept.ready.sound
             (λ profile acts h. tt) (λ profile acts h. tt) depth).derives c.in_ok-var.ensures.kept.ready.near,
       );
-      grown = λ device. absurd (cc);
+      grown = memory_grown _ _;
     })
 
 pub returns-in_err-store-clause-parses : goal.returns-in_err-store-clause-parses
@@ -80,5 +80,5 @@ returns-in_err-store-clause-parses g c =
             c.in_ok-var.ensures.kept.ready.sound
             (λ profile acts h. tt) (λ profile acts h. tt) depth).derives c.in_ok-var.ensures.kept.ready.near,
       );
-      grown = λ device. absurd (cc);
+      grown = memory_grown _ _;
     })

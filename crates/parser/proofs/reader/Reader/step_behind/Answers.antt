@@ -3,7 +3,7 @@ use Rattle.std.proofs.lemmas.Result.{err_from_is_err_and}
 use Rattle.grammar.specs.Actions.{Chop, FetchVariable, PushConstant, StoreVariable}
 use Rattle.grammar.specs.Tree.{Postfix}
 use Rattle.parser.proofs.Advances.{on, on_then}
-use Rattle.parser.proofs.Growing.{grown, grown_behind, grown_nothing, refuses}
+use Rattle.parser.proofs.Growing.{grown, grown_behind, grown_nothing, memory_grown, refuses}
 use Rattle.parser.specs.Signs.{step_store}
 use Rattle.parser.proofs.TellingLaws.{next_follows}
 use Rattle.parser.proofs.OperandLaws.{behind_adds, behind_halts, behind_punctuator_ends, behind_name_ends, is_named, tree_follows}
@@ -106,7 +106,7 @@ returns-in_err-fetch-clause-parses g c =
         behind_halts _ c.args.self.now.parser.place _ c.args.step c.in_ok-var.var (is_named _ c.requires.at.is.named)
             c.requires.at.is.is c.in_ok-var.ensures.matches c.in_ok-var.ensures.kept.ready.near,
       );
-      grown = λ device. absurd (cc);
+      grown = memory_grown _ _;
     })
 
 pub returns-in_err-constant-clause-parses : goal.returns-in_err-constant-clause-parses
@@ -118,7 +118,7 @@ returns-in_err-constant-clause-parses g c =
         behind_halts _ c.args.self.now.parser.place _ c.args.step c.in_ok-var.var (is_named _ c.requires.at.is.named)
             c.requires.at.is.is c.in_ok-var.ensures.matches c.in_ok-var.ensures.kept.ready.near,
       );
-      grown = λ device. absurd (cc);
+      grown = memory_grown _ _;
     })
 
 pub returns-in_err-store-clause-parses : goal.returns-in_err-store-clause-parses
@@ -130,7 +130,7 @@ returns-in_err-store-clause-parses g c =
         behind_halts _ c.args.self.now.parser.place _ c.args.step c.in_ok-var.var (is_named _ c.requires.at.is.named)
             c.requires.at.is.is c.in_ok-var.ensures.matches c.in_ok-var.ensures.kept.ready.near,
       );
-      grown = λ device. absurd (cc);
+      grown = memory_grown _ _;
     })
 
 pub returns-in_err-chop-clause-parses : goal.returns-in_err-chop-clause-parses
@@ -142,5 +142,5 @@ returns-in_err-chop-clause-parses g c =
         behind_halts _ c.args.self.now.parser.place _ c.args.step c.in_ok-var.var (is_named _ c.requires.at.is.named)
             c.requires.at.is.is c.in_ok-var.ensures.matches c.in_ok-var.ensures.kept.ready.near,
       );
-      grown = λ device. absurd (cc);
+      grown = memory_grown _ _;
     })

@@ -2,7 +2,7 @@ use Rattle.std.proofs.Common.{[], arith}
 use Rattle.std.proofs.lemmas.Result.{err_from_is_err_and}
 use Rattle.grammar.specs.Actions.{FetchVariable}
 use Rattle.grammar.specs.Tree.{Variable}
-use Rattle.parser.proofs.Growing.{grown_nothing, refuses, unknown}
+use Rattle.parser.proofs.Growing.{grown_nothing, memory_grown, refuses, unknown}
 use Rattle.parser.proofs.Segments.{halts}
 use Rattle.parser.proofs.OperandLaws.{NoStep, fetch_adds, fetch_ends, is_named, tree_follows}
 use Rattle.parser.proofs.reader.Reader.variable.Goals as goal
@@ -47,5 +47,5 @@ returns-in_err-fetch-clause-parses g c =
             c.in_ok-var.ensures.within c.in_ok-var.ensures.kept.ready.sound (λ profile acts h. tt)) depth).derives
             c.in_ok-var.ensures.kept.ready.near,
       );
-      grown = λ device. absurd (cc);
+      grown = memory_grown _ _;
     })
