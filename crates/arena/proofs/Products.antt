@@ -6,7 +6,7 @@ use Rattle.std.proofs.lemmas.Nat.{mul-le}
 abbrev pub product_bits : ℤ → ℤ → ℤ
 product_bits a b = to_z w32 (of_z w32 a) *ℤ to_z w32 (of_z w32 b)
 
-back : (z : ℤ) → unsigned_abs z ≤ 999900000 → to_z w32 (of_z w32 z) ≡ z
+pub back : (z : ℤ) → unsigned_abs z ≤ 999900000 → to_z w32 (of_z w32 z) ≡ z
 back z h = to_z-of_z w32 z (fits_signed_from_abs w32 z (omega (arith, h)))
 
 product_is : (a b : ℤ) → unsigned_abs a ≤ 9999 → unsigned_abs b ≤ 100000 → product_bits a b ≡ a *ℤ b

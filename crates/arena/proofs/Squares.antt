@@ -42,7 +42,8 @@ between_bits x y = to_z w32 (of_z w32 x) -ℤ to_z w32 (of_z w32 y)
 
 pub between_size : (a b : ℕ) (x y : ℤ) → x ≡ pos a → y ≡ pos b → a ≤ 9999 → b ≤ 9999 →
     unsigned_abs (between_bits x y) ≡ abs_diff a b
-between_size a b x y p q most_a most_b = rw (p, q, back (pos a) (omega arith), back (pos b) (omega arith)) (omega (arith, ints))
+between_size a b x y p q most_a most_b =
+    rw (p, q, back (pos a) (omega arith), back (pos b) (omega arith)) (omega (arith, ints))
 
 pub between_small : (a b : ℕ) (x y : ℤ) → x ≡ pos a → y ≡ pos b → a ≤ 9999 → b ≤ 9999 →
     unsigned_abs (between_bits x y) ≤ 9999
