@@ -40,10 +40,12 @@ square_back z h = back (square_bits z) (square_most z h) ∙ square_is z h
 abbrev pub between_bits : ℤ → ℤ → ℤ
 between_bits x y = to_z w32 (of_z w32 x) -ℤ to_z w32 (of_z w32 y)
 
+between_is : (a b : ℕ) (x y : ℤ) → x ≡ pos a → y ≡ pos b → a ≤ 9999 → b ≤ 9999 → between_bits x y ≡ pos a -ℤ pos b
+between_is a b x y p q most_a most_b = rw (p, q, back (pos a) (omega arith), back (pos b) (omega arith)) refl
+
 pub between_size : (a b : ℕ) (x y : ℤ) → x ≡ pos a → y ≡ pos b → a ≤ 9999 → b ≤ 9999 →
     unsigned_abs (between_bits x y) ≡ abs_diff a b
-between_size a b x y p q most_a most_b =
-    rw (p, q, back (pos a) (omega arith), back (pos b) (omega arith)) (omega (arith, ints))
+between_size a b x y p q most_a most_b = rw (between_is a b x y p q most_a most_b) (omega (arith, ints))
 
 pub between_small : (a b : ℕ) (x y : ℤ) → x ≡ pos a → y ≡ pos b → a ≤ 9999 → b ≤ 9999 →
     unsigned_abs (between_bits x y) ≤ 9999
@@ -53,6 +55,11 @@ pub between_fits : (a b : ℕ) (x y : ℤ) → x ≡ pos a → y ≡ pos b → a
 between_fits a b x y p q most_a most_b =
     let small = between_small a b x y p q most_a most_b in
     fits_signed_from_abs w32 (between_bits x y) (omega (arith, small))
+
+pub between_back : (a b : ℕ) (x y : ℤ) → x ≡ pos a → y ≡ pos b → a ≤ 9999 → b ≤ 9999 →
+    to_z w32 (of_z w32 (between_bits x y)) ≡ pos a -ℤ pos b
+between_back a b x y p q most_a most_b =
+    to_z-of_z w32 (between_bits x y) (between_fits a b x y p q most_a most_b) ∙ between_is a b x y p q most_a most_b
 
 -- the sum of two squares of numbers of metres
 abbrev pub both_bits : ℤ → ℤ → ℤ

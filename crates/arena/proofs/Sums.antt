@@ -1,5 +1,5 @@
 -- Sums of one axis: where they lead.
-use Rattle.std.proofs.Common.{◌≡◌, ◌⊎◌, inl, inr, ℕ, ◌/◌, ◌≤◌, ◌<◌, max, ℤ, pos, negsuc, unsigned_abs, ◌+ℤ◌, ◌*ℤ◌, ◌≤ℤ◌, false, FitsSigned, to_z, of_z, w32, zero, suc, refl, sym, arith}
+use Rattle.std.proofs.Common.{◌≡◌, ◌⊎◌, inl, inr, ℕ, ◌+◌, ◌/◌, ◌≤◌, ◌<◌, max, ℤ, pos, negsuc, unsigned_abs, ◌+ℤ◌, ◌*ℤ◌, ◌≤ℤ◌, false, FitsSigned, to_z, of_z, w32, zero, suc, refl, sym, arith}
 use Rattle.std.specs.Int.{abs_diff}
 use Rattle.std.proofs.lemmas.Int.{ints, to_z-of_z, fits_signed_from_abs}
 use Rattle.std.proofs.lemmas.Bool.{cases_lt}
@@ -118,6 +118,15 @@ field_back (negsuc n) field = absurd (omega (arith, ints, field.0))
 pub field_most : (s : ℤ) → IsInField s → unsigned_abs s ≤ last_sum
 field_most (pos n) field = let most = field.1 in omega (arith, ints, most)
 field_most (negsuc n) field = absurd (omega (arith, ints, field.0))
+
+-- one of the field after an update
+pub grown_back : (s step : ℤ) → IsInField s → unsigned_abs step ≤ 10000000 → grown_bits s step ≡ s +ℤ step
+grown_back s step field small =
+    let most = field_most s field in
+    let size : unsigned_abs (s +ℤ step) ≤ unsigned_abs s + unsigned_abs step = omega (arith, ints) in
+    bits_are s step (fits_signed_from_abs w32 s (omega (arith, most)))
+    (fits_signed_from_abs w32 step (omega (arith, small)))
+    (fits_signed_from_abs w32 (s +ℤ step) (omega (arith, most, small, size)))
 
 -- a gap of sums is at least one of places
 pub gap_leads : (a b c d : ℕ) →

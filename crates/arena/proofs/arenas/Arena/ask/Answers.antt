@@ -2,7 +2,23 @@ use Rattle.std.proofs.Common.{ap, ◌∙◌, pos, get_or, FitsSigned, w32, rules
 use Rattle.std.proofs.lemmas.Int.{to_z-of_z}
 use Rattle.arena.specs.Answer.{argument, answer}
 use Rattle.arena.specs.Ground.{Body, track_of, body_of}
+use Rattle.arena.proofs.Represents.{inside_if_lives}
 use Rattle.arena.proofs.arenas.Arena.ask.Goals as goal
+
+pub robot-requires : goal.robot-requires
+robot-requires c = inside_if_lives c.args.self.now c.args.robot c.requires
+
+pub robot-requires-in-Speed : goal.robot-requires-in-Speed
+robot-requires-in-Speed c = inside_if_lives c.args.self.now c.args.robot c.requires
+
+pub robot-requires-in-LocX : goal.robot-requires-in-LocX
+robot-requires-in-LocX c = inside_if_lives c.args.self.now c.args.robot c.requires
+
+pub robot-requires-in-LocY : goal.robot-requires-in-LocY
+robot-requires-in-LocY c = inside_if_lives c.args.self.now c.args.robot c.requires
+
+pub returns-in-Rand-clause-alive : goal.returns-in-Rand-clause-alive
+returns-in-Rand-clause-alive c = c.draw.ensures.alive c.args.robot ∙ c.requires
 
 pub returns-in-Scan-clause-reply : goal.returns-in-Scan-clause-reply
 unfolding answer argument
