@@ -119,6 +119,10 @@ pub field_most : (s : ℤ) → IsInField s → unsigned_abs s ≤ last_sum
 field_most (pos n) field = let most = field.1 in omega (arith, ints, most)
 field_most (negsuc n) field = absurd (omega (arith, ints, field.0))
 
+-- a coordinate of the field that was cast so
+pub coordinate_back : (z : ℤ) → pos 0 ≤ℤ z → z ≤ℤ pos last_place → to_z w32 (of_z w32 z) ≡ z
+coordinate_back z least most = field_back z (least, omega (arith, ints, most))
+
 -- one of the field after an update
 pub grown_back : (s step : ℤ) → IsInField s → unsigned_abs step ≤ 10000000 → grown_bits s step ≡ s +ℤ step
 grown_back s step field small =

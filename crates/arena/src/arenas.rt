@@ -169,7 +169,6 @@ impl Arena {
 
     /// Sets which degree a live robot wants to head for, and at which speed in percent, which is brought into 0 to 100.
     /// Replies 1.
-    #[tactic(auto, using(crate::proofs::Represents::inside_if_lives))]
     pub fn drive(&mut self, robot: usize, degree: i32, speed: i32) -> i32
         requires { lives self.old robot ≡ true }
         ensures { Answers self.old self.new robot Drive (degree ∷ speed ∷ []) result }
