@@ -6,6 +6,7 @@ use Rattle.std.proofs.lemmas.Nat.{mul-le}
 abbrev pub product_bits : ℤ → ℤ → ℤ
 product_bits a b = to_z w32 (of_z w32 a) *ℤ to_z w32 (of_z w32 b)
 
+-- a number that was cast to its bits and back
 pub back : (z : ℤ) → unsigned_abs z ≤ 999900000 → to_z w32 (of_z w32 z) ≡ z
 back z h = to_z-of_z w32 z (fits_signed_from_abs w32 z (omega (arith, h)))
 

@@ -6,11 +6,8 @@ use Rattle.std.proofs.lemmas.Nat.{mul-le}
 use Rattle.std.proofs.lemmas.Bool.Decides.{nat_tests}
 use Rattle.arena.specs.Collisions.{square}
 use Rattle.arena.specs.Shots.{ring}
+use Rattle.arena.proofs.Products.{back}
 use Rattle.std.proofs.Math.IntN.{pos-*ℤ-pos, negsuc-*ℤ-negsuc}
-
--- a number that was cast to its bits and back
-back : (z : ℤ) → unsigned_abs z ≤ 99980001 → to_z w32 (of_z w32 z) ≡ z
-back z h = to_z-of_z w32 z (fits_signed_from_abs w32 z (omega (arith, h)))
 
 own_square : (z : ℤ) → z *ℤ z ≡ pos (unsigned_abs z * unsigned_abs z)
 own_square (pos n) = pos-*ℤ-pos n n
@@ -34,7 +31,8 @@ square_fits z h = let most = square_most z h in fits_signed_from_abs w32 (square
 
 pub square_back : (z : ℤ) → unsigned_abs z ≤ 9999 →
     to_z w32 (of_z w32 (square_bits z)) ≡ pos (unsigned_abs z * unsigned_abs z)
-square_back z h = back (square_bits z) (square_most z h) ∙ square_is z h
+square_back z h =
+    let most = square_most z h in back (square_bits z) (omega (arith, most)) ∙ square_is z h
 
 -- what lies between two coordinates
 abbrev pub between_bits : ℤ → ℤ → ℤ
