@@ -1,5 +1,5 @@
 -- A point whose bearing is less than a right angle from a degree doesn't reach backwards there.
-use Rattle.std.proofs.Common.{◌≡◌, ◌⊎◌, inl, inr, ℕ, zero, suc, ◌+◌, ◌-◌, ◌%◌, ◌<◌, ◌≤◌, ℤ, pos, negsuc, unsigned_abs, neg_ℤ, ◌+ℤ◌, ◌-ℤ◌, ◌*ℤ◌, ◌≤ℤ◌, ◌<ℤ◌, nat_lt, nat_le, Bool, true, false, ◌&&◌, refl, sym, ap, ◌∙◌, arith}
+use Rattle.std.proofs.Common.{◌≡◌, ◌⊎◌, inl, inr, ℕ, zero, suc, ◌+◌, ◌-◌, ◌%◌, ◌<◌, ◌≤◌, ℤ, pos, negsuc, unsigned_abs, neg_ℤ, ◌+ℤ◌, ◌-ℤ◌, ◌*ℤ◌, ◌≤ℤ◌, ◌<ℤ◌, nat_lt, nat_le, Bool, true, false, ◌&&◌, refl, sym, ap, subst, ◌∙◌, arith}
 use Rattle.std.specs.Ordering.{int_eq}
 use Rattle.std.proofs.lemmas.Int.{ints, unsigned_abs-mul}
 use Rattle.std.proofs.lemmas.Nat.{mul-le}
@@ -79,21 +79,33 @@ after_x b = cosine_at b -ℤ cosine_at ((b + 1) % 360)
 after_y : ℕ → ℤ
 after_y b = sine_at b -ℤ sine_at ((b + 1) % 360)
 
--- up to 89 degrees to either side of a bearing
-sides : ℤ → ℤ → ℤ → ℤ → ℕ → ℕ → Bool
-sides px py qx qy b s = lies_between px py qx qy ((b + s) % 360) && lies_between px py qx qy ((b + 360 - s) % 360)
+-- the ways to four degrees around a bearing lie between those two: 89 before it and 89 after it, and the ones that are
+-- 128 from these
+stands_out : ℤ → ℤ → ℤ → ℤ → ℕ → Bool
+stands_out px py qx qy b =
+    lies_between px py qx qy ((b + 271) % 360) && (lies_between px py qx qy ((b + 271 + 128) % 360) &&
+    (lies_between px py qx qy ((b + 321) % 360) && lies_between px py qx qy ((b + 321 + 128) % 360)))
 
-sides_of : ℕ → Bool
-sides_of b =
-    let px = before_x b in
-    let py = before_y b in
-    let qx = after_x b in
-    let qy = after_y b in
-    passes_below (λ s. sides px py qx qy b s) 90
+stands_at : ℕ → Bool
+stands_at b = stands_out (before_x b) (before_y b) (after_x b) (after_y b) b
 
-all_sides : passes_below sides_of 360 ≡ true
-unfolding sides_of sides lies_between before_x before_y after_x after_y cosine_at sine_at sines
-all_sides = refl
+all_stand : passes_below stands_at 360 ≡ true
+unfolding stands_at stands_out lies_between before_x before_y after_x after_y cosine_at sine_at sines
+all_stand = refl
+
+-- the way to a degree lies between those that are as far before and after it, at 1, 2, 4 .. 64 degrees
+width : ℕ → ℕ
+width zero = 1
+width (suc e) = width e + width e
+
+is_halfway : ℕ → ℕ → Bool
+is_halfway h n =
+    let far = (n + (h + h)) % 360 in
+    lies_between (cosine_at n) (sine_at n) (cosine_at far) (sine_at far) ((n + h) % 360)
+
+all_halfway : passes_below (λ e. passes_below (is_halfway (width e)) 360) 7 ≡ true
+unfolding width is_halfway lies_between cosine_at sine_at sines
+all_halfway = refl
 
 leads_before : (dx dy : ℤ) (b : ℕ) → IsBearing dx dy b → pos 0 ≤ℤ (dx *ℤ before_x b +ℤ dy *ℤ before_y b)
 unfolding before_x before_y reach_of
@@ -111,21 +123,74 @@ leads_after dx dy b is =
     rw (distributes_less dx (cosine_at b) (cosine_at other), distributes_less dy (sine_at b) (sine_at other))
     (omega (arith, ints, most))
 
--- there a point reaches forward
-to_sides : (dx dy : ℤ) (b s : ℕ) → IsBearing dx dy b → s < 90 →
-    (pos 0 ≤ℤ reach_of dx dy ((b + s) % 360)) × (pos 0 ≤ℤ reach_of dx dy ((b + 360 - s) % 360))
-unfolding sides_of sides
-to_sides dx dy b s is near =
+-- at a number of degrees, perhaps past the round, a point reaches forward
+abbrev ReachesAt : ℤ → ℤ → ℕ → Type 0
+ReachesAt dx dy n = pos 0 ≤ℤ reach_of dx dy (n % 360)
+
+-- so it does halfway between two such numbers
+halfway : (dx dy : ℤ) (h n : ℕ) → is_halfway h (n % 360) ≡ true → ReachesAt dx dy n → ReachesAt dx dy (n + (h + h)) →
+    ReachesAt dx dy (n + h)
+unfolding is_halfway reach_of
+halfway dx dy h n test first last =
+    let a = n % 360 in
+    let far : (a + (h + h)) % 360 ≡ (n + (h + h)) % 360 = omega arith in
+    let here : (a + h) % 360 ≡ (n + h) % 360 = omega arith in
+    rw (sym here)
+    (is_forward dx dy (cosine_at a) (sine_at a) (cosine_at ((a + (h + h)) % 360)) (sine_at ((a + (h + h)) % 360))
+    ((a + h) % 360) test first (rw far last))
+
+halfway_at : (dx dy : ℤ) (e n : ℕ) → e < 7 → ReachesAt dx dy n → ReachesAt dx dy (n + (width e + width e)) →
+    ReachesAt dx dy (n + width e)
+halfway_at dx dy e n small first last =
+    let row = passes_at (λ e. passes_below (is_halfway (width e)) 360) 7 all_halfway e small in
+    halfway dx dy (width e) n (passes_at (is_halfway (width e)) 360 row (n % 360) (omega arith)) first last
+
+-- and so everywhere between them
+between : (dx dy : ℤ) (e n k : ℕ) → e ≤ 7 → k ≤ width e → ReachesAt dx dy n → ReachesAt dx dy (n + width e) →
+    ReachesAt dx dy (n + k)
+unfolding width
+between dx dy zero n zero small within first last =
+    let same : n ≡ n + 0 = omega arith in subst (ReachesAt dx dy) same first
+between dx dy zero n (suc zero) small within first last = last
+between dx dy zero n (suc (suc k)) small within first last = absurd (omega arith)
+between dx dy (suc e) n k small within first last =
+    let middle = halfway_at dx dy e n (omega arith) first last in
+    elim (cases_lt k (width e)) [
+      | inl l ↦ between dx dy e n k (omega arith) (omega arith) first middle
+      | inr m ↦
+          let on : n + (width e + width e) ≡ n + width e + width e = omega arith in
+          let same : n + width e + (k - width e) ≡ n + k = omega arith in
+          rw same at
+          (between dx dy e (n + width e) (k - width e) (omega arith) (omega arith) middle (rw on at last))
+    ]
+
+around : (dx dy : ℤ) (b t : ℕ) → IsBearing dx dy b → t ≤ 178 → ReachesAt dx dy (b + 271 + t)
+unfolding stands_at stands_out width
+around dx dy b t is near =
     let px = before_x b in
     let py = before_y b in
     let qx = after_x b in
     let qy = after_y b in
-    let row = passes_at sides_of 360 all_sides b is.on_the_round in
-    let test = passes_at (λ s. sides px py qx qy b s) 90 row s near in
-    let both = and_parts (lies_between px py qx qy ((b + s) % 360)) _ test in
-    let on_p = leads_before dx dy b is in
-    let on_q = leads_after dx dy b is in
-    (is_forward dx dy px py qx qy _ both.0 on_p on_q, is_forward dx dy px py qx qy _ both.1 on_p on_q)
+    let at = λ (n : ℕ) (h : lies_between px py qx qy n ≡ true). is_forward dx dy px py qx qy n h
+    (leads_before dx dy b is) (leads_after dx dy b is) in
+    let test = passes_at stands_at 360 all_stand b is.on_the_round in
+    let one = and_parts (lies_between px py qx qy ((b + 271) % 360)) _ test in
+    let two = and_parts (lies_between px py qx qy ((b + 271 + 128) % 360)) _ one.1 in
+    let three = and_parts (lies_between px py qx qy ((b + 321) % 360)) _ two.1 in
+    elim (cases_lt t 128) [
+      | inl l ↦ between dx dy 7 (b + 271) t (omega arith) (omega arith) (at _ one.0) (at _ two.0)
+      | inr m ↦
+          let same : b + 321 + (t - 50) ≡ b + 271 + t = omega arith in
+          rw same at (between dx dy 7 (b + 321) (t - 50) (omega arith) (omega arith) (at _ three.0) (at _ three.1))
+    ]
+
+-- up to 89 degrees to either side of its bearing
+to_sides : (dx dy : ℤ) (b s : ℕ) → IsBearing dx dy b → s < 90 →
+    (pos 0 ≤ℤ reach_of dx dy ((b + s) % 360)) × (pos 0 ≤ℤ reach_of dx dy ((b + 360 - s) % 360))
+to_sides dx dy b s is near =
+    let after : (b + 271 + (89 + s)) % 360 ≡ (b + s) % 360 = omega arith in
+    let before : (b + 271 + (89 - s)) % 360 ≡ (b + 360 - s) % 360 = omega arith in
+    (rw after at (around dx dy b (89 + s) is (omega arith)), rw before at (around dx dy b (89 - s) is (omega arith)))
 
 -- so one that reaches backwards at the left or at the right of an arc doesn't bear within it
 outside : (a b : ℕ) → (a ≤ b → ⊥) → nat_le a b ≡ false

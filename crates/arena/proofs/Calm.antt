@@ -1,10 +1,11 @@
 -- Robots that are far from each other don't collide in an update.
-use Rattle.std.proofs.Common.{◌≡◌, ◌⊎◌, inl, inr, ℕ, ◌+◌, ◌-◌, ◌<◌, ◌≤◌, Bool, true, false, ◌&&◌, nat_lt, List, length, drop, map, get_or, set, refl, sym, ap, subst, ◌∙◌, arith}
+use Rattle.std.proofs.Common.{◌≡◌, ◌⊎◌, inl, inr, ℕ, ◌+◌, ◌-◌, ◌/◌, ◌<◌, ◌≤◌, Bool, true, false, ◌&&◌, nat_lt, List, length, drop, take, map, get_or, set, refl, sym, ap, subst, ◌∙◌, arith}
 use Rattle.std.specs.Int.{abs_diff}
 use Rattle.std.specs.List.{All}
 use Rattle.std.proofs.lemmas.Bool.{cases_lt}
 use Rattle.std.proofs.lemmas.Bool.Decides.{nat_tests}
 use Rattle.std.proofs.lemmas.List.{get_or_read, get_or-drop, get_or-map, get_or-set_same, get_or-set_other, length-drop, length-map, length-set}
+use Rattle.std.proofs.lemmas.List.Elements.{All-more}
 use Rattle.arena.specs.Field.{Robot, Field, no_robot}
 use Rattle.arena.specs.Collisions.{Mover, mover, is_close, touches}
 use Rattle.arena.specs.Ground.{Track, track_of, Body}
@@ -38,6 +39,16 @@ gaps_more robots i m before after less_now inside at earlier later a b l less la
         subst (λ (x : Body). after ≤ gap (get_or robots i none).track x.track) there
         (subst (λ (x : Body). after ≤ gap x.track (get_or (drop (i + 1) robots) k none).track) here apart) in
         subst (λ n. after ≤ gap_at robots n b) (sym same) both
+
+-- the least gap to one robot more
+pub least_more : (m : Track) (others : List Body) (i : ℕ) (b : Body) (so_far next : ℕ) → i < length others →
+    b ≡ get_or others i b → next ≤ so_far → next / 100000 ≤ gap m b.track →
+    All (λ other. so_far / 100000 ≤ gap m other.track) (take i others) →
+    All (λ other. next / 100000 ≤ gap m other.track) (take (i + 1) others)
+least_more m others i b so_far next l e low here h =
+    All-more (λ (other : Body). next / 100000 ≤ gap m other.track) others i b l
+    (λ k d inside. let before = h k d inside in omega (arith, before, low))
+    (subst (λ (other : Body). next / 100000 ≤ gap m other.track) e here)
 
 -- nothing is said of no updates
 pub far_none : (bodies : List Body) → FarFor 0 bodies

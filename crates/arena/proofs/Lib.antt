@@ -18,3 +18,4 @@ pub mod Roots
 pub mod Newton
 pub mod Beside
 pub mod Squares
+pub mod Products

@@ -1,19 +1,12 @@
 -- Steps of the loops over the robots.
-use Rattle.std.proofs.Common.{◌≡◌, ℕ, ◌+◌, ◌<◌, List, [], ◌∷◌, ◌++◌, length, take, map, get_or, refl, sym, ap, subst, ◌∙◌, arith}
-use Rattle.std.specs.List.{All, range_with_len}
+use Rattle.std.proofs.Common.{◌≡◌, ℕ, ◌+◌, ◌<◌, List, [], ◌∷◌, ◌++◌, length, take, map, get_or, refl, sym, ap, ◌∙◌, arith}
+use Rattle.std.specs.List.{range_with_len}
 use Rattle.std.proofs.lemmas.List.{map_more, get_or-map, length-map}
 use Rattle.std.proofs.lemmas.Simd.{map-map}
-use Rattle.std.proofs.lemmas.List.FromFn.{map-range_with_len_more}
-use Rattle.std.proofs.lemmas.List.Elements.{All-get_or}
 use Rattle.arena.specs.Field.{Field, no_robot, robot_at}
 use Rattle.arena.specs.Collisions.{mover, touches}
 use Rattle.arena.specs.Moved.{moved_robot, moved}
 use Rattle.arena.specs.Ground.{Body, body_of}
-
--- an element of a list is what its place says of it
-pub item_is : {X : Type 0} (P : X → Type 0) (xs : List X) (i : ℕ) (x : X) → i < length xs → x ≡ get_or xs i x →
-    All P xs → P x
-item_is P xs i x inside e h = subst P (sym e) (All-get_or P xs i x inside h)
 
 -- an element of a mapped list
 pub mapped_is : {X Y : Type 0} (f : X → Y) (ys : List Y) (xs : List X) (i : ℕ) (y : Y) (d : X) → ys ≡ map f xs →
@@ -45,12 +38,6 @@ after_all f =
     sym
     (map-map body_of (λ i. moved_robot (f.updates + 1) f.shots (touches (map mover f.robots) i) (robot_at f i))
     (range_with_len 0 (length f.robots)))
-
-pub after_more : (f : Field) (out more : List Body) (i : ℕ) (b : Body) → out ≡ map (after_at f) (range_with_len 0 i) →
-    b ≡ after_at f i → more ≡ out ++ b ∷ [] → more ≡ map (after_at f) (range_with_len 0 (i + 1))
-after_more f out more i b so_far is m =
-    m ∙ ap (λ l. l ++ b ∷ []) so_far ∙ ap (λ x. map (after_at f) (range_with_len 0 i) ++ x ∷ []) is ∙
-    sym (map-range_with_len_more (after_at f) 0 i i (omega arith))
 
 pub at_is : (f : Field) (i update touched : ℕ) → update ≡ f.updates + 1 → touched ≡ touches (map mover f.robots) i →
     body_of (moved_robot update f.shots touched (get_or f.robots i no_robot)) ≡ after_at f i

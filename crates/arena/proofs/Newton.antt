@@ -53,9 +53,6 @@ next_near n guess some near over =
       bound = omega (arith, near.bound);
     }
 
-pub step_down : (n guess : ℕ) → n < guess * guess → (guess + n / guess) / 2 < guess
-step_down n guess over = let less = goes_less n guess guess over in omega arith
-
 -- a guess that isn't above the root is the root
 pub root_is : (n guess : ℕ) → n ≤ 2000000 → IsNear n guess → guess * guess ≤ n → guess ≡ unsigned_abs (root_of (pos n))
 root_is n guess most near fits = ap unsigned_abs (root_gives (pos n) guess (omega arith) fits near.above)

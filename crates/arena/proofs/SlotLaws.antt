@@ -1,9 +1,9 @@
 -- Two missiles at most of each robot in the air, against the list of all shots.
-use Rattle.std.proofs.Common.{◌≡◌, ◌≢◌, ℕ, zero, suc, ◌+◌, ◌<◌, ◌≤◌, List, [], ◌∷◌, ◌++◌, length, map, filter, take, sum, get_or, set, All, replicate, Bool, true, false, ◌&&◌, ◌==◌, nat_lt, cond, refl, sym, ap, ◌∙◌, subst, ◌⊎◌, inl, inr, length-set, append-nil, not, arith}
-use Rattle.std.proofs.lemmas.Bool.{ne_eqb}
+use Rattle.std.proofs.Common.{◌≡◌, ◌≢◌, ℕ, zero, suc, ◌+◌, ◌<◌, ◌≤◌, List, [], ◌∷◌, ◌++◌, length, map, filter, take, sum, get_or, set, All, replicate, Bool, true, false, ◌&&◌, ◌==◌, nat_lt, cond, refl, sym, ap, ◌∙◌, subst, ◌⊎◌, inl, inr, length-append, length-set, append-nil, not, arith}
+use Rattle.std.proofs.lemmas.Bool.{ne_eqb, ltb-true}
 use Rattle.std.proofs.lemmas.Bool.Decides.{nat_tests, eqb_tells}
 use Rattle.std.proofs.lemmas.List.{map-append, get_or-set_same, get_or-set_other, length-map, take_more}
-use Rattle.std.proofs.lemmas.List.Elements.{All-append, All-more, filter-append}
+use Rattle.std.proofs.lemmas.List.Elements.{All-append, All-more, All-push, All-set, filter-append}
 use Rattle.std.proofs.lemmas.List.Filters.{length-filter_both}
 use Rattle.std.proofs.lemmas.List.Sums.{sum_by-append}
 use Rattle.arena.specs.Field.{Shot}
@@ -72,6 +72,32 @@ pub inside_is : {X : Type 0} (xs : List X) (i : ℕ) (d e : X) → i < length xs
 inside_is [] i d e h = absurd (omega arith)
 inside_is (x ∷ xs) zero d e h = refl
 inside_is (x ∷ xs) (suc i) d e h = inside_is xs i d e (omega arith)
+
+-- a robot that may fire has room for one missile more
+pub room_is : (slots : List (List Missile)) (robot : ℕ) (held : List Missile) → robot < length slots →
+    nat_lt (length (get_or slots robot [])) 2 ≡ true → length (get_or slots robot held) < 2
+room_is slots robot held inside free =
+    let few = ltb-true (length (get_or slots robot [])) 2 free in
+    let same = ap length (inside_is slots robot [] held inside) in
+    omega (arith, few, same)
+
+pub two_fired : (slots : List (List Missile)) (robot : ℕ) (held own : List Missile) (m : Missile) →
+    robot < length slots → nat_lt (length (get_or slots robot [])) 2 ≡ true → own ≡ get_or slots robot held ++ m ∷ [] →
+    All (λ s. length s ≤ 2) slots → All (λ s. length s ≤ 2) (set slots robot own)
+two_fired slots robot held own m inside free e two =
+    let few = room_is slots robot held inside free in
+    let size = ap length e ∙ length-append (get_or slots robot held) (m ∷ []) in
+    All-set (λ (s : List Missile). length s ≤ 2) slots robot own (omega (arith, few, size)) two
+
+pub before_fired : (update : ℕ) (slots : List (List Missile)) (robot : ℕ) (held own : List Missile) (m : Missile) →
+    robot < length slots → own ≡ get_or slots robot held ++ m ∷ [] → update ≤ m.burst → NoneBefore update slots →
+    NoneBefore update (set slots robot own)
+before_fired update slots robot held own m inside e sooner before =
+    let P : List Missile → Type 0 = λ ms. All (λ (m : Missile). update ≤ m.burst) ms in
+    All-set P slots robot own
+    (subst P (sym e)
+    (All-push (λ (m : Missile). update ≤ m.burst) (get_or slots robot held) m (before robot held inside) sooner))
+    before
 
 -- the missiles that still fly after an update
 flying : (update i : ℕ) (ms : List Missile) →

@@ -1,7 +1,7 @@
 -- Sums of one axis: where they lead.
-use Rattle.std.proofs.Common.{◌≡◌, ◌⊎◌, inl, inr, ℕ, ◌/◌, ◌≤◌, ◌<◌, ℤ, pos, negsuc, unsigned_abs, ◌+ℤ◌, ◌*ℤ◌, ◌≤ℤ◌, false, FitsSigned, to_z, of_z, w32, zero, suc, refl, sym, arith}
+use Rattle.std.proofs.Common.{◌≡◌, ◌⊎◌, inl, inr, ℕ, ◌+◌, ◌/◌, ◌≤◌, ◌<◌, max, ℤ, pos, negsuc, unsigned_abs, ◌+ℤ◌, ◌*ℤ◌, ◌≤ℤ◌, false, FitsSigned, to_z, of_z, w32, zero, suc, refl, sym, arith}
 use Rattle.std.specs.Int.{abs_diff}
-use Rattle.std.proofs.lemmas.Int.{ints, to_z-of_z}
+use Rattle.std.proofs.lemmas.Int.{ints, to_z-of_z, fits_signed_from_abs}
 use Rattle.std.proofs.lemmas.Bool.{cases_lt}
 use Rattle.std.proofs.lemmas.Bool.Decides.{nat_tests}
 use Rattle.arena.specs.Leg.{last_place, clamped, along, is_outside}
@@ -104,3 +104,36 @@ pub near_inside : (s step : ℤ) → IsInField s → unsigned_abs step ≤ 10000
     grown_bits s step ≡ s +ℤ step → abs_diff (place_of s) (place_of (grown_bits s step)) ≤ 100
 near_inside s step field most free bits =
     rw (bits, sym (near_free (s +ℤ step) (free_is_field (s +ℤ step) free))) (near s step field most)
+
+-- a sum of the field that was cast to its bits and back
+pub field_bits : (s : ℤ) → IsInField s → to_z w32 (of_z w32 s) ≡ pos (unsigned_abs s)
+field_bits (pos n) field =
+    let most = field.1 in to_z-of_z w32 (pos n) (fits_signed_from_abs w32 (pos n) (omega (arith, ints, most)))
+field_bits (negsuc n) field = absurd (omega (arith, ints, field.0))
+
+pub field_back : (s : ℤ) → IsInField s → to_z w32 (of_z w32 s) ≡ s
+field_back (pos n) field = field_bits (pos n) field
+field_back (negsuc n) field = absurd (omega (arith, ints, field.0))
+
+pub field_most : (s : ℤ) → IsInField s → unsigned_abs s ≤ last_sum
+field_most (pos n) field = let most = field.1 in omega (arith, ints, most)
+field_most (negsuc n) field = absurd (omega (arith, ints, field.0))
+
+-- a coordinate of the field that was cast so
+pub coordinate_back : (z : ℤ) → pos 0 ≤ℤ z → z ≤ℤ pos last_place → to_z w32 (of_z w32 z) ≡ z
+coordinate_back z least most = field_back z (least, omega (arith, ints, most))
+
+-- one of the field after an update
+pub grown_back : (s step : ℤ) → IsInField s → unsigned_abs step ≤ 10000000 → grown_bits s step ≡ s +ℤ step
+grown_back s step field small =
+    let most = field_most s field in
+    let size : unsigned_abs (s +ℤ step) ≤ unsigned_abs s + unsigned_abs step = omega (arith, ints) in
+    bits_are s step (fits_signed_from_abs w32 s (omega (arith, most)))
+    (fits_signed_from_abs w32 step (omega (arith, small)))
+    (fits_signed_from_abs w32 (s +ℤ step) (omega (arith, most, small, size)))
+
+-- a gap of sums is at least one of places
+pub gap_leads : (a b c d : ℕ) →
+    max (abs_diff a b) (abs_diff c d) / 100000 ≤
+    max (abs_diff (a / 100000) (b / 100000)) (abs_diff (c / 100000) (d / 100000))
+gap_leads a b c d = omega arith

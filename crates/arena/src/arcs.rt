@@ -41,7 +41,6 @@ impl Direction {
     }
 
     /// Returns how far a way reaches in this direction, scaled by 100,000.
-    #[tactic(auto, using(arith::proofs::BearingLemmas::reach_steps), unfolding(arith::specs::Bearing::reach_of))]
     fn reach(&self, way: &Way) -> i32
         ensures { result ≡ reach_of way.now.east way.now.north self.now.degree }
     {

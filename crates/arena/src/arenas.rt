@@ -106,7 +106,6 @@ impl Arena {
 
     /// Answers a live robot that calls an intrinsic function with two arguments, of which those that
     /// the function has no use for are 0. docs/field.md has each function's reply.
-    #[tactic(auto, using(crate::proofs::Represents::inside_if_lives))]
     pub fn ask(&mut self, robot: usize, intrinsic: Intrinsic, arguments: [i32; 2]) -> i32
         requires { lives self.old robot ≡ true }
         ensures reply { (f : Field) → StandsFor self.old f → result ≡ (answer f robot intrinsic arguments).0 }
@@ -137,7 +136,6 @@ impl Arena {
 
     /// Returns the range in metres of the nearest live robot in an arc, or 0. The arc lies around a degree, as many
     /// degrees to either side as the resolution, which is brought into 0 to 10. The robot that scans must live.
-    #[tactic(auto, using(crate::proofs::Represents::inside_if_lives))]
     pub fn scan(&self, robot: usize, degree: i32, resolution: i32) -> i32
         requires { lives self.now robot ≡ true }
         ensures { (f : Field) → StandsFor self.now f
@@ -154,7 +152,6 @@ impl Arena {
 
     /// Has a live robot fire a missile to a degree, as far as a range in metres, which is brought into 0 to 700. Replies
     /// 1, or 0 if two missiles of its own are in the air.
-    #[tactic(auto, using(crate::proofs::Represents::inside_if_lives))]
     pub fn cannon(&mut self, robot: usize, degree: i32, range: i32) -> i32
         requires { lives self.old robot ≡ true }
         ensures { Answers self.old self.new robot Cannon (degree ∷ range ∷ []) result }
@@ -172,7 +169,6 @@ impl Arena {
 
     /// Sets which degree a live robot wants to head for, and at which speed in percent, which is brought into 0 to 100.
     /// Replies 1.
-    #[tactic(auto, using(crate::proofs::Represents::inside_if_lives))]
     pub fn drive(&mut self, robot: usize, degree: i32, speed: i32) -> i32
         requires { lives self.old robot ≡ true }
         ensures { Answers self.old self.new robot Drive (degree ∷ speed ∷ []) result }

@@ -64,7 +64,6 @@ impl Point {
 }
 
 /// Returns the square of what lies between two coordinates in tenths of a metre.
-#[tactic(auto, using(crate::proofs::Squares::square_steps))]
 fn axis_square(from: u16, to: u16) -> u32
     requires from { from ≤ last_place }
     requires to { to ≤ last_place }

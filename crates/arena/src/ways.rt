@@ -61,7 +61,6 @@ impl Way {
     }
 
     /// Returns the squared length, at least 1.
-    #[tactic(auto, using(crate::proofs::Squares::own_square_steps), unfolding(crate::specs::Nearer::square_of))]
     pub fn square(&self) -> u32
         ensures value { result ≡ square_of self.now.east self.now.north }
         ensures most { result ≤ 2000000 }

@@ -2,7 +2,7 @@
 use Rattle.std.proofs.Common.{◌∷◌, ◌++◌, [], set, subst, sym, ap, ◌∙◌}
 use Rattle.arena.specs.Ground.{shot_of}
 use Rattle.arena.specs.Standing.{HoldsShots}
-use Rattle.arena.proofs.SlotLaws.{holds_fired, inside_is}
+use Rattle.arena.proofs.SlotLaws.{holds_fired, inside_is, room_is, two_fired, before_fired}
 use Rattle.arena.proofs.slots.fire.Goals as goal
 
 pub returns-clause-shots : goal.returns-clause-shots
@@ -13,3 +13,17 @@ returns-clause-shots c = λ updates shots flies holds.
     (shots ++ shot_of c.args.robot c.args.missile ∷ []))
     (ap (λ ms. ms ++ c.args.missile ∷ []) own ∙ sym c.add.ensures)
     (holds_fired updates c.args.slots.now shots c.args.robot c.args.missile c.requires.inside flies holds)
+
+pub add-requires : goal.add-requires
+add-requires c =
+    room_is c.args.slots.now c.args.robot c.index-slots-robot.result c.requires.inside c.requires.free
+
+pub returns-clause-two : goal.returns-clause-two
+returns-clause-two c =
+    two_fired c.args.slots.now c.args.robot c.index-slots-robot.result c.add.new.self c.args.missile c.requires.inside
+    c.requires.free c.add.ensures
+
+pub returns-clause-next : goal.returns-clause-next
+returns-clause-next c = λ update sooner before.
+    before_fired update c.args.slots.now c.args.robot c.index-slots-robot.result c.add.new.self c.args.missile
+    c.requires.inside c.add.ensures sooner before

@@ -1,12 +1,32 @@
-use Rattle.std.proofs.Common.{sym, ap, subst, ◌∙◌, rules}
+use Rattle.std.proofs.Common.{sym, ap, subst, ◌∙◌, length, rules, arith}
 use Rattle.std.proofs.lemmas.Int.{to_z-of_z}
 use Rattle.arena.specs.Field.{Field}
 use Rattle.arena.specs.Answer.{answer, argument}
 use Rattle.arena.specs.Ground.{Ground, track_of, body_of}
 use Rattle.arena.specs.contracts.arenas.Arena.{the_view}
 use Rattle.arena.specs.Standing.{StandsFor}
-use Rattle.arena.proofs.Represents.{same_live, keeps_fire, fires_reply, fires}
+use Rattle.arena.proofs.Represents.{inside_if_lives, same_live, keeps_fire, fires_reply, fires}
 use Rattle.arena.proofs.arenas.Arena.cannon.Goals as goal
+
+pub may_fire-requires : goal.may_fire-requires
+may_fire-requires c =
+    let slots = c.self.invariant.1 in
+    let manned = ap (λ (g : Ground). length g.robots) c.self.view_is in
+    let inside = inside_if_lives c.args.self.now c.args.robot c.requires in
+    omega (arith, slots, manned, inside)
+
+pub fire-requires-clause-inside : goal.fire-requires-clause-inside
+fire-requires-clause-inside c =
+    let slots = c.self.invariant.1 in
+    let manned = ap (λ (g : Ground). length g.robots) c.self.view_is in
+    let inside = inside_if_lives c.args.self.now c.args.robot c.requires in
+    omega (arith, slots, manned, inside)
+
+pub robot-requires : goal.robot-requires
+robot-requires c =
+    let manned = ap (λ (g : Ground). length g.robots) c.self.view_is in
+    let inside = inside_if_lives c.args.self.now c.args.robot c.requires in
+    omega (arith, manned, inside)
 
 pub returns-then-not-may_fire : goal.returns-then-not-may_fire
 unfolding answer argument

@@ -12,6 +12,20 @@ use Rattle.arena.proofs.Loops.{mapped_is}
 use Rattle.arena.proofs.Represents.{inside_if_lives, put_is, directs, lives_as}
 use Rattle.arena.proofs.arenas.Arena.drive.Goals as goal
 
+pub offset_bounds-deref_mut-robot : goal.offset_bounds-deref_mut-robot
+offset_bounds-deref_mut-robot c =
+    let few = c.self.invariant.2 in
+    let robots = ap (λ (g : Ground). length g.robots) c.self.view_is in
+    let among = inside_if_lives c.args.self.now c.args.robot c.requires in
+    record { fits = omega (arith, few, robots, among) }
+
+pub bounds-deref_mut-robot : goal.bounds-deref_mut-robot
+bounds-deref_mut-robot c =
+    let lent = ap length c.deref_mut.ensures.value in
+    let robots = ap (λ (g : Ground). length g.robots) c.self.view_is in
+    let among = inside_if_lives c.args.self.now c.args.robot c.requires in
+    omega (arith, lent, robots, among)
+
 pub invariant_of-self : goal.invariant_of-self
 invariant_of-self c =
     let i = c.self.invariant in

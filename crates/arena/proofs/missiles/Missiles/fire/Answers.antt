@@ -1,4 +1,5 @@
 use Rattle.std.proofs.Common.{◌≤◌, List, ap, subst, sym, ◌∙◌, length, arith}
+use Rattle.std.specs.List.{All}
 use Rattle.arena.specs.Ground.{Missile}
 use Rattle.arena.specs.Still.{NoneBefore}
 use Rattle.arena.specs.Standing.{HoldsShots}
@@ -26,3 +27,24 @@ returns-clause-shots c = λ updates shots flies holds.
     subst (λ (slots : List (List Missile)). HoldsShots updates slots shots)
     (sym (c.as_mut_slice.ensures.value ∙ c.self.view_is)) holds in
     rw (refill_is c.self.inside.slots.items c.fire.new.slots len) (c.fire.ensures.shots updates shots flies held)
+
+pub fire-requires-clause-inside : goal.fire-requires-clause-inside
+fire-requires-clause-inside c =
+    let size = ap length (c.as_mut_slice.ensures.value ∙ c.self.view_is) in
+    let inside = c.requires.inside in
+    omega (arith, size, inside)
+
+pub fire-requires-clause-free : goal.fire-requires-clause-free
+fire-requires-clause-free c = rw (c.as_mut_slice.ensures.value ∙ c.self.view_is) c.requires.free
+
+pub returns-clause-two : goal.returns-clause-two
+returns-clause-two c = λ two.
+    let len = c.fire.auto.slots ∙ ap length c.as_mut_slice.ensures.value in
+    let P : List (List Missile) → Type 0 = λ slots. All (λ (own : List Missile). length own ≤ 2) slots in
+    rw (refill_is c.self.inside.slots.items c.fire.new.slots len)
+    (c.fire.ensures.two (subst P (sym (c.as_mut_slice.ensures.value ∙ c.self.view_is)) two))
+
+pub returns-clause-count : goal.returns-clause-count
+returns-clause-count c =
+    let len = c.fire.auto.slots ∙ ap length c.as_mut_slice.ensures.value in
+    rw (refill_is c.self.inside.slots.items c.fire.new.slots len) (len ∙ ap length c.self.view_is)

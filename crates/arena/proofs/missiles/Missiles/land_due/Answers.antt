@@ -1,5 +1,7 @@
-use Rattle.std.proofs.Common.{List, sym, ap, subst, ◌∙◌, length}
+use Rattle.std.proofs.Common.{List, sym, ap, subst, ◌∙◌, ◌≤◌, length, arith}
+use Rattle.std.specs.List.{All}
 use Rattle.arena.specs.Ground.{Missile}
+use Rattle.arena.specs.Still.{NoneBefore}
 use Rattle.arena.specs.Standing.{HoldsShots}
 use Rattle.arena.proofs.Represents.{refill_is}
 use Rattle.arena.proofs.missiles.Missiles.land_due.Goals as goal
@@ -11,3 +13,27 @@ returns-clause-shots c = λ updates shots u holds.
     subst (λ (slots : List (List Missile)). HoldsShots updates slots shots)
     (sym (c.as_mut_slice.ensures.value ∙ c.self.view_is)) holds in
     rw (refill_is c.self.inside.slots.items c.land.new.slots len) (c.land.ensures.shots updates shots u held)
+
+pub invariant_of-self : goal.invariant_of-self
+invariant_of-self c =
+    let few = c.self.invariant.0 in
+    let next = c.next_burst-self-inside.result in
+    let len = c.land.auto.slots ∙ ap length c.as_mut_slice.ensures.value in
+    let refilled = refill_is c.self.inside.slots.items c.land.new.slots len in
+    let P : List (List Missile) → Type 0 = λ slots. NoneBefore next slots in
+    rw refilled (
+      omega (arith, len, few),
+      subst P (c.as_slice.ensures.value ∙ refilled) c.next_burst-self-inside.ensures,
+    )
+
+pub returns-clause-two : goal.returns-clause-two
+returns-clause-two c = λ two.
+    let len = c.land.auto.slots ∙ ap length c.as_mut_slice.ensures.value in
+    let P : List (List Missile) → Type 0 = λ slots. All (λ (own : List Missile). length own ≤ 2) slots in
+    rw (refill_is c.self.inside.slots.items c.land.new.slots len)
+    (c.land.ensures.two (subst P (sym (c.as_mut_slice.ensures.value ∙ c.self.view_is)) two))
+
+pub returns-clause-count : goal.returns-clause-count
+returns-clause-count c =
+    let len = c.land.auto.slots ∙ ap length c.as_mut_slice.ensures.value in
+    rw (refill_is c.self.inside.slots.items c.land.new.slots len) (len ∙ ap length c.self.view_is)

@@ -1,27 +1,28 @@
-use Rattle.std.proofs.Common.{sym, ap, ◌∙◌, arith, rules}
+use Rattle.std.proofs.Common.{sym, ap, ◌∙◌}
 use Rattle.std.proofs.lemmas.Bool.{or_parts}
-use Rattle.std.proofs.lemmas.Int.{to_z-of_z}
 use Rattle.arena.specs.Ground.{Track}
 use Rattle.arena.specs.Sums.{place_near}
 use Rattle.arena.specs.contracts.motion.Motion.{the_view}
-use Rattle.arena.proofs.Sums.{free_is_field, near, near_inside, bits_are}
+use Rattle.arena.proofs.Sums.{free_is_field, near, near_inside, grown_back}
 use Rattle.arena.proofs.Tracks.{forward_from, walled_is, stops_is, drives_is}
 use Rattle.arena.proofs.motion.Motion.advance.Goals as goal
 
 pub returns-then-leaves-clause-motion : goal.returns-then-leaves-clause-motion
 returns-then-leaves-clause-motion c = λ leg e.
+    let i = c.self.invariant in
     let t = the_view c.self.inside in
-    let east_bits = bits_are t.east t.step_east (search rules) (search rules) (search rules) in
-    let north_bits = bits_are t.north t.step_north (search rules) (search rules) (search rules) in
+    let east_bits = grown_back t.east t.step_east i.east i.step_east in
+    let north_bits = grown_back t.north t.step_north i.north i.step_north in
     let f = forward_from t _ c.leaves.ensures east_bits north_bits in
     stops_is t _ leg _ _ _ _ _ (c.self.view_is ∙ e) f c.if-leaves.true (ap place_near east_bits)
     (ap place_near north_bits) (c.stop_near.ensures.leg leg e)
 
 pub returns-then-leaves-clause-walled : goal.returns-then-leaves-clause-walled
 returns-then-leaves-clause-walled c = λ leg e.
+    let i = c.self.invariant in
     let t = the_view c.self.inside in
-    let east_bits = bits_are t.east t.step_east (search rules) (search rules) (search rules) in
-    let north_bits = bits_are t.north t.step_north (search rules) (search rules) (search rules) in
+    let east_bits = grown_back t.east t.step_east i.east i.step_east in
+    let north_bits = grown_back t.north t.step_north i.north i.step_north in
     let f = forward_from t _ c.leaves.ensures east_bits north_bits in
     sym c.if-leaves.true ∙ walled_is t leg _ _ _ (c.self.view_is ∙ e) f
 
@@ -29,8 +30,8 @@ pub returns-then-leaves-clause-nearby : goal.returns-then-leaves-clause-nearby
 returns-then-leaves-clause-nearby c =
     let i = c.self.invariant in
     let t = the_view c.self.inside in
-    let east_bits = bits_are t.east t.step_east (search rules) (search rules) (search rules) in
-    let north_bits = bits_are t.north t.step_north (search rules) (search rules) (search rules) in
+    let east_bits = grown_back t.east t.step_east i.east i.step_east in
+    let north_bits = grown_back t.north t.step_north i.north i.step_north in
     let f = forward_from t _ c.leaves.ensures east_bits north_bits in
     let near_x = near t.east t.step_east i.east i.step_east in
     let near_y = near t.north t.step_north i.north i.step_north in
@@ -44,28 +45,38 @@ pub invariant_of-self : goal.invariant_of-self
 invariant_of-self c =
     let i = c.self.invariant in
     let t = the_view c.self.inside in
-    let east_bits = bits_are t.east t.step_east (search rules) (search rules) (search rules) in
-    let north_bits = bits_are t.north t.step_north (search rules) (search rules) (search rules) in
+    let east_bits = grown_back t.east t.step_east i.east i.step_east in
+    let north_bits = grown_back t.north t.step_north i.north i.step_north in
     let f = forward_from t _ c.leaves.ensures east_bits north_bits in
     let free = or_parts _ _ (sym f.is_out ∙ c.if-leaves.false) in
     let east = free_is_field _ free.0 in
     let north = free_is_field _ free.1 in
-    grind (arith, to_z-of_z)
+    record {
+      east = rw east_bits east;
+      north = rw north_bits north;
+      step_east = i.step_east;
+      step_north = i.step_north;
+      heading = i.heading;
+      wanted_heading = i.wanted_heading;
+      speed = i.speed;
+      wanted_speed = i.wanted_speed;
+    }
 
 pub returns-clause-motion : goal.returns-clause-motion
 returns-clause-motion c = λ leg e.
+    let i = c.self.invariant in
     let t = the_view c.self.inside in
-    let east_bits = bits_are t.east t.step_east (search rules) (search rules) (search rules) in
-    let north_bits = bits_are t.north t.step_north (search rules) (search rules) (search rules) in
+    let east_bits = grown_back t.east t.step_east i.east i.step_east in
+    let north_bits = grown_back t.north t.step_north i.north i.step_north in
     let f = forward_from t _ c.leaves.ensures east_bits north_bits in
-    let h = drives_is t leg _ _ _ (c.self.view_is ∙ e) f c.if-leaves.false in
-    grind (arith, to_z-of_z)
+    rw (east_bits, north_bits) (drives_is t leg _ _ _ (c.self.view_is ∙ e) f c.if-leaves.false)
 
 pub returns-clause-walled : goal.returns-clause-walled
 returns-clause-walled c = λ leg e.
+    let i = c.self.invariant in
     let t = the_view c.self.inside in
-    let east_bits = bits_are t.east t.step_east (search rules) (search rules) (search rules) in
-    let north_bits = bits_are t.north t.step_north (search rules) (search rules) (search rules) in
+    let east_bits = grown_back t.east t.step_east i.east i.step_east in
+    let north_bits = grown_back t.north t.step_north i.north i.step_north in
     let f = forward_from t _ c.leaves.ensures east_bits north_bits in
     sym c.if-leaves.false ∙ walled_is t leg _ _ _ (c.self.view_is ∙ e) f
 
@@ -73,8 +84,8 @@ pub returns-clause-nearby : goal.returns-clause-nearby
 returns-clause-nearby c =
     let i = c.self.invariant in
     let t = the_view c.self.inside in
-    let east_bits = bits_are t.east t.step_east (search rules) (search rules) (search rules) in
-    let north_bits = bits_are t.north t.step_north (search rules) (search rules) (search rules) in
+    let east_bits = grown_back t.east t.step_east i.east i.step_east in
+    let north_bits = grown_back t.north t.step_north i.north i.step_north in
     let f = forward_from t _ c.leaves.ensures east_bits north_bits in
     let free = or_parts _ _ (sym f.is_out ∙ c.if-leaves.false) in
     let near_x = near_inside t.east t.step_east i.east i.step_east free.0 east_bits in
