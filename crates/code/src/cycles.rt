@@ -40,7 +40,10 @@ impl Cells {
         requires { FitsProgram (state_at place self.now) program.now }
         ensures { result ≡ true → want_next program.now (state_at place self.now) ≢ Want.Quiet }
     {
-        matches!(*self.instr(program, place), Instr::Fcall(Callee::Intrinsic(_)))
+        matches!(
+            *self.instr(program, place),
+            Instr::Fcall(Callee::Intrinsic(_))
+        )
     }
 
     /// Returns what the machine wants if it wants something: a reply or a restart.
