@@ -19,6 +19,9 @@ use sinks::{Sink, name_of, put_diagnostic};
 use tokens::{DeviceFault, Feed};
 
 /// Compiles each file. The keeper takes the program of a good one; of a faulty one puts the diagnostic.
+///
+/// It isn't inlined: a caller that lists files would have room for their names in its frame while matches are played.
+#[inline(never)]
 pub(crate) fn compile_into<K: TakesPrograms, F: Feed, O: Sink, E: Sink>(
     keeper: &mut K,
     settings: &Settings,
