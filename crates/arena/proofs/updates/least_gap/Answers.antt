@@ -22,5 +22,6 @@ pub returns-clause-least : goal.returns-clause-least
 returns-clause-least c =
     let all = take_all c.loop-other.other-index c.args.others.now c.loop-other-test.false in
     subst
-    (λ (others : List Body). All (λ (other : Body). c.loop-other.least / 100000 ≤ gap c.args.robot.now.track other.track)
+    (λ (others : List Body). All
+    (λ (other : Body). c.loop-other.least / 100000 ≤ gap c.args.robot.now.track other.track)
     others) all c.loop-other.invariant.least

@@ -34,7 +34,8 @@ returns-clause-leg c = λ leg e. let h = sped_is c.args.self leg e in grind (ari
 pub returns-clause-place : goal.returns-clause-place
 returns-clause-place c =
     let i = c.self.invariant in
-    let settled = rw (field_back c.self.inside.east i.east, field_back c.self.inside.north i.north) at c.settled.ensures in
+    let settled =
+    rw (field_back c.self.inside.east i.east, field_back c.self.inside.north i.north) at c.settled.ensures in
     record {
       on_x = ap (λ (t : Track). t.x) settled ∙ ap (λ (t : Track). t.x) c.self.view_is;
       on_y = ap (λ (t : Track). t.y) settled ∙ ap (λ (t : Track). t.y) c.self.view_is;
