@@ -202,6 +202,7 @@ pub all_compiled : (setup : Setup) (sources : List Source) (file : ℕ) (so_far 
     → CompilesAll setup sources (Ok so_far) kept before after
 all_compiled setup sources file so_far kept before after past are =
     let P : List Source → Type 0 = λ l. Writes before after (compiling setup.mode setup.profile l)
-    × (so_far ≡ status_of (files_of setup.profile l)) × IfSome kept (λ k. kept_by so_far k ≡ codes_of setup.profile l) in
+    × (so_far ≡ status_of (files_of setup.profile l))
+    × IfSome kept (λ k. kept_by so_far k ≡ codes_of setup.profile l) in
     let (writes, status, codes) = subst P (take_all file sources past) are in
     record { output = (writes, status); codes = codes }

@@ -165,4 +165,6 @@ pub last_listed : {T E : Type 0} (result : Result T E) (mode : Mode) (name : Lis
     → PutsPieces result (taken before faults) (taken after faults) (listed mode (listing_piece name names code))
 last_listed result mode name names kept later code found file before after faults is adds last here puts =
     let P : ObjectCode → Type 0 = λ c. Puts result before after (listing_of name names c) in
-    rw is (puts_listing result name names code before after faults (of_last P kept later code found file adds last here puts))
+    rw is
+    (puts_listing result name names code before after faults
+    (of_last P kept later code found file adds last here puts))

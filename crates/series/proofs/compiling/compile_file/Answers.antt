@@ -13,7 +13,12 @@ finish-requires g c =
     record {
       profile = c.args.profile;
       file = f.file;
-      told = record { resolved = f.resolved; stands = f.built c.args.profile c.new-maker.ensures; named = f.named; main = f.main };
+      told = record {
+        resolved = f.resolved;
+        stands = f.built c.args.profile c.new-maker.ensures;
+        named = f.named;
+        main = f.main;
+      };
     }
 
 pub take-requires-clause-keeps : goal.take-requires-clause-keeps
@@ -26,8 +31,12 @@ take-requires-clause-keeps g c =
           c.pools-names.result.now c.pools-names.ensures c.in-Ok.ensures.file in
           let code =
           c.finish.ensures c.args.profile made.file
-          (record
-          { resolved = made.resolved; stands = made.built c.args.profile c.new-maker.ensures; named = made.named; main = made.main })
+          (record {
+            resolved = made.resolved;
+            stands = made.built c.args.profile c.new-maker.ensures;
+            named = made.named;
+            main = made.main;
+          })
           in
           alike c.args.profile made.file c.finish.result _ code c.requires.keeps.alike
           );
@@ -50,8 +59,12 @@ returns-in-Ok-take-clause-output g c =
           let is = made.is bytes told c.args.profile c.new-maker.ensures in
           let code =
           c.finish.ensures c.args.profile made.file
-          (record
-          { resolved = made.resolved; stands = made.built c.args.profile c.new-maker.ensures; named = made.named; main = made.main })
+          (record {
+            resolved = made.resolved;
+            stands = made.built c.args.profile c.new-maker.ensures;
+            named = made.named;
+            main = made.main;
+          })
           in
           good_put (g.K.TakesPrograms.mode c.args.keeper.now) c.args.profile c.args.name.now bytes made.file _
           c.finish.result
@@ -64,8 +77,12 @@ returns-in-Ok-take-clause-output g c =
           let is = made.is bytes told c.args.profile c.new-maker.ensures in
           let code =
           c.finish.ensures c.args.profile made.file
-          (record
-          { resolved = made.resolved; stands = made.built c.args.profile c.new-maker.ensures; named = made.named; main = made.main })
+          (record {
+            resolved = made.resolved;
+            stands = made.built c.args.profile c.new-maker.ensures;
+            named = made.named;
+            main = made.main;
+          })
           in
           good_status c.args.profile bytes c.finish.result
           (good_code c.args.profile bytes made.file c.finish.result is code)
@@ -77,8 +94,12 @@ returns-in-Ok-take-clause-output g c =
           let is = made.is bytes told c.args.profile c.new-maker.ensures in
           let code =
           c.finish.ensures c.args.profile made.file
-          (record
-          { resolved = made.resolved; stands = made.built c.args.profile c.new-maker.ensures; named = made.named; main = made.main })
+          (record {
+            resolved = made.resolved;
+            stands = made.built c.args.profile c.new-maker.ensures;
+            named = made.named;
+            main = made.main;
+          })
           in
           good_kept c.args.profile bytes c.finish.result _ _
           (good_code c.args.profile bytes made.file c.finish.result is code) c.in-Ok-take.ensures.kept
@@ -95,8 +116,12 @@ returns-in-Err-clause-output g c =
           let is = made.is bytes told c.args.profile c.new-maker.ensures in
           let code =
           c.finish.ensures c.args.profile made.file
-          (record
-          { resolved = made.resolved; stands = made.built c.args.profile c.new-maker.ensures; named = made.named; main = made.main })
+          (record {
+            resolved = made.resolved;
+            stands = made.built c.args.profile c.new-maker.ensures;
+            named = made.named;
+            main = made.main;
+          })
           in
           good_cut (g.K.TakesPrograms.mode c.args.keeper.now) c.args.profile c.args.name.now bytes made.file _
           c.finish.result
@@ -116,8 +141,12 @@ returns-in-Ok-take-clause-keeps g c =
           c.pools-names.result.now c.pools-names.ensures c.in-Ok.ensures.file in
           let code =
           c.finish.ensures c.args.profile made.file
-          (record
-          { resolved = made.resolved; stands = made.built c.args.profile c.new-maker.ensures; named = made.named; main = made.main })
+          (record {
+            resolved = made.resolved;
+            stands = made.built c.args.profile c.new-maker.ensures;
+            named = made.named;
+            main = made.main;
+          })
           in
           alike_more c.args.profile made.file c.finish.result _ _ code c.requires.keeps.alike c.in-Ok-take.ensures.kept
           );
@@ -134,8 +163,12 @@ returns-in-Err-clause-keeps g c =
           c.pools-names.result.now c.pools-names.ensures c.in-Ok.ensures.file in
           let code =
           c.finish.ensures c.args.profile made.file
-          (record
-          { resolved = made.resolved; stands = made.built c.args.profile c.new-maker.ensures; named = made.named; main = made.main })
+          (record {
+            resolved = made.resolved;
+            stands = made.built c.args.profile c.new-maker.ensures;
+            named = made.named;
+            main = made.main;
+          })
           in
           alike_more c.args.profile made.file c.finish.result _ _ code c.requires.keeps.alike c.in-Err.ensures.kept
           );

@@ -1,8 +1,9 @@
-use Rattle.std.proofs.Common.{false, ◌≡◌, ◌+◌, ◌<◌, ◌≤◌, ◌^◌, ◌-◌, ◌∙◌, sym, subst, ap, List, ℕ, length, get_or, map, refl, rules, set, arith}
+use Rattle.std.proofs.Common.{false, ◌≡◌, ◌+◌, ◌<◌, ◌≤◌, ◌^◌, ◌-◌, ◌∙◌, sym, subst, ap, List, ℕ, length, get_or, map, refl, set, arith}
 use Rattle.std.proofs.lemmas.List.{length-map}
 use Rattle.std.proofs.lemmas.List.Elements.{All-get_or}
 use Rattle.grammar.specs.Compiled.{compiled}
 use Rattle.series.specs.Compiling.{pieces_of}
+use Rattle.series.specs.Failures.{Failures}
 use Rattle.series.specs.Pieces.{taken}
 use Rattle.series.specs.Runs.{AreSources, told_by}
 use Rattle.series.proofs.CompilingLemmas.{all_compiled, all_manned, kept_with, manned_with, none_kept, none_manned, none_other, pieces_more, pieces_cut, room_left, status_more}
@@ -162,7 +163,13 @@ returns-in-Err-put-clause-output g c =
 
 pub compile_file-requires-clause-keeps : goal.compile_file-requires-clause-keeps
 compile_file-requires-clause-keeps g c =
-    record { room = search rules; alike = rw c.profile-profile.ensures.value c.loop-file.invariant.6 }
+    let within : c.loop-file.file < length c.args.settings.now.words = omega (arith, c.requires.ready.files) in
+    record {
+      room = room_left c.loop-file.status c.loop-file.file (length c.args.settings.now.words)
+          (g.K.TakesPrograms.kept c.loop-file.keeper) within c.words-words.ensures.within.most_files
+          c.loop-file.invariant.3;
+      alike = rw c.profile-profile.ensures.value c.loop-file.invariant.6;
+    }
 
 pub compile_file-requires-clause-ready : goal.compile_file-requires-clause-ready
 compile_file-requires-clause-ready g c =
@@ -185,8 +192,8 @@ compile_file-requires-clause-ready g c =
           c.index-feeds-file.result
           within c.requires.ready.not_ended)
           );
-      text = search rules;
-      faults = search rules;
+      text = rw (ap (λ (f : Failures). f.text) c.loop-file.invariant.1) c.requires.ready.text;
+      faults = rw (ap (λ (f : Failures). f.faults) c.loop-file.invariant.1) c.requires.ready.faults;
     }
 
 pub loop-file-init : goal.loop-file-init

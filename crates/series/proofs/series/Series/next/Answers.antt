@@ -1,4 +1,5 @@
-use Rattle.std.proofs.Common.{◌≡◌, ◌∙◌, ◌+◌, ◌<◌, ℕ, List, ap, sym, subst, map, true, arith}
+use Rattle.std.proofs.Common.{◌≡◌, ◌∙◌, ◌+◌, ◌<◌, ℕ, List, ap, sym, subst, length, map, true, arith}
+use Rattle.std.proofs.lemmas.List.{length-map}
 use Rattle.std.specs.Prelude.{nat_eq}
 use Rattle.grammar.specs.Tree.{File}
 use Rattle.code.specs.Codes.{AreCodesOf}
@@ -8,6 +9,7 @@ use Rattle.series.specs.Names.{robot_names}
 use Rattle.series.specs.Outcomes.{outcomes}
 use Rattle.sinks.specs.Portions.{Takes, TakesFront}
 use Rattle.series.proofs.CoursesLemmas.{is_left, next_is, outcome_is, outcomes_more, step_is}
+use Rattle.series.proofs.TextsLemmas.{length_paired}
 use Rattle.series.proofs.series.Series.next.Goals as goal
 
 pub invariant_of-self : goal.invariant_of-self
@@ -101,3 +103,10 @@ returns-in-Ok-clause-step g c =
     step_is setup c.self.inside.tally.matches (c.first.result + c.matches.result) left
     (omega (arith, c.first.ensures.value, c.matches.ensures))
     ∙ ap (λ (s : Standing). step_of s.setup s.played) c.self.view_is
+
+pub put_report-requires-clause-named : goal.put_report-requires-clause-named
+put_report-requires-clause-named g c =
+    c.battle-outcome.ensures.manned
+    ∙
+    length_paired c.self.inside.programs.now c.words.result.now
+    (c.self.invariant.0 ∙ sym (ap length c.words.ensures.value) ∙ length-map c.words.result.now (λ word. word.now))
