@@ -2,7 +2,7 @@
 use Rattle.std.proofs.Common.{◌≡◌, ℕ, ◌+◌, ◌<◌, ◌≤◌, List, [], ◌∷◌, ◌++◌, length, take, drop, get_or, map, Option, Some, None, Result, Ok, Err, refl, sym, ap, ◌∙◌, subst, arith}
 use Rattle.std.specs.Prelude.{option_map, IfSome}
 use Rattle.std.proofs.lemmas.List.Sums.{fold-append}
-use Rattle.std.proofs.lemmas.List.{take_more, map-append, take-append-drop, append-nil}
+use Rattle.std.proofs.lemmas.List.{take_all, take_more, map-append, take-append-drop, append-nil}
 use Rattle.std.proofs.lemmas.Grind.{flat_map-append}
 use Rattle.battles.specs.Programs.{AreOfProfile}
 use Rattle.grammar.specs.Profile.{Profile}
@@ -11,9 +11,11 @@ use Rattle.grammar.specs.Compiled.{compiled}
 use Rattle.grammar.specs.Tree.{File}
 use Rattle.code.specs.Generation.{ObjectCode, code_of}
 use Rattle.settings.specs.declared.settings.Mode.{Mode}
+use Rattle.settings.specs.Setup.{Setup}
 use Rattle.series.specs.Compiling.{Source, and_file, files_of, codes_of, code_or_fault, compiled_code, pieces_of, source_pieces, status_of, compiling}
 use Rattle.series.specs.Pieces.{Taken, Writes, Begins}
 use Rattle.series.specs.Keeping.{and_code, and_compiled, both, count_of, kept_by, KeepsMore, status_by}
+use Rattle.series.specs.Runs.{CompilesAll}
 use Rattle.series.specs.declared.endings.Status.{Status}
 use Rattle.series.specs.declared.endings.Status.TheVariants.{Done, Faulty}
 use Rattle.sinks.specs.Texts.{file_name}
@@ -189,3 +191,18 @@ pieces_cut mode profile sources file before now after verdict within so_far is b
     (compiling mode profile (drop (file + 1) sources))
     (begins_then before now after (compiling mode profile (take file sources)) (source_pieces mode profile source)
     so_far (subst P is begins)))
+
+-- all files are compiled
+pub all_compiled : (setup : Setup) (sources : List Source) (file : ℕ) (so_far : Status)
+    (kept : Option (List ObjectCode)) (before after : Taken)
+    → length sources ≤ file
+    → Writes before after (compiling setup.mode setup.profile (take file sources))
+    × (so_far ≡ status_of (files_of setup.profile (take file sources)))
+    × IfSome kept (λ k. kept_by so_far k ≡ codes_of setup.profile (take file sources))
+    → CompilesAll setup sources (Ok so_far) kept before after
+all_compiled setup sources file so_far kept before after past are =
+    let P : List Source → Type 0 = λ l. Writes before after (compiling setup.mode setup.profile l)
+    × (so_far ≡ status_of (files_of setup.profile l))
+    × IfSome kept (λ k. kept_by so_far k ≡ codes_of setup.profile l) in
+    let (writes, status, codes) = subst P (take_all file sources past) are in
+    record { output = (writes, status); codes = codes }

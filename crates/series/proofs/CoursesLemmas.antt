@@ -133,6 +133,13 @@ next_report setup files played left =
     let more : nat_lt played setup.matches ≡ true = grind (arith, nat_tests) in
     rw more refl
 
+-- the next step, if a match is left
+pub step_is : (setup : Setup) (played number : ℕ) → played < setup.matches → setup.first + played ≡ number
+    → Played number ≡ step_of setup played
+step_is setup played number left here =
+    let more : nat_lt played setup.matches ≡ true = grind (arith, nat_tests) in
+    rw (more, here) refl
+
 -- that step plays a match
 pub plays : (setup : Setup) (played : ℕ) (step : Step) → played < setup.matches → step ≡ step_of setup played
     → played_after (Ok step) played ≡ played + 1

@@ -156,3 +156,15 @@ pub puts_counts : {T E : Type 0} (result : Result T E) (bytes : List ℕ) (befor
     Puts result before after bytes → CountsSink result before after
 puts_counts (Ok done) bytes before after puts = puts.1
 puts_counts (Err fault) bytes before after puts = puts.1
+
+-- the listing of the program that was kept last was put
+pub last_listed : {T E : Type 0} (result : Result T E) (mode : Mode) (name : List ℕ) (names : Names)
+    (kept later : List ObjectCode) (code found : ObjectCode) (file : ℕ) (before after faults : Written)
+    → mode ≡ Listing → later ≡ kept ++ code ∷ [] → file ≡ length kept → slice_get later file ≡ Some found
+    → Puts result before after (listing_of name names found)
+    → PutsPieces result (taken before faults) (taken after faults) (listed mode (listing_piece name names code))
+last_listed result mode name names kept later code found file before after faults is adds last here puts =
+    let P : ObjectCode → Type 0 = λ c. Puts result before after (listing_of name names c) in
+    rw is
+    (puts_listing result name names code before after faults
+    (of_last P kept later code found file adds last here puts))

@@ -42,21 +42,6 @@ faulty_run setup sources before after writes none =
     let ends = faulty_plays setup setup.mode (files_of setup.profile sources) none in
     (rw (ends.0, append-nil (compiling setup.mode setup.profile sources)) writes, ends.1)
 
--- all files were listed, or their diagnostics put
-pub listing_run : (setup : Setup) (sources : List Source) (status : Status) (before after : Taken) →
-    setup.mode ≡ Listing
-    → Writes before after (compiling Listing setup.profile sources) →
-    status ≡ status_of (files_of setup.profile sources)
-    → Writes before after (output setup sources).pieces × (status ≡ (output setup sources).status)
-listing_run setup sources status before after listing writes is =
-    (rw (listing, append-nil (compiling Listing setup.profile sources)) writes, is)
-
--- a write failed while they were listed
-pub listing_stop : (setup : Setup) (sources : List Source) (before after : Taken) → setup.mode ≡ Listing
-    → Begins before after (compiling Listing setup.profile sources) → Begins before after (output setup sources).pieces
-listing_stop setup sources before after listing begins =
-    rw (listing, append-nil (compiling Listing setup.profile sources)) begins
-
 -- the files of the codes that were kept
 kept_files : (profile : Profile) (kept : List ObjectCode) (files : Option (List File)) →
     Some kept ≡ option_map (λ files. map (code_of profile) files) files

@@ -89,6 +89,15 @@ module _ {X : Type 0} where
   reads_first tells profile start feeds count same read =
       record { read = read; unread = unread_of tells start feeds count same }
 
+  -- all files were read
+  pub reads_all : (tells : X → Option (List ℕ)) (profile : Profile) (start feeds : List X) (file : ℕ) →
+      file ≡ length start
+      → drop file feeds ≡ drop file start → TakesOfFirst profile (map tells start) (map tells feeds) file →
+      ReadsFirst profile (map tells start) (map tells feeds) (length (map tells start))
+  reads_all tells profile start feeds file end same read =
+      let P : ℕ → Type 0 = λ n. ReadsFirst profile (map tells start) (map tells feeds) n in
+      subst P (end ∙ sym (length-map start tells)) (reads_first tells profile start feeds file same read)
+
   -- the read of a file failed
   pub fails_at : (tells : X → Option (List ℕ)) (profile : Profile) (start feeds : List X) (file : ℕ) (x y : X) →
       file < length start

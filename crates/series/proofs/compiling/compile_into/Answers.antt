@@ -1,17 +1,22 @@
-use Rattle.std.proofs.Common.{false, ◌≡◌, ◌+◌, ◌<◌, ◌^◌, ◌-◌, ◌∙◌, sym, subst, ap, List, ℕ, length, map, refl, rules, arith}
+use Rattle.std.proofs.Common.{false, ◌≡◌, ◌+◌, ◌<◌, ◌≤◌, ◌^◌, ◌-◌, ◌∙◌, sym, subst, ap, List, ℕ, length, get_or, map, refl, set, arith}
 use Rattle.std.proofs.lemmas.List.{length-map}
 use Rattle.std.proofs.lemmas.List.Elements.{All-get_or}
+use Rattle.grammar.specs.Compiled.{compiled}
+use Rattle.series.specs.Compiling.{pieces_of}
+use Rattle.series.specs.Failures.{Failures}
+use Rattle.series.specs.Pieces.{taken}
 use Rattle.series.specs.Runs.{AreSources, told_by}
-use Rattle.series.proofs.CompilingLemmas.{kept_with, manned_with, pieces_more, pieces_cut, status_more}
-use Rattle.series.proofs.ReadingLemmas.{cut_at, fails_at, reads_first, reads_more, same_length}
-use Rattle.series.proofs.RunsLemmas.{all_of_one, feed_here, told_here, name_here, length_sources, none_failed, read_failed, rest_more, write_failed}
+use Rattle.series.proofs.CompilingLemmas.{all_compiled, all_manned, kept_with, manned_with, none_kept, none_manned, none_other, pieces_more, pieces_cut, room_left, status_more}
+use Rattle.series.proofs.ReadingLemmas.{cut_at, fails_at, reads_all, reads_first, reads_more, same_length}
+use Rattle.series.proofs.RunsLemmas.{all_of_one, feed_here, told_here, name_here, length_sources, no_source, none_failed, read_failed, rest_more, write_failed}
 use Rattle.series.proofs.compiling.compile_into.Goals as goal
 
 pub returns-in-Err-put-clause-read : goal.returns-in-Err-put-clause-read
 returns-in-Err-put-clause-read g c = record {
   count = c.loop-file.file + 1;
   reads =
-      reads_first (λ feed. (g.F.Feed.device feed).to_come) c.args.settings.now.profile c.args.feeds.now _
+      reads_first (λ feed. (g.F.Feed.device feed).to_come) c.args.settings.now.profile c.args.feeds.now
+      (set c.loop-file.feeds c.loop-file.file c.compile_file.new.feed)
       (c.loop-file.file + 1)
       (rest_more c.args.feeds.now c.loop-file.feeds c.loop-file.file c.compile_file.new.feed c.loop-file.invariant.0)
       (reads_more (λ feed. (g.F.Feed.device feed).to_come) c.args.settings.now.profile c.args.feeds.now
@@ -24,7 +29,12 @@ returns-in-Err-put-clause-read g c = record {
       told_here (λ feed. (g.F.Feed.device feed).to_come) c.args.feeds.now c.loop-file.feeds sources
       c.args.settings.now.words
       c.loop-file.file c.index-feeds-file.result are c.requires.ready.files (omega arith) c.loop-file.invariant.0 in
-      cut_at c.args.settings.now.mode c.args.settings.now.profile sources c.loop-file.file _ _ _ _
+      cut_at c.args.settings.now.mode c.args.settings.now.profile sources c.loop-file.file
+      (taken (g.O.Sink.written c.args.out.now) (g.E.Sink.written c.args.err.now))
+      (taken (g.O.Sink.written c.loop-file.out) (g.E.Sink.written c.loop-file.err))
+      (taken (g.O.Sink.written c.compile_file.new.out) (g.E.Sink.written c.compile_file.new.err))
+      (pieces_of (g.K.TakesPrograms.mode c.loop-file.keeper) c.profile-profile.result c.name_of-name.result.now
+      (compiled c.profile-profile.result (get_or sources c.loop-file.file no_source).bytes))
       (c.loop-file.invariant.4 sources are).0 ((rw c.in-Err-put.is at c.in-Ok.ensures.output) _ told).output;
 }
 
@@ -64,7 +74,11 @@ loop-file-preserved g c = (
       told_here (λ feed. (g.F.Feed.device feed).to_come) c.args.feeds.now c.loop-file.feeds sources
       c.args.settings.now.words
       c.loop-file.file c.index-feeds-file.result are c.requires.ready.files within c.loop-file.invariant.0 in (
-        pieces_more c.args.settings.now.mode c.args.settings.now.profile sources c.loop-file.file _ _ _ _ in_sources
+        pieces_more c.args.settings.now.mode c.args.settings.now.profile sources c.loop-file.file
+            (taken (g.O.Sink.written c.args.out.now) (g.E.Sink.written c.args.err.now))
+            (taken (g.O.Sink.written c.loop-file.out) (g.E.Sink.written c.loop-file.err))
+            (taken (g.O.Sink.written c.compile_file.new.out) (g.E.Sink.written c.compile_file.new.err))
+            (compiled c.args.settings.now.profile (get_or sources c.loop-file.file no_source).bytes) in_sources
             (c.loop-file.invariant.4 sources are).0 refl
             (rw (
               c.loop-file.invariant.2,
@@ -130,7 +144,11 @@ returns-in-Err-put-clause-output g c =
           told_here (λ feed. (g.F.Feed.device feed).to_come) c.args.feeds.now c.loop-file.feeds sources
           c.args.settings.now.words
           c.loop-file.file c.index-feeds-file.result are c.requires.ready.files within c.loop-file.invariant.0 in
-          pieces_cut c.args.settings.now.mode c.args.settings.now.profile sources c.loop-file.file _ _ _ _ in_sources
+          pieces_cut c.args.settings.now.mode c.args.settings.now.profile sources c.loop-file.file
+          (taken (g.O.Sink.written c.args.out.now) (g.E.Sink.written c.args.err.now))
+          (taken (g.O.Sink.written c.loop-file.out) (g.E.Sink.written c.loop-file.err))
+          (taken (g.O.Sink.written c.compile_file.new.out) (g.E.Sink.written c.compile_file.new.err))
+          (compiled c.args.settings.now.profile (get_or sources c.loop-file.file no_source).bytes) in_sources
           (c.loop-file.invariant.4 sources are).0 refl
           (rw (
             c.loop-file.invariant.2,
@@ -145,7 +163,13 @@ returns-in-Err-put-clause-output g c =
 
 pub compile_file-requires-clause-keeps : goal.compile_file-requires-clause-keeps
 compile_file-requires-clause-keeps g c =
-    record { room = search rules; alike = rw c.profile-profile.ensures.value c.loop-file.invariant.6 }
+    let within : c.loop-file.file < length c.args.settings.now.words = omega (arith, c.requires.ready.files) in
+    record {
+      room = room_left c.loop-file.status c.loop-file.file (length c.args.settings.now.words)
+          (g.K.TakesPrograms.kept c.loop-file.keeper) within c.words-words.ensures.within.most_files
+          c.loop-file.invariant.3;
+      alike = rw c.profile-profile.ensures.value c.loop-file.invariant.6;
+    }
 
 pub compile_file-requires-clause-ready : goal.compile_file-requires-clause-ready
 compile_file-requires-clause-ready g c =
@@ -168,6 +192,59 @@ compile_file-requires-clause-ready g c =
           c.index-feeds-file.result
           within c.requires.ready.not_ended)
           );
-      text = search rules;
-      faults = search rules;
+      text = rw (ap (λ (f : Failures). f.text) c.loop-file.invariant.1) c.requires.ready.text;
+      faults = rw (ap (λ (f : Failures). f.faults) c.loop-file.invariant.1) c.requires.ready.faults;
     }
+
+pub loop-file-init : goal.loop-file-init
+loop-file-init g c = (
+  refl,
+  refl,
+  c.requires.new.same_mode,
+  none_manned _ c.requires.new.none,
+  λ sources are. (refl, refl, none_kept _ c.requires.new.none),
+  λ file below. absurd (omega (arith, below)),
+  none_other _ _ c.requires.new.none,
+)
+
+pub returns-in-Err-clause-output : goal.returns-in-Err-clause-output
+returns-in-Err-clause-output g c =
+    λ sources are. record {
+      output = rw (c.in-Err.ensures.output.0, c.in-Err.ensures.output.1) (c.loop-file.invariant.4 sources are).0;
+      codes = tt;
+    }
+
+pub returns-in-Err-clause-keeps : goal.returns-in-Err-clause-keeps
+returns-in-Err-clause-keeps g c =
+    record { alike = rw c.profile-profile.ensures.value at c.compile_file.ensures.keeps.alike; manned = tt }
+
+pub returns-in-Err-put-clause-keeps : goal.returns-in-Err-put-clause-keeps
+returns-in-Err-put-clause-keeps g c =
+    record { alike = rw c.profile-profile.ensures.value at c.compile_file.ensures.keeps.alike; manned = tt }
+
+pub returns-clause-output : goal.returns-clause-output
+returns-clause-output g c =
+    λ sources are. (
+    let past : length sources ≤ c.loop-file.file =
+    omega (arith, length_sources sources c.args.settings.now.words _ are, c.requires.ready.files) in
+    all_compiled c.args.settings.now sources c.loop-file.file c.loop-file.status _ _ _ past
+    (c.loop-file.invariant.4 sources are)
+    )
+
+pub returns-clause-keeps : goal.returns-clause-keeps
+returns-clause-keeps g c =
+    let end : c.loop-file.file ≡ length c.args.settings.now.words = omega (arith, c.requires.ready.files) in
+    record {
+      alike = c.loop-file.invariant.6;
+      manned = λ done. all_manned c.loop-file.status c.loop-file.file (length c.args.settings.now.words) _ end done
+          c.loop-file.invariant.3;
+    }
+
+pub returns-clause-read : goal.returns-clause-read
+returns-clause-read g c =
+    reads_all (λ feed. (g.F.Feed.device feed).to_come) c.args.settings.now.profile c.args.feeds.now c.loop-file.feeds
+    c.loop-file.file
+    (omega arith) c.loop-file.invariant.0 c.loop-file.invariant.5
+
+pub returns-clause-failures : goal.returns-clause-failures
+returns-clause-failures g c = c.loop-file.invariant.1

@@ -1,7 +1,7 @@
 use Rattle.std.proofs.Common.{◌-◌, length}
 use Rattle.series.specs.Pieces.{taken}
 use Rattle.series.specs.Playing.{playing}
-use Rattle.series.proofs.OutputLemmas.{kept_codes, plays_run, stops_run}
+use Rattle.series.proofs.OutputLemmas.{faulty_run, kept_codes, plays_run, stops_run}
 use Rattle.series.proofs.ReadingLemmas.{cut_behind, reads_played}
 use Rattle.series.specs.Runs.{told_by}
 use Rattle.series.proofs.runs.play_files.Goals as goal
@@ -16,7 +16,11 @@ returns-in-Ok-Done-clause-output g c = λ sources are.
     let kept =
     kept_codes c.resolved_files.ensures c.args.settings.now.profile sources c.compile_into.new.keeper.programs codes
     in
-    plays_run c.args.settings.now sources kept.0 _ _ _ c.play_all.result c.requires.matches
+    plays_run c.args.settings.now sources kept.0
+    (taken (g.O.Sink.written c.args.out.now) (g.E.Sink.written c.args.err.now))
+    (taken (g.O.Sink.written c.compile_into.new.out) (g.E.Sink.written c.compile_into.new.err))
+    (taken (g.O.Sink.written c.play_all.new.out) (g.E.Sink.written c.compile_into.new.err))
+    c.play_all.result c.requires.matches
     kept.1 compiles.0 (c.play_all.ensures.output kept.0 (g.E.Sink.written c.compile_into.new.err) kept.2)
     c.play_all.ensures.answer
 
@@ -40,3 +44,17 @@ returns-in-Ok-Done-clause-read g c =
     cut_behind setup.mode setup.profile sources (length told - 1) before compiled after (playing setup kept.0)
     compiles.0
     (rw failed at (c.play_all.ensures.output kept.0 (g.E.Sink.written c.compile_into.new.err) kept.2)))
+
+pub returns-in-Err-clause-read : goal.returns-in-Err-clause-read
+returns-in-Err-clause-read g c = c.in-Err.ensures.read
+
+pub returns-in-Err-clause-failures : goal.returns-in-Err-clause-failures
+returns-in-Err-clause-failures g c = c.in-Err.ensures.failures
+
+pub returns-in-Ok-Faulty-clause-output : goal.returns-in-Ok-Faulty-clause-output
+returns-in-Ok-Faulty-clause-output g c = λ sources are.
+    faulty_run c.args.settings.now sources
+    (taken (g.O.Sink.written c.args.out.now) (g.E.Sink.written c.args.err.now))
+    (taken (g.O.Sink.written c.compile_into.new.out) (g.E.Sink.written c.compile_into.new.err))
+    (c.in-Ok-Faulty.ensures.output sources are).output.0
+    (rw c.in-Ok-Faulty.field-0-is at (c.in-Ok-Faulty.ensures.output sources are).codes)

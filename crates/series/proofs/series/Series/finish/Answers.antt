@@ -1,4 +1,4 @@
-use Rattle.std.proofs.Common.{◌≡◌, ◌+◌, List, ap, subst, map, arith}
+use Rattle.std.proofs.Common.{◌≡◌, ◌+◌, List, ap, subst, map, true, arith}
 use Rattle.code.specs.Codes.{AreCodesOf}
 use Rattle.grammar.specs.Tree.{File}
 use Rattle.series.specs.Courses.{Standing}
@@ -38,3 +38,9 @@ returns-in-Err-clause-text g c = λ going.
     (omega (arith, within.some_file)) (omega (arith, within.most_files)) all (ap robot_names c.words.ensures.value)
     (rw all at (c.self.invariant.3 files are))))
     c.in-Err.ensures) c.requires.over
+
+pub invariant_of-self : goal.invariant_of-self
+invariant_of-self g c = c.self.invariant
+
+pub returns-in-Err-clause-after : goal.returns-in-Err-clause-after
+returns-in-Err-clause-after g c = ap (λ (s : Standing). record s { failed = true }) c.self.view_is

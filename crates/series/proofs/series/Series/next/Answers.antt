@@ -1,13 +1,15 @@
-use Rattle.std.proofs.Common.{◌≡◌, ◌∙◌, ◌+◌, ◌<◌, ℕ, List, ap, sym, subst, map, arith}
+use Rattle.std.proofs.Common.{◌≡◌, ◌∙◌, ◌+◌, ◌<◌, ℕ, List, ap, sym, subst, length, map, true, arith}
+use Rattle.std.proofs.lemmas.List.{length-map}
 use Rattle.std.specs.Prelude.{nat_eq}
 use Rattle.grammar.specs.Tree.{File}
 use Rattle.code.specs.Codes.{AreCodesOf}
 use Rattle.settings.specs.Setup.{Setup}
-use Rattle.series.specs.Courses.{Standing, next_text}
+use Rattle.series.specs.Courses.{Standing, next_text, step_of}
 use Rattle.series.specs.Names.{robot_names}
 use Rattle.series.specs.Outcomes.{outcomes}
 use Rattle.sinks.specs.Portions.{Takes, TakesFront}
-use Rattle.series.proofs.CoursesLemmas.{is_left, next_is, outcome_is, outcomes_more}
+use Rattle.series.proofs.CoursesLemmas.{is_left, next_is, outcome_is, outcomes_more, step_is}
+use Rattle.series.proofs.TextsLemmas.{length_paired}
 use Rattle.series.proofs.series.Series.next.Goals as goal
 
 pub invariant_of-self : goal.invariant_of-self
@@ -84,3 +86,27 @@ returns-in-Err-clause-text g c = λ going.
     (robot_names (map (λ word. word.now) c.words.result.now))
     left (omega (arith, c.first.ensures.value, c.matches.ensures)) (ap robot_names c.words.ensures.value) ended))
     c.in-Err.ensures)
+
+pub invariant_of-self-in-Err : goal.invariant_of-self-in-Err
+invariant_of-self-in-Err g c = c.self.invariant
+
+pub returns-in-Err-clause-after : goal.returns-in-Err-clause-after
+returns-in-Err-clause-after g c = ap (λ (s : Standing). record s { failed = true }) c.self.view_is
+
+pub returns-in-Ok-clause-step : goal.returns-in-Ok-clause-step
+returns-in-Ok-clause-step g c =
+    let setup : Setup = c.self.inside.settings.now in
+    let left : c.self.inside.tally.matches < setup.matches =
+    is_left _ _ c.self.invariant.2
+    (ap (λ (s : Standing). nat_eq s.played s.setup.matches) c.self.view_is ∙ sym c.is_over.ensures ∙
+    c.if-is_over.false) in
+    step_is setup c.self.inside.tally.matches (c.first.result + c.matches.result) left
+    (omega (arith, c.first.ensures.value, c.matches.ensures))
+    ∙ ap (λ (s : Standing). step_of s.setup s.played) c.self.view_is
+
+pub put_report-requires-clause-named : goal.put_report-requires-clause-named
+put_report-requires-clause-named g c =
+    c.battle-outcome.ensures.manned
+    ∙
+    length_paired c.self.inside.programs.now c.words.result.now
+    (c.self.invariant.0 ∙ sym (ap length c.words.ensures.value) ∙ length-map c.words.result.now (λ word. word.now))
