@@ -1,6 +1,7 @@
 -- The table of the kinds of bytes.
-use Rattle.std.proofs.Common.{◌≡◌, ◌∙◌, ℕ, ◌<◌, true, eqb, leb, List, [], ◌∷◌, refl, sym, slice_index}
-use Rattle.std.proofs.lemmas.Bool.{agree_below, agree_below_at, eq-eqb, eqb-true, leb-true}
+use Rattle.std.proofs.Common.{◌≡◌, ◌∙◌, ℕ, ◌<◌, Bool, true, false, ◌||◌, eqb, leb}
+use Rattle.std.proofs.Common.{List, [], ◌∷◌, refl, subst, slice_index}
+use Rattle.std.proofs.lemmas.Bool.{agree_below_at, eqb-true, leb-true}
 use Rattle.std.specs.Prelude.{nat_le, ◌≤◌}
 use Rattle.tokens.specs.Characters.{is_letter, is_name_byte}
 
@@ -33,11 +34,30 @@ pub bytes_of_names : (b : ℕ) → b < 256 → leb (slice_index kinds b) 1 ≡ i
 unfolding kinds
 bytes_of_names b h = agree_below_at (λ x. leb (slice_index kinds x) 1) is_name_byte 256 b refl h
 
+-- the punctuators of one byte, each at its kind
+abbrev pub punctuator_bytes : List ℕ
+punctuator_bytes =
+    0 ∷ 0 ∷ 0 ∷ 40 ∷ 41 ∷ 123 ∷ 125 ∷ 44 ∷ 59 ∷ 43 ∷ 45 ∷ 42 ∷ 47 ∷ 37 ∷ 38 ∷ 124 ∷ 94 ∷ 126 ∷ 33 ∷ 60 ∷ 62 ∷ 61 ∷ []
+
+-- one look at each byte serves all kinds
+has_its_kind : (b : ℕ) → b < 256 →
+    (nat_le (slice_index kinds b) 2 || eqb b (slice_index punctuator_bytes (slice_index kinds b))) ≡ true
+unfolding kinds
+has_its_kind b h =
+    agree_below_at
+    (λ x. nat_le (slice_index kinds x) 2 || eqb x (slice_index punctuator_bytes (slice_index kinds x)))
+    (λ x. true) 256 b refl h
+
+the_other : (t u : Bool) → (t || u) ≡ true → t ≡ false → u ≡ true
+the_other true u e f = absurd cc
+the_other false u e f = e
+
 -- a byte by its kind, which no other byte has
-pub by_kind : (kind c : ℕ) → agree_below (λ x. eqb (slice_index kinds x) kind) (λ x. eqb x c) 256 ≡ true → (b : ℕ) →
-    b < 256 → slice_index kinds b ≡ kind → b ≡ c
-by_kind kind c all b h e =
-    eqb-true b c (sym (agree_below_at (λ x. eqb (slice_index kinds x) kind) (λ x. eqb x c) 256 b all h) ∙ eq-eqb _ _ e)
+pub by_kind : (kind c : ℕ) → nat_le kind 2 ≡ false → slice_index punctuator_bytes kind ≡ c → (b : ℕ) → b < 256 →
+    slice_index kinds b ≡ kind → b ≡ c
+by_kind kind c high at b h e =
+    let own = subst (λ (k : ℕ). (nat_le k 2 || eqb b (slice_index punctuator_bytes k)) ≡ true) e (has_its_kind b h) in
+    eqb-true b _ (the_other _ _ own high) ∙ at
 
 pub kinds-most : (b : ℕ) → b < 256 → slice_index kinds b ≤ 21
 unfolding kinds

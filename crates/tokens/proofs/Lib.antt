@@ -1,4 +1,5 @@
 pub mod CharacterLemmas
+pub mod WordLemmas
 pub mod KnownTokens
 pub mod NameLemmas
 pub mod SourceLemmas

@@ -1,5 +1,5 @@
 -- What two names that are the same have alike.
-use Rattle.std.proofs.Common.{◌≡◌, ℕ, suc, ◌+◌, ◌-◌, ◌<◌, List, [], ◌∷◌, ◌++◌, Bool, true, false, length, take, drop, replicate, refl, sym, ap, ◌∙◌, arith, slice_set, slice_index_or, append_assoc, length-append}
+use Rattle.std.proofs.Common.{◌≡◌, ℕ, suc, ◌+◌, ◌-◌, ◌<◌, ◌≤◌, List, [], ◌∷◌, ◌++◌, Bool, true, false, length, take, drop, replicate, refl, sym, ap, ◌∙◌, arith, slice_set, slice_index_or, append_assoc, length-append}
 use Rattle.std.specs.List.{prefix_len}
 use Rattle.std.proofs.Math.Seq.{set-append_seam}
 use Rattle.std.proofs.lemmas.List.{take-append-le, take_all, take_more, length-take-le}
@@ -47,17 +47,28 @@ begun-more first i rest bytes h room e =
     padded-put (first ∷ take i rest) (slice_index_or rest i 0) (i + 1) (omega (arith, l)) room
     ∙ ap (λ t. padded (first ∷ t)) (sym (take_more rest i 0 h))
 
+-- its first bytes, which are kept as a name is
+begun-is : (first i n : ℕ) (rest bytes : List ℕ) → i ≤ length rest → n ≡ i + 1 →
+    bytes ≡ padded (first ∷ take i rest) → take n bytes ≡ first ∷ take i rest
+begun-is first i n rest bytes h e b =
+    let l = length-take-le i rest h in
+    let name = first ∷ take i rest in
+    ap (take n) b ∙ take-append-le n name (replicate (31 - length name) 0) (omega (arith, l, e)) ∙
+    take_all n name (omega (arith, l, e))
+
+pub begun-padded : (first i n : ℕ) (rest bytes : List ℕ) → i ≤ length rest → n ≡ i + 1 → n ≤ 31 →
+    bytes ≡ padded (first ∷ take i rest) → IsPadded bytes n
+begun-padded first i n rest bytes h e most b =
+    record { within = most; filled = b ∙ ap padded (sym (begun-is first i n rest bytes h e b)) }
+
 -- a name that has begun ends
 pub begun-ends : (first i : ℕ) (rest bytes : List ℕ) → i < length rest → bytes ≡ padded (first ∷ take i rest) →
     prefix_len is_name_byte rest ≡ i + prefix_len is_name_byte (drop i rest) →
     is_name_byte (slice_index_or rest i 0) ≡ false → BeginsName first rest (take (i + 1) bytes)
 begun-ends first i rest bytes h e run ends =
-    let l = length-take-le i rest (omega (arith, h)) in
-    let name = first ∷ take i rest in
     let count : prefix_len is_name_byte rest ≡ i =
     run ∙ ap (λ k. i + k) (prefix_len-drop_no is_name_byte rest i 0 h ends) ∙ omega arith in
     record {
-      is = ap (take (i + 1)) e ∙ take-append-le (i + 1) name (replicate (31 - length name) 0) (omega (arith, l)) ∙
-          take_all (i + 1) name (omega (arith, l)) ∙ ap (λ n. first ∷ take n rest) (sym count);
+      is = begun-is first i (i + 1) rest bytes (omega (arith, h)) refl e ∙ ap (λ n. first ∷ take n rest) (sym count);
       ended = omega (arith, count, h);
     }

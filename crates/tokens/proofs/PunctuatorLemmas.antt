@@ -1,14 +1,14 @@
 -- The punctuators by their spellings: a punctuator's beginnings are punctuators.
-use Rattle.std.proofs.Common.{◌≡◌, ◌∙◌, ℕ, ◌+◌, ◌<◌, ◌≤◌, Bool, true, false, cond, eqb, Option, Some, None, List, [], ◌∷◌, map, ◌++◌, length, refl, sym, ap, subst, arith, lit<, lit≤}
+use Rattle.std.proofs.Common.{◌≡◌, ◌∙◌, ℕ, ◌+◌, ◌<◌, ◌≤◌, Bool, true, false, cond, Option, Some, None, List, [], ◌∷◌, map, ◌++◌, length, take, refl, sym, ap, subst, arith, lit<, lit≤}
 use Rattle.std.specs.Str.{bytes_eq}
 use Rattle.std.proofs.lemmas.Slice.Eq.{bytes_eq-Decides}
-use Rattle.std.proofs.lemmas.Bool.{agree_below, agree_below_at, lt-leb}
+use Rattle.std.proofs.lemmas.Bool.{agree_below_at, lt-leb}
 use Rattle.std.specs.Prelude.{◌&&◌, is_some, nat_le, slice_index}
 use Rattle.tokens.specs.Punctuators.{spelling, row, entry, all_punctuators, punctuator_of}
 use Rattle.tokens.specs.Tokens.{Ahead, placed, passed}
 use Rattle.tokens.specs.Lexing.{ending, IsWhole}
 use Rattle.tokens.specs.Characters.{is_digit}
-use Rattle.tokens.proofs.CharacterLemmas.{kinds, by_kind}
+use Rattle.tokens.proofs.CharacterLemmas.{kinds, punctuator_bytes, by_kind}
 use Rattle.tokens.specs.declared.located_tokens.Token.TheVariants as variant
 use Rattle.tokens.specs.declared.located_tokens.Punctuator.{Punctuator}
 use Rattle.tokens.specs.declared.located_tokens.Punctuator.TheVariants.{Plus, Minus, Star, Slash, Percent, And, Or, Xor, Tilde, Not, Less, Greater, Equals, ShiftLeft, ShiftRight, LessEquals, GreaterEquals, EqualsEquals, NotEquals, AndAnd, OrOr, PlusPlus, MinusMinus, PlusEquals, MinusEquals, StarEquals, SlashEquals, PercentEquals, ShiftLeftEquals, ShiftRightEquals, AndEquals, XorEquals, OrEquals, OpenRound, CloseRound, OpenCurly, CloseCurly, Comma, Semicolon}
@@ -112,96 +112,102 @@ spelling-short CloseCurly = lit≤ tt
 spelling-short Comma = lit≤ tt
 spelling-short Semicolon = lit≤ tt
 
-some-none : (m : Punctuator) → Some m ≡ None → ⊥
-some-none m e = absurd cc
+is-none : (o : Option Punctuator) → is_some o ≡ true → o ≡ None → ⊥
+is-none None s e = absurd cc
+is-none (Some m) s e = absurd cc
 
--- the first byte of a punctuator of two bytes is a punctuator
+-- the first byte of a punctuator is a punctuator, and its first two bytes are
+one-begins : (m : Punctuator) → is_some (punctuator_of (take 1 (spelling m))) ≡ true
+unfolding punctuator_of
+one-begins Plus = refl
+one-begins Minus = refl
+one-begins Star = refl
+one-begins Slash = refl
+one-begins Percent = refl
+one-begins And = refl
+one-begins Or = refl
+one-begins Xor = refl
+one-begins Tilde = refl
+one-begins Not = refl
+one-begins Less = refl
+one-begins Greater = refl
+one-begins Equals = refl
+one-begins ShiftLeft = refl
+one-begins ShiftRight = refl
+one-begins LessEquals = refl
+one-begins GreaterEquals = refl
+one-begins EqualsEquals = refl
+one-begins NotEquals = refl
+one-begins AndAnd = refl
+one-begins OrOr = refl
+one-begins PlusPlus = refl
+one-begins MinusMinus = refl
+one-begins PlusEquals = refl
+one-begins MinusEquals = refl
+one-begins StarEquals = refl
+one-begins SlashEquals = refl
+one-begins PercentEquals = refl
+one-begins ShiftLeftEquals = refl
+one-begins ShiftRightEquals = refl
+one-begins AndEquals = refl
+one-begins XorEquals = refl
+one-begins OrEquals = refl
+one-begins OpenRound = refl
+one-begins CloseRound = refl
+one-begins OpenCurly = refl
+one-begins CloseCurly = refl
+one-begins Comma = refl
+one-begins Semicolon = refl
+
+two-begin : (m : Punctuator) → is_some (punctuator_of (take 2 (spelling m))) ≡ true
+unfolding punctuator_of
+two-begin Plus = refl
+two-begin Minus = refl
+two-begin Star = refl
+two-begin Slash = refl
+two-begin Percent = refl
+two-begin And = refl
+two-begin Or = refl
+two-begin Xor = refl
+two-begin Tilde = refl
+two-begin Not = refl
+two-begin Less = refl
+two-begin Greater = refl
+two-begin Equals = refl
+two-begin ShiftLeft = refl
+two-begin ShiftRight = refl
+two-begin LessEquals = refl
+two-begin GreaterEquals = refl
+two-begin EqualsEquals = refl
+two-begin NotEquals = refl
+two-begin AndAnd = refl
+two-begin OrOr = refl
+two-begin PlusPlus = refl
+two-begin MinusMinus = refl
+two-begin PlusEquals = refl
+two-begin MinusEquals = refl
+two-begin StarEquals = refl
+two-begin SlashEquals = refl
+two-begin PercentEquals = refl
+two-begin ShiftLeftEquals = refl
+two-begin ShiftRightEquals = refl
+two-begin AndEquals = refl
+two-begin XorEquals = refl
+two-begin OrEquals = refl
+two-begin OpenRound = refl
+two-begin CloseRound = refl
+two-begin OpenCurly = refl
+two-begin CloseCurly = refl
+two-begin Comma = refl
+two-begin Semicolon = refl
+
 first-of-two : (m : Punctuator) (b c : ℕ) → b ∷ c ∷ [] ≡ spelling m → punctuator_of (b ∷ []) ≡ None → ⊥
-unfolding punctuator_of
-first-of-two Plus b c e h = absurd (omega (arith, ap length e))
-first-of-two Minus b c e h = absurd (omega (arith, ap length e))
-first-of-two Star b c e h = absurd (omega (arith, ap length e))
-first-of-two Slash b c e h = absurd (omega (arith, ap length e))
-first-of-two Percent b c e h = absurd (omega (arith, ap length e))
-first-of-two And b c e h = absurd (omega (arith, ap length e))
-first-of-two Or b c e h = absurd (omega (arith, ap length e))
-first-of-two Xor b c e h = absurd (omega (arith, ap length e))
-first-of-two Tilde b c e h = absurd (omega (arith, ap length e))
-first-of-two Not b c e h = absurd (omega (arith, ap length e))
-first-of-two Less b c e h = absurd (omega (arith, ap length e))
-first-of-two Greater b c e h = absurd (omega (arith, ap length e))
-first-of-two Equals b c e h = absurd (omega (arith, ap length e))
-first-of-two ShiftLeft b c e h = let d : b ≡ 60 = cc in (some-none Less (rw d at h))
-first-of-two ShiftRight b c e h = let d : b ≡ 62 = cc in (some-none Greater (rw d at h))
-first-of-two LessEquals b c e h = let d : b ≡ 60 = cc in (some-none Less (rw d at h))
-first-of-two GreaterEquals b c e h = let d : b ≡ 62 = cc in (some-none Greater (rw d at h))
-first-of-two EqualsEquals b c e h = let d : b ≡ 61 = cc in (some-none Equals (rw d at h))
-first-of-two NotEquals b c e h = let d : b ≡ 33 = cc in (some-none Not (rw d at h))
-first-of-two AndAnd b c e h = let d : b ≡ 38 = cc in (some-none And (rw d at h))
-first-of-two OrOr b c e h = let d : b ≡ 124 = cc in (some-none Or (rw d at h))
-first-of-two PlusPlus b c e h = let d : b ≡ 43 = cc in (some-none Plus (rw d at h))
-first-of-two MinusMinus b c e h = let d : b ≡ 45 = cc in (some-none Minus (rw d at h))
-first-of-two PlusEquals b c e h = let d : b ≡ 43 = cc in (some-none Plus (rw d at h))
-first-of-two MinusEquals b c e h = let d : b ≡ 45 = cc in (some-none Minus (rw d at h))
-first-of-two StarEquals b c e h = let d : b ≡ 42 = cc in (some-none Star (rw d at h))
-first-of-two SlashEquals b c e h = let d : b ≡ 47 = cc in (some-none Slash (rw d at h))
-first-of-two PercentEquals b c e h = let d : b ≡ 37 = cc in (some-none Percent (rw d at h))
-first-of-two ShiftLeftEquals b c e h = absurd (omega (arith, ap length e))
-first-of-two ShiftRightEquals b c e h = absurd (omega (arith, ap length e))
-first-of-two AndEquals b c e h = let d : b ≡ 38 = cc in (some-none And (rw d at h))
-first-of-two XorEquals b c e h = let d : b ≡ 94 = cc in (some-none Xor (rw d at h))
-first-of-two OrEquals b c e h = let d : b ≡ 124 = cc in (some-none Or (rw d at h))
-first-of-two OpenRound b c e h = absurd (omega (arith, ap length e))
-first-of-two CloseRound b c e h = absurd (omega (arith, ap length e))
-first-of-two OpenCurly b c e h = absurd (omega (arith, ap length e))
-first-of-two CloseCurly b c e h = absurd (omega (arith, ap length e))
-first-of-two Comma b c e h = absurd (omega (arith, ap length e))
-first-of-two Semicolon b c e h = absurd (omega (arith, ap length e))
+first-of-two m b c e h =
+    is-none (punctuator_of (b ∷ [])) (ap (λ xs. is_some (punctuator_of (take 1 xs))) e ∙ one-begins m) h
 
--- the first two bytes of a punctuator of three are a punctuator
 two-of-three : (m : Punctuator) (b c d : ℕ) → b ∷ c ∷ d ∷ [] ≡ spelling m → punctuator_of (b ∷ c ∷ []) ≡ None → ⊥
-unfolding punctuator_of
-two-of-three Plus b c d e h = absurd (omega (arith, ap length e))
-two-of-three Minus b c d e h = absurd (omega (arith, ap length e))
-two-of-three Star b c d e h = absurd (omega (arith, ap length e))
-two-of-three Slash b c d e h = absurd (omega (arith, ap length e))
-two-of-three Percent b c d e h = absurd (omega (arith, ap length e))
-two-of-three And b c d e h = absurd (omega (arith, ap length e))
-two-of-three Or b c d e h = absurd (omega (arith, ap length e))
-two-of-three Xor b c d e h = absurd (omega (arith, ap length e))
-two-of-three Tilde b c d e h = absurd (omega (arith, ap length e))
-two-of-three Not b c d e h = absurd (omega (arith, ap length e))
-two-of-three Less b c d e h = absurd (omega (arith, ap length e))
-two-of-three Greater b c d e h = absurd (omega (arith, ap length e))
-two-of-three Equals b c d e h = absurd (omega (arith, ap length e))
-two-of-three ShiftLeft b c d e h = absurd (omega (arith, ap length e))
-two-of-three ShiftRight b c d e h = absurd (omega (arith, ap length e))
-two-of-three LessEquals b c d e h = absurd (omega (arith, ap length e))
-two-of-three GreaterEquals b c d e h = absurd (omega (arith, ap length e))
-two-of-three EqualsEquals b c d e h = absurd (omega (arith, ap length e))
-two-of-three NotEquals b c d e h = absurd (omega (arith, ap length e))
-two-of-three AndAnd b c d e h = absurd (omega (arith, ap length e))
-two-of-three OrOr b c d e h = absurd (omega (arith, ap length e))
-two-of-three PlusPlus b c d e h = absurd (omega (arith, ap length e))
-two-of-three MinusMinus b c d e h = absurd (omega (arith, ap length e))
-two-of-three PlusEquals b c d e h = absurd (omega (arith, ap length e))
-two-of-three MinusEquals b c d e h = absurd (omega (arith, ap length e))
-two-of-three StarEquals b c d e h = absurd (omega (arith, ap length e))
-two-of-three SlashEquals b c d e h = absurd (omega (arith, ap length e))
-two-of-three PercentEquals b c d e h = absurd (omega (arith, ap length e))
-two-of-three ShiftLeftEquals b c d e h =
-    let p : b ≡ 60 = cc in let q : c ≡ 60 = cc in (some-none ShiftLeft (rw (p, q) at h))
-two-of-three ShiftRightEquals b c d e h =
-    let p : b ≡ 62 = cc in let q : c ≡ 62 = cc in (some-none ShiftRight (rw (p, q) at h))
-two-of-three AndEquals b c d e h = absurd (omega (arith, ap length e))
-two-of-three XorEquals b c d e h = absurd (omega (arith, ap length e))
-two-of-three OrEquals b c d e h = absurd (omega (arith, ap length e))
-two-of-three OpenRound b c d e h = absurd (omega (arith, ap length e))
-two-of-three CloseRound b c d e h = absurd (omega (arith, ap length e))
-two-of-three OpenCurly b c d e h = absurd (omega (arith, ap length e))
-two-of-three CloseCurly b c d e h = absurd (omega (arith, ap length e))
-two-of-three Comma b c d e h = absurd (omega (arith, ap length e))
-two-of-three Semicolon b c d e h = absurd (omega (arith, ap length e))
+two-of-three m b c d e h =
+    is-none (punctuator_of (b ∷ c ∷ [])) (ap (λ xs. is_some (punctuator_of (take 2 xs))) e ∙ two-begin m) h
 
 pub none-of-two : (b c : ℕ) → punctuator_of (b ∷ []) ≡ None → punctuator_of (b ∷ c ∷ []) ≡ None
 none-of-two b c h = by (punctuator_of (b ∷ c ∷ [])) refl
@@ -306,90 +312,89 @@ punctuator-located_token m a rest e =
     (located_token-here m a.line a.place rest a.too_long)
 
 -- the punctuator of a byte, by its kind
-of_kind : (kind c : ℕ) (o : Option Punctuator) →
-    agree_below (λ x. eqb (slice_index kinds x) kind) (λ x. eqb x c) 256 ≡ true → punctuator_of (c ∷ []) ≡ o → (b : ℕ) →
-    b < 256 → slice_index kinds b ≡ kind → o ≡ punctuator_of (b ∷ [])
-of_kind kind c o all is b h e = sym (ap (λ x. punctuator_of (x ∷ [])) (by_kind kind c all b h e) ∙ is)
+of_kind : (kind c : ℕ) (o : Option Punctuator) → nat_le kind 2 ≡ false → slice_index punctuator_bytes kind ≡ c →
+    punctuator_of (c ∷ []) ≡ o → (b : ℕ) → b < 256 → slice_index kinds b ≡ kind → o ≡ punctuator_of (b ∷ [])
+of_kind kind c o high at is b h e = sym (ap (λ x. punctuator_of (x ∷ [])) (by_kind kind c high at b h e) ∙ is)
 
 as_whole : (b : ℕ) (m : Punctuator) → Some m ≡ punctuator_of (b ∷ []) →
     ((n : ℕ) → punctuator_of (spelling m ++ n ∷ []) ≡ None) → IsWhole b m
 as_whole b m is ends = record { is = sym is; ends = ends }
 
 pub kind-open_round : (b : ℕ) → b < 256 → slice_index kinds b ≡ 3 → Some OpenRound ≡ punctuator_of (b ∷ [])
-unfolding kinds punctuator_of
-kind-open_round = of_kind 3 40 (Some OpenRound) refl refl
+unfolding punctuator_of
+kind-open_round = of_kind 3 40 (Some OpenRound) refl refl refl
 
 pub kind-close_round : (b : ℕ) → b < 256 → slice_index kinds b ≡ 4 → Some CloseRound ≡ punctuator_of (b ∷ [])
-unfolding kinds punctuator_of
-kind-close_round = of_kind 4 41 (Some CloseRound) refl refl
+unfolding punctuator_of
+kind-close_round = of_kind 4 41 (Some CloseRound) refl refl refl
 
 pub kind-open_curly : (b : ℕ) → b < 256 → slice_index kinds b ≡ 5 → Some OpenCurly ≡ punctuator_of (b ∷ [])
-unfolding kinds punctuator_of
-kind-open_curly = of_kind 5 123 (Some OpenCurly) refl refl
+unfolding punctuator_of
+kind-open_curly = of_kind 5 123 (Some OpenCurly) refl refl refl
 
 pub kind-close_curly : (b : ℕ) → b < 256 → slice_index kinds b ≡ 6 → Some CloseCurly ≡ punctuator_of (b ∷ [])
-unfolding kinds punctuator_of
-kind-close_curly = of_kind 6 125 (Some CloseCurly) refl refl
+unfolding punctuator_of
+kind-close_curly = of_kind 6 125 (Some CloseCurly) refl refl refl
 
 pub kind-comma : (b : ℕ) → b < 256 → slice_index kinds b ≡ 7 → Some Comma ≡ punctuator_of (b ∷ [])
-unfolding kinds punctuator_of
-kind-comma = of_kind 7 44 (Some Comma) refl refl
+unfolding punctuator_of
+kind-comma = of_kind 7 44 (Some Comma) refl refl refl
 
 pub kind-semicolon : (b : ℕ) → b < 256 → slice_index kinds b ≡ 8 → Some Semicolon ≡ punctuator_of (b ∷ [])
-unfolding kinds punctuator_of
-kind-semicolon = of_kind 8 59 (Some Semicolon) refl refl
+unfolding punctuator_of
+kind-semicolon = of_kind 8 59 (Some Semicolon) refl refl refl
 
 pub kind-plus : (b : ℕ) → b < 256 → slice_index kinds b ≡ 9 → Some Plus ≡ punctuator_of (b ∷ [])
-unfolding kinds punctuator_of
-kind-plus = of_kind 9 43 (Some Plus) refl refl
+unfolding punctuator_of
+kind-plus = of_kind 9 43 (Some Plus) refl refl refl
 
 pub kind-minus : (b : ℕ) → b < 256 → slice_index kinds b ≡ 10 → Some Minus ≡ punctuator_of (b ∷ [])
-unfolding kinds punctuator_of
-kind-minus = of_kind 10 45 (Some Minus) refl refl
+unfolding punctuator_of
+kind-minus = of_kind 10 45 (Some Minus) refl refl refl
 
 pub kind-star : (b : ℕ) → b < 256 → slice_index kinds b ≡ 11 → Some Star ≡ punctuator_of (b ∷ [])
-unfolding kinds punctuator_of
-kind-star = of_kind 11 42 (Some Star) refl refl
+unfolding punctuator_of
+kind-star = of_kind 11 42 (Some Star) refl refl refl
 
 pub kind-slash : (b : ℕ) → b < 256 → slice_index kinds b ≡ 12 → Some Slash ≡ punctuator_of (b ∷ [])
-unfolding kinds punctuator_of
-kind-slash = of_kind 12 47 (Some Slash) refl refl
+unfolding punctuator_of
+kind-slash = of_kind 12 47 (Some Slash) refl refl refl
 
 pub kind-percent : (b : ℕ) → b < 256 → slice_index kinds b ≡ 13 → Some Percent ≡ punctuator_of (b ∷ [])
-unfolding kinds punctuator_of
-kind-percent = of_kind 13 37 (Some Percent) refl refl
+unfolding punctuator_of
+kind-percent = of_kind 13 37 (Some Percent) refl refl refl
 
 pub kind-and : (b : ℕ) → b < 256 → slice_index kinds b ≡ 14 → Some And ≡ punctuator_of (b ∷ [])
-unfolding kinds punctuator_of
-kind-and = of_kind 14 38 (Some And) refl refl
+unfolding punctuator_of
+kind-and = of_kind 14 38 (Some And) refl refl refl
 
 pub kind-or : (b : ℕ) → b < 256 → slice_index kinds b ≡ 15 → Some Or ≡ punctuator_of (b ∷ [])
-unfolding kinds punctuator_of
-kind-or = of_kind 15 124 (Some Or) refl refl
+unfolding punctuator_of
+kind-or = of_kind 15 124 (Some Or) refl refl refl
 
 pub kind-xor : (b : ℕ) → b < 256 → slice_index kinds b ≡ 16 → Some Xor ≡ punctuator_of (b ∷ [])
-unfolding kinds punctuator_of
-kind-xor = of_kind 16 94 (Some Xor) refl refl
+unfolding punctuator_of
+kind-xor = of_kind 16 94 (Some Xor) refl refl refl
 
 pub kind-tilde : (b : ℕ) → b < 256 → slice_index kinds b ≡ 17 → Some Tilde ≡ punctuator_of (b ∷ [])
-unfolding kinds punctuator_of
-kind-tilde = of_kind 17 126 (Some Tilde) refl refl
+unfolding punctuator_of
+kind-tilde = of_kind 17 126 (Some Tilde) refl refl refl
 
 pub kind-not : (b : ℕ) → b < 256 → slice_index kinds b ≡ 18 → Some Not ≡ punctuator_of (b ∷ [])
-unfolding kinds punctuator_of
-kind-not = of_kind 18 33 (Some Not) refl refl
+unfolding punctuator_of
+kind-not = of_kind 18 33 (Some Not) refl refl refl
 
 pub kind-less : (b : ℕ) → b < 256 → slice_index kinds b ≡ 19 → Some Less ≡ punctuator_of (b ∷ [])
-unfolding kinds punctuator_of
-kind-less = of_kind 19 60 (Some Less) refl refl
+unfolding punctuator_of
+kind-less = of_kind 19 60 (Some Less) refl refl refl
 
 pub kind-greater : (b : ℕ) → b < 256 → slice_index kinds b ≡ 20 → Some Greater ≡ punctuator_of (b ∷ [])
-unfolding kinds punctuator_of
-kind-greater = of_kind 20 62 (Some Greater) refl refl
+unfolding punctuator_of
+kind-greater = of_kind 20 62 (Some Greater) refl refl refl
 
 pub kind-equals : (b : ℕ) → b < 256 → slice_index kinds b ≡ 21 → Some Equals ≡ punctuator_of (b ∷ [])
-unfolding kinds punctuator_of
-kind-equals = of_kind 21 61 (Some Equals) refl refl
+unfolding punctuator_of
+kind-equals = of_kind 21 61 (Some Equals) refl refl refl
 
 pub whole-open_round : (b : ℕ) → b < 256 → slice_index kinds b ≡ 3 → IsWhole b OpenRound
 unfolding punctuator_of
