@@ -192,49 +192,13 @@ fn the_right_side_asks(rt: HostRuntime) -> Result<(), Fail> {
     let table = [
         // in its second life and in its third one the digger asks by operations again
         ("digger", first, DIGGER, 947, told(63, 0, 2, 1)),
-        (
-            "digger, and 11 cycles",
-            first,
-            DIGGER,
-            947 + 11,
-            told(66, 0, 2, 1),
-        ),
-        (
-            "digger, three lives",
-            first,
-            DIGGER,
-            3 * 947,
-            told(189, 0, 6, 3),
-        ),
-        (
-            "digger, second profile",
-            second,
-            DIGGER,
-            2 * 1907,
-            told(254, 0, 4, 2),
-        ),
+        ("digger", first, DIGGER, 947 + 11, told(66, 0, 2, 1)),
+        ("digger", first, DIGGER, 3 * 947, told(189, 0, 6, 3)),
+        ("digger", second, DIGGER, 2 * 1907, told(254, 0, 4, 2)),
         ("piler", first, PILER, 836, told(54, 0, 2, 1)),
-        (
-            "piler, and 11 cycles",
-            first,
-            PILER,
-            836 + 11,
-            told(55, 0, 2, 1),
-        ),
-        (
-            "piler, three lives",
-            first,
-            PILER,
-            3 * 836,
-            told(162, 0, 6, 3),
-        ),
-        (
-            "piler, second profile",
-            second,
-            PILER,
-            2 * 1663,
-            told(218, 0, 4, 2),
-        ),
+        ("piler", first, PILER, 836 + 11, told(55, 0, 2, 1)),
+        ("piler", first, PILER, 3 * 836, told(162, 0, 6, 3)),
+        ("piler", second, PILER, 2 * 1663, told(218, 0, 4, 2)),
         (
             "returner",
             first,
@@ -247,7 +211,8 @@ fn the_right_side_asks(rt: HostRuntime) -> Result<(), Fail> {
         ("nester", first, NESTER, 25 * 100, told(0, 0, 300, 100)),
     ];
     for (name, profile, source, cycles, want) in table {
-        assert_eq!(rt; sides_of(&rt, profile, source, cycles)?, want, "{name}");
+        let sides = sides_of(&rt, profile, source, cycles)?;
+        assert_eq!(rt; sides, want, "{name}, {cycles} cycles");
     }
     Ok(())
 }

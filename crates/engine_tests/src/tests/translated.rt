@@ -4,6 +4,7 @@ use crate::tests::made::program_of;
 use code::Profile;
 use operations::translate;
 use std::alloc::{AllocError, Global};
+use std::process::Abort;
 use std::test::Fail;
 
 /// Reports whether a good source is translated.
@@ -79,54 +80,42 @@ fn sources_are_translated(rt: HostRuntime) -> Result<(), Fail> {
     Ok(())
 }
 
-/// Makes a source that has the constants 0 to `most`.
-fn constants_up_to(alloc: Global, most: u16) -> Result<String, AllocError> {
-    let mut source = String::new(alloc);
-    source.push_str("main(){int a;")?;
-    for constant in 0..=most {
-        write!(source, "a={constant};")?;
-    }
-    source.push_str("}")?;
-    Ok(source)
-}
-
-// A program may have 448 constants.
-#[test]
-fn constants_are_counted(rt: HostRuntime) -> Result<(), Fail> {
-    for (most, want) in [(447, true), (448, false)] {
-        let source = constants_up_to(rt.alloc(), most)?;
-        assert_eq!(rt;
-            is_translated(Profile::first(), source.as_bytes())?,
-            want,
-            "0 to {most}"
-        );
-    }
-    Ok(())
-}
-
-/// Makes a source with a statement of eight assignments so many times: each has ten instructions, `CONST`, eight times
-/// `STORE` and `CHOP`, and eight operations.
-fn assignments(alloc: Global, times: u16) -> Result<String, AllocError> {
+/// Makes a source of so many statements, each of which assigns its number, from 0 on, to these variables.
+fn assignments(alloc: Global, variables: &str, times: u16) -> Result<String, AllocError> {
     let mut source = String::new(alloc);
     source.push_str("main(){int a,b;")?;
-    for _ in 0..times {
-        source.push_str("a=b=a=b=a=b=a=b=1;")?;
+    for number in 0..times {
+        write!(source, "{variables}{number};")?;
     }
     source.push_str("}")?;
     Ok(source)
 }
 
-// A program may have 2,048 operations. Behind the assignments are two more: one counts their cycles, and one returns.
-// So 255 statements make 2,042 of them, and 256 make 2,050.
-#[test]
-fn operations_are_counted(rt: HostRuntime) -> Result<(), Fail> {
-    for (times, want) in [(255, true), (256, false)] {
-        let source = assignments(rt.alloc(), times)?;
-        assert_eq!(rt;
-            is_translated(Profile::second(), source.as_bytes())?,
-            want,
-            "{times} times"
-        );
+/// Checks that a source of so many such statements is translated, and that one with one more isn't.
+fn check_most(
+    rt: &(impl Abort + AllocGlobal),
+    profile: Profile,
+    variables: &str,
+    most: u16,
+) -> Result<(), Fail> {
+    for (times, want) in [(most, true), (most.saturating_add(1), false)] {
+        let source = assignments(rt.alloc(), variables, times)?;
+        let found = is_translated(profile, source.as_bytes())?;
+        assert_eq!(rt; found, want, "{variables}.. {times} times");
     }
     Ok(())
+}
+
+// A program may have 448 constants, here 0 to 447.
+#[test]
+fn constants_are_counted(rt: HostRuntime) -> Result<(), Fail> {
+    check_most(&rt, Profile::first(), "a=", 448)
+}
+
+// A program may have 2,048 operations. Each statement of eight assignments has ten instructions, `CONST`, eight times
+// `STORE` and `CHOP`, and eight operations. Behind them are two more: one counts their cycles, and one returns. So 255
+// statements make 2,042 of them, and 256 make 2,050.
+#[test]
+fn operations_are_counted(rt: HostRuntime) -> Result<(), Fail> {
+    check_most(&rt, Profile::second(), "a=b=a=b=a=b=a=b=", 255)
 }
