@@ -14,6 +14,7 @@ use crate::collisions::{Mover, touches};
 use crate::limits::{MOST_BURSTS, MOST_ROBOTS};
 use crate::points::Point;
 use crate::robots::Robot;
+use crate::updates::drive_on;
 use arrayvec::ArrayVec;
 
 impl Arena {
@@ -97,15 +98,13 @@ impl Arena {
     }
 }
 
-/// Returns what collisions of the next update have to know of some robots.
+/// Returns what collisions of the next update have to know of some robots: copies of them move on.
 fn movers(robots: &[Robot]) -> ArrayVec<Mover, MOST_ROBOTS>
     requires { length robots.now ≤ MOST_ROBOTS }
     ensures movers { (rs : List FieldRobot) → robots.now ≡ map body_of rs → result.items ≡ map mover rs }
     ensures count { length result.items ≡ length robots.now }
 {
-    let mut movers = ArrayVec::new();
-    for robot in robots {
-        movers.push(robot.mover());
-    }
-    movers
+    let mut copies: ArrayVec<Robot, MOST_ROBOTS> = ArrayVec::new();
+    let _ = copies.try_extend_from_slice(robots);
+    drive_on(copies.as_mut_slice())
 }

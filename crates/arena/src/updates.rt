@@ -49,7 +49,7 @@ fn all_stay(robots: &[Robot]) -> bool
 }
 
 /// Moves robots on, each as far as walls let it, and returns what collisions have to know.
-fn drive_on(robots: &mut [Robot]) -> ArrayVec<Mover, MOST_ROBOTS>
+pub fn drive_on(robots: &mut [Robot]) -> ArrayVec<Mover, MOST_ROBOTS>
     requires { length robots.old ≤ MOST_ROBOTS }
     ensures ahead { (rs : List FieldRobot) → robots.old ≡ map body_of rs → robots.new ≡ map ahead rs }
     ensures movers { (rs : List FieldRobot) → robots.old ≡ map body_of rs → result.items ≡ map mover rs }
