@@ -17,14 +17,14 @@ mod subjects;
 mod sums;
 mod tallies;
 mod tellers;
+mod turns;
 
-use crate::asks::Asks;
 use crate::events::Events;
 use crate::notes::{Note, compiled};
 use crate::requests::{FORM_OPTIONS, Form, Request};
-use crate::steps::Steps;
 use crate::sums::Sums;
 use crate::tellers::tell;
+use crate::turns::Turns;
 use arena::MOST_ROBOTS;
 use playing::{Pilot, pilots};
 use std::process::ExitCode;
@@ -73,7 +73,6 @@ fn told(
     match request.form {
         Form::Sum => tell(Sums::new(rt, request, notes, pilots)?, request, pilots),
         Form::Events | Form::Film => tell(Events::new(rt, request, notes), request, pilots),
-        Form::Asks => tell(Asks::new(rt, request, notes), request, pilots),
-        Form::Steps => tell(Steps::new(rt, request), request, pilots),
+        Form::Asks | Form::Steps => tell(Turns::new(rt, request, notes), request, pilots),
     }
 }
