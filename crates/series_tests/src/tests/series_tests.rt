@@ -2,35 +2,46 @@
 
 use crate::tests::checks::{game_of_one, programs_of, short_matches};
 use series::{Recorder, Series, SeriesFault, Step, compile_files};
+use std::process::Abort;
 use std::test::Fail;
 use tokens::Pieces;
 
-#[test]
-fn matches_are_played_one_by_one(rt: HostRuntime) -> Result<(), Fail> {
+/// What a call for the next match answers, whether the series is over then, and how many portions were put so far.
+type Told = (Result<Step, SeriesFault>, bool, usize);
+
+/// Plays a series of two short matches call by call, and compares what each call answers.
+fn check_calls(rt: &impl Abort, out: &mut Recorder, calls: &[Told]) -> Result<(), Fail> {
     let settings = game_of_one(short_matches(2), "a.r");
     let programs = programs_of(b"main(){}", &settings)?;
     let mut series = Series::new(&programs, &settings);
-    let mut out = Recorder::new(rt.alloc());
-    assert_eq!(rt; series.next(&mut out), Ok(Step::Played(1)));
-    assert_eq!(rt; out.portions().len(), 1);
-    assert!(rt; !series.is_over());
-    assert_eq!(rt; series.next(&mut out), Ok(Step::Played(2)));
-    assert_eq!(rt; out.portions().len(), 2);
-    assert_eq!(rt; series.next(&mut out), Ok(Step::Over));
-    assert_eq!(rt; out.portions().len(), 2);
+    for (answer, is_over, portions) in calls {
+        if out.failures() > 1 {
+            return Err("a call that failed was made again".into());
+        }
+        assert_eq!(rt; series.next(out), *answer);
+        assert_eq!(rt; series.has_failed(), answer.is_err());
+        assert_eq!(rt; series.is_over(), *is_over);
+        assert_eq!(rt; out.portions().len(), *portions);
+    }
     Ok(())
 }
 
 #[test]
+fn matches_are_played_one_by_one(rt: HostRuntime) -> Result<(), Fail> {
+    let mut out = Recorder::new(rt.alloc());
+    let calls = [
+        (Ok(Step::Played(1)), false, 1),
+        (Ok(Step::Played(2)), true, 2),
+        (Ok(Step::Over), true, 2),
+    ];
+    check_calls(&rt, &mut out, &calls)
+}
+
+#[test]
 fn a_series_stops_at_a_failed_report(rt: HostRuntime) -> Result<(), Fail> {
-    let settings = game_of_one(short_matches(2), "a.r");
-    let programs = programs_of(b"main(){}", &settings)?;
-    let mut series = Series::new(&programs, &settings);
     let mut out = Recorder::new(rt.alloc()).with_room(10);
-    assert_eq!(rt; series.next(&mut out), Err(SeriesFault::Write));
-    assert!(rt; series.has_failed());
-    assert!(rt; !series.is_over());
-    assert_eq!(rt; series.next(&mut out), Err(SeriesFault::Write));
+    let stopped = (Err(SeriesFault::Write), false, 1);
+    check_calls(&rt, &mut out, &[stopped, stopped])?;
     assert_eq!(rt; out.joined()?.as_slice(), b"Match 1: c".as_slice());
     assert_eq!(rt; out.failures(), 1);
     Ok(())
