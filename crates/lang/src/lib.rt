@@ -3,7 +3,7 @@
 #![tactic(auto)]
 
 pub use grammar::{
-    Build, BuildFault, Callee, Code, Diagnostic, Function, Intrinsic, MOST_NAMES, Op, ParseFault,
+    Action, Build, BuildFault, Callee, Code, Diagnostic, Function, Intrinsic, MOST_NAMES, Op, ParseFault,
     Pools, Profile, StoreOp, Var,
 };
 pub use parser::parse;

@@ -1,0 +1,45 @@
+-- What the answer to an action says.
+use Rattle.std.proofs.Common.{◌≡◌, ℕ, refl, subst, false}
+use Rattle.std.specs.Prelude.{Result, Ok, Err}
+use Rattle.grammar.specs.declared.build.BuildFault.{BuildFault}
+use Rattle.grammar.specs.declared.build.BuildFault.TheVariants as fault
+use Rattle.grammar.specs.declared.actions.Action.{Action}
+use Rattle.grammar.specs.declared.actions.Action.TheVariants.{EndFunction}
+use Rattle.grammar.specs.Actions.{ends_function}
+use Rattle.grammar.specs.Building.{Meaning, IsOver, Judges, Measures, Refuses}
+
+-- an action other than the end of a function
+pub ends_none : (action : Action) → ((variables : ℕ) → action ≡ EndFunction variables → ⊥) → ends_function action ≡ false
+ends_none (EndFunction variables) other = absurd (other variables refl)
+ends_none action other = refl
+
+-- it is refused for want of memory alone
+pub judges_other : {A : Type 0} (result : Result A BuildFault) (denied : Type 0) (before : Meaning) (action : Action) →
+    ends_function action ≡ false → Refuses result denied → Judges result denied before action
+judges_other result denied before (EndFunction variables) e refuses = absurd (cc)
+judges_other result denied before action e refuses = refuses
+
+-- a builder around another one refuses an action that the other took
+pub judges_after : {A B : Type 0} (x : A) (result : Result B BuildFault) (inner denied : Type 0) (before : Meaning)
+    (action : Action) → Judges (Ok x) inner before action → Refuses result denied → Judges result denied before action
+judges_after x (Ok y) inner denied before (EndFunction variables) fits refuses = fits
+judges_after x (Err fault.Memory) inner denied before (EndFunction variables) fits refuses = (refuses, fits)
+judges_after x (Err fault.Full) inner denied before (EndFunction variables) fits refuses = absurd refuses
+judges_after x result inner denied before action fits refuses = refuses
+
+-- or one that the other refused
+pub judges_inside : (A B : Type 0) (f : BuildFault) (inner denied : Type 0) (before : Meaning) (action : Action) →
+    (inner → denied) → Judges {A = A} (Err f) inner before action → Judges {A = B} (Err f) denied before action
+judges_inside A B fault.Memory inner denied before (EndFunction variables) by judged = (by judged.0, judged.1)
+judges_inside A B fault.Full inner denied before (EndFunction variables) by judged = judged
+judges_inside A B fault.Memory inner denied before action by judged = by judged
+judges_inside A B fault.Full inner denied before action by judged = judged
+
+-- what each refusal of the end of a function says
+pub measured_over : {A : Type 0} (result : Result A BuildFault) (denied : Type 0) (before : Meaning) →
+    Measures result denied before → result ≡ Err fault.Full → IsOver before
+measured_over result denied before m is = subst (λ r. Measures r denied before) is m
+
+pub measured_denied : {A : Type 0} (result : Result A BuildFault) (denied : Type 0) (before : Meaning) →
+    Measures result denied before → result ≡ Err fault.Memory → denied
+measured_denied result denied before m is = (subst (λ r. Measures r denied before) is m).0
