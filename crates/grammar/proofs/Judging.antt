@@ -6,7 +6,7 @@ use Rattle.grammar.specs.declared.build.BuildFault.TheVariants as fault
 use Rattle.grammar.specs.declared.actions.Action.{Action}
 use Rattle.grammar.specs.declared.actions.Action.TheVariants.{EndFunction}
 use Rattle.grammar.specs.Actions.{ends_function}
-use Rattle.grammar.specs.Building.{Meaning, IsOver, Judges, Measures, Refuses}
+use Rattle.grammar.specs.Building.{Meaning, FitsWithin, IsOver, Judges, Measures, Refuses}
 
 -- an action other than the end of a function
 pub ends_none : (action : Action) → ((variables : ℕ) → action ≡ EndFunction variables → ⊥) → ends_function action ≡ false
@@ -19,12 +19,18 @@ pub judges_other : {A : Type 0} (result : Result A BuildFault) (denied : Type 0)
 judges_other result denied before (EndFunction variables) e refuses = absurd (cc)
 judges_other result denied before action e refuses = refuses
 
+-- the end of a function where the code fits
+pub measures_fitting : {A : Type 0} (result : Result A BuildFault) (denied : Type 0) (before : Meaning) →
+    FitsWithin before → Refuses result denied → Measures result denied before
+measures_fitting (Ok x) denied before fits refuses = fits
+measures_fitting (Err fault.Memory) denied before fits refuses = (refuses, fits)
+measures_fitting (Err fault.Full) denied before fits refuses = absurd refuses
+
 -- a builder around another one refuses an action that the other took
 pub judges_after : {A B : Type 0} (x : A) (result : Result B BuildFault) (inner denied : Type 0) (before : Meaning)
     (action : Action) → Judges (Ok x) inner before action → Refuses result denied → Judges result denied before action
-judges_after x (Ok y) inner denied before (EndFunction variables) fits refuses = fits
-judges_after x (Err fault.Memory) inner denied before (EndFunction variables) fits refuses = (refuses, fits)
-judges_after x (Err fault.Full) inner denied before (EndFunction variables) fits refuses = absurd refuses
+judges_after x result inner denied before (EndFunction variables) fits refuses =
+    measures_fitting result denied before fits refuses
 judges_after x result inner denied before action fits refuses = refuses
 
 -- or one that the other refused
