@@ -1,5 +1,5 @@
 -- Which actions a maker was told.
-use Rattle.std.specs.Prelude.{ℕ, ◌+◌, ◌≡◌, ◌<◌, ◌≤◌, List, [], ◌∷◌, Bool, true, false, length}
+use Rattle.std.specs.Prelude.{ℕ, ◌+◌, ◌≡◌, ◌<◌, ◌≤◌, List, [], ◌∷◌, Bool, true, length}
 use Rattle.grammar.specs.declared.actions.Action.{Action}
 use Rattle.grammar.specs.Actions.{code_length, ends_function}
 use Rattle.grammar.specs.Profile.{Profile}

@@ -26,21 +26,6 @@ measures_fitting (Ok x) denied before fits refuses = fits
 measures_fitting (Err fault.Memory) denied before fits refuses = (refuses, fits)
 measures_fitting (Err fault.Full) denied before fits refuses = absurd refuses
 
--- a builder around another one refuses an action that the other took
-pub judges_after : {A B : Type 0} (x : A) (result : Result B BuildFault) (inner denied : Type 0) (before : Meaning)
-    (action : Action) → Judges (Ok x) inner before action → Refuses result denied → Judges result denied before action
-judges_after x result inner denied before (EndFunction variables) fits refuses =
-    measures_fitting result denied before fits refuses
-judges_after x result inner denied before action fits refuses = refuses
-
--- or one that the other refused
-pub judges_inside : (A B : Type 0) (f : BuildFault) (inner denied : Type 0) (before : Meaning) (action : Action) →
-    (inner → denied) → Judges {A = A} (Err f) inner before action → Judges {A = B} (Err f) denied before action
-judges_inside A B fault.Memory inner denied before (EndFunction variables) by judged = (by judged.0, judged.1)
-judges_inside A B fault.Full inner denied before (EndFunction variables) by judged = judged
-judges_inside A B fault.Memory inner denied before action by judged = by judged
-judges_inside A B fault.Full inner denied before action by judged = judged
-
 -- what each refusal of the end of a function says
 pub measured_over : {A : Type 0} (result : Result A BuildFault) (denied : Type 0) (before : Meaning) →
     Measures result denied before → result ≡ Err fault.Full → IsOver before

@@ -11,7 +11,7 @@ use Rattle.grammar.specs.declared.actions.Action.{Action}
 use Rattle.grammar.specs.declared.actions.Action.TheVariants.{PushConstant, StoreVariable, ApplyBinop, BeginCall}
 use Rattle.grammar.specs.declared.actions.Action.TheVariants.{EndCall, IfTest, EndIf, BeginWhile, WhileTest, EndWhile}
 use Rattle.grammar.specs.declared.actions.Action.TheVariants.{Chop, BeginFunction}
-use Rattle.grammar.specs.Actions.{expr_actions, args_actions, body_actions, middle}
+use Rattle.grammar.specs.Actions.{expr_actions, body_actions}
 use Rattle.grammar.specs.Derivation.{Value, AnExpr, ABody, Definition}
 use Rattle.grammar.specs.Emission.{on_choice}
 use Rattle.grammar.specs.Faults.{levels}

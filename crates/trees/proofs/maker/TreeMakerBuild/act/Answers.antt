@@ -1,12 +1,10 @@
-use Rattle.std.proofs.Common.{◌≡◌, Ok, refl, ap, subst, ◌∙◌, ℕ, ◌+◌, min}
-use Rattle.std.proofs.lemmas.Result.{on_ok_weaker}
-use Rattle.std.specs.Prelude.{OnOk, ⊤}
+use Rattle.std.proofs.Common.{Ok, ap, ◌∙◌, ℕ, ◌+◌, min}
+use Rattle.std.specs.Prelude.{⊤}
 use Rattle.grammar.specs.declared.actions.Action.{Action}
 use Rattle.grammar.specs.declared.actions.Action.TheVariants.{EndFunction}
 use Rattle.grammar.specs.Actions.{instructions}
-use Rattle.grammar.specs.Building.{MayFollow}
 use Rattle.grammar.proofs.Judging.{ends_none, judges_other, measures_fitting}
-use Rattle.trees.specs.Standing.{Kept, Stands}
+use Rattle.trees.specs.Standing.{Kept}
 use Rattle.trees.proofs.StandingLaws.{stopped, may_go_on, went_on, fits_at_end, ended}
 use Rattle.trees.proofs.maker.TreeMakerBuild.act.Goals as goal
 
