@@ -9,7 +9,8 @@ use Rattle.grammar.specs.Actions.{ends_function}
 use Rattle.grammar.specs.Building.{Meaning, FitsWithin, IsOver, Judges, Measures, Refuses}
 
 -- an action other than the end of a function
-pub ends_none : (action : Action) → ((variables : ℕ) → action ≡ EndFunction variables → ⊥) → ends_function action ≡ false
+pub ends_none : (action : Action) → ((variables : ℕ) → action ≡ EndFunction variables → ⊥) →
+    ends_function action ≡ false
 ends_none (EndFunction variables) other = absurd (other variables refl)
 ends_none action other = refl
 

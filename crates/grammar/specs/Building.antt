@@ -65,8 +65,8 @@ Measures (Ok x) denied before = FitsWithin before
 Measures (Err fault.Full) denied before = IsOver before
 Measures (Err fault.Memory) denied before = denied × FitsWithin before
 
--- What the answer to an action says: the end of a function alone measures the code. Any other action refuses for want of
--- memory alone.
+-- What the answer to an action says: the end of a function alone measures the code. Any other action refuses for want
+-- of memory alone.
 abbrev pub Judges : {A : Type 0} → Result A BuildFault → Type 0 → Meaning → Action → Type 0
 Judges result denied before (EndFunction variables) = Measures result denied before
 Judges result denied before action = Refuses result denied

@@ -142,7 +142,8 @@ tell_statement-tell_statements-requires-in-IfElseStatement-2 g t c κs within =
     let other =
     may_next _ (at c.act-in-IfElseStatement.new.self) ElsePart _ c.in_ok-act-in-IfElseStatement.ensures.ok
     (may_then _ (at c.tell_statements-in-IfElseStatement.new.build) _ _ one rest) in
-    let may : MayFollowAll (at c.act-in-IfElseStatement.new.self) (body_actions (body_tree c.deref-in-IfElseStatement-2.result.now))
+    let may : MayFollowAll (at c.act-in-IfElseStatement.new.self)
+    (body_actions (body_tree c.deref-in-IfElseStatement-2.result.now))
     =
     rw c.deref-in-IfElseStatement-2.ensures.value (may_front _ _ _ other) in
     (grind (arith, the_lemmas), (within, may))

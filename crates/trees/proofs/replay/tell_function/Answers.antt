@@ -83,7 +83,9 @@ returns-clause-full g c =
     (over_then first second (BeginFunction c.args.function.now.number c.args.function.now.parameters ∷ []) _
     c.in_ok-act.ensures.ok (over_then second third _ _ told
     (over_then third fourth last_return _ c.in_ok-tell_last_return.ensures.ok
-    (over_finish fourth c.args.function.now.variables (measured_over c.act-2.result g.B.Build.denied (at c.tell_last_return.new.build) c.act-2.ensures.judged full)))))
+    (over_finish fourth c.args.function.now.variables
+    (measured_over c.act-2.result g.B.Build.denied (at c.tell_last_return.new.build) c.act-2.ensures.judged
+    full)))))
 
 pub returns-clause-memory : goal.returns-clause-memory
 returns-clause-memory g c =
