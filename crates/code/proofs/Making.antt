@@ -10,8 +10,12 @@ use Rattle.std.specs.List.{range_with_len}
 use Rattle.std.proofs.Math.Seq.{set-append_seam}
 use Rattle.arith.specs.declared.operators.Op.{Op}
 use Rattle.arith.specs.declared.operators.Op.TheVariants as op
-use Rattle.grammar.specs.Actions.{Action, StoreVariable, ApplyBinop, LogicMiddle, BeginCall, EndCall, IfTest, ElsePart, EndIf, BeginWhile, WhileTest, EndWhile, GiveBack, Chop, EndFunction, middle, expr_actions, args_actions, body_actions, function_actions, functions_actions, numbered_actions, actions}
-use Rattle.grammar.specs.Actions.{last_return as last_return_actions}
+use Rattle.grammar.specs.declared.actions.Action.{Action}
+use Rattle.grammar.specs.declared.actions.Action.TheVariants.{StoreVariable, ApplyBinop, LogicMiddle, BeginCall}
+use Rattle.grammar.specs.declared.actions.Action.TheVariants.{EndCall, IfTest, ElsePart, EndIf, BeginWhile, WhileTest}
+use Rattle.grammar.specs.declared.actions.Action.TheVariants.{EndWhile, GiveBack, Chop, EndFunction}
+use Rattle.grammar.specs.Actions.{middle, expr_actions, args_actions, body_actions, function_actions, functions_actions}
+use Rattle.grammar.specs.Actions.{numbered_actions, actions, last_return as last_return_actions}
 use Rattle.arith.specs.Op.{is_logic}
 use Rattle.grammar.specs.Profile.{Profile}
 use Rattle.grammar.specs.Tree.{Expr, Constant, Variable, Binary, Assign, Postfix, Call, Args, NoMore, Argument, Body, Done, ExpressionStatement, IfStatement, IfElseStatement, While, Return, Function, File}

@@ -1,6 +1,10 @@
 -- What a maker holds behind a list of actions.
 use Rattle.std.specs.Prelude.{ℕ, pos, ◌+◌, List, [], ◌∷◌, ◌++◌, length, replicate, slice_set, if◌then◌else◌}
-use Rattle.grammar.specs.Actions.{Action, PushConstant, FetchVariable, StoreVariable, ApplyBinop, LogicMiddle, BeginCall, EndCall, IfTest, ElsePart, EndIf, BeginWhile, WhileTest, EndWhile, GiveBack, Chop, BeginFunction, EndFunction}
+use Rattle.grammar.specs.declared.actions.Action.{Action}
+use Rattle.grammar.specs.declared.actions.Action.TheVariants.{PushConstant, FetchVariable, StoreVariable, ApplyBinop}
+use Rattle.grammar.specs.declared.actions.Action.TheVariants.{LogicMiddle, BeginCall, EndCall, IfTest, ElsePart, EndIf}
+use Rattle.grammar.specs.declared.actions.Action.TheVariants.{BeginWhile, WhileTest, EndWhile, GiveBack, Chop}
+use Rattle.grammar.specs.declared.actions.Action.TheVariants.{BeginFunction, EndFunction}
 use Rattle.arith.specs.declared.operators.Op.{Op}
 use Rattle.arith.specs.declared.operators.Op.TheVariants as op
 use Rattle.grammar.specs.Profile.{Profile}

@@ -1,13 +1,9 @@
 -- Which actions a maker was told.
-use Rattle.std.specs.Prelude.{ℕ, ◌+◌, ◌≡◌, ◌<◌, ◌≤◌, List, [], ◌∷◌, Bool, true, false, length}
-use Rattle.grammar.specs.Actions.{Action, EndFunction, code_length}
+use Rattle.std.specs.Prelude.{ℕ, ◌+◌, ◌≡◌, ◌<◌, ◌≤◌, List, [], ◌∷◌, Bool, true, length}
+use Rattle.grammar.specs.declared.actions.Action.{Action}
+use Rattle.grammar.specs.Actions.{code_length, ends_function}
 use Rattle.grammar.specs.Profile.{Profile}
 use Rattle.code.specs.Making.{Made, made}
-
--- the action ends a function
-abbrev pub ends_function : Action → Bool
-ends_function (EndFunction variables) = true
-ends_function _ = false
 
 -- no function is open behind these actions
 abbrev pub is_ended : List Action → Bool

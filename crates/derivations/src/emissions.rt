@@ -63,23 +63,18 @@ impl Action {
         match self {
             Action::EndIf | Action::BeginWhile | Action::BeginFunction | Action::EndFunction => 0,
             Action::ElsePart | Action::EndWhile => 2,
-            Action::LogicMiddle(op) if profile.short_circuit() => middle_length(op),
-            Action::LogicMiddle(_) => 0,
-            Action::Binop(Op::And) if profile.short_circuit() => 4,
+            Action::LogicMiddle(op) => instructions(profile, grammar::Action::LogicMiddle(op)),
+            Action::Binop(op) => instructions(profile, grammar::Action::ApplyBinop(op)),
             _ => 1,
         }
     }
 }
 
-/// Returns how many instructions are made between the sides of `&&` or `||`, if the right side may be left out.
-fn middle_length(op: Op) -> usize
+/// Returns how many instructions an action that is reported makes.
+fn instructions(profile: Profile, action: grammar::Action) -> usize
     ensures { result ≤ 4 }
 {
-    match op {
-        Op::And => 1,
-        Op::Or => 4,
-        _ => 0,
-    }
+    usize::from(action.instructions(profile))
 }
 
 /// The most actions of a step: those of `v++`.

@@ -7,8 +7,7 @@ use crate::folds::{Fold, Folds};
 use arith::binop;
 use arrayvec::ArrayVec;
 use code::Profile;
-use derivations::Action;
-use grammar::{Build, BuildFault, Callee, Op, StoreOp, Var};
+use grammar::{Action, Build, BuildFault, Op};
 
 /// The most values that are known at once.
 const MOST_KNOWN: usize = 64;
@@ -40,14 +39,19 @@ impl<B> Folder<B> {
         }
     }
 
-    /// Takes a constant: its value is known.
-    fn know(&mut self, value: i32)
+    /// Takes an action: a constant's value is known, and an operator's if both sides are.
+    fn take(&mut self, action: Action)
         ensures { self.new.inner ≡ self.old.inner }
     {
         let begin = self.next;
-        self.count(Action::Constant);
-        let end = self.next;
-        self.remember(Fold { begin, end, value });
+        let instructions = action.instructions(self.profile);
+        let end = begin.saturating_add(u32::from(instructions));
+        self.next = end;
+        match action {
+            Action::PushConstant(value) => self.remember(Fold { begin, end, value }),
+            Action::ApplyBinop(op) => self.combine(op),
+            _ => self.settle(),
+        }
     }
 
     /// Takes a binary operator: if both sides are known, so is its value.
@@ -55,7 +59,6 @@ impl<B> Folder<B> {
         ensures { self.new.inner ≡ self.old.inner }
     {
         let (right, left) = (self.known.pop(), self.known.pop());
-        self.count(Action::Binop(op));
         match (left, right) {
             (Some(left), Some(right)) => {
                 let fold = worked_out(op, left, right, self.next);
@@ -66,22 +69,6 @@ impl<B> Folder<B> {
             }
             _ => {}
         }
-    }
-
-    /// Takes an action whose value isn't known, nor what it makes of those that are.
-    fn pass(&mut self, action: Action)
-        ensures { self.new.inner ≡ self.old.inner }
-    {
-        self.settle();
-        self.count(action);
-    }
-
-    /// Counts the instructions of an action.
-    fn count(&mut self, action: Action)
-        ensures { self.new.inner ≡ self.old.inner }
-    {
-        let instructions = action.instructions(self.profile) as u32;
-        self.next = self.next.saturating_add(instructions);
     }
 
     /// Keeps a known value. If there is no room, the oldest one is let go: it is found.
@@ -131,88 +118,8 @@ impl<B: Build> Build for Folder<B> {
 
     ghost denied = { B.denied };
 
-    fn constant(&mut self, value: i32) -> Result<(), BuildFault> {
-        self.know(value);
-        self.inner.constant(value)
-    }
-
-    fn fetch(&mut self, var: Var) -> Result<(), BuildFault> {
-        self.pass(Action::Fetch);
-        self.inner.fetch(var)
-    }
-
-    fn store(&mut self, var: Var, op: StoreOp) -> Result<(), BuildFault> {
-        self.pass(Action::Store);
-        self.inner.store(var, op)
-    }
-
-    fn binop(&mut self, op: Op) -> Result<(), BuildFault> {
-        self.combine(op);
-        self.inner.binop(op)
-    }
-
-    fn logic_middle(&mut self, op: Op) -> Result<(), BuildFault> {
-        self.pass(Action::LogicMiddle(op));
-        self.inner.logic_middle(op)
-    }
-
-    fn begin_call(&mut self) -> Result<(), BuildFault> {
-        self.pass(Action::BeginCall);
-        self.inner.begin_call()
-    }
-
-    fn end_call(&mut self, callee: Callee) -> Result<(), BuildFault> {
-        self.pass(Action::EndCall);
-        self.inner.end_call(callee)
-    }
-
-    fn if_test(&mut self) -> Result<(), BuildFault> {
-        self.pass(Action::IfTest);
-        self.inner.if_test()
-    }
-
-    fn else_part(&mut self) -> Result<(), BuildFault> {
-        self.pass(Action::ElsePart);
-        self.inner.else_part()
-    }
-
-    fn end_if(&mut self) -> Result<(), BuildFault> {
-        self.pass(Action::EndIf);
-        self.inner.end_if()
-    }
-
-    fn begin_while(&mut self) -> Result<(), BuildFault> {
-        self.pass(Action::BeginWhile);
-        self.inner.begin_while()
-    }
-
-    fn while_test(&mut self) -> Result<(), BuildFault> {
-        self.pass(Action::WhileTest);
-        self.inner.while_test()
-    }
-
-    fn end_while(&mut self) -> Result<(), BuildFault> {
-        self.pass(Action::EndWhile);
-        self.inner.end_while()
-    }
-
-    fn give_back(&mut self) -> Result<(), BuildFault> {
-        self.pass(Action::GiveBack);
-        self.inner.give_back()
-    }
-
-    fn chop(&mut self) -> Result<(), BuildFault> {
-        self.pass(Action::Chop);
-        self.inner.chop()
-    }
-
-    fn begin_function(&mut self, number: u8, parameters: u8) -> Result<(), BuildFault> {
-        self.pass(Action::BeginFunction);
-        self.inner.begin_function(number, parameters)
-    }
-
-    fn end_function(&mut self, variables: u8) -> Result<(), BuildFault> {
-        self.pass(Action::EndFunction);
-        self.inner.end_function(variables)
+    fn act(&mut self, action: Action) -> Result<(), BuildFault> {
+        self.take(action);
+        self.inner.act(action)
     }
 }

@@ -5,8 +5,10 @@ use Rattle.std.proofs.lemmas.List.{length-replicate}
 use Rattle.std.specs.Prelude.{pos, replicate}
 use Rattle.grammar.specs.declared.names.Callee.TheVariants as callee
 use Rattle.grammar.specs.declared.names.Var.TheVariants as var
-use Rattle.grammar.specs.Actions.{Action, PushConstant, BeginCall, BeginFunction, EndFunction, EndIf, body_actions}
-use Rattle.grammar.specs.Actions.{last_return}
+use Rattle.grammar.specs.declared.actions.Action.{Action}
+use Rattle.grammar.specs.declared.actions.Action.TheVariants.{PushConstant, BeginCall, BeginFunction, EndFunction}
+use Rattle.grammar.specs.declared.actions.Action.TheVariants.{EndIf}
+use Rattle.grammar.specs.Actions.{body_actions, last_return}
 use Rattle.grammar.specs.Beginning.{AreTellable, IsTellable}
 use Rattle.grammar.specs.Derivation.{Value, Definition, last_body, made}
 use Rattle.grammar.specs.Emission.{on_rule}

@@ -4,7 +4,8 @@ use Rattle.std.proofs.Common.{append_assoc, append-nil}
 use Rattle.std.proofs.lemmas.List.{append_cancel_left}
 use Rattle.std.specs.Prelude.{Option, Some, None, if◌then◌else◌, unwrap_or}
 use Rattle.tokens.specs.declared.located_tokens.LocatedToken.{LocatedToken}
-use Rattle.grammar.specs.Actions.{Action, function_actions}
+use Rattle.grammar.specs.declared.actions.Action.{Action}
+use Rattle.grammar.specs.Actions.{function_actions}
 use Rattle.grammar.specs.Beginning.{IsBeginning}
 use Rattle.grammar.specs.Derivation.{State, start, Value, Definition, last_body, definition_of, next_of, after_of}
 use Rattle.grammar.specs.Derivation.{name_of_token, constant_value, is_end, matched, name_matched, constant_matched}

@@ -1,6 +1,6 @@
 -- The known sources, worked out.
 use Rattle.std.proofs.Common.{refl, ◌∷◌}
-use Rattle.grammar.specs.Actions.{BeginFunction}
+use Rattle.grammar.specs.declared.actions.Action.TheVariants.{BeginFunction}
 use Rattle.grammar.specs.Faults.{most_levels}
 use Rattle.grammar.specs.Following.{most_numbers}
 use Rattle.grammar.specs.Intrinsics.{intrinsic_named, name_of}

@@ -1,6 +1,7 @@
 -- How long the code of actions is that come one after another.
 use Rattle.std.proofs.Common.{◌≡◌, ◌+◌, List, [], ◌∷◌, ◌++◌, arith}
-use Rattle.grammar.specs.Actions.{Action, code_length, instructions}
+use Rattle.grammar.specs.declared.actions.Action.{Action}
+use Rattle.grammar.specs.Actions.{code_length, instructions}
 use Rattle.grammar.specs.Profile.{Profile}
 
 pub code_length-append : (p : Profile) (xs ys : List Action) →

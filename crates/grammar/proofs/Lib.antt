@@ -15,6 +15,7 @@ pub mod Keeping
 pub mod Widening
 pub mod FollowingLaws
 pub mod StandingLaws
+pub mod Judging
 pub mod Lengths
 pub mod Unfinished
 pub mod UnfinishedSteps

@@ -3,7 +3,9 @@ use Rattle.std.proofs.Common.{◌≡◌, ℕ, List, [], ◌∷◌, refl, Bool, t
 use Rattle.std.specs.Prelude.{Option, Some, None, IsTrue, is_some, if◌then◌else◌}
 use Rattle.grammar.specs.declared.names.Var.{Var}
 use Rattle.grammar.specs.declared.operators.StoreOp.{StoreOp}
-use Rattle.grammar.specs.Actions.{Action, FetchVariable, StoreVariable, EndCall, BeginFunction, EndFunction}
+use Rattle.grammar.specs.declared.actions.Action.{Action}
+use Rattle.grammar.specs.declared.actions.Action.TheVariants.{FetchVariable, StoreVariable, EndCall, BeginFunction}
+use Rattle.grammar.specs.declared.actions.Action.TheVariants.{EndFunction}
 use Rattle.grammar.specs.Emitted.{IsNumbered, AreNumbered}
 use Rattle.grammar.specs.Following.{AValue, Fetched, InFunction, Opened, call_done, few_open, follow, follow_all}
 use Rattle.grammar.specs.Following.{is_callee_numbered, is_var_numbered, stored, then_follow, within}

@@ -1,7 +1,7 @@
 -- What a builder represents, and which actions may follow.
 use Rattle.std.proofs.Common.{◌≡◌, ◌≤◌, List, [], ◌∷◌, ◌++◌, ◌∙◌, refl, sym, subst, append_assoc, append-nil}
 use Rattle.std.specs.Prelude.{Some}
-use Rattle.grammar.specs.Actions.{Action}
+use Rattle.grammar.specs.declared.actions.Action.{Action}
 use Rattle.grammar.specs.Beginning.{IsBeginning}
 use Rattle.grammar.specs.Building.{Meaning, AppendsAll, MayFollow, MayFollowAll, StandsOpen}
 use Rattle.grammar.specs.Following.{Opened, follow, follow_all, open_count}

@@ -5,8 +5,9 @@ use Rattle.std.proofs.Common.{◌≡◌, ℕ, ◌+◌, ◌<◌, ◌≤◌, List,
 use Rattle.std.specs.Prelude.{◌-◌, ◌*◌, pos}
 use Rattle.grammar.specs.declared.names.Callee.{Callee}
 use Rattle.grammar.specs.declared.names.Var.{Var}
-use Rattle.grammar.specs.Actions.{Action, PushConstant, BeginCall, IfTest, BeginFunction, expr_actions, args_actions}
-use Rattle.grammar.specs.Actions.{body_actions}
+use Rattle.grammar.specs.declared.actions.Action.{Action}
+use Rattle.grammar.specs.declared.actions.Action.TheVariants.{PushConstant, BeginCall, IfTest, BeginFunction}
+use Rattle.grammar.specs.Actions.{expr_actions, args_actions, body_actions}
 use Rattle.grammar.specs.Beginning.{AreTellable}
 use Rattle.grammar.specs.Derivation.{Value, AnExpr, AVariable, ACall, ABody, Definition, last_body, made}
 use Rattle.grammar.specs.Emission.{on_rule}

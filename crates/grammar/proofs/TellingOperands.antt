@@ -11,8 +11,10 @@ use Rattle.arith.specs.declared.operators.Op.{Op}
 use Rattle.arith.specs.declared.operators.Op.TheVariants as op
 use Rattle.grammar.specs.declared.operators.StoreOp.{StoreOp}
 use Rattle.grammar.specs.declared.operators.StoreOp.TheVariants as store
-use Rattle.grammar.specs.Actions.{Action, PushConstant, StoreVariable, ApplyBinop, BeginCall, EndCall, expr_actions}
-use Rattle.grammar.specs.Actions.{args_actions, middle}
+use Rattle.grammar.specs.declared.actions.Action.{Action}
+use Rattle.grammar.specs.declared.actions.Action.TheVariants.{PushConstant, StoreVariable, ApplyBinop, BeginCall}
+use Rattle.grammar.specs.declared.actions.Action.TheVariants.{EndCall}
+use Rattle.grammar.specs.Actions.{expr_actions, args_actions, middle}
 use Rattle.grammar.specs.Derivation.{Value, AnExpr, ACall, Definition}
 use Rattle.grammar.specs.Emission.{on_choice, on_operator}
 use Rattle.grammar.specs.Faults.{levels}

@@ -6,10 +6,12 @@ use Rattle.tokens.specs.declared.located_tokens.Punctuator.TheVariants as punctu
 use Rattle.tokens.specs.declared.located_tokens.Token.{Token}
 use Rattle.tokens.specs.declared.located_tokens.Token.TheVariants as token
 use Rattle.tokens.specs.declared.located_tokens.Word.TheVariants as word
-use Rattle.grammar.specs.Actions as action
-use Rattle.grammar.specs.Actions.{Action, PushConstant, StoreVariable, ApplyBinop, BeginCall, EndCall, IfTest, EndIf}
-use Rattle.grammar.specs.Actions.{BeginWhile, WhileTest, EndWhile, Chop, BeginFunction, expr_actions, args_actions}
-use Rattle.grammar.specs.Actions.{body_actions, middle}
+use Rattle.grammar.specs.declared.actions.Action.TheVariants as action
+use Rattle.grammar.specs.declared.actions.Action.{Action}
+use Rattle.grammar.specs.declared.actions.Action.TheVariants.{PushConstant, StoreVariable, ApplyBinop, BeginCall}
+use Rattle.grammar.specs.declared.actions.Action.TheVariants.{EndCall, IfTest, EndIf, BeginWhile, WhileTest, EndWhile}
+use Rattle.grammar.specs.declared.actions.Action.TheVariants.{Chop, BeginFunction}
+use Rattle.grammar.specs.Actions.{expr_actions, body_actions}
 use Rattle.grammar.specs.Derivation.{Value, AnExpr, ABody, Definition}
 use Rattle.grammar.specs.Emission.{on_choice}
 use Rattle.grammar.specs.Faults.{levels}

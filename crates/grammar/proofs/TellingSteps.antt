@@ -7,8 +7,10 @@ use Rattle.tokens.specs.declared.located_tokens.Punctuator.TheVariants as punctu
 use Rattle.tokens.specs.declared.located_tokens.Token.{Token}
 use Rattle.tokens.specs.declared.located_tokens.Token.TheVariants as token
 use Rattle.tokens.specs.declared.located_tokens.Word.TheVariants as word
-use Rattle.grammar.specs.Actions as action
-use Rattle.grammar.specs.Actions.{Action, PushConstant, BeginFunction, EndFunction, body_actions, last_return}
+use Rattle.grammar.specs.declared.actions.Action.TheVariants as action
+use Rattle.grammar.specs.declared.actions.Action.{Action}
+use Rattle.grammar.specs.declared.actions.Action.TheVariants.{PushConstant, BeginFunction, EndFunction}
+use Rattle.grammar.specs.Actions.{body_actions}
 use Rattle.grammar.specs.Derivation.{State, Value, AnExpr, AVariable, ACall, Definition, definition_of, last_body, made}
 use Rattle.grammar.specs.Derivation.{of_name, next_of, after_of, line_of, name_of_token, constant_value, is_end}
 use Rattle.grammar.specs.Derivation.{matched, name_matched, constant_matched, replaced, step_of, stepped}

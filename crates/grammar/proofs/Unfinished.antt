@@ -2,7 +2,10 @@
 use Rattle.std.proofs.Common.{◌≡◌, ℕ, ◌+◌, ◌<◌, ◌≤◌, List, [], ◌∷◌, ◌++◌, refl, Bool, true, false, arith, append_assoc}
 use Rattle.std.specs.Prelude.{Some}
 use Rattle.arith.specs.declared.operators.Op.{Op}
-use Rattle.grammar.specs.Actions.{Action, LogicMiddle, BeginCall, IfTest, ElsePart, BeginWhile, WhileTest, BeginFunction, expr_actions, body_actions}
+use Rattle.grammar.specs.declared.actions.Action.{Action}
+use Rattle.grammar.specs.declared.actions.Action.TheVariants.{LogicMiddle, BeginCall, IfTest, ElsePart, BeginWhile}
+use Rattle.grammar.specs.declared.actions.Action.TheVariants.{WhileTest, BeginFunction}
+use Rattle.grammar.specs.Actions.{expr_actions, body_actions}
 use Rattle.grammar.specs.Following.{InFunction, AValue, BeforeRight, InCall, InBranch, InElse, BeforeTest, InTurn, Open, Opened, open_count, is_place, is_number, statement_done, within}
 use Rattle.grammar.specs.Nesting.{nesting, body_nesting}
 use Rattle.arith.specs.Op.{is_logic}

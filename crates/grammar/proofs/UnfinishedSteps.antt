@@ -9,7 +9,12 @@ use Rattle.grammar.specs.declared.names.Var.{Var}
 use Rattle.grammar.specs.declared.names.Var.TheVariants as var
 use Rattle.arith.specs.declared.operators.Op.{Op}
 use Rattle.grammar.specs.declared.operators.StoreOp.{StoreOp}
-use Rattle.grammar.specs.Actions.{Action, PushConstant, FetchVariable, StoreVariable, ApplyBinop, LogicMiddle, BeginCall, EndCall, IfTest, ElsePart, EndIf, BeginWhile, WhileTest, EndWhile, GiveBack, Chop, BeginFunction, EndFunction, expr_actions, args_actions, body_actions}
+use Rattle.grammar.specs.declared.actions.Action.{Action}
+use Rattle.grammar.specs.declared.actions.Action.TheVariants.{PushConstant, FetchVariable, StoreVariable, ApplyBinop}
+use Rattle.grammar.specs.declared.actions.Action.TheVariants.{LogicMiddle, BeginCall, EndCall, IfTest, ElsePart, EndIf}
+use Rattle.grammar.specs.declared.actions.Action.TheVariants.{BeginWhile, WhileTest, EndWhile, GiveBack, Chop}
+use Rattle.grammar.specs.declared.actions.Action.TheVariants.{BeginFunction, EndFunction}
+use Rattle.grammar.specs.Actions.{expr_actions, args_actions, body_actions}
 use Rattle.grammar.specs.Following.{AValue, BeforeRight, InCall, InBranch, InElse, BeforeTest, Opened, Origin, Number, Fetched, Stepped, Computed, open_count, is_place, is_number, is_step, is_var_numbered, is_callee_numbered, same_var, same_op, stored, statement_done, call_done, only_on, within, follow, most_numbers}
 use Rattle.grammar.specs.Nesting.{nesting, args_nesting, body_nesting, right_side}
 use Rattle.arith.specs.Op.{is_logic}

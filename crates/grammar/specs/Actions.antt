@@ -1,33 +1,19 @@
--- What is reported of a program to a builder, in the order of the tokens.
-use Rattle.std.specs.Prelude.{ℕ, ℤ, pos, ◌+◌, List, [], ◌∷◌, ◌++◌, length, if◌then◌else◌, Option, Some, None, slice_get}
-use Rattle.grammar.specs.declared.names.Callee.{Callee}
-use Rattle.grammar.specs.declared.names.Var.{Var}
+-- What is reported of a program to a builder, in the order of the tokens. The actions themselves are declared in
+-- src/actions.rt.
+use Rattle.std.specs.Prelude.{ℕ, pos, ◌+◌, List, [], ◌∷◌, ◌++◌, length, Bool, true, false, if◌then◌else◌, Option, Some, None, slice_get}
+use Rattle.grammar.specs.declared.actions.Action.{Action}
+use Rattle.grammar.specs.declared.actions.Action.TheVariants.{PushConstant, FetchVariable, StoreVariable, ApplyBinop, LogicMiddle, BeginCall, EndCall, IfTest, ElsePart, EndIf, BeginWhile, WhileTest, EndWhile, GiveBack, Chop, BeginFunction, EndFunction}
 use Rattle.arith.specs.declared.operators.Op.{Op}
 use Rattle.arith.specs.declared.operators.Op.TheVariants as op
-use Rattle.grammar.specs.declared.operators.StoreOp.{StoreOp}
 use Rattle.arith.specs.Op.{is_logic}
 use Rattle.grammar.specs.Profile.{Profile}
 use Rattle.grammar.specs.Tree.{Expr, Constant, Variable, Binary, Assign, Postfix, Call, Args, NoMore, Argument, Body}
 use Rattle.grammar.specs.Tree.{Done, ExpressionStatement, IfStatement, IfElseStatement, While, Return, Function, File}
 
-pub data Action : Type 0 where
-  PushConstant : (value : ℤ) → Action  -- a constant
-  FetchVariable : (v : Var) → Action  -- a variable's value
-  StoreVariable : (v : Var) (op : StoreOp) → Action  -- a store, after its word; the new value stays
-  ApplyBinop : (op : Op) → Action  -- a binary operator, after both sides
-  LogicMiddle : (op : Op) → Action  -- between the sides of && and ||
-  BeginCall : Action  -- the arguments of a call follow
-  EndCall : (callee : Callee) → Action  -- they are done
-  IfTest : Action  -- after the condition of an if
-  ElsePart : Action  -- between the branches of an if
-  EndIf : Action  -- after an if
-  BeginWhile : Action  -- the condition of a while follows
-  WhileTest : Action  -- after the condition
-  EndWhile : Action  -- after a while
-  GiveBack : Action  -- a return, after its value
-  Chop : Action  -- a value is dropped: that of a statement, or the new one of v++ and v--
-  BeginFunction : (number parameters : ℕ) → Action  -- a function begins
-  EndFunction : (variables : ℕ) → Action  -- it ends
+-- the action ends a function
+abbrev pub ends_function : Action → Bool
+ends_function (EndFunction variables) = true
+ends_function _ = false
 
 -- If the right side of && and || is left out: how many instructions are made between the sides. That generation makes
 -- so many is the law `length_of_code` of `code`.

@@ -1,6 +1,6 @@
 -- Which lists of actions may be reported to a builder: the beginnings of those of some functions.
 use Rattle.std.specs.Prelude.{◌≡◌, ◌<◌, ◌≤◌, List, [], ◌∷◌, ◌++◌, length}
-use Rattle.grammar.specs.Actions.{Action}
+use Rattle.grammar.specs.declared.actions.Action.{Action}
 use Rattle.grammar.specs.declared.pools.TheConstants.{MOST_NAMES}
 use Rattle.grammar.specs.Derivation.{Definition}
 use Rattle.grammar.specs.Faults.{definitions_actions}

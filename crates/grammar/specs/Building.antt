@@ -1,8 +1,10 @@
--- What a builder's calls do to the lists of actions that it represents.
+-- What an action does to the lists of actions that it represents.
 use Rattle.std.specs.Prelude.{◌≡◌, ◌+◌, ◌<◌, ◌≤◌, List, [], ◌∷◌, ◌++◌, Some, Result, Ok, Err}
 use Rattle.grammar.specs.declared.build.BuildFault.{BuildFault}
 use Rattle.grammar.specs.declared.build.BuildFault.TheVariants as fault
-use Rattle.grammar.specs.Actions.{Action, code_length}
+use Rattle.grammar.specs.declared.actions.Action.{Action}
+use Rattle.grammar.specs.declared.actions.Action.TheVariants.{EndFunction}
+use Rattle.grammar.specs.Actions.{code_length}
 use Rattle.grammar.specs.Beginning.{IsBeginning}
 use Rattle.grammar.specs.Following.{Opened, follow_all}
 use Rattle.grammar.specs.Profile.{Profile}
@@ -55,3 +57,16 @@ abbrev pub Refuses : {A : Type 0} → Result A BuildFault → Type 0 → Type 0
 Refuses (Ok x) denied = Unit {0}
 Refuses (Err fault.Memory) denied = denied
 Refuses (Err fault.Full) denied = ⊥
+
+-- What the end of a function says of the code so far: `Ok` that it fits with the last NOP, `Full` that it is over the
+-- limit, and `Memory` that it fits and memory was refused.
+abbrev pub Measures : {A : Type 0} → Result A BuildFault → Type 0 → Meaning → Type 0
+Measures (Ok x) denied before = FitsWithin before
+Measures (Err fault.Full) denied before = IsOver before
+Measures (Err fault.Memory) denied before = denied × FitsWithin before
+
+-- What the answer to an action says: the end of a function alone measures the code. Any other action refuses for want
+-- of memory alone.
+abbrev pub Judges : {A : Type 0} → Result A BuildFault → Type 0 → Meaning → Action → Type 0
+Judges result denied before (EndFunction variables) = Measures result denied before
+Judges result denied before action = Refuses result denied

@@ -6,9 +6,11 @@ use Rattle.tokens.specs.declared.located_tokens.Token.TheVariants as token
 use Rattle.tokens.specs.declared.located_tokens.Word.TheVariants as word
 use Rattle.arith.specs.declared.operators.Op.{Op}
 use Rattle.arith.specs.declared.operators.Op.TheVariants as op
-use Rattle.grammar.specs.Actions as action
-use Rattle.grammar.specs.Actions.{Action, PushConstant, FetchVariable, StoreVariable, ApplyBinop, BeginCall, EndCall}
-use Rattle.grammar.specs.Actions.{IfTest, EndIf, BeginWhile, WhileTest, EndWhile, Chop, BeginFunction, EndFunction}
+use Rattle.grammar.specs.declared.actions.Action.TheVariants as action
+use Rattle.grammar.specs.declared.actions.Action.{Action}
+use Rattle.grammar.specs.declared.actions.Action.TheVariants.{PushConstant, FetchVariable, StoreVariable, ApplyBinop}
+use Rattle.grammar.specs.declared.actions.Action.TheVariants.{BeginCall, EndCall, IfTest, EndIf, BeginWhile, WhileTest}
+use Rattle.grammar.specs.declared.actions.Action.TheVariants.{EndWhile, Chop, BeginFunction, EndFunction}
 use Rattle.grammar.specs.Actions.{middle}
 use Rattle.grammar.specs.Derivation.{Value, AnExpr, AVariable, ACall, State, next_of, name_of_token, constant_value}
 use Rattle.grammar.specs.Derivation.{stepped}

@@ -1,7 +1,10 @@
 -- What a derivation emits: the actions of the functions that it defines.
 use Rattle.std.specs.Prelude.{◌≡◌, ◌<◌, ◌≤◌, ℕ, List, [], ◌∷◌, ◌++◌, Ok, length}
 use Rattle.tokens.specs.declared.located_tokens.LocatedToken.{LocatedToken}
-use Rattle.grammar.specs.Actions.{Action, FetchVariable, StoreVariable, EndCall, BeginFunction, EndFunction, actions}
+use Rattle.grammar.specs.declared.actions.Action.{Action}
+use Rattle.grammar.specs.declared.actions.Action.TheVariants.{FetchVariable, StoreVariable, EndCall, BeginFunction}
+use Rattle.grammar.specs.declared.actions.Action.TheVariants.{EndFunction}
+use Rattle.grammar.specs.Actions.{actions}
 use Rattle.grammar.specs.Beginning.{IsBeginning}
 use Rattle.grammar.specs.Compiled.{compiled_tokens, enough}
 use Rattle.grammar.specs.Derivation.{Definition, start, run}

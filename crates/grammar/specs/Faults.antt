@@ -9,7 +9,8 @@ use Rattle.tokens.specs.declared.located_tokens.Token.TheVariants as token
 use Rattle.tokens.specs.declared.located_tokens.Word.TheVariants as word
 use Rattle.grammar.specs.declared.diagnostics.Code.{Code}
 use Rattle.grammar.specs.declared.diagnostics.Code.TheVariants as code
-use Rattle.grammar.specs.Actions.{Action, code_length, function_actions}
+use Rattle.grammar.specs.declared.actions.Action.{Action}
+use Rattle.grammar.specs.Actions.{code_length, function_actions}
 use Rattle.grammar.specs.Derivation.{State, Value, Definition, definition_of, last_body, step_of, stepped, next_of}
 use Rattle.grammar.specs.Derivation.{after_of, name_of_token}
 use Rattle.grammar.specs.Grammar.{Item, AName, Part, Make, Close, Define, Symbol, Role, Defined, External, Parameter}

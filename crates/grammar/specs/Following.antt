@@ -8,9 +8,11 @@ use Rattle.grammar.specs.declared.names.Callee.TheVariants as callee
 use Rattle.grammar.specs.declared.names.Var.{Var}
 use Rattle.grammar.specs.declared.names.Var.TheVariants as var
 use Rattle.arith.specs.declared.operators.Op.{Op}
-use Rattle.grammar.specs.Actions.{Action, PushConstant, FetchVariable, StoreVariable, ApplyBinop, LogicMiddle}
-use Rattle.grammar.specs.Actions.{BeginCall, EndCall, IfTest, ElsePart, EndIf, BeginWhile, WhileTest, EndWhile}
-use Rattle.grammar.specs.Actions.{GiveBack, Chop, BeginFunction, EndFunction}
+use Rattle.grammar.specs.declared.actions.Action.{Action}
+use Rattle.grammar.specs.declared.actions.Action.TheVariants.{PushConstant, FetchVariable, StoreVariable, ApplyBinop}
+use Rattle.grammar.specs.declared.actions.Action.TheVariants.{LogicMiddle, BeginCall, EndCall, IfTest, ElsePart, EndIf}
+use Rattle.grammar.specs.declared.actions.Action.TheVariants.{BeginWhile, WhileTest, EndWhile, GiveBack, Chop}
+use Rattle.grammar.specs.declared.actions.Action.TheVariants.{BeginFunction, EndFunction}
 use Rattle.arith.specs.Op.{is_logic}
 
 -- the most calls, ifs, whiles and right sides of && and || that are open at once

@@ -8,8 +8,11 @@ use Rattle.tokens.specs.declared.located_tokens.Word.TheVariants as word
 use Rattle.grammar.specs.declared.names.Var.TheVariants as var
 use Rattle.arith.specs.declared.operators.Op.TheVariants as op
 use Rattle.grammar.specs.declared.operators.StoreOp.TheVariants as store
-use Rattle.grammar.specs.Actions.{Action, PushConstant, FetchVariable, StoreVariable, ApplyBinop, LogicMiddle}
-use Rattle.grammar.specs.Actions.{BeginWhile, WhileTest, EndWhile, GiveBack, Chop, BeginFunction, EndFunction, actions}
+use Rattle.grammar.specs.declared.actions.Action.{Action}
+use Rattle.grammar.specs.declared.actions.Action.TheVariants.{PushConstant, FetchVariable, StoreVariable, ApplyBinop}
+use Rattle.grammar.specs.declared.actions.Action.TheVariants.{LogicMiddle, BeginWhile, WhileTest, EndWhile, GiveBack}
+use Rattle.grammar.specs.declared.actions.Action.TheVariants.{Chop, BeginFunction, EndFunction}
+use Rattle.grammar.specs.Actions.{actions}
 use Rattle.grammar.specs.Compiled.{enough}
 use Rattle.grammar.specs.Derivation.{start}
 use Rattle.grammar.specs.Emission.{emissions}

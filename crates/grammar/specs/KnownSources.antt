@@ -16,9 +16,11 @@ use Rattle.grammar.specs.declared.names.Intrinsic.TheVariants as intrinsic
 use Rattle.grammar.specs.declared.names.Var.TheVariants as var
 use Rattle.arith.specs.declared.operators.Op.TheVariants as op
 use Rattle.grammar.specs.declared.operators.StoreOp.TheVariants as store
-use Rattle.grammar.specs.Actions.{Action, PushConstant, FetchVariable, ApplyBinop, LogicMiddle, BeginCall, EndCall}
-use Rattle.grammar.specs.Actions.{IfTest, ElsePart, GiveBack, Chop, BeginFunction, EndFunction, actions, code_length}
-use Rattle.grammar.specs.Actions.{function_actions}
+use Rattle.grammar.specs.declared.actions.Action.{Action}
+use Rattle.grammar.specs.declared.actions.Action.TheVariants.{PushConstant, FetchVariable, ApplyBinop, LogicMiddle}
+use Rattle.grammar.specs.declared.actions.Action.TheVariants.{BeginCall, EndCall, IfTest, ElsePart, GiveBack, Chop}
+use Rattle.grammar.specs.declared.actions.Action.TheVariants.{BeginFunction, EndFunction}
+use Rattle.grammar.specs.Actions.{actions, code_length, function_actions}
 use Rattle.grammar.specs.Compiled.{compiled_tokens, diagnostic}
 use Rattle.grammar.specs.Beginning.{IsBeginning}
 use Rattle.grammar.specs.Following.{Opened, follow_all, InFunction, AValue, Computed}

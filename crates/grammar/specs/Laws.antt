@@ -9,7 +9,8 @@ use Rattle.grammar.specs.declared.diagnostics.Diagnostic.{Diagnostic}
 use Rattle.grammar.specs.Compiled.{compiled_tokens, last_state, resolved}
 use Rattle.grammar.specs.Derivation.{State, state, Value, Definition, start, step, run}
 use Rattle.grammar.specs.Faults.{Fault, faults_at, levels}
-use Rattle.grammar.specs.Actions.{Action, actions}
+use Rattle.grammar.specs.declared.actions.Action.{Action}
+use Rattle.grammar.specs.Actions.{actions}
 use Rattle.grammar.specs.Building.{Meaning, MayFollow, StandsOpen}
 use Rattle.grammar.specs.Beginning.{IsBeginning}
 use Rattle.grammar.specs.Following.{AreInOrder, Opened, follow, follow_all, most_open, open_count}

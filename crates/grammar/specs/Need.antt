@@ -3,7 +3,8 @@ use Rattle.std.specs.Prelude.{ℕ, zero, suc, List, [], ◌∷◌, ◌++◌, Boo
 use Rattle.tokens.specs.Reading.{reach_of}
 use Rattle.tokens.specs.Tokens.{tokens}
 use Rattle.tokens.specs.declared.located_tokens.LocatedToken.{LocatedToken}
-use Rattle.grammar.specs.Actions.{Action, function_actions}
+use Rattle.grammar.specs.declared.actions.Action.{Action}
+use Rattle.grammar.specs.Actions.{function_actions}
 use Rattle.grammar.specs.Compiled.{all_faults, enough}
 use Rattle.grammar.specs.Derivation.{State, Value, definition_of, last_body, is_end, start, stepped}
 use Rattle.grammar.specs.Faults.{Fault, first_of}

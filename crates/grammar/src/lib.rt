@@ -2,6 +2,7 @@
 //! reports to a builder.
 #![tactic(auto)]
 
+mod actions;
 mod build;
 mod diagnostics;
 mod index;
@@ -13,6 +14,7 @@ mod pools;
 mod profiles;
 mod scope;
 
+pub use actions::Action;
 pub use arith::Op;
 pub use build::{Build, BuildFault};
 pub use diagnostics::{Code, Diagnostic, ParseFault, code_of};

@@ -3,8 +3,8 @@
 #![tactic(auto)]
 
 pub use grammar::{
-    Build, BuildFault, Callee, Code, Diagnostic, Function, Intrinsic, MOST_NAMES, Op, ParseFault,
-    Pools, Profile, StoreOp, Var,
+    Action, Build, BuildFault, Callee, Code, Diagnostic, Function, Intrinsic, MOST_NAMES, Op,
+    ParseFault, Pools, Profile, StoreOp, Var,
 };
 pub use parser::parse;
 pub use round_trip::laws;

@@ -2,7 +2,7 @@
 
 ghost use Rattle.std.specs.Prelude.{◌≡◌, ◌≤◌};
 
-use lang::{Build, BuildFault, Callee, Op, StoreOp, Var};
+use lang::{Action, Build, BuildFault};
 
 /// The depths of functions: each `if` and each `while` is a level. All else is left to the builder inside.
 #[derive(Drop)]
@@ -31,6 +31,26 @@ impl<B> Depths<B> {
         self.deepest[usize::from(function)]
     }
 
+    /// Follows an action: a condition or a loop opens a level, and its end closes it.
+    fn follow(&mut self, action: Action)
+        ensures { self.new.inner ≡ self.old.inner }
+    {
+        match action {
+            Action::IfTest | Action::BeginWhile => self.open(),
+            Action::EndIf | Action::EndWhile => self.close(),
+            Action::BeginFunction(number, _) => self.enter(number),
+            _ => {}
+        }
+    }
+
+    /// Enters a function, by its number.
+    fn enter(&mut self, function: u8)
+        ensures { self.new.inner ≡ self.old.inner }
+    {
+        self.function = function;
+        self.depth = 0;
+    }
+
     /// Opens a level.
     fn open(&mut self)
         ensures { self.new.inner ≡ self.old.inner }
@@ -53,77 +73,8 @@ impl<B: Build> Build for Depths<B> {
 
     ghost denied = { B.denied };
 
-    fn constant(&mut self, value: i32) -> Result<(), BuildFault> {
-        self.inner.constant(value)
-    }
-
-    fn fetch(&mut self, var: Var) -> Result<(), BuildFault> {
-        self.inner.fetch(var)
-    }
-
-    fn store(&mut self, var: Var, op: StoreOp) -> Result<(), BuildFault> {
-        self.inner.store(var, op)
-    }
-
-    fn binop(&mut self, op: Op) -> Result<(), BuildFault> {
-        self.inner.binop(op)
-    }
-
-    fn logic_middle(&mut self, op: Op) -> Result<(), BuildFault> {
-        self.inner.logic_middle(op)
-    }
-
-    fn begin_call(&mut self) -> Result<(), BuildFault> {
-        self.inner.begin_call()
-    }
-
-    fn end_call(&mut self, callee: Callee) -> Result<(), BuildFault> {
-        self.inner.end_call(callee)
-    }
-
-    fn if_test(&mut self) -> Result<(), BuildFault> {
-        self.open();
-        self.inner.if_test()
-    }
-
-    fn else_part(&mut self) -> Result<(), BuildFault> {
-        self.inner.else_part()
-    }
-
-    fn end_if(&mut self) -> Result<(), BuildFault> {
-        self.close();
-        self.inner.end_if()
-    }
-
-    fn begin_while(&mut self) -> Result<(), BuildFault> {
-        self.open();
-        self.inner.begin_while()
-    }
-
-    fn while_test(&mut self) -> Result<(), BuildFault> {
-        self.inner.while_test()
-    }
-
-    fn end_while(&mut self) -> Result<(), BuildFault> {
-        self.close();
-        self.inner.end_while()
-    }
-
-    fn give_back(&mut self) -> Result<(), BuildFault> {
-        self.inner.give_back()
-    }
-
-    fn chop(&mut self) -> Result<(), BuildFault> {
-        self.inner.chop()
-    }
-
-    fn begin_function(&mut self, number: u8, parameters: u8) -> Result<(), BuildFault> {
-        self.function = number;
-        self.depth = 0;
-        self.inner.begin_function(number, parameters)
-    }
-
-    fn end_function(&mut self, variables: u8) -> Result<(), BuildFault> {
-        self.inner.end_function(variables)
+    fn act(&mut self, action: Action) -> Result<(), BuildFault> {
+        self.follow(action);
+        self.inner.act(action)
     }
 }

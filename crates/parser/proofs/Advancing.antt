@@ -4,7 +4,8 @@ use Rattle.tokens.specs.declared.located_tokens.LocatedToken.{LocatedToken}
 use Rattle.grammar.specs.declared.diagnostics.Diagnostic.{Diagnostic}
 use Rattle.grammar.specs.declared.diagnostics.ParseFault.{ParseFault}
 use Rattle.grammar.specs.declared.diagnostics.ParseFault.TheVariants as refusal
-use Rattle.grammar.specs.Actions.{Action, function_actions}
+use Rattle.grammar.specs.declared.actions.Action.{Action}
+use Rattle.grammar.specs.Actions.{function_actions}
 use Rattle.grammar.specs.Building.{Meaning}
 use Rattle.grammar.specs.Derivation.{Definition, State, state}
 use Rattle.grammar.specs.Faults.{definitions_actions, levels}

@@ -10,7 +10,9 @@ use Rattle.grammar.specs.declared.diagnostics.Code.TheVariants as code
 use Rattle.grammar.specs.declared.diagnostics.Diagnostic.{Diagnostic}
 use Rattle.grammar.specs.declared.diagnostics.ParseFault.{ParseFault}
 use Rattle.grammar.specs.declared.diagnostics.ParseFault.TheVariants as refusal
-use Rattle.grammar.specs.Actions.{Action, BeginFunction, EndFunction, body_actions, code_length, function_actions, last_return}
+use Rattle.grammar.specs.declared.actions.Action.{Action}
+use Rattle.grammar.specs.declared.actions.Action.TheVariants.{BeginFunction, EndFunction}
+use Rattle.grammar.specs.Actions.{body_actions, code_length, function_actions, last_return}
 use Rattle.grammar.specs.Building.{Meaning, AppendsAll}
 use Rattle.grammar.specs.Derivation.{ABody, Definition, Value, definition_of, state}
 use Rattle.grammar.specs.Faults.{definitions_actions, is_too_long}

@@ -5,7 +5,10 @@ use Rattle.tokens.specs.declared.located_tokens.Punctuator.TheVariants as punctu
 use Rattle.tokens.specs.declared.located_tokens.Word.TheVariants as word
 use Rattle.grammar.specs.declared.diagnostics.Code.TheVariants as code
 use Rattle.grammar.specs.declared.diagnostics.ParseFault.TheVariants as refusal
-use Rattle.grammar.specs.Actions.{Action, BeginWhile, ElsePart as BetweenBranches, EndIf, EndWhile, IfTest, WhileTest, body_actions, expr_actions}
+use Rattle.grammar.specs.declared.actions.Action.{Action}
+use Rattle.grammar.specs.declared.actions.Action.TheVariants.{BeginWhile, EndIf, EndWhile, IfTest, WhileTest}
+use Rattle.grammar.specs.declared.actions.Action.TheVariants.{ElsePart as BetweenBranches}
+use Rattle.grammar.specs.Actions.{body_actions, expr_actions}
 use Rattle.grammar.specs.Building.{Appends, AppendsAll, Meaning}
 use Rattle.grammar.specs.Compiled.{diagnostic}
 use Rattle.grammar.specs.Derivation.{ABody, AnExpr}

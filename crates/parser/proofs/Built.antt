@@ -7,7 +7,8 @@ use Rattle.tokens.specs.Tokens.{is_last, tokens}
 use Rattle.tokens.specs.declared.located_tokens.LocatedToken.{LocatedToken}
 use Rattle.tokens.specs.declared.located_tokens.Token.{Token}
 use Rattle.tokens.specs.declared.located_tokens.Token.TheVariants as token
-use Rattle.grammar.specs.Actions.{Action, function_actions}
+use Rattle.grammar.specs.declared.actions.Action.{Action}
+use Rattle.grammar.specs.Actions.{function_actions}
 use Rattle.grammar.specs.Compiled.{enough}
 use Rattle.grammar.specs.Derivation.{Definition, State, Value, constant_matched, constant_value, definition_of, is_end, last_body, matched, name_matched, name_of_token, next_of, replaced, run, start, state, step_of, stepped}
 use Rattle.grammar.specs.Faults.{definitions_actions}

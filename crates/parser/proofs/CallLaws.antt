@@ -8,7 +8,9 @@ use Rattle.grammar.specs.declared.diagnostics.Code.TheVariants as code
 use Rattle.grammar.specs.declared.diagnostics.ParseFault.{ParseFault}
 use Rattle.grammar.specs.declared.names.Callee.{Callee}
 use Rattle.grammar.specs.declared.diagnostics.ParseFault.TheVariants as refusal
-use Rattle.grammar.specs.Actions.{Action, BeginCall, EndCall, args_actions, expr_actions}
+use Rattle.grammar.specs.declared.actions.Action.{Action}
+use Rattle.grammar.specs.declared.actions.Action.TheVariants.{BeginCall, EndCall}
+use Rattle.grammar.specs.Actions.{args_actions, expr_actions}
 use Rattle.grammar.specs.Building.{Meaning, AppendsAll, MayFollow}
 use Rattle.grammar.specs.Compiled.{diagnostic}
 use Rattle.grammar.specs.Derivation.{ACall, AnExpr}

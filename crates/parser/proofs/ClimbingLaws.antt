@@ -11,7 +11,8 @@ use Rattle.grammar.specs.declared.diagnostics.ParseFault.{ParseFault}
 use Rattle.grammar.specs.declared.operators.Binary.{Binary as AnOperator}
 use Rattle.arith.specs.declared.operators.Op.{Op}
 use Rattle.arith.specs.declared.operators.Op.TheVariants as op
-use Rattle.grammar.specs.Actions.{ApplyBinop, expr_actions, middle}
+use Rattle.grammar.specs.declared.actions.Action.TheVariants.{ApplyBinop}
+use Rattle.grammar.specs.Actions.{expr_actions, middle}
 use Rattle.grammar.specs.Building.{Meaning}
 use Rattle.grammar.specs.Derivation.{AnExpr, Value}
 use Rattle.grammar.specs.Faults.{levels}

@@ -1,6 +1,8 @@
 -- What a builder may be told of a function: its begin, the return at its end, and its end.
 use Rattle.std.proofs.Common.{◌≡◌, ℕ, pos, ◌+◌, ◌<◌, ◌≤◌, List, [], ◌∷◌, ◌++◌, refl, ◌∙◌, subst, true, false, arith, append_assoc}
-use Rattle.grammar.specs.Actions.{Action, BeginFunction, EndFunction, GiveBack, PushConstant, body_actions, code_length, last_return}
+use Rattle.grammar.specs.declared.actions.Action.{Action}
+use Rattle.grammar.specs.declared.actions.Action.TheVariants.{BeginFunction, EndFunction, GiveBack, PushConstant}
+use Rattle.grammar.specs.Actions.{body_actions, code_length, last_return}
 use Rattle.grammar.specs.Building.{Meaning, Appends, AppendsAll, MayFollow, StandsOpen}
 use Rattle.grammar.specs.Following.{AValue, InFunction, Number}
 use Rattle.grammar.specs.Nesting.{body_nesting}

@@ -5,7 +5,7 @@ use Rattle.grammar.specs.declared.build.BuildFault.{BuildFault}
 use Rattle.grammar.specs.declared.build.BuildFault.TheVariants as fault
 use Rattle.grammar.specs.declared.diagnostics.Diagnostic.{Diagnostic}
 use Rattle.grammar.specs.declared.diagnostics.ParseFault.TheVariants as refusal
-use Rattle.grammar.specs.Actions.{Action}
+use Rattle.grammar.specs.declared.actions.Action.{Action}
 use Rattle.grammar.specs.Building.{Meaning, AppendsAll, Refuses}
 use Rattle.parser.specs.Growing.{HasGrown}
 

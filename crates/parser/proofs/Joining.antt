@@ -1,6 +1,9 @@
 -- Statements of one body and then those of another.
 use Rattle.std.proofs.Common.{◌≡◌, ℕ, ◌≤◌, List, ◌∷◌, ◌++◌, refl, ap, ◌∙◌, append_assoc, arith}
-use Rattle.grammar.specs.Actions.{Action, BeginWhile, Chop, ElsePart, EndIf, EndWhile, GiveBack, IfTest, WhileTest, body_actions, expr_actions}
+use Rattle.grammar.specs.declared.actions.Action.{Action}
+use Rattle.grammar.specs.declared.actions.Action.TheVariants.{BeginWhile, Chop, ElsePart, EndIf, EndWhile, GiveBack}
+use Rattle.grammar.specs.declared.actions.Action.TheVariants.{IfTest, WhileTest}
+use Rattle.grammar.specs.Actions.{body_actions, expr_actions}
 use Rattle.grammar.specs.Nesting.{body_nesting}
 use Rattle.grammar.specs.Resolved.{InBody}
 use Rattle.grammar.specs.Tree.{ExpressionStatement, Body, IfElseStatement, Done, Return, IfStatement, While, join}

@@ -3,7 +3,7 @@ use Rattle.std.proofs.Common.{◌≡◌, ℕ, ◌+◌, ◌-◌, List, refl, ◌�
 use Rattle.std.specs.Prelude.{Option}
 use Rattle.grammar.specs.declared.diagnostics.ParseFault.{ParseFault}
 use Rattle.grammar.specs.declared.diagnostics.ParseFault.TheVariants as refusal
-use Rattle.grammar.specs.Actions.{Action}
+use Rattle.grammar.specs.declared.actions.Action.{Action}
 use Rattle.grammar.specs.Pools.{Names}
 use Rattle.grammar.specs.Profile.{Profile}
 use Rattle.grammar.specs.Building.{Meaning}

@@ -1,7 +1,10 @@
 -- What is open behind the actions of statements so far, and which actions may follow.
 use Rattle.std.proofs.Common.{◌≡◌, ℕ, pos, ◌+◌, ◌≤◌, [], ◌∷◌, refl, ap, ◌∙◌, Bool, true, false, arith}
 use Rattle.std.specs.Prelude.{Option, Some, None}
-use Rattle.grammar.specs.Actions.{Action, BeginWhile, Chop, ElsePart, EndIf, PushConstant, WhileTest, body_actions, expr_actions}
+use Rattle.grammar.specs.declared.actions.Action.{Action}
+use Rattle.grammar.specs.declared.actions.Action.TheVariants.{BeginWhile, Chop, ElsePart, EndIf, PushConstant}
+use Rattle.grammar.specs.declared.actions.Action.TheVariants.{WhileTest}
+use Rattle.grammar.specs.Actions.{body_actions, expr_actions}
 use Rattle.grammar.specs.Building.{Appends, AppendsAll, MayFollow, Meaning, StandsOpen}
 use Rattle.grammar.specs.Following.{AValue, BeforeTest, InBranch, InElse, InTurn, Number, Open, Opened, Origin, counts, follow, is_number, is_place, open_count, statement_done}
 use Rattle.grammar.specs.Nesting.{body_nesting, nesting}

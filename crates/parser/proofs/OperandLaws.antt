@@ -10,7 +10,8 @@ use Rattle.grammar.specs.declared.diagnostics.ParseFault.{ParseFault}
 use Rattle.grammar.specs.declared.names.Var.{Var}
 use Rattle.grammar.specs.declared.operators.StoreOp.{StoreOp}
 use Rattle.grammar.specs.declared.diagnostics.ParseFault.TheVariants as refusal
-use Rattle.grammar.specs.Actions.{Chop, FetchVariable, PushConstant, StoreVariable, expr_actions}
+use Rattle.grammar.specs.declared.actions.Action.TheVariants.{Chop, FetchVariable, PushConstant, StoreVariable}
+use Rattle.grammar.specs.Actions.{expr_actions}
 use Rattle.grammar.specs.Building.{Meaning, AppendsAll, MayFollow, MayFollowAll}
 use Rattle.grammar.specs.Derivation.{AnExpr, AVariable, constant_value, name_of_token}
 use Rattle.grammar.specs.Following.{AValue, Number, open_count}

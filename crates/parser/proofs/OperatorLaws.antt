@@ -9,7 +9,8 @@ use Rattle.tokens.specs.declared.located_tokens.Token.TheVariants as token
 use Rattle.grammar.specs.declared.diagnostics.ParseFault.{ParseFault}
 use Rattle.arith.specs.declared.operators.Op.{Op}
 use Rattle.arith.specs.declared.operators.Op.TheVariants as op
-use Rattle.grammar.specs.Actions.{ApplyBinop, LogicMiddle, expr_actions, middle}
+use Rattle.grammar.specs.declared.actions.Action.TheVariants.{ApplyBinop, LogicMiddle}
+use Rattle.grammar.specs.Actions.{expr_actions, middle}
 use Rattle.grammar.specs.Building.{Meaning, AppendsAll, MayFollow, MayFollowAll}
 use Rattle.grammar.specs.Derivation.{AnExpr}
 use Rattle.grammar.specs.Following.{Open, AValue, BeforeRight, Computed, Opened, Origin, open_count}

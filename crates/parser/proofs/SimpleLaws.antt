@@ -2,7 +2,9 @@
 use Rattle.std.proofs.Common.{◌≡◌, ℕ, pos, [], ◌∷◌, refl, sym, subst, true, false, arith}
 use Rattle.tokens.specs.declared.located_tokens.Punctuator.TheVariants as punctuator
 use Rattle.tokens.specs.declared.located_tokens.Word.TheVariants as word
-use Rattle.grammar.specs.Actions.{Chop, GiveBack as Returns, PushConstant, expr_actions}
+use Rattle.grammar.specs.declared.actions.Action.TheVariants.{Chop, PushConstant}
+use Rattle.grammar.specs.declared.actions.Action.TheVariants.{GiveBack as Returns}
+use Rattle.grammar.specs.Actions.{expr_actions}
 use Rattle.grammar.specs.Building.{Appends, Meaning}
 use Rattle.grammar.specs.Derivation.{ABody, AnExpr}
 use Rattle.grammar.specs.Grammar.{Back, Evaluate, Exactly, Expression, GiveBack, Make, Part, Statement, Zero, is_fault, is_punctuator, is_word}

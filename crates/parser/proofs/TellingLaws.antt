@@ -1,6 +1,6 @@
 -- Which actions may follow what a builder stands for.
 use Rattle.std.proofs.Common.{ℕ, ◌+◌, ◌≤◌, List, [], ◌∷◌, ◌++◌, refl, ◌∙◌, arith}
-use Rattle.grammar.specs.Actions.{Action}
+use Rattle.grammar.specs.declared.actions.Action.{Action}
 use Rattle.grammar.specs.Building.{Meaning, AppendsAll, MayFollow, MayFollowAll, StandsOpen}
 use Rattle.grammar.specs.Following.{Open, AValue, Opened, open_count}
 use Rattle.grammar.specs.Tree.{Args, NoMore, Argument}

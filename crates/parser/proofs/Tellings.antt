@@ -1,6 +1,6 @@
 -- What may be told while branches, loops and rows of statements are read.
 use Rattle.std.proofs.Common.{ℕ, ◌+◌, ◌<◌, ◌≤◌, List, [], refl, false, arith}
-use Rattle.grammar.specs.Actions.{BeginWhile, ElsePart, EndIf, EndWhile, IfTest, WhileTest}
+use Rattle.grammar.specs.declared.actions.Action.TheVariants.{BeginWhile, ElsePart, EndIf, EndWhile, IfTest, WhileTest}
 use Rattle.grammar.specs.Building.{Appends, MayFollow, Meaning}
 use Rattle.grammar.specs.Following.{AValue, BeforeTest, InBranch, InElse, InTurn}
 use Rattle.grammar.specs.Grammar.{Item}

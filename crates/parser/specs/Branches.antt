@@ -3,7 +3,9 @@ use Rattle.std.specs.Prelude.{ℕ, ◌+◌, ◌≡◌, ◌≤◌, true, List, []
 use Rattle.parser.specs.Stopping.{Stop}
 use Rattle.grammar.specs.declared.diagnostics.ParseFault.{ParseFault}
 use Rattle.grammar.specs.declared.pools.TheConstants.{MOST_NAMES}
-use Rattle.grammar.specs.Actions.{Action, ElsePart as BetweenBranches, body_actions}
+use Rattle.grammar.specs.declared.actions.Action.{Action}
+use Rattle.grammar.specs.declared.actions.Action.TheVariants.{ElsePart as BetweenBranches}
+use Rattle.grammar.specs.Actions.{body_actions}
 use Rattle.grammar.specs.Building.{Meaning, AppendsAll, StandsOpen}
 use Rattle.grammar.specs.Derivation.{Value, ABody, AnExpr}
 use Rattle.grammar.specs.Following.{Open, Opened, is_place, most_open, open_count}

@@ -6,7 +6,8 @@ use Rattle.grammar.specs.declared.names.Callee.{Callee}
 use Rattle.grammar.specs.declared.operators.Binary.{Binary as AnOperator}
 use Rattle.arith.specs.declared.operators.Op.{Op}
 use Rattle.grammar.specs.declared.pools.TheConstants.{MOST_NAMES}
-use Rattle.grammar.specs.Actions.{ApplyBinop, args_actions, expr_actions, middle}
+use Rattle.grammar.specs.declared.actions.Action.TheVariants.{ApplyBinop}
+use Rattle.grammar.specs.Actions.{args_actions, expr_actions, middle}
 use Rattle.grammar.specs.Building.{Meaning, AppendsAll}
 use Rattle.grammar.specs.Derivation.{ACall, AnExpr}
 use Rattle.grammar.specs.Grammar.{Item, Arguments, Level, Part, Symbol, Tail}

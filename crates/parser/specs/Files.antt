@@ -7,7 +7,8 @@ use Rattle.tokens.specs.ReadLimits.{most_bytes, window_bytes}
 use Rattle.grammar.specs.declared.diagnostics.Diagnostic.{Diagnostic}
 use Rattle.grammar.specs.declared.diagnostics.ParseFault.{ParseFault}
 use Rattle.grammar.specs.declared.diagnostics.ParseFault.TheVariants as refusal
-use Rattle.grammar.specs.Actions.{Action, actions}
+use Rattle.grammar.specs.declared.actions.Action.{Action}
+use Rattle.grammar.specs.Actions.{actions}
 use Rattle.grammar.specs.Building.{Meaning, StandsOpen}
 use Rattle.grammar.specs.Compiled.{compiled, main_name}
 use Rattle.grammar.specs.Need.{built, need}

@@ -2,7 +2,7 @@
 use Rattle.std.specs.Prelude.{ℕ, ◌≡◌, List}
 use Rattle.grammar.specs.declared.diagnostics.ParseFault.{ParseFault}
 use Rattle.grammar.specs.declared.diagnostics.ParseFault.TheVariants as refusal
-use Rattle.grammar.specs.Actions.{Action}
+use Rattle.grammar.specs.declared.actions.Action.{Action}
 use Rattle.grammar.specs.Building.{Meaning, AppendsAll}
 use Rattle.parser.specs.Segment.{Refused}
 use Rattle.parser.specs.Stopping.{Stop}

@@ -5,7 +5,8 @@ use Rattle.tokens.specs.declared.located_tokens.Punctuator.TheVariants as punctu
 use Rattle.arith.specs.declared.operators.Op.TheVariants as op
 use Rattle.grammar.specs.declared.operators.StoreOp.{StoreOp}
 use Rattle.grammar.specs.declared.operators.StoreOp.TheVariants as store
-use Rattle.grammar.specs.Actions.{Action, ApplyBinop, PushConstant}
+use Rattle.grammar.specs.declared.actions.Action.{Action}
+use Rattle.grammar.specs.declared.actions.Action.TheVariants.{ApplyBinop, PushConstant}
 use Rattle.grammar.specs.Grammar.{SemanticAction, Complement, Negate, Not}
 use Rattle.grammar.specs.Tree.{Expr, Binary, Constant}
 use Rattle.parser.specs.declared.signs.Sign.{Sign}

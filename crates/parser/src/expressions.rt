@@ -16,7 +16,7 @@ use crate::parser::Parser;
 use crate::reader::Reader;
 use crate::signs::{Sign, sign_of, step_of};
 use crate::token_predicates::is_punctuator;
-use grammar::{Binary, Build, BuildFault, Op, ParseFault, StoreOp, operator_from, store_operator};
+use grammar::{Action, Binary, Build, BuildFault, Op, ParseFault, StoreOp, operator_from, store_operator};
 use tokens::{Feed, Punctuator, Token};
 
 impl<F: Feed, B: Build> Reader<'_, '_, '_, F, B> {
@@ -50,7 +50,7 @@ impl<F: Feed, B: Build> Reader<'_, '_, '_, F, B> {
         self.depth += 1;
         self.right_side()?;
         self.depth -= 1;
-        Ok(self.build.store(var, op)?)
+        Ok(self.build.act(Action::StoreVariable(var, op))?)
     }
 
     /// `expr`, behind the operator of an assignment: most often no further assignment, which is parsed with no further call
@@ -94,7 +94,7 @@ impl<F: Feed, B: Build> Reader<'_, '_, '_, F, B> {
         self.parser.advance()?;
         tell_middle(self.build, binary.op)?;
         self.levels(binary.level + 1)?;
-        Ok(self.build.binop(binary.op)?)
+        Ok(self.build.act(Action::ApplyBinop(binary.op))?)
     }
 
     /// `level11 → operator level11`, `level11 → operator name` and `level11 → primary`
@@ -179,13 +179,13 @@ impl<F: Feed, B: Build> Reader<'_, '_, '_, F, B> {
     {
         self.check_level()?;
         let callee = self.parser.callee()?;
-        self.build.begin_call()?;
+        self.build.act(Action::BeginCall)?;
         self.parser.expect(Punctuator::OpenRound)?;
         self.depth += 1;
         self.arguments()?;
         self.depth -= 1;
         self.parser.expect(Punctuator::CloseRound)?;
-        Ok(self.build.end_call(callee)?)
+        Ok(self.build.act(Action::EndCall(callee))?)
     }
 
     /// `args → expr moreargs`, and empty at the closing bracket; `moreargs → , expr moreargs`
@@ -242,7 +242,7 @@ fn tell_middle<B: Build>(build: &mut B, op: Op) -> Result<(), BuildFault>
     ensures memory { Refuses result B.denied }
 {
     if op.is_logic() {
-        build.logic_middle(op)?;
+        build.act(Action::LogicMiddle(op))?;
     }
     Ok(())
 }

@@ -9,7 +9,7 @@ use crate::lists::declarations;
 use crate::reader::Reader;
 use crate::roles::Declared;
 use crate::token_predicates::is_punctuator;
-use grammar::{Build, BuildFault, Code, ParseFault};
+use grammar::{Action, Build, BuildFault, Code, ParseFault};
 use tokens::{Feed, Punctuator};
 
 impl<F: Feed, B: Build> Reader<'_, '_, '_, F, B> {
@@ -20,7 +20,7 @@ impl<F: Feed, B: Build> Reader<'_, '_, '_, F, B> {
         ensures kept { Proceeds result self.old self.new }
     {
         let number = heading(&mut self.parser)?;
-        self.build.begin_function(number, self.parser.parameters())?;
+        self.build.act(Action::BeginFunction(number, self.parser.parameters()))?;
         self.function_block()?;
         let variables = self.parser.variables();
         self.close(variables)?;
@@ -52,9 +52,9 @@ impl<F: Feed, B: Build> Reader<'_, '_, '_, F, B> {
         ensures ends { EndsFunction result B.denied B.stands variables self.old self.new }
         ensures kept { OnlyTells self.old self.new }
     {
-        self.build.constant(0)?;
-        self.build.give_back()?;
-        match self.build.end_function(variables) {
+        self.build.act(Action::PushConstant(0))?;
+        self.build.act(Action::GiveBack)?;
+        match self.build.act(Action::EndFunction(variables)) {
             Ok(()) => Ok(()),
             Err(BuildFault::Full) => Err(self.parser.refusal(Code::TooMuchCode)),
             Err(BuildFault::Memory) => Err(ParseFault::Memory),

@@ -10,7 +10,7 @@ ghost use Rattle.parser.specs.Starts.{StartsConstant, StartsStep, StartsVariable
 
 use crate::reader::Reader;
 use crate::signs::{Step, step_of};
-use grammar::{Build, ParseFault};
+use grammar::{Action, Build, ParseFault};
 use tokens::Feed;
 
 impl<F: Feed, B: Build> Reader<'_, '_, '_, F, B> {
@@ -21,7 +21,7 @@ impl<F: Feed, B: Build> Reader<'_, '_, '_, F, B> {
         ensures parses { ParsesOperandAlone result B.denied B.stands Primary self.old self.new }
         ensures kept { Proceeds result self.old self.new }
     {
-        self.build.constant(value as i32)?;
+        self.build.act(Action::PushConstant(value as i32))?;
         self.parser.advance()?;
         Ok(())
     }
@@ -38,7 +38,7 @@ impl<F: Feed, B: Build> Reader<'_, '_, '_, F, B> {
             return Ok(());
         }
         let var = self.parser.mention()?;
-        Ok(self.build.fetch(var)?)
+        Ok(self.build.act(Action::FetchVariable(var))?)
     }
 
     /// `primary → name operator`
@@ -49,10 +49,10 @@ impl<F: Feed, B: Build> Reader<'_, '_, '_, F, B> {
         ensures kept { Proceeds result self.old self.new }
     {
         let var = self.parser.mention()?;
-        self.build.fetch(var)?;
-        self.build.constant(1)?;
-        self.build.store(var, step.store())?;
-        self.build.chop()?;
+        self.build.act(Action::FetchVariable(var))?;
+        self.build.act(Action::PushConstant(1))?;
+        self.build.act(Action::StoreVariable(var, step.store()))?;
+        self.build.act(Action::Chop)?;
         self.parser.expect(step.punctuator())?;
         Ok(())
     }
@@ -66,7 +66,7 @@ impl<F: Feed, B: Build> Reader<'_, '_, '_, F, B> {
     {
         self.parser.advance()?;
         let var = self.parser.mention()?;
-        self.build.constant(1)?;
-        Ok(self.build.store(var, step.store())?)
+        self.build.act(Action::PushConstant(1))?;
+        Ok(self.build.act(Action::StoreVariable(var, step.store()))?)
     }
 }

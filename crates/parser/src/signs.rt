@@ -1,12 +1,12 @@
 //! The operators before an operand, and `++` and `--`.
 
 ghost use Rattle.std.specs.Prelude.{◌≡◌, [], ◌∷◌, IfNone, IfSome, OnOk, false, true};
-ghost use Rattle.grammar.specs.Actions.{ApplyBinop, PushConstant};
+ghost use Rattle.grammar.specs.declared.actions.Action.TheVariants.{ApplyBinop, PushConstant};
 ghost use Rattle.grammar.specs.Building.{AppendsAll, MayFollowAll, Refuses};
 ghost use Rattle.grammar.specs.Grammar.{is_punctuator};
 ghost use Rattle.parser.specs.Signs.{before_operand, behind_operand, sign_punctuator, step_punctuator, step_store};
 
-use grammar::{Build, BuildFault, Op, StoreOp};
+use grammar::{Action, Build, BuildFault, Op, StoreOp};
 use tokens::{Punctuator, Token};
 
 /// An operator before an operand.
@@ -84,7 +84,7 @@ impl Sign {
         ensures memory { Refuses result B.denied }
     {
         if self == Sign::Negation {
-            build.constant(0)?;
+            build.act(Action::PushConstant(0))?;
         }
         Ok(())
     }
@@ -96,7 +96,7 @@ impl Sign {
         ensures memory { Refuses result B.denied }
     {
         match self {
-            Sign::Negation => build.binop(Op::Subtract),
+            Sign::Negation => build.act(Action::ApplyBinop(Op::Subtract)),
             Sign::Denial => compare(build, 0, Op::Equal),
             Sign::Complement => compare(build, -1, Op::BitXor),
         }
@@ -110,7 +110,7 @@ fn compare<B: Build>(build: &mut B, value: i32, op: Op) -> Result<(), BuildFault
         (PushConstant value ∷ ApplyBinop op ∷ [])) }
     ensures memory { Refuses result B.denied }
 {
-    build.constant(value)?;
-    build.binop(op)?;
+    build.act(Action::PushConstant(value))?;
+    build.act(Action::ApplyBinop(op))?;
     Ok(())
 }

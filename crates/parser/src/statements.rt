@@ -16,7 +16,7 @@ use crate::lists::declarations;
 use crate::reader::Reader;
 use crate::roles::Declared;
 use crate::token_predicates::{is_punctuator, is_word};
-use grammar::{Build, ParseFault};
+use grammar::{Action, Build, ParseFault};
 use tokens::{Feed, Punctuator, Token, Word};
 
 impl<F: Feed, B: Build> Reader<'_, '_, '_, F, B> {
@@ -79,11 +79,11 @@ impl<F: Feed, B: Build> Reader<'_, '_, '_, F, B> {
         self.parser.advance()?;
         self.depth += 1;
         self.condition()?;
-        self.build.if_test()?;
+        self.build.act(Action::IfTest)?;
         self.statement()?;
         self.else_part()?;
         self.depth -= 1;
-        Ok(self.build.end_if()?)
+        Ok(self.build.act(Action::EndIf)?)
     }
 
     /// `elsepart → else stmt`, and empty where no `else` is next
@@ -95,7 +95,7 @@ impl<F: Feed, B: Build> Reader<'_, '_, '_, F, B> {
         ensures kept { MayProceed result self.old self.new }
     {
         if is_word(&self.parser.peek().token, Word::Else) {
-            self.build.else_part()?;
+            self.build.act(Action::ElsePart)?;
             self.parser.advance()?;
             self.statement()?;
         }
@@ -110,14 +110,14 @@ impl<F: Feed, B: Build> Reader<'_, '_, '_, F, B> {
         ensures kept { Proceeds result self.old self.new }
     {
         self.check_level()?;
-        self.build.begin_while()?;
+        self.build.act(Action::BeginWhile)?;
         self.parser.advance()?;
         self.depth += 1;
         self.condition()?;
-        self.build.while_test()?;
+        self.build.act(Action::WhileTest)?;
         self.statement()?;
         self.depth -= 1;
-        Ok(self.build.end_while()?)
+        Ok(self.build.act(Action::EndWhile)?)
     }
 
     /// `( expr )`, behind `if` or `while`
@@ -142,7 +142,7 @@ impl<F: Feed, B: Build> Reader<'_, '_, '_, F, B> {
         self.parser.advance()?;
         self.back()?;
         self.parser.expect(Punctuator::Semicolon)?;
-        Ok(self.build.give_back()?)
+        Ok(self.build.act(Action::GiveBack)?)
     }
 
     /// `back → expr`, and empty at the semicolon
@@ -152,7 +152,7 @@ impl<F: Feed, B: Build> Reader<'_, '_, '_, F, B> {
         ensures kept { MayProceed result self.old self.new }
     {
         if is_punctuator(&self.parser.peek().token, Punctuator::Semicolon) {
-            self.build.constant(0)?;
+            self.build.act(Action::PushConstant(0))?;
             return Ok(());
         }
         self.expression()?;
@@ -167,6 +167,6 @@ impl<F: Feed, B: Build> Reader<'_, '_, '_, F, B> {
     {
         self.expression()?;
         self.parser.expect(Punctuator::Semicolon)?;
-        Ok(self.build.chop()?)
+        Ok(self.build.act(Action::Chop)?)
     }
 }

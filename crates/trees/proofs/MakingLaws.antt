@@ -7,7 +7,10 @@ use Rattle.grammar.specs.declared.names.Callee.{Callee}
 use Rattle.grammar.specs.declared.names.Var.{Var}
 use Rattle.arith.specs.declared.operators.Op.{Op}
 use Rattle.grammar.specs.declared.operators.StoreOp.{StoreOp}
-use Rattle.grammar.specs.Actions.{Action, ApplyBinop, LogicMiddle, BeginCall, EndCall, EndIf, EndWhile, GiveBack, Chop, EndFunction, body_actions, args_actions, expr_actions}
+use Rattle.grammar.specs.declared.actions.Action.{Action}
+use Rattle.grammar.specs.declared.actions.Action.TheVariants.{ApplyBinop, LogicMiddle, BeginCall, EndCall, EndIf}
+use Rattle.grammar.specs.declared.actions.Action.TheVariants.{EndWhile, GiveBack, Chop, EndFunction}
+use Rattle.grammar.specs.Actions.{body_actions, args_actions, expr_actions}
 use Rattle.grammar.specs.Following.{InFunction, AValue, BeforeRight, Opened, Origin, Computed, follow, only_on, statement_done, call_done, is_step, stored, same_op, is_callee_numbered}
 use Rattle.arith.specs.Op.{is_logic}
 use Rattle.grammar.specs.Origins.{origin_of, ends_in_return}

@@ -7,7 +7,12 @@ use Rattle.grammar.specs.declared.names.Callee.{Callee}
 use Rattle.grammar.specs.declared.names.Var.{Var}
 use Rattle.arith.specs.declared.operators.Op.{Op}
 use Rattle.grammar.specs.declared.operators.StoreOp.{StoreOp}
-use Rattle.grammar.specs.Actions.{Action, PushConstant, StoreVariable, ApplyBinop, BeginCall, EndCall, IfTest, ElsePart, EndIf, BeginWhile, WhileTest, EndWhile, GiveBack, Chop, BeginFunction, EndFunction, last_return, args_actions, body_actions, expr_actions, function_actions, middle, code_length}
+use Rattle.grammar.specs.declared.actions.Action.{Action}
+use Rattle.grammar.specs.declared.actions.Action.TheVariants.{PushConstant, StoreVariable, ApplyBinop, BeginCall}
+use Rattle.grammar.specs.declared.actions.Action.TheVariants.{EndCall, IfTest, ElsePart, EndIf, BeginWhile, WhileTest}
+use Rattle.grammar.specs.declared.actions.Action.TheVariants.{EndWhile, GiveBack, Chop, BeginFunction, EndFunction}
+use Rattle.grammar.specs.Actions.{last_return, args_actions, body_actions, expr_actions, function_actions, middle}
+use Rattle.grammar.specs.Actions.{code_length}
 use Rattle.grammar.specs.Beginning.{IsBeginning}
 use Rattle.grammar.specs.Building.{Meaning, MayFollow, MayFollowAll, StandsOpen, AppendsAll, Appends, IsOver}
 use Rattle.grammar.specs.Profile.{Profile}

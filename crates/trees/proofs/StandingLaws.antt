@@ -4,7 +4,12 @@ use Rattle.std.proofs.lemmas.Bool.Decides.{nat_tests}
 use Rattle.std.proofs.lemmas.Result.{on_ok_weaker}
 use Rattle.std.specs.Prelude.{if◌then◌else◌, Option, Some, None, IsTrue, is_some, nat_lt, nat_le, Result, OnOk}
 use Rattle.grammar.specs.declared.build.BuildFault.{BuildFault}
-use Rattle.grammar.specs.Actions.{Action, PushConstant, FetchVariable, StoreVariable, ApplyBinop, LogicMiddle, BeginCall, EndCall, IfTest, ElsePart, EndIf, BeginWhile, WhileTest, EndWhile, GiveBack, Chop, BeginFunction, EndFunction, instructions, code_length}
+use Rattle.grammar.specs.declared.actions.Action.{Action}
+use Rattle.grammar.specs.declared.actions.Action.TheVariants.{PushConstant, FetchVariable, StoreVariable, ApplyBinop}
+use Rattle.grammar.specs.declared.actions.Action.TheVariants.{LogicMiddle, BeginCall, EndCall, IfTest, ElsePart, EndIf}
+use Rattle.grammar.specs.declared.actions.Action.TheVariants.{BeginWhile, WhileTest, EndWhile, GiveBack, Chop}
+use Rattle.grammar.specs.declared.actions.Action.TheVariants.{BeginFunction, EndFunction}
+use Rattle.grammar.specs.Actions.{ends_function, instructions, code_length}
 use Rattle.grammar.specs.Building.{MayFollow, Appends, FitsWithin, IsOver}
 use Rattle.grammar.specs.Following.{Open, InFunction, AValue, BeforeRight, InCall, InBranch, InElse, BeforeTest, InTurn, Opened, Computed, few_open, follow, follow_all, then_follow, within, only_on, is_place, statement_done, call_done, is_var_numbered, is_callee_numbered}
 use Rattle.arith.specs.Op.{is_logic}
@@ -320,12 +325,16 @@ within_limit m q a over known counted is not_over =
     let few : q.code < m.profile.instructions = grind (arith, nat_tests, is, not_over) in
     (omega (arith, small m.profile known, counted, few), few)
 
+stays_inside : (a : Action) → ends_function a ≡ false → in_function true (a ∷ []) ≡ true
+stays_inside (EndFunction variables) e = absurd (cc)
+stays_inside a e = refl
+
 pub stopped : (m q : Kept) (a : Action) (over : Bool) → q.profile ≡ m.profile →
     q.code ≡ min (m.code + instructions m.profile a) 65535 → over ≡ nat_le m.profile.instructions q.code → over ≡ true →
-    in_function true (a ∷ []) ≡ true →
+    ends_function a ≡ false →
     MayFollow (λ p acts. Stands m p acts) a → Appends (λ p acts. Stands m p acts) (λ p acts. Stands q p acts) a
-stopped m q a over by counted is is_over ends may =
-    stops m q a by counted (grind (arith, nat_tests, is, is_over)) ends may
+stopped m q a over by counted is is_over goes_on may =
+    stops m q a by counted (grind (arith, nat_tests, is, is_over)) (stays_inside a goes_on) may
 
 pub may_go_on : (m q : Kept) (a : Action) (over : Bool) → q.stack ≡ m.stack →
     q.code ≡ min (m.code + instructions m.profile a) 65535 → over ≡ nat_le m.profile.instructions q.code →

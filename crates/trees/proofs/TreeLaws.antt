@@ -5,7 +5,9 @@ use Rattle.grammar.specs.declared.names.Callee.{Callee}
 use Rattle.grammar.specs.declared.names.Var.{Var}
 use Rattle.arith.specs.declared.operators.Op.{Op}
 use Rattle.grammar.specs.declared.operators.StoreOp.{StoreOp}
-use Rattle.grammar.specs.Actions.{Action, Chop, GiveBack, body_actions, args_actions, expr_actions, function_actions, last_return}
+use Rattle.grammar.specs.declared.actions.Action.{Action}
+use Rattle.grammar.specs.declared.actions.Action.TheVariants.{Chop, GiveBack}
+use Rattle.grammar.specs.Actions.{body_actions, args_actions, expr_actions, function_actions, last_return}
 use Rattle.grammar.specs.Origins.{ends_in_return}
 use Rattle.grammar.specs.Tree.{Args, Body, Done}
 use Rattle.grammar.specs.Tree as tree

@@ -1,7 +1,9 @@
 -- What is on the stack of a maker: the actions that it was made of, and what it leaves open.
 use Rattle.std.specs.Prelude.{ℕ, ◌≡◌, List, [], ◌∷◌, ◌++◌, false, Some, is_some, IsTrue}
-use Rattle.grammar.specs.Actions.{Action, BeginCall, IfTest, ElsePart, BeginWhile, WhileTest, BeginFunction}
-use Rattle.grammar.specs.Actions.{EndFunction, expr_actions, body_actions, function_actions, middle}
+use Rattle.grammar.specs.declared.actions.Action.{Action}
+use Rattle.grammar.specs.declared.actions.Action.TheVariants.{BeginCall, IfTest, ElsePart, BeginWhile, WhileTest}
+use Rattle.grammar.specs.declared.actions.Action.TheVariants.{BeginFunction, EndFunction}
+use Rattle.grammar.specs.Actions.{expr_actions, body_actions, function_actions, middle}
 use Rattle.grammar.specs.Following.{Open, InFunction, AValue, BeforeRight, InCall, InBranch, InElse, BeforeTest, InTurn}
 use Rattle.grammar.specs.Following.{Opened, follow}
 use Rattle.grammar.specs.Origins.{origin_of, ends_in_return}

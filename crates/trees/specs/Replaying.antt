@@ -1,6 +1,7 @@
 -- What is reported of trees to a builder.
 use Rattle.std.specs.Prelude.{◌+◌, ◌<◌, List, [], ◌++◌}
-use Rattle.grammar.specs.Actions.{Action, code_length}
+use Rattle.grammar.specs.declared.actions.Action.{Action}
+use Rattle.grammar.specs.Actions.{code_length}
 use Rattle.grammar.specs.Building.{Meaning, AppendsAll}
 use Rattle.grammar.specs.Profile.{Profile}
 use Rattle.trees.specs.Standing.{Kept, Stands}

@@ -1,6 +1,8 @@
 -- What a maker of trees represents.
 use Rattle.std.specs.Prelude.{ℕ, ◌+◌, ◌≡◌, ◌<◌, ◌≤◌, List, [], ◌∷◌, ◌++◌, Bool, true, false, Some}
-use Rattle.grammar.specs.Actions.{Action, BeginFunction, EndFunction, code_length}
+use Rattle.grammar.specs.declared.actions.Action.{Action}
+use Rattle.grammar.specs.declared.actions.Action.TheVariants.{BeginFunction, EndFunction}
+use Rattle.grammar.specs.Actions.{code_length}
 use Rattle.grammar.specs.Following.{follow_all}
 use Rattle.grammar.specs.Profile.{Profile, IsProfile}
 use Rattle.trees.specs.Opened.{opened, open_actions}

@@ -1,6 +1,7 @@
 -- The trees of the code as the trees of the language.
 use Rattle.std.specs.Prelude.{List, [], ◌∷◌, ◌++◌, map, replicate}
-use Rattle.grammar.specs.Actions.{Action, body_actions, function_actions}
+use Rattle.grammar.specs.declared.actions.Action.{Action}
+use Rattle.grammar.specs.Actions.{body_actions, function_actions}
 use Rattle.grammar.specs.Tree.{Args, NoMore, Argument, Body, Done}
 use Rattle.grammar.specs.Tree as tree
 use Rattle.trees.specs.declared.tree.Expr.{Expr, Expr-F, fold-Expr}

@@ -1,9 +1,12 @@
 //! The trees that each action makes of what is open.
 
-ghost use Rattle.std.specs.Prelude.{◌≡◌, OnOk, ⊤};
-ghost use Rattle.grammar.specs.Actions.{PushConstant, FetchVariable, StoreVariable, ApplyBinop, LogicMiddle, BeginCall};
-ghost use Rattle.grammar.specs.Actions.{EndCall, IfTest, ElsePart, EndIf, BeginWhile, WhileTest, EndWhile, GiveBack};
-ghost use Rattle.grammar.specs.Actions.{Chop, BeginFunction, EndFunction};
+ghost use Rattle.std.specs.Prelude.{◌≡◌, OnOk, false, ⊤};
+ghost use Rattle.grammar.specs.declared.actions.Action.TheVariants.{PushConstant, FetchVariable, StoreVariable};
+ghost use Rattle.grammar.specs.declared.actions.Action.TheVariants.{ApplyBinop, LogicMiddle, BeginCall, EndCall};
+ghost use Rattle.grammar.specs.declared.actions.Action.TheVariants.{IfTest, ElsePart, EndIf, BeginWhile, WhileTest};
+ghost use Rattle.grammar.specs.declared.actions.Action.TheVariants.{EndWhile, GiveBack, Chop, BeginFunction};
+ghost use Rattle.grammar.specs.declared.actions.Action.TheVariants.{EndFunction};
+ghost use Rattle.grammar.specs.Actions.{ends_function};
 ghost use Rattle.grammar.specs.Building.{Refuses};
 ghost use Rattle.trees.specs.Opened.{Continues, Ends, IsAllowed};
 ghost use Rattle.trees.specs.Stacks.{without_last};
@@ -11,11 +14,39 @@ ghost use Rattle.trees.specs.Stacks.{without_last};
 use crate::memory::boxed;
 use crate::stack::{Heading, Open, Stack};
 use crate::tree::{Expr, Function, Statement};
-use grammar::{BuildFault, Callee, Op, StoreOp, Var};
+use grammar::{Action, BuildFault, Callee, Op, StoreOp, Var};
 
 impl Stack {
+    /// Does an action, which ends no function.
+    pub fn act(&mut self, action: Action) -> Result<(), BuildFault>
+        requires allowed { IsAllowed action self.old }
+        requires inside { ends_function action ≡ false }
+        ensures ok { OnOk result (Continues action self.old self.new) }
+        ensures memory { Refuses result ⊤ }
+    {
+        match action {
+            Action::PushConstant(value) => self.constant(value),
+            Action::FetchVariable(var) => self.fetch(var),
+            Action::StoreVariable(var, op) => self.store(var, op),
+            Action::ApplyBinop(op) => self.binop(op),
+            Action::LogicMiddle(op) => self.logic_middle(op),
+            Action::BeginCall => self.begin_call(),
+            Action::EndCall(callee) => self.end_call(callee),
+            Action::IfTest => self.if_test(),
+            Action::ElsePart => self.else_part(),
+            Action::EndIf => self.end_if(),
+            Action::BeginWhile => self.begin_while(),
+            Action::WhileTest => self.while_test(),
+            Action::EndWhile => self.end_while(),
+            Action::GiveBack => self.give_back(),
+            Action::Chop => self.chop(),
+            Action::BeginFunction(number, parameters) => self.begin_function(number, parameters),
+            Action::EndFunction(_) => unreachable!(),
+        }
+    }
+
     /// Takes a constant as the next value.
-    pub fn constant(&mut self, value: i32) -> Result<(), BuildFault>
+    fn constant(&mut self, value: i32) -> Result<(), BuildFault>
         requires { IsAllowed (PushConstant value) self.old }
         ensures ok { OnOk result (Continues (PushConstant value) self.old self.new) }
         ensures memory { Refuses result ⊤ }
@@ -24,7 +55,7 @@ impl Stack {
     }
 
     /// Takes the value of a variable as the next value.
-    pub fn fetch(&mut self, var: Var) -> Result<(), BuildFault>
+    fn fetch(&mut self, var: Var) -> Result<(), BuildFault>
         requires { IsAllowed (FetchVariable var) self.old }
         ensures ok { OnOk result (Continues (FetchVariable var) self.old self.new) }
         ensures memory { Refuses result ⊤ }
@@ -33,7 +64,7 @@ impl Stack {
     }
 
     /// Stores the last value in a variable.
-    pub fn store(&mut self, var: Var, op: StoreOp) -> Result<(), BuildFault>
+    fn store(&mut self, var: Var, op: StoreOp) -> Result<(), BuildFault>
         requires { IsAllowed (StoreVariable var op) self.old }
         ensures ok { OnOk result (Continues (StoreVariable var op) self.old self.new) }
         ensures memory { Refuses result ⊤ }
@@ -44,7 +75,7 @@ impl Stack {
     }
 
     /// Makes the last two values the sides of an operator.
-    pub fn binop(&mut self, op: Op) -> Result<(), BuildFault>
+    fn binop(&mut self, op: Op) -> Result<(), BuildFault>
         requires { IsAllowed (ApplyBinop op) self.old }
         ensures ok { OnOk result (Continues (ApplyBinop op) self.old self.new) }
         ensures memory { Refuses result ⊤ }
@@ -57,7 +88,7 @@ impl Stack {
     }
 
     /// Begins the right side of `&&` or `||`.
-    pub fn logic_middle(&mut self, op: Op) -> Result<(), BuildFault>
+    fn logic_middle(&mut self, op: Op) -> Result<(), BuildFault>
         requires { IsAllowed (LogicMiddle op) self.old }
         ensures ok { OnOk result (Continues (LogicMiddle op) self.old self.new) }
         ensures memory { Refuses result ⊤ }
@@ -66,7 +97,7 @@ impl Stack {
     }
 
     /// Begins a call.
-    pub fn begin_call(&mut self) -> Result<(), BuildFault>
+    fn begin_call(&mut self) -> Result<(), BuildFault>
         requires { IsAllowed BeginCall self.old }
         ensures ok { OnOk result (Continues BeginCall self.old self.new) }
         ensures memory { Refuses result ⊤ }
@@ -75,7 +106,7 @@ impl Stack {
     }
 
     /// Ends the call's arguments.
-    pub fn end_call(&mut self, callee: Callee) -> Result<(), BuildFault>
+    fn end_call(&mut self, callee: Callee) -> Result<(), BuildFault>
         requires { IsAllowed (EndCall callee) self.old }
         ensures ok { OnOk result (Continues (EndCall callee) self.old self.new) }
         ensures memory { Refuses result ⊤ }
@@ -85,7 +116,7 @@ impl Stack {
     }
 
     /// Ends the condition of an `if`.
-    pub fn if_test(&mut self) -> Result<(), BuildFault>
+    fn if_test(&mut self) -> Result<(), BuildFault>
         requires { IsAllowed IfTest self.old }
         ensures ok { OnOk result (Continues IfTest self.old self.new) }
         ensures memory { Refuses result ⊤ }
@@ -95,7 +126,7 @@ impl Stack {
     }
 
     /// Ends the first branch, and begins a second one.
-    pub fn else_part(&mut self) -> Result<(), BuildFault>
+    fn else_part(&mut self) -> Result<(), BuildFault>
         requires { IsAllowed ElsePart self.old }
         ensures ok { OnOk result (Continues ElsePart self.old self.new) }
         ensures memory { Refuses result ⊤ }
@@ -108,7 +139,7 @@ impl Stack {
     }
 
     /// Ends an `if`.
-    pub fn end_if(&mut self) -> Result<(), BuildFault>
+    fn end_if(&mut self) -> Result<(), BuildFault>
         requires { IsAllowed EndIf self.old }
         ensures ok { OnOk result (Continues EndIf self.old self.new) }
         ensures memory { Refuses result ⊤ }
@@ -124,7 +155,7 @@ impl Stack {
     }
 
     /// Begins a `while`.
-    pub fn begin_while(&mut self) -> Result<(), BuildFault>
+    fn begin_while(&mut self) -> Result<(), BuildFault>
         requires { IsAllowed BeginWhile self.old }
         ensures ok { OnOk result (Continues BeginWhile self.old self.new) }
         ensures memory { Refuses result ⊤ }
@@ -133,7 +164,7 @@ impl Stack {
     }
 
     /// Ends the condition of a `while`.
-    pub fn while_test(&mut self) -> Result<(), BuildFault>
+    fn while_test(&mut self) -> Result<(), BuildFault>
         requires { IsAllowed WhileTest self.old }
         ensures ok { OnOk result (Continues WhileTest self.old self.new) }
         ensures memory { Refuses result ⊤ }
@@ -144,7 +175,7 @@ impl Stack {
     }
 
     /// Ends a `while`.
-    pub fn end_while(&mut self) -> Result<(), BuildFault>
+    fn end_while(&mut self) -> Result<(), BuildFault>
         requires { IsAllowed EndWhile self.old }
         ensures ok { OnOk result (Continues EndWhile self.old self.new) }
         ensures memory { Refuses result ⊤ }
@@ -157,7 +188,7 @@ impl Stack {
     }
 
     /// Lets the function return the last value.
-    pub fn give_back(&mut self) -> Result<(), BuildFault>
+    fn give_back(&mut self) -> Result<(), BuildFault>
         requires { IsAllowed GiveBack self.old }
         ensures ok { OnOk result (Continues GiveBack self.old self.new) }
         ensures memory { Refuses result ⊤ }
@@ -168,7 +199,7 @@ impl Stack {
 
     /// Drops the last value: that of a statement, or, if two values are open side by side, the new one of `v++` or
     /// `v--`.
-    pub fn chop(&mut self) -> Result<(), BuildFault>
+    fn chop(&mut self) -> Result<(), BuildFault>
         requires { IsAllowed Chop self.old }
         ensures ok { OnOk result (Continues Chop self.old self.new) }
         ensures memory { Refuses result ⊤ }
@@ -185,7 +216,7 @@ impl Stack {
     }
 
     /// Begins a function.
-    pub fn begin_function(&mut self, number: u8, parameters: u8) -> Result<(), BuildFault>
+    fn begin_function(&mut self, number: u8, parameters: u8) -> Result<(), BuildFault>
         requires { IsAllowed (BeginFunction number parameters) self.old }
         ensures ok { OnOk result (Continues (BeginFunction number parameters) self.old self.new) }
         ensures memory { Refuses result ⊤ }

@@ -1,9 +1,10 @@
 //! Reports the trees to a builder, action by action.
 
 ghost use Rattle.std.specs.Prelude.{ℤ, pos, [], ◌∷◌, ◌++◌, IsErrOf, IsTrue, OnOk, map};
-ghost use Rattle.grammar.specs.Actions.{BeginWhile, Chop, FetchVariable, IfTest, PushConstant, StoreVariable};
-ghost use Rattle.grammar.specs.Actions.{WhileTest, args_actions, body_actions, expr_actions, function_actions};
-ghost use Rattle.grammar.specs.Actions.{last_return, middle};
+ghost use Rattle.grammar.specs.declared.actions.Action.TheVariants.{BeginWhile, Chop, FetchVariable, IfTest};
+ghost use Rattle.grammar.specs.declared.actions.Action.TheVariants.{PushConstant, StoreVariable, WhileTest};
+ghost use Rattle.grammar.specs.Actions.{args_actions, body_actions, expr_actions, function_actions, last_return};
+ghost use Rattle.grammar.specs.Actions.{middle};
 ghost use Rattle.grammar.specs.Building.{AppendsAll, MayFollowAll, Refuses, StandsOpen};
 ghost use Rattle.trees.specs.Replaying.{AppendsThose, IsOverWith, IsOverWithThose, StandsForNone};
 ghost use Rattle.trees.specs.Standing.{Stands};
@@ -11,7 +12,7 @@ ghost use Rattle.trees.specs.Trees.{arguments, body_tree, expr_tree, function_tr
 
 use crate::maker::TreeMaker;
 use crate::tree::{Expr, Function, Statement};
-use grammar::{Build, BuildFault, Op, StoreOp, Var};
+use grammar::{Action, Build, BuildFault, Op, StoreOp, Var};
 
 impl TreeMaker {
     /// Reports to the builder the actions that were reported to the maker.
@@ -42,10 +43,10 @@ fn tell_function<B: Build>(function: &Function, build: &mut B) -> Result<(), Bui
         → IsOverWith (B.stands build.old) (function_actions function.now.number (function_tree function.now)) }
     ensures memory { IsErrOf result BuildFault.Memory → B.denied }
 {
-    build.begin_function(function.number, function.parameters)?;
+    build.act(Action::BeginFunction(function.number, function.parameters))?;
     tell_statements(&function.body, build)?;
     tell_last_return(build)?;
-    build.end_function(function.variables)
+    build.act(Action::EndFunction(function.variables))
 }
 
 #[tactic(auto, using(crate::proofs::ReplayLaws::may_return))]
@@ -55,8 +56,8 @@ fn tell_last_return<B: Build>(build: &mut B) -> Result<(), BuildFault>
     ensures ok { OnOk result (AppendsAll (B.stands build.old) (B.stands build.new) last_return) }
     ensures memory { Refuses result B.denied }
 {
-    build.constant(0)?;
-    build.give_back()
+    build.act(Action::PushConstant(0))?;
+    build.act(Action::GiveBack)
 }
 
 /// Reports statements in their order.
@@ -84,27 +85,27 @@ fn tell_statement<B: Build>(statement: &Statement, build: &mut B) -> Result<(), 
         Statement::IfStatement(condition, branch) => {
             tell_test(condition, build)?;
             tell_statements(branch, build)?;
-            build.end_if()
+            build.act(Action::EndIf)
         }
         Statement::IfElseStatement(condition, first, second) => {
             tell_test(condition, build)?;
             tell_statements(first, build)?;
-            build.else_part()?;
+            build.act(Action::ElsePart)?;
             tell_statements(second, build)?;
-            build.end_if()
+            build.act(Action::EndIf)
         }
         Statement::While(condition, body) => {
             tell_loop_test(condition, build)?;
             tell_statements(body, build)?;
-            build.end_while()
+            build.act(Action::EndWhile)
         }
         Statement::ExpressionStatement(expr) => {
             tell_expr(expr, build)?;
-            build.chop()
+            build.act(Action::Chop)
         }
         Statement::Return(expr) => {
             tell_expr(expr, build)?;
-            build.give_back()
+            build.act(Action::GiveBack)
         }
     }
 }
@@ -117,7 +118,7 @@ fn tell_test<B: Build>(condition: &Expr, build: &mut B) -> Result<(), BuildFault
     ensures memory { Refuses result B.denied }
 {
     tell_expr(condition, build)?;
-    build.if_test()
+    build.act(Action::IfTest)
 }
 
 /// Reports the condition of a `while`.
@@ -128,9 +129,9 @@ fn tell_loop_test<B: Build>(condition: &Expr, build: &mut B) -> Result<(), Build
         (BeginWhile ∷ (expr_actions (expr_tree condition.now) ++ WhileTest ∷ []))) }
     ensures memory { Refuses result B.denied }
 {
-    build.begin_while()?;
+    build.act(Action::BeginWhile)?;
     tell_expr(condition, build)?;
-    build.while_test()
+    build.act(Action::WhileTest)
 }
 
 /// Reports an expression.
@@ -142,23 +143,23 @@ fn tell_expr<B: Build>(expr: &Expr, build: &mut B) -> Result<(), BuildFault>
     ensures memory { Refuses result B.denied }
 {
     match expr {
-        Expr::Constant(value) => build.constant(*value),
-        Expr::Variable(var) => build.fetch(*var),
+        Expr::Constant(value) => build.act(Action::PushConstant(*value)),
+        Expr::Variable(var) => build.act(Action::FetchVariable(*var)),
         Expr::Binary(op, left, right) => {
             tell_expr(left, build)?;
             tell_middle(*op, build)?;
             tell_expr(right, build)?;
-            build.binop(*op)
+            build.act(Action::ApplyBinop(*op))
         }
         Expr::Assign(op, var, right) => {
             tell_expr(right, build)?;
-            build.store(*var, *op)
+            build.act(Action::StoreVariable(*var, *op))
         }
         Expr::Postfix(op, var) => tell_step(*op, *var, build),
         Expr::Call(callee, arguments) => {
-            build.begin_call()?;
+            build.act(Action::BeginCall)?;
             tell_arguments(arguments, build)?;
-            build.end_call(*callee)
+            build.act(Action::EndCall(*callee))
         }
     }
 }
@@ -186,7 +187,7 @@ fn tell_middle<B: Build>(op: Op, build: &mut B) -> Result<(), BuildFault>
     if !op.is_logic() {
         return Ok(());
     }
-    build.logic_middle(op)
+    build.act(Action::LogicMiddle(op))
 }
 
 /// Reports `v++` or `v--`, by the operator that steps the variable.
@@ -197,8 +198,8 @@ fn tell_step<B: Build>(op: StoreOp, var: Var, build: &mut B) -> Result<(), Build
         (FetchVariable var ∷ PushConstant (pos 1) ∷ StoreVariable var op ∷ Chop ∷ [])) }
     ensures memory { Refuses result B.denied }
 {
-    build.fetch(var)?;
-    build.constant(1)?;
-    build.store(var, op)?;
-    build.chop()
+    build.act(Action::FetchVariable(var))?;
+    build.act(Action::PushConstant(1))?;
+    build.act(Action::StoreVariable(var, op))?;
+    build.act(Action::Chop)
 }

@@ -48,7 +48,7 @@ fn refusal_of_trees(alloc: Global, actions: usize) -> Result<Option<BuildFault>,
 
 #[test]
 fn a_refusal_of_the_builder_is_answered(rt: HostRuntime) -> Result<(), Fail> {
-    // `begin_function`, `constant`, `chop`, `constant` and `give_back`; then comes `end_function`
+    // `BeginFunction`, `PushConstant`, `Chop`, `PushConstant` and `GiveBack`; then comes `EndFunction`
     for actions in 0..5 {
         assert_eq!(rt; refusal(actions), Some(ParseFault::Memory));
         assert_eq!(rt;

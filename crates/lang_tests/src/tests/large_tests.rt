@@ -11,7 +11,7 @@ use tokens::Pieces;
 
 /// What is in the block of a large file's `main`, by its parts, each with the number of its actions.
 const LARGE: &[(&[Part], usize)] = &[
-    // statements: `constant` and `chop`, or `give_back`, for each
+    // statements: `PushConstant` and `Chop`, or `GiveBack`, for each
     (&[Times(b"1;", 1_900)], 2 * 1_900),
     (&[Times(b"return 1;", 1_900)], 2 * 1_900),
     // both branches, and a body that is empty
@@ -31,8 +31,8 @@ const LARGE: &[(&[Part], usize)] = &[
         &[Once(b"1"), Times(b"+2", 1_900), Once(b";")],
         2 + 2 * 1_900,
     ),
-    // calls and right sides inside one another: each level has `begin_call`, two constants, two `logic_middle`, two
-    // `binop` and `end_call`
+    // calls and right sides inside one another: each level has `BeginCall`, two constants, two `LogicMiddle`, two
+    // `ApplyBinop` and `EndCall`
     (
         &[
             Times(b"rand(1||2&&", 60),
@@ -54,7 +54,7 @@ const LARGE: &[(&[Part], usize)] = &[
     ),
 ];
 
-/// The number of a function's own actions: `begin_function`, `constant`, `give_back` and `end_function`.
+/// The number of a function's own actions: `BeginFunction`, `PushConstant`, `GiveBack` and `EndFunction`.
 const OF_A_FUNCTION: usize = 4;
 
 /// Compares what a parse of the source reports with what its trees report then, and how many actions they are.
@@ -68,7 +68,7 @@ fn check_actions(rt: &(impl Abort + AllocGlobal), source: &[u8], count: usize) -
     assert_eq!(rt; parsed.actions.len(), count);
     assert_eq!(rt; replayed.actions.len(), count);
     for (action, again) in parsed.actions.iter().zip(replayed.actions.iter()) {
-        assert_eq!(rt; again, action);
+        assert!(rt; again == action);
     }
     Ok(())
 }

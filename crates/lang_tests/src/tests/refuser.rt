@@ -3,7 +3,7 @@
 ghost use Rattle.std.specs.Prelude.{◌≡◌, ⊤};
 ghost use Rattle.grammar.specs.Building.{Refuses};
 
-use lang::{Build, BuildFault, Callee, Op, StoreOp, Var};
+use lang::{Action, Build, BuildFault};
 
 /// A builder with room for no instruction: the end of each function is too much code for it.
 /// After so many actions before that it is refused memory.
@@ -31,71 +31,10 @@ impl Build for Refuser {
 
     ghost denied = { ⊤ };
 
-    fn constant(&mut self, _value: i32) -> Result<(), BuildFault> {
-        self.take()
-    }
-
-    fn fetch(&mut self, _var: Var) -> Result<(), BuildFault> {
-        self.take()
-    }
-
-    fn store(&mut self, _var: Var, _op: StoreOp) -> Result<(), BuildFault> {
-        self.take()
-    }
-
-    fn binop(&mut self, _op: Op) -> Result<(), BuildFault> {
-        self.take()
-    }
-
-    fn logic_middle(&mut self, _op: Op) -> Result<(), BuildFault> {
-        self.take()
-    }
-
-    fn begin_call(&mut self) -> Result<(), BuildFault> {
-        self.take()
-    }
-
-    fn end_call(&mut self, _callee: Callee) -> Result<(), BuildFault> {
-        self.take()
-    }
-
-    fn if_test(&mut self) -> Result<(), BuildFault> {
-        self.take()
-    }
-
-    fn else_part(&mut self) -> Result<(), BuildFault> {
-        self.take()
-    }
-
-    fn end_if(&mut self) -> Result<(), BuildFault> {
-        self.take()
-    }
-
-    fn begin_while(&mut self) -> Result<(), BuildFault> {
-        self.take()
-    }
-
-    fn while_test(&mut self) -> Result<(), BuildFault> {
-        self.take()
-    }
-
-    fn end_while(&mut self) -> Result<(), BuildFault> {
-        self.take()
-    }
-
-    fn give_back(&mut self) -> Result<(), BuildFault> {
-        self.take()
-    }
-
-    fn chop(&mut self) -> Result<(), BuildFault> {
-        self.take()
-    }
-
-    fn begin_function(&mut self, _number: u8, _parameters: u8) -> Result<(), BuildFault> {
-        self.take()
-    }
-
-    fn end_function(&mut self, _variables: u8) -> Result<(), BuildFault> {
-        Err(BuildFault::Full)
+    fn act(&mut self, action: Action) -> Result<(), BuildFault> {
+        match action {
+            Action::EndFunction(_) => Err(BuildFault::Full),
+            _ => self.take(),
+        }
     }
 }

@@ -1,7 +1,8 @@
 use Rattle.std.proofs.Common.{[], ◌∷◌, ◌≡◌, map, take, sym, subst, arith}
 use Rattle.std.proofs.lemmas.List.{take_all}
 use Rattle.std.proofs.lemmas.Result.{on_ok_weaker}
-use Rattle.grammar.specs.Actions.{BeginCall, EndCall, args_actions, expr_actions, middle}
+use Rattle.grammar.specs.declared.actions.Action.TheVariants.{BeginCall, EndCall}
+use Rattle.grammar.specs.Actions.{args_actions, expr_actions, middle}
 use Rattle.grammar.specs.Building.{AppendsAll, MayFollowAll}
 use Rattle.trees.specs.Trees.{arguments, expr_tree}
 use Rattle.trees.specs.declared.tree.Expr.{the_lemmas}
@@ -42,8 +43,8 @@ tell_expr-tell_expr-requires-in-Binary g t c κs within =
     rw c.deref-in-Binary.ensures (may_front _ _ _ rest) in
     (grind (arith, the_lemmas), (within, may))
 
-pub tell_expr-binop-requires : goal.tell_expr-binop-requires
-tell_expr-binop-requires g t c =
+pub tell_expr-act-requires-in-Binary : goal.tell_expr-act-requires-in-Binary
+tell_expr-act-requires-in-Binary g t c =
     let at = g.B.Build.stands in
     let whole = subst (MayFollowAll (at c.args.build.now)) (actions-Binary _ _ _ _ c.in-Binary.is) c.requires in
     let left : AppendsAll (at c.args.build.now) (at c.tell_expr.new.build)
@@ -65,7 +66,7 @@ tell_expr-returns-in_ok-tell_expr-in-Binary-2-clause-ok g t c =
     let second = at c.tell_expr.new.build in
     let third = at c.tell_middle.new.build in
     let fourth = at c.tell_expr-in-Binary.new.build in
-    let last = at c.binop.new.self in
+    let last = at c.act-in-Binary.new.self in
     let left : AppendsAll first second (expr_actions (expr_tree c.in-Binary.left.value)) =
     rw c.deref.ensures at c.in_ok-tell_expr-in-Binary.ensures.ok in
     let right : AppendsAll third fourth (expr_actions (expr_tree c.in-Binary.right.value)) =
@@ -73,7 +74,7 @@ tell_expr-returns-in_ok-tell_expr-in-Binary-2-clause-ok g t c =
     on_ok_weaker _ (λ applied. subst (AppendsAll first last) (sym (actions-Binary _ _ _ _ c.in-Binary.is))
     (appends_both first second last _ _ left
     (appends_both second third last _ _ c.in_ok-tell_middle-in-Binary.ensures.ok
-    (appends_both third fourth last _ _ right applied)))) c.binop.ensures.ok
+    (appends_both third fourth last _ _ right applied)))) c.act-in-Binary.ensures.ok
 
 -- Assignments.
 
@@ -85,8 +86,8 @@ tell_expr-tell_expr-requires-in-Assign g t c κs within =
     rw c.deref-in-Assign.ensures (may_front _ _ _ whole) in
     (grind (arith, the_lemmas), (within, may))
 
-pub tell_expr-store-requires : goal.tell_expr-store-requires
-tell_expr-store-requires g t c =
+pub tell_expr-act-requires-in-Assign : goal.tell_expr-act-requires-in-Assign
+tell_expr-act-requires-in-Assign g t c =
     let at = g.B.Build.stands in
     let whole = subst (MayFollowAll (at c.args.build.now)) (actions-Assign _ _ _ _ c.in-Assign.is) c.requires in
     let right : AppendsAll (at c.args.build.now) (at c.tell_expr-in-Assign.new.build)
@@ -98,18 +99,18 @@ pub tell_expr-returns-in_ok-tell_expr-in-Assign-clause-ok : goal.tell_expr-retur
 tell_expr-returns-in_ok-tell_expr-in-Assign-clause-ok g t c =
     let at = g.B.Build.stands in
     let first = at c.args.build.now in
-    let last = at c.store.new.self in
+    let last = at c.act-in-Assign.new.self in
     let right : AppendsAll first (at c.tell_expr-in-Assign.new.build) (expr_actions (expr_tree c.in-Assign.right.value))
     =
     rw c.deref-in-Assign.ensures at c.in_ok-tell_expr-in-Assign.ensures.ok in
     on_ok_weaker _
     (λ stored. subst (AppendsAll first last) (sym (actions-Assign _ _ _ _ c.in-Assign.is))
-    (appends_both first (at c.tell_expr-in-Assign.new.build) last _ _ right stored)) c.store.ensures.ok
+    (appends_both first (at c.tell_expr-in-Assign.new.build) last _ _ right stored)) c.act-in-Assign.ensures.ok
 
 -- Calls.
 
-pub tell_expr-begin_call-requires : goal.tell_expr-begin_call-requires
-tell_expr-begin_call-requires g t c =
+pub tell_expr-act-requires-in-Call : goal.tell_expr-act-requires-in-Call
+tell_expr-act-requires-in-Call g t c =
     let at = g.B.Build.stands in
     record {
       follows =
@@ -120,20 +121,20 @@ pub tell_expr-tell_arguments-requires : goal.tell_expr-tell_arguments-requires
 tell_expr-tell_arguments-requires g t c κs within =
     let at = g.B.Build.stands in
     let whole = subst (MayFollowAll (at c.args.build.now)) (actions-Call _ _ _ c.in-Call.is) c.requires in
-    let rest = may_next _ (at c.begin_call.new.self) BeginCall _ c.in_ok-begin_call-in-Call.ensures.ok whole in
-    let may : MayFollowAll (at c.begin_call.new.self)
+    let rest = may_next _ (at c.act-in-Call.new.self) BeginCall _ c.in_ok-act-in-Call.ensures.ok whole in
+    let may : MayFollowAll (at c.act-in-Call.new.self)
     (args_actions (arguments (map expr_tree c.deref-in-Call.result.now))) =
     rw c.deref-in-Call.ensures.value (may_front _ _ _ rest) in
     (grind (arith, the_lemmas), (within, may))
 
-pub tell_expr-end_call-requires : goal.tell_expr-end_call-requires
-tell_expr-end_call-requires g t c =
+pub tell_expr-act-requires-in-Call-2 : goal.tell_expr-act-requires-in-Call-2
+tell_expr-act-requires-in-Call-2 g t c =
     let at = g.B.Build.stands in
     let whole = subst (MayFollowAll (at c.args.build.now)) (actions-Call _ _ _ c.in-Call.is) c.requires in
-    let told : AppendsAll (at c.begin_call.new.self) (at c.tell_arguments.new.build)
+    let told : AppendsAll (at c.act-in-Call.new.self) (at c.tell_arguments.new.build)
     (args_actions (arguments (map expr_tree c.in-Call.arguments.items))) =
     rw c.deref-in-Call.ensures.value at c.in_ok-tell_arguments-in-Call.ensures.ok in
-    let rest = may_next _ (at c.begin_call.new.self) BeginCall _ c.in_ok-begin_call-in-Call.ensures.ok whole in
+    let rest = may_next _ (at c.act-in-Call.new.self) BeginCall _ c.in_ok-act-in-Call.ensures.ok whole in
     record { follows = may_first _ _ _ (may_then _ (at c.tell_arguments.new.build) _ _ told rest) }
 
 pub tell_expr-returns-in_ok-tell_arguments-in-Call-clause-ok :
@@ -141,14 +142,14 @@ pub tell_expr-returns-in_ok-tell_arguments-in-Call-clause-ok :
 tell_expr-returns-in_ok-tell_arguments-in-Call-clause-ok g t c =
     let at = g.B.Build.stands in
     let first = at c.args.build.now in
-    let second = at c.begin_call.new.self in
+    let second = at c.act-in-Call.new.self in
     let third = at c.tell_arguments.new.build in
-    let last = at c.end_call.new.self in
+    let last = at c.act-in-Call-2.new.self in
     let told : AppendsAll second third (args_actions (arguments (map expr_tree c.in-Call.arguments.items))) =
     rw c.deref-in-Call.ensures.value at c.in_ok-tell_arguments-in-Call.ensures.ok in
     on_ok_weaker _ (λ ended. subst (AppendsAll first last) (sym (actions-Call _ _ _ c.in-Call.is))
-    (appends_both first second last (BeginCall ∷ []) _ c.in_ok-begin_call-in-Call.ensures.ok
-    (appends_both second third last _ (EndCall c.in-Call.callee ∷ []) told ended))) c.end_call.ensures.ok
+    (appends_both first second last (BeginCall ∷ []) _ c.in_ok-act-in-Call.ensures.ok
+    (appends_both second third last _ (EndCall c.in-Call.callee ∷ []) told ended))) c.act-in-Call-2.ensures.ok
 
 -- Arguments.
 

@@ -1,7 +1,9 @@
 use Rattle.std.proofs.Common.{[], ◌∷◌, ◌++◌, ◌≡◌, take, sym, subst, arith}
 use Rattle.std.proofs.lemmas.List.{take_all}
 use Rattle.std.proofs.lemmas.Result.{on_ok_weaker}
-use Rattle.grammar.specs.Actions.{BeginWhile, Chop, ElsePart, EndIf, EndWhile, GiveBack, IfTest, WhileTest, body_actions, expr_actions}
+use Rattle.grammar.specs.declared.actions.Action.TheVariants.{BeginWhile, Chop, ElsePart, EndIf, EndWhile, GiveBack}
+use Rattle.grammar.specs.declared.actions.Action.TheVariants.{IfTest, WhileTest}
+use Rattle.grammar.specs.Actions.{body_actions, expr_actions}
 use Rattle.grammar.specs.Building.{AppendsAll, MayFollowAll}
 use Rattle.trees.specs.Trees.{body_tree, expr_tree}
 use Rattle.trees.specs.declared.tree.Statement.{the_lemmas}
@@ -17,8 +19,8 @@ tell_statement-tell_expr-requires g t c =
     (subst (MayFollowAll (g.B.Build.stands c.args.build.now))
     (actions-ExpressionStatement _ _ c.in-ExpressionStatement.is) c.requires)
 
-pub tell_statement-chop-requires : goal.tell_statement-chop-requires
-tell_statement-chop-requires g t c =
+pub tell_statement-act-requires-in-ExpressionStatement : goal.tell_statement-act-requires-in-ExpressionStatement
+tell_statement-act-requires-in-ExpressionStatement g t c =
     let at = g.B.Build.stands in
     let whole =
     subst (MayFollowAll (at c.args.build.now)) (actions-ExpressionStatement _ _ c.in-ExpressionStatement.is)
@@ -34,11 +36,11 @@ pub tell_statement-returns-in_ok-tell_expr-in-ExpressionStatement-clause-ok :
 tell_statement-returns-in_ok-tell_expr-in-ExpressionStatement-clause-ok g t c =
     let at = g.B.Build.stands in
     let first = at c.args.build.now in
-    let last = at c.chop.new.self in
+    let last = at c.act-in-ExpressionStatement.new.self in
     on_ok_weaker _
     (λ dropped. subst (AppendsAll first last) (sym (actions-ExpressionStatement _ _ c.in-ExpressionStatement.is))
     (appends_both first (at c.tell_expr.new.build) last _ (Chop ∷ [])
-    c.in_ok-tell_expr-in-ExpressionStatement.ensures.ok dropped)) c.chop.ensures.ok
+    c.in_ok-tell_expr-in-ExpressionStatement.ensures.ok dropped)) c.act-in-ExpressionStatement.ensures.ok
 
 -- Ifs without a second branch.
 
@@ -59,8 +61,8 @@ tell_statement-tell_statements-requires g t c κs within =
     rw c.deref.ensures.value (may_front _ _ _ rest) in
     (grind (arith, the_lemmas), (within, may))
 
-pub tell_statement-end_if-requires : goal.tell_statement-end_if-requires
-tell_statement-end_if-requires g t c =
+pub tell_statement-act-requires : goal.tell_statement-act-requires
+tell_statement-act-requires g t c =
     let at = g.B.Build.stands in
     let whole = subst (MayFollowAll (at c.args.build.now)) (actions-IfStatement _ _ _ c.in-IfStatement.is) c.requires in
     let rest =
@@ -78,12 +80,12 @@ tell_statement-returns-in_ok-tell_statements-in-IfStatement-clause-ok g t c =
     let first = at c.args.build.now in
     let second = at c.tell_test.new.build in
     let third = at c.tell_statements.new.build in
-    let last = at c.end_if.new.self in
+    let last = at c.act.new.self in
     let told : AppendsAll second third (body_actions (body_tree c.in-IfStatement.branch.items)) =
     rw c.deref.ensures.value at c.in_ok-tell_statements-in-IfStatement.ensures.ok in
     on_ok_weaker _ (λ ended. subst (AppendsAll first last) (sym (actions-IfStatement _ _ _ c.in-IfStatement.is))
     (appends_both first second last _ _ c.in_ok-tell_test-in-IfStatement.ensures.ok
-    (appends_both second third last _ (EndIf ∷ []) told ended))) c.end_if.ensures.ok
+    (appends_both second third last _ (EndIf ∷ []) told ended))) c.act.ensures.ok
 
 -- Ifs with both branches.
 
@@ -108,8 +110,8 @@ tell_statement-tell_statements-requires-in-IfElseStatement g t c κs within =
     rw c.deref-in-IfElseStatement.ensures.value (may_front _ _ _ rest) in
     (grind (arith, the_lemmas), (within, may))
 
-pub tell_statement-else_part-requires : goal.tell_statement-else_part-requires
-tell_statement-else_part-requires g t c =
+pub tell_statement-act-requires-in-IfElseStatement : goal.tell_statement-act-requires-in-IfElseStatement
+tell_statement-act-requires-in-IfElseStatement g t c =
     let at = g.B.Build.stands in
     let whole =
     subst (MayFollowAll (at c.args.build.now)) (actions-IfElseStatement _ _ _ _ c.in-IfElseStatement.is) c.requires in
@@ -138,15 +140,16 @@ tell_statement-tell_statements-requires-in-IfElseStatement-2 g t c κs within =
     (body_actions (body_tree c.in-IfElseStatement.first.items)) =
     rw c.deref-in-IfElseStatement.ensures.value at c.in_ok-tell_statements-in-IfElseStatement.ensures.ok in
     let other =
-    may_next _ (at c.else_part.new.self) ElsePart _ c.in_ok-else_part-in-IfElseStatement.ensures.ok
+    may_next _ (at c.act-in-IfElseStatement.new.self) ElsePart _ c.in_ok-act-in-IfElseStatement.ensures.ok
     (may_then _ (at c.tell_statements-in-IfElseStatement.new.build) _ _ one rest) in
-    let may : MayFollowAll (at c.else_part.new.self) (body_actions (body_tree c.deref-in-IfElseStatement-2.result.now))
+    let may : MayFollowAll (at c.act-in-IfElseStatement.new.self)
+    (body_actions (body_tree c.deref-in-IfElseStatement-2.result.now))
     =
     rw c.deref-in-IfElseStatement-2.ensures.value (may_front _ _ _ other) in
     (grind (arith, the_lemmas), (within, may))
 
-pub tell_statement-end_if-requires-in-IfElseStatement : goal.tell_statement-end_if-requires-in-IfElseStatement
-tell_statement-end_if-requires-in-IfElseStatement g t c =
+pub tell_statement-act-requires-in-IfElseStatement-2 : goal.tell_statement-act-requires-in-IfElseStatement-2
+tell_statement-act-requires-in-IfElseStatement-2 g t c =
     let at = g.B.Build.stands in
     let whole =
     subst (MayFollowAll (at c.args.build.now)) (actions-IfElseStatement _ _ _ _ c.in-IfElseStatement.is) c.requires in
@@ -159,9 +162,9 @@ tell_statement-end_if-requires-in-IfElseStatement g t c =
     (body_actions (body_tree c.in-IfElseStatement.first.items)) =
     rw c.deref-in-IfElseStatement.ensures.value at c.in_ok-tell_statements-in-IfElseStatement.ensures.ok in
     let other =
-    may_next _ (at c.else_part.new.self) ElsePart _ c.in_ok-else_part-in-IfElseStatement.ensures.ok
+    may_next _ (at c.act-in-IfElseStatement.new.self) ElsePart _ c.in_ok-act-in-IfElseStatement.ensures.ok
     (may_then _ (at c.tell_statements-in-IfElseStatement.new.build) _ _ one rest) in
-    let two : AppendsAll (at c.else_part.new.self) (at c.tell_statements-in-IfElseStatement-2.new.build)
+    let two : AppendsAll (at c.act-in-IfElseStatement.new.self) (at c.tell_statements-in-IfElseStatement-2.new.build)
     (body_actions (body_tree c.in-IfElseStatement.second.items)) =
     rw c.deref-in-IfElseStatement-2.ensures.value at c.in_ok-tell_statements-in-IfElseStatement-2.ensures.ok in
     record
@@ -174,22 +177,22 @@ tell_statement-returns-in_ok-tell_statements-in-IfElseStatement-2-clause-ok g t 
     let first = at c.args.build.now in
     let second = at c.tell_test-in-IfElseStatement.new.build in
     let third = at c.tell_statements-in-IfElseStatement.new.build in
-    let fourth = at c.else_part.new.self in
+    let fourth = at c.act-in-IfElseStatement.new.self in
     let fifth = at c.tell_statements-in-IfElseStatement-2.new.build in
-    let last = at c.end_if-in-IfElseStatement.new.self in
+    let last = at c.act-in-IfElseStatement-2.new.self in
     let one : AppendsAll (at c.tell_test-in-IfElseStatement.new.build)
     (at c.tell_statements-in-IfElseStatement.new.build)
     (body_actions (body_tree c.in-IfElseStatement.first.items)) =
     rw c.deref-in-IfElseStatement.ensures.value at c.in_ok-tell_statements-in-IfElseStatement.ensures.ok in
-    let two : AppendsAll (at c.else_part.new.self) (at c.tell_statements-in-IfElseStatement-2.new.build)
+    let two : AppendsAll (at c.act-in-IfElseStatement.new.self) (at c.tell_statements-in-IfElseStatement-2.new.build)
     (body_actions (body_tree c.in-IfElseStatement.second.items)) =
     rw c.deref-in-IfElseStatement-2.ensures.value at c.in_ok-tell_statements-in-IfElseStatement-2.ensures.ok in
     on_ok_weaker _ (λ ended. subst (AppendsAll first last)
     (sym (actions-IfElseStatement _ _ _ _ c.in-IfElseStatement.is))
     (appends_both first second last _ _ c.in_ok-tell_test-in-IfElseStatement.ensures.ok (appends_both second third last
     _ _ one
-    (appends_both third fourth last (ElsePart ∷ []) _ c.in_ok-else_part-in-IfElseStatement.ensures.ok
-    (appends_both fourth fifth last _ (EndIf ∷ []) two ended))))) c.end_if-in-IfElseStatement.ensures.ok
+    (appends_both third fourth last (ElsePart ∷ []) _ c.in_ok-act-in-IfElseStatement.ensures.ok
+    (appends_both fourth fifth last _ (EndIf ∷ []) two ended))))) c.act-in-IfElseStatement-2.ensures.ok
 
 -- Loops.
 
@@ -210,8 +213,8 @@ tell_statement-tell_statements-requires-in-While g t c κs within =
     rw c.deref-in-While.ensures.value (may_front _ _ _ rest) in
     (grind (arith, the_lemmas), (within, may))
 
-pub tell_statement-end_while-requires : goal.tell_statement-end_while-requires
-tell_statement-end_while-requires g t c =
+pub tell_statement-act-requires-in-While : goal.tell_statement-act-requires-in-While
+tell_statement-act-requires-in-While g t c =
     let at = g.B.Build.stands in
     let whole = subst (MayFollowAll (at c.args.build.now)) (actions-While _ _ _ c.in-While.is) c.requires in
     let rest =
@@ -230,12 +233,12 @@ tell_statement-returns-in_ok-tell_statements-in-While-clause-ok g t c =
     let first = at c.args.build.now in
     let second = at c.tell_loop_test.new.build in
     let third = at c.tell_statements-in-While.new.build in
-    let last = at c.end_while.new.self in
+    let last = at c.act-in-While.new.self in
     let told : AppendsAll second third (body_actions (body_tree c.in-While.body.items)) =
     rw c.deref-in-While.ensures.value at c.in_ok-tell_statements-in-While.ensures.ok in
     on_ok_weaker _ (λ ended. subst (AppendsAll first last) (sym (actions-While _ _ _ c.in-While.is))
     (appends_both first second last _ _ c.in_ok-tell_loop_test-in-While.ensures.ok
-    (appends_both second third last _ (EndWhile ∷ []) told ended))) c.end_while.ensures.ok
+    (appends_both second third last _ (EndWhile ∷ []) told ended))) c.act-in-While.ensures.ok
 
 -- Returns.
 
@@ -245,8 +248,8 @@ tell_statement-tell_expr-requires-in-Return g t c =
     (subst (MayFollowAll (g.B.Build.stands c.args.build.now))
     (actions-Return _ _ c.in-Return.is) c.requires)
 
-pub tell_statement-give_back-requires : goal.tell_statement-give_back-requires
-tell_statement-give_back-requires g t c =
+pub tell_statement-act-requires-in-Return : goal.tell_statement-act-requires-in-Return
+tell_statement-act-requires-in-Return g t c =
     let at = g.B.Build.stands in
     let whole =
     subst (MayFollowAll (at c.args.build.now)) (actions-Return _ _ c.in-Return.is)
@@ -262,11 +265,11 @@ pub tell_statement-returns-in_ok-tell_expr-in-Return-clause-ok :
 tell_statement-returns-in_ok-tell_expr-in-Return-clause-ok g t c =
     let at = g.B.Build.stands in
     let first = at c.args.build.now in
-    let last = at c.give_back.new.self in
+    let last = at c.act-in-Return.new.self in
     on_ok_weaker _
     (λ returned. subst (AppendsAll first last) (sym (actions-Return _ _ c.in-Return.is))
     (appends_both first (at c.tell_expr-in-Return.new.build) last _ (GiveBack ∷ [])
-    c.in_ok-tell_expr-in-Return.ensures.ok returned)) c.give_back.ensures.ok
+    c.in_ok-tell_expr-in-Return.ensures.ok returned)) c.act-in-Return.ensures.ok
 
 -- Rows of statements.
 

@@ -1,23 +1,25 @@
 use Rattle.std.proofs.Common.{[], ◌∷◌, sym, subst}
 use Rattle.std.proofs.lemmas.Result.{on_ok_weaker}
-use Rattle.grammar.specs.Actions.{BeginFunction, EndFunction, body_actions, last_return}
+use Rattle.grammar.specs.declared.actions.Action.TheVariants.{BeginFunction, EndFunction}
+use Rattle.grammar.specs.Actions.{body_actions, last_return}
 use Rattle.grammar.specs.Building.{AppendsAll, MayFollowAll}
 use Rattle.trees.specs.Replaying.{IsOverWith}
 use Rattle.trees.specs.Trees.{body_tree}
 use Rattle.trees.proofs.ReplayLaws.{actions-Function, may_next, over_finish, over_then}
 use Rattle.trees.proofs.replay.tell_function.Goals as goal
+use Rattle.grammar.proofs.Judging.{measured_denied, measured_over}
 use Rattle.grammar.proofs.StandingLaws.{appends_both, may_first, may_front, may_then}
 
-pub begin_function-requires : goal.begin_function-requires
-begin_function-requires g c = record { follows = may_first _ _ _ c.requires }
+pub act-requires : goal.act-requires
+act-requires g c = record { follows = may_first _ _ _ c.requires }
 
 pub tell_statements-requires : goal.tell_statements-requires
 tell_statements-requires g c =
     let at = g.B.Build.stands in
     let whole = subst (MayFollowAll (at c.args.build.now)) (actions-Function c.args.function.now) c.requires in
     let inside =
-    may_next _ (at c.begin_function.new.self)
-    (BeginFunction c.args.function.now.number c.args.function.now.parameters) _ c.in_ok-begin_function.ensures.ok
+    may_next _ (at c.act.new.self)
+    (BeginFunction c.args.function.now.number c.args.function.now.parameters) _ c.in_ok-act.ensures.ok
     whole in
     rw c.deref.ensures.value (may_front _ _ _ inside)
 
@@ -26,23 +28,23 @@ tell_last_return-requires g c =
     let at = g.B.Build.stands in
     let whole = subst (MayFollowAll (at c.args.build.now)) (actions-Function c.args.function.now) c.requires in
     let inside =
-    may_next _ (at c.begin_function.new.self)
-    (BeginFunction c.args.function.now.number c.args.function.now.parameters) _ c.in_ok-begin_function.ensures.ok
+    may_next _ (at c.act.new.self)
+    (BeginFunction c.args.function.now.number c.args.function.now.parameters) _ c.in_ok-act.ensures.ok
     whole in
-    let told : AppendsAll (at c.begin_function.new.self) (at c.tell_statements.new.build)
+    let told : AppendsAll (at c.act.new.self) (at c.tell_statements.new.build)
     (body_actions (body_tree c.args.function.now.body.items)) =
     rw c.deref.ensures.value at c.in_ok-tell_statements.ensures.ok in
     may_front _ last_return _ (may_then _ (at c.tell_statements.new.build) _ _ told inside)
 
-pub end_function-requires : goal.end_function-requires
-end_function-requires g c =
+pub act-requires-2 : goal.act-requires-2
+act-requires-2 g c =
     let at = g.B.Build.stands in
     let whole = subst (MayFollowAll (at c.args.build.now)) (actions-Function c.args.function.now) c.requires in
     let inside =
-    may_next _ (at c.begin_function.new.self)
-    (BeginFunction c.args.function.now.number c.args.function.now.parameters) _ c.in_ok-begin_function.ensures.ok
+    may_next _ (at c.act.new.self)
+    (BeginFunction c.args.function.now.number c.args.function.now.parameters) _ c.in_ok-act.ensures.ok
     whole in
-    let told : AppendsAll (at c.begin_function.new.self) (at c.tell_statements.new.build)
+    let told : AppendsAll (at c.act.new.self) (at c.tell_statements.new.build)
     (body_actions (body_tree c.args.function.now.body.items)) =
     rw c.deref.ensures.value at c.in_ok-tell_statements.ensures.ok in
     let end = may_then _ (at c.tell_statements.new.build) _ _ told inside in
@@ -56,29 +58,37 @@ pub returns-clause-ok : goal.returns-clause-ok
 returns-clause-ok g c =
     let at = g.B.Build.stands in
     let first = at c.args.build.now in
-    let second = at c.begin_function.new.self in
+    let second = at c.act.new.self in
     let third = at c.tell_statements.new.build in
     let fourth = at c.tell_last_return.new.build in
-    let last = at c.end_function.new.self in
+    let last = at c.act-2.new.self in
     let told : AppendsAll second third (body_actions (body_tree c.args.function.now.body.items)) =
     rw c.deref.ensures.value at c.in_ok-tell_statements.ensures.ok in
     on_ok_weaker _ (λ ended. subst (AppendsAll first last) (sym (actions-Function c.args.function.now))
     (appends_both first second last (BeginFunction c.args.function.now.number c.args.function.now.parameters ∷ []) _
-    c.in_ok-begin_function.ensures.ok (appends_both second third last _ _ told
+    c.in_ok-act.ensures.ok (appends_both second third last _ _ told
     (appends_both third fourth last last_return (EndFunction c.args.function.now.variables ∷ [])
-    c.in_ok-tell_last_return.ensures.ok ended)))) c.end_function.ensures.ok
+    c.in_ok-tell_last_return.ensures.ok ended)))) c.act-2.ensures.ok
 
 pub returns-clause-full : goal.returns-clause-full
 returns-clause-full g c =
     let at = g.B.Build.stands in
     let first = at c.args.build.now in
-    let second = at c.begin_function.new.self in
+    let second = at c.act.new.self in
     let third = at c.tell_statements.new.build in
     let fourth = at c.tell_last_return.new.build in
     let told : AppendsAll second third (body_actions (body_tree c.args.function.now.body.items)) =
     rw c.deref.ensures.value at c.in_ok-tell_statements.ensures.ok in
     λ full. subst (IsOverWith first) (sym (actions-Function c.args.function.now))
     (over_then first second (BeginFunction c.args.function.now.number c.args.function.now.parameters ∷ []) _
-    c.in_ok-begin_function.ensures.ok (over_then second third _ _ told
+    c.in_ok-act.ensures.ok (over_then second third _ _ told
     (over_then third fourth last_return _ c.in_ok-tell_last_return.ensures.ok
-    (over_finish fourth c.args.function.now.variables (c.end_function.ensures.full full)))))
+    (over_finish fourth c.args.function.now.variables
+    (measured_over c.act-2.result g.B.Build.denied (at c.tell_last_return.new.build) c.act-2.ensures.judged
+    full)))))
+
+pub returns-clause-memory : goal.returns-clause-memory
+returns-clause-memory g c =
+    λ memory.
+    measured_denied c.act-2.result g.B.Build.denied (g.B.Build.stands c.tell_last_return.new.build)
+    c.act-2.ensures.judged memory

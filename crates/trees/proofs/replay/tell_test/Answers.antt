@@ -1,6 +1,7 @@
 use Rattle.std.proofs.Common.{[], ◌∷◌}
 use Rattle.std.proofs.lemmas.Result.{on_ok_weaker}
-use Rattle.grammar.specs.Actions.{IfTest, expr_actions}
+use Rattle.grammar.specs.declared.actions.Action.TheVariants.{IfTest}
+use Rattle.grammar.specs.Actions.{expr_actions}
 use Rattle.trees.specs.Trees.{expr_tree}
 use Rattle.trees.proofs.replay.tell_test.Goals as goal
 use Rattle.grammar.proofs.StandingLaws.{appends_both, may_first, may_front, may_then}
@@ -8,8 +9,8 @@ use Rattle.grammar.proofs.StandingLaws.{appends_both, may_first, may_front, may_
 pub tell_expr-requires : goal.tell_expr-requires
 tell_expr-requires g c = may_front _ _ (IfTest ∷ []) c.requires
 
-pub if_test-requires : goal.if_test-requires
-if_test-requires g c =
+pub act-requires : goal.act-requires
+act-requires g c =
     let at = g.B.Build.stands in
     record {
       follows =
@@ -22,6 +23,6 @@ pub returns-clause-ok : goal.returns-clause-ok
 returns-clause-ok g c =
     let at = g.B.Build.stands in
     on_ok_weaker _
-    (appends_both (at c.args.build.now) (at c.tell_expr.new.build) (at c.if_test.new.self)
+    (appends_both (at c.args.build.now) (at c.tell_expr.new.build) (at c.act.new.self)
     (expr_actions (expr_tree c.args.condition.now)) (IfTest ∷ []) c.in_ok-tell_expr.ensures.ok)
-    c.if_test.ensures.ok
+    c.act.ensures.ok

@@ -228,8 +228,8 @@ operand-returns-in_err-levels-clause-parses g t c =
           λ device. grown_behind _ _ _ _ c.in_ok-tell_middle.ensures.told (c.in_err-levels.ensures.parses.grown device);
     })
 
-pub operand-binop-requires : goal.operand-binop-requires
-operand-binop-requires g t c =
+pub operand-act-requires : goal.operand-act-requires
+operand-act-requires g t c =
     record {
       follows =
           apply_follows _ _ _ c.args.self.now.depth c.args.binary.level c.args.binary.op _
@@ -243,7 +243,7 @@ pub operand-returns-clause-parses : goal.operand-returns-clause-parses
 operand-returns-clause-parses g t c = (
   operand_adds _ _ _ _ c.args.self.now.parser.place _ _ c.args.self.now.depth c.args.binary.level c.args.binary.op
       (at_its_own _ c.args.binary c.requires.at.is) c.in_ok-advance.ensures.consumes c.in_ok-tell_middle.ensures.told
-      c.in_ok-levels.ensures.parses.0 c.in_ok-binop.ensures.ok c.in_ok-levels.ensures.kept.parser.ready.sound,
+      c.in_ok-levels.ensures.parses.0 c.in_ok-act.ensures.ok c.in_ok-levels.ensures.kept.parser.ready.sound,
   c.in_ok-levels.ensures.parses.1,
 )
 
@@ -269,8 +269,8 @@ call-returns-in_err-callee-clause-parses g t c =
       grown = λ device. grown_nothing _;
     })
 
-pub call-begin_call-requires : goal.call-begin_call-requires
-call-begin_call-requires g t c =
+pub call-act-requires : goal.call-act-requires
+call-act-requires g t c =
     let shallow : c.args.self.now.depth < 64 = c.in_ok-check_level.ensures.ok in
     record { follows = begin_follows _ c.args.self.now.depth shallow c.requires.at.builder }
 
@@ -283,7 +283,7 @@ call-returns-in_err-expect-clause-parses g t c =
     rw (p.1, p.2) (record {
       refused = call_open_refused _ c.args.self.now.parser.place _ c.args.self.now.depth c.in_ok-callee.callee _
           c.in_err-expect.field-0.0 is c.in_ok-callee.ensures.matches c.in_err-expect.ensures.matches;
-      grown = λ device. grown _ _ _ c.in_ok-begin_call.ensures.ok;
+      grown = λ device. grown _ _ _ c.in_ok-act.ensures.ok;
     })
 
 pub call-returns-in_err-arguments-clause-parses : goal.call-returns-in_err-arguments-clause-parses
@@ -297,7 +297,7 @@ call-returns-in_err-arguments-clause-parses g t c =
           c.in_err-arguments.field-0.0 is c.in_ok-callee.ensures.matches c.in_ok-expect.ensures.matches
           c.in_err-arguments.ensures.parses.refused;
       grown =
-          λ device. grown_behind _ _ _ _ c.in_ok-begin_call.ensures.ok (c.in_err-arguments.ensures.parses.grown device);
+          λ device. grown_behind _ _ _ _ c.in_ok-act.ensures.ok (c.in_err-arguments.ensures.parses.grown device);
     })
 
 pub call-returns-in_err-expect-2-clause-parses : goal.call-returns-in_err-expect-2-clause-parses
@@ -308,24 +308,24 @@ call-returns-in_err-expect-2-clause-parses g t c =
     let p = err_from_is_err_and c.from_residual-in_err-expect-2.result c.from_residual-in_err-expect-2.ensures.1 in
     rw (p.1, p.2) (record {
       refused =
-          call_close_refused _ (g.B.Build.stands c.begin_call.new.self)
+          call_close_refused _ (g.B.Build.stands c.act.new.self)
           (g.B.Build.stands c.arguments.new.self.build.now) c.args.self.now.parser.place
           c.callee.new.self.place c.expect.new.self.place c.arguments.new.self.parser.place c.args.self.now.depth
           c.in_ok-callee.callee _
           c.in_err-expect-2.field-0.0 is c.in_ok-callee.ensures.matches c.in_ok-expect.ensures.matches
           c.in_ok-arguments.ensures.parses c.in_err-expect-2.ensures.matches;
       grown =
-          λ device. grown_behind _ _ _ _ c.in_ok-begin_call.ensures.ok
+          λ device. grown_behind _ _ _ _ c.in_ok-act.ensures.ok
           (grown _ _ _ c.in_ok-arguments.ensures.parses.added);
     })
 
-pub call-end_call-requires : goal.call-end_call-requires
-call-end_call-requires g t c =
+pub call-act-requires-2 : goal.call-act-requires-2
+call-act-requires-2 g t c =
     let shallow : c.args.self.now.depth < 64 = c.in_ok-check_level.ensures.ok in
     record {
       follows =
           end_follows _ _ _ c.args.self.now.depth c.in_ok-callee.callee c.in_ok-arguments.ensures.parses.tree shallow
-          c.requires.at.builder c.in_ok-begin_call.ensures.ok c.in_ok-callee.ensures.within
+          c.requires.at.builder c.in_ok-act.ensures.ok c.in_ok-callee.ensures.within
           c.in_ok-arguments.ensures.parses.numbered c.in_ok-arguments.ensures.parses.narrow
           c.in_ok-arguments.ensures.parses.added;
     }
@@ -335,13 +335,13 @@ call-returns-clause-parses g t c =
     let shallow : c.args.self.now.depth < 64 = c.in_ok-check_level.ensures.ok in
     let is : IsCall c.args.self.now.parser.place c.args.self.now.depth =
     record { named = is_named _ c.requires.at.is.named; fits = c.requires.at.is.is; shallow = shallow } in
-    call_adds (g.B.Build.stands c.args.self.now.build.now) (g.B.Build.stands c.begin_call.new.self)
+    call_adds (g.B.Build.stands c.args.self.now.build.now) (g.B.Build.stands c.act.new.self)
     (g.B.Build.stands c.arguments.new.self.build.now)
-    (g.B.Build.stands c.end_call.new.self) c.args.self.now.parser.place c.callee.new.self.place c.expect.new.self.place
+    (g.B.Build.stands c.act-2.new.self) c.args.self.now.parser.place c.callee.new.self.place c.expect.new.self.place
     c.arguments.new.self.parser.place c.expect-2.new.self.place c.args.self.now.depth c.in_ok-callee.callee is
     c.in_ok-callee.ensures.matches c.in_ok-expect.ensures.matches c.in_ok-arguments.ensures.parses
     c.in_ok-expect-2.ensures.matches c.in_ok-callee.ensures.within c.in_ok-expect-2.ensures.kept.ready.sound
-    c.in_ok-begin_call.ensures.ok c.in_ok-end_call.ensures.ok
+    c.in_ok-act.ensures.ok c.in_ok-act-2.ensures.ok
 
 pub arguments-returns-then-is_punctuator-clause-parses : goal.arguments-returns-then-is_punctuator-clause-parses
 arguments-returns-then-is_punctuator-clause-parses g t c =
@@ -504,8 +504,8 @@ assignment-returns-in_err-right_side-clause-parses g t c =
       grown = c.in_err-right_side.ensures.parses.grown;
     })
 
-pub assignment-store-requires : goal.assignment-store-requires
-assignment-store-requires g t c =
+pub assignment-act-requires : goal.assignment-act-requires
+assignment-act-requires g t c =
     let shallow : c.args.self.now.depth < 64 = c.in_ok-check_level.ensures.ok in
     record {
       follows =
@@ -522,7 +522,7 @@ assignment-returns-clause-parses g t c =
     record { named = is_named _ c.requires.at.is.named; is = c.requires.at.is.is } in
     assignment_adds _ _ _ c.args.self.now.parser.place _ _ _ c.args.self.now.depth c.args.op c.in_ok-var.var is shallow
     c.in_ok-var.ensures.matches c.in_ok-advance.ensures.consumes c.in_ok-right_side.ensures.parses
-    c.in_ok-var.ensures.within c.in_ok-right_side.ensures.kept.parser.ready.sound c.in_ok-store.ensures.ok
+    c.in_ok-var.ensures.within c.in_ok-right_side.ensures.kept.parser.ready.sound c.in_ok-act.ensures.ok
 
 pub right_side-returns-in-None-clause-parses : goal.right_side-returns-in-None-clause-parses
 right_side-returns-in-None-clause-parses g t c =
@@ -556,10 +556,10 @@ arguments-expression-requires-in-loop-self g t c κs within =
 pub call-arguments-requires : goal.call-arguments-requires
 call-arguments-requires g t c κs within =
     let shallow : c.args.self.now.depth < 64 = c.in_ok-check_level.ensures.ok in
-    let opened : HasRoom (g.B.Build.stands c.begin_call.new.self) (room (c.args.self.now.depth + 1) 1) =
-    arguments_room (g.B.Build.stands c.args.self.now.build.now) (g.B.Build.stands c.begin_call.new.self)
+    let opened : HasRoom (g.B.Build.stands c.act.new.self) (room (c.args.self.now.depth + 1) 1) =
+    arguments_room (g.B.Build.stands c.args.self.now.build.now) (g.B.Build.stands c.act.new.self)
     c.args.self.now.depth shallow
-    c.requires.at.builder c.in_ok-begin_call.ensures.ok in
+    c.requires.at.builder c.in_ok-act.ensures.ok in
     search (rules, opened)
 
 pub levels-operand-requires : goal.levels-operand-requires
@@ -757,12 +757,12 @@ operand-returns-in_err-tell_middle-clause-parses g t c =
       grown = memory_grown _ _;
     })
 
-pub operand-returns-in_err-binop-clause-parses : goal.operand-returns-in_err-binop-clause-parses
-operand-returns-in_err-binop-clause-parses g t c =
-    let p = err_from_is_err_and c.from_residual-in_err-binop.result c.from_residual-in_err-binop.ensures.1 in
+pub operand-returns-in_err-act-clause-parses : goal.operand-returns-in_err-act-clause-parses
+operand-returns-in_err-act-clause-parses g t c =
+    let p = err_from_is_err_and c.from_residual-in_err-act.result c.from_residual-in_err-act.ensures.1 in
     rw (p.1, p.2) (record {
       refused = (
-        refuses c.in_err-binop.field-0.0 _ c.in_err-binop.ensures.memory,
+        refuses c.in_err-act.field-0.0 _ c.in_err-act.ensures.judged,
         λ left. halts _ _ _ _ _ _ _ _
             ((operand_adds _ _ _ unknown c.args.self.now.parser.place _ _ c.args.self.now.depth c.args.binary.level
             c.args.binary.op (at_its_own _ c.args.binary c.requires.at.is)
@@ -774,52 +774,52 @@ operand-returns-in_err-binop-clause-parses g t c =
       grown = memory_grown _ _;
     })
 
-pub call-returns-in_err-begin_call-clause-parses : goal.call-returns-in_err-begin_call-clause-parses
-call-returns-in_err-begin_call-clause-parses g t c =
+pub call-returns-in_err-act-clause-parses : goal.call-returns-in_err-act-clause-parses
+call-returns-in_err-act-clause-parses g t c =
     let shallow : c.args.self.now.depth < 64 = c.in_ok-check_level.ensures.ok in
     let is : IsCall c.args.self.now.parser.place c.args.self.now.depth =
     record { named = is_named _ c.requires.at.is.named; fits = c.requires.at.is.is; shallow = shallow } in
-    let p = err_from_is_err_and c.from_residual-in_err-begin_call.result c.from_residual-in_err-begin_call.ensures.1 in
+    let p = err_from_is_err_and c.from_residual-in_err-act.result c.from_residual-in_err-act.ensures.1 in
     rw (p.1, p.2) (record {
       refused = (
-        refuses c.in_err-begin_call.field-0.0 _ c.in_err-begin_call.ensures.memory,
+        refuses c.in_err-act.field-0.0 _ c.in_err-act.ensures.judged,
         callee_halts _ c.args.self.now.parser.place _ c.args.self.now.depth c.in_ok-callee.callee is
             c.in_ok-callee.ensures.matches c.in_ok-callee.ensures.kept.ready.near,
       );
       grown = memory_grown _ _;
     })
 
-pub call-returns-in_err-end_call-clause-parses : goal.call-returns-in_err-end_call-clause-parses
-call-returns-in_err-end_call-clause-parses g t c =
+pub call-returns-in_err-act-2-clause-parses : goal.call-returns-in_err-act-2-clause-parses
+call-returns-in_err-act-2-clause-parses g t c =
     let shallow : c.args.self.now.depth < 64 = c.in_ok-check_level.ensures.ok in
     let is : IsCall c.args.self.now.parser.place c.args.self.now.depth =
     record { named = is_named _ c.requires.at.is.named; fits = c.requires.at.is.is; shallow = shallow } in
-    let p = err_from_is_err_and c.from_residual-in_err-end_call.result c.from_residual-in_err-end_call.ensures.1 in
+    let p = err_from_is_err_and c.from_residual-in_err-act-2.result c.from_residual-in_err-act-2.ensures.1 in
     rw (p.1, p.2) (record {
       refused = (
-        refuses c.in_err-end_call.field-0.0 _ c.in_err-end_call.ensures.memory,
+        refuses c.in_err-act-2.field-0.0 _ c.in_err-act-2.ensures.judged,
         halts _ _ _ _ _ _ _ _
-            (call_adds (g.B.Build.stands c.args.self.now.build.now) (g.B.Build.stands c.begin_call.new.self)
+            (call_adds (g.B.Build.stands c.args.self.now.build.now) (g.B.Build.stands c.act.new.self)
             (g.B.Build.stands c.arguments.new.self.build.now)
             unknown c.args.self.now.parser.place c.callee.new.self.place c.expect.new.self.place
             c.arguments.new.self.parser.place c.expect-2.new.self.place c.args.self.now.depth c.in_ok-callee.callee is
             c.in_ok-callee.ensures.matches c.in_ok-expect.ensures.matches c.in_ok-arguments.ensures.parses
             c.in_ok-expect-2.ensures.matches c.in_ok-callee.ensures.within
-            c.in_ok-expect-2.ensures.kept.ready.sound c.in_ok-begin_call.ensures.ok (λ profile acts h. tt)).derives
+            c.in_ok-expect-2.ensures.kept.ready.sound c.in_ok-act.ensures.ok (λ profile acts h. tt)).derives
             c.in_ok-expect-2.ensures.kept.ready.near,
       );
       grown = memory_grown _ _;
     })
 
-pub assignment-returns-in_err-store-clause-parses : goal.assignment-returns-in_err-store-clause-parses
-assignment-returns-in_err-store-clause-parses g t c =
+pub assignment-returns-in_err-act-clause-parses : goal.assignment-returns-in_err-act-clause-parses
+assignment-returns-in_err-act-clause-parses g t c =
     let shallow : c.args.self.now.depth < 64 = c.in_ok-check_level.ensures.ok in
     let is : IsAssignment c.args.self.now.parser.place c.args.op =
     record { named = is_named _ c.requires.at.is.named; is = c.requires.at.is.is } in
-    let p = err_from_is_err_and c.from_residual-in_err-store.result c.from_residual-in_err-store.ensures.1 in
+    let p = err_from_is_err_and c.from_residual-in_err-act.result c.from_residual-in_err-act.ensures.1 in
     rw (p.1, p.2) (record {
       refused = (
-        refuses c.in_err-store.field-0.0 _ c.in_err-store.ensures.memory,
+        refuses c.in_err-act.field-0.0 _ c.in_err-act.ensures.judged,
         halts _ _ _ _ _ _ _ _
             (assignment_adds _ _ unknown c.args.self.now.parser.place _ _ _ c.args.self.now.depth c.args.op
             c.in_ok-var.var

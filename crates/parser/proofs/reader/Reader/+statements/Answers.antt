@@ -150,13 +150,13 @@ branch-returns-in_err-statement-clause-parses g t c =
           stops;
       grown =
           λ device. grown_behind _ _ _ _ c.in_ok-condition.ensures.parses.added
-          (grown_behind _ _ _ _ c.in_ok-if_test.ensures.ok (c.in_err-statement.ensures.parses.grown device));
+          (grown_behind _ _ _ _ c.in_ok-act.ensures.ok (c.in_err-statement.ensures.parses.grown device));
     })
 
 pub branch-returns-in_err-else_part-clause-parses : goal.branch-returns-in_err-else_part-clause-parses
 branch-returns-in_err-else_part-clause-parses g t c =
     let body =
-    body_at (g.B.Build.stands c.if_test.new.self) (g.B.Build.stands c.statement.new.self.build.now) _
+    body_at (g.B.Build.stands c.act.new.self) (g.B.Build.stands c.statement.new.self.build.now) _
     (c.args.self.now.depth + 1)
     (Part Statement ∷ []) [] c.condition.new.self.parser.place c.statement.new.self.parser.place
     c.in_ok-condition.ensures.kept.depth c.in_ok-statement.ensures.parses in
@@ -176,13 +176,13 @@ branch-returns-in_err-else_part-clause-parses g t c =
           (second_fails c.args.self.now.parser.place c.advance.new.self.place c.condition.new.self.parser.place
           c.statement.new.self.parser.place
           (g.B.Build.stands c.args.self.now.build.now) (g.B.Build.stands c.condition.new.self.build.now)
-          (g.B.Build.stands c.if_test.new.self) (g.B.Build.stands c.statement.new.self.build.now)
+          (g.B.Build.stands c.act.new.self) (g.B.Build.stands c.statement.new.self.build.now)
           c.args.self.now.depth begun c.in_ok-condition.ensures.parses
           c.in_ok-condition.ensures.kept.parser.ready.sound body) (λ same. same)
           stops;
       grown =
           λ device. grown_behind _ _ _ _ c.in_ok-condition.ensures.parses.added
-          (grown_behind _ _ _ _ c.in_ok-if_test.ensures.ok
+          (grown_behind _ _ _ _ c.in_ok-act.ensures.ok
           (grown_behind _ _ _ _ c.in_ok-statement.ensures.parses.added
           (c.in_err-else_part.ensures.parses.grown device)));
     })
@@ -190,7 +190,7 @@ branch-returns-in_err-else_part-clause-parses g t c =
 pub branch-returns-clause-parses : goal.branch-returns-clause-parses
 branch-returns-clause-parses g t c =
     let body =
-    body_at (g.B.Build.stands c.if_test.new.self) (g.B.Build.stands c.statement.new.self.build.now) _
+    body_at (g.B.Build.stands c.act.new.self) (g.B.Build.stands c.statement.new.self.build.now) _
     (c.args.self.now.depth + 1)
     (Part Statement ∷ []) [] c.condition.new.self.parser.place c.statement.new.self.parser.place
     c.in_ok-condition.ensures.kept.depth c.in_ok-statement.ensures.parses in
@@ -205,11 +205,11 @@ branch-returns-clause-parses g t c =
     c.in_ok-advance.ensures.consumes in
     branch_adds c.args.self.now.parser.place c.advance.new.self.place c.condition.new.self.parser.place
     c.statement.new.self.parser.place c.else_part.new.self.parser.place (g.B.Build.stands c.args.self.now.build.now)
-    (g.B.Build.stands c.condition.new.self.build.now) (g.B.Build.stands c.if_test.new.self)
+    (g.B.Build.stands c.condition.new.self.build.now) (g.B.Build.stands c.act.new.self)
     (g.B.Build.stands c.statement.new.self.build.now) (g.B.Build.stands c.else_part.new.self.build.now)
-    (g.B.Build.stands c.end_if.new.self) c.args.self.now.depth shallow begun c.in_ok-condition.ensures.parses
-    c.in_ok-condition.ensures.kept.parser.ready.sound c.in_ok-if_test.ensures.ok body
-    second c.in_ok-else_part.ensures.kept.parser.ready.sound c.in_ok-end_if.ensures.ok
+    (g.B.Build.stands c.act-2.new.self) c.args.self.now.depth shallow begun c.in_ok-condition.ensures.parses
+    c.in_ok-condition.ensures.kept.parser.ready.sound c.in_ok-act.ensures.ok body
+    second c.in_ok-else_part.ensures.kept.parser.ready.sound c.in_ok-act-2.ensures.ok
 
 -- Loops.
 
@@ -234,7 +234,7 @@ repetition-returns-in_err-advance-clause-parses g t c =
           (while_stops _ c.args.self.now.depth c.requires.at.ready.sound c.requires.at.is shallow)
           (λ never. absurd never)
           c.in_err-advance.ensures.consumes;
-      grown = λ device. grown _ _ _ c.in_ok-begin_while.ensures.ok;
+      grown = λ device. grown _ _ _ c.in_ok-act.ensures.ok;
     })
 
 pub repetition-returns-in_err-condition-clause-parses : goal.repetition-returns-in_err-condition-clause-parses
@@ -251,7 +251,7 @@ repetition-returns-in_err-condition-clause-parses g t c =
           (Make Repeat ∷ Close ∷ []) while_closes begun) (λ same. same)
           c.in_err-condition.ensures.parses.refused;
       grown =
-          λ device. grown_behind _ _ _ _ c.in_ok-begin_while.ensures.ok
+          λ device. grown_behind _ _ _ _ c.in_ok-act.ensures.ok
           (c.in_err-condition.ensures.parses.grown device);
     })
 
@@ -270,20 +270,20 @@ repetition-returns-in_err-statement-clause-parses g t c =
     rw (p.1, p.2) (record {
       refused = refused_map _ _ _ _ _ c.in_err-statement.field-0.0
           (first_fails c.args.self.now.parser.place c.advance.new.self.place c.condition.new.self.parser.place
-          (g.B.Build.stands c.begin_while.new.self) (g.B.Build.stands c.condition.new.self.build.now)
+          (g.B.Build.stands c.act.new.self) (g.B.Build.stands c.condition.new.self.build.now)
           c.args.self.now.depth (Make Repeat ∷ Close ∷ []) while_closes begun
           c.in_ok-condition.ensures.parses c.in_ok-condition.ensures.kept.parser.ready.sound) (λ same. same)
           stops;
       grown =
-          λ device. grown_behind _ _ _ _ c.in_ok-begin_while.ensures.ok
+          λ device. grown_behind _ _ _ _ c.in_ok-act.ensures.ok
           (grown_behind _ _ _ _ c.in_ok-condition.ensures.parses.added
-          (grown_behind _ _ _ _ c.in_ok-while_test.ensures.ok (c.in_err-statement.ensures.parses.grown device)));
+          (grown_behind _ _ _ _ c.in_ok-act-2.ensures.ok (c.in_err-statement.ensures.parses.grown device)));
     })
 
 pub repetition-returns-clause-parses : goal.repetition-returns-clause-parses
 repetition-returns-clause-parses g t c =
     let body =
-    body_at (g.B.Build.stands c.while_test.new.self) (g.B.Build.stands c.statement.new.self.build.now) _
+    body_at (g.B.Build.stands c.act-2.new.self) (g.B.Build.stands c.statement.new.self.build.now) _
     (c.args.self.now.depth + 1)
     (Part Statement ∷ []) [] c.condition.new.self.parser.place c.statement.new.self.parser.place
     c.in_ok-condition.ensures.kept.depth c.in_ok-statement.ensures.parses in
@@ -294,12 +294,12 @@ repetition-returns-clause-parses g t c =
     c.in_ok-advance.ensures.consumes in
     repetition_adds c.args.self.now.parser.place c.advance.new.self.place c.condition.new.self.parser.place
     c.statement.new.self.parser.place (g.B.Build.stands c.args.self.now.build.now)
-    (g.B.Build.stands c.begin_while.new.self)
-    (g.B.Build.stands c.condition.new.self.build.now) (g.B.Build.stands c.while_test.new.self)
-    (g.B.Build.stands c.statement.new.self.build.now) (g.B.Build.stands c.end_while.new.self) c.args.self.now.depth
-    shallow begun c.in_ok-begin_while.ensures.ok
-    c.in_ok-condition.ensures.parses c.in_ok-condition.ensures.kept.parser.ready.sound c.in_ok-while_test.ensures.ok
-    body c.in_ok-statement.ensures.kept.parser.ready.sound c.in_ok-end_while.ensures.ok
+    (g.B.Build.stands c.act.new.self)
+    (g.B.Build.stands c.condition.new.self.build.now) (g.B.Build.stands c.act-2.new.self)
+    (g.B.Build.stands c.statement.new.self.build.now) (g.B.Build.stands c.act-3.new.self) c.args.self.now.depth
+    shallow begun c.in_ok-act.ensures.ok
+    c.in_ok-condition.ensures.parses c.in_ok-condition.ensures.kept.parser.ready.sound c.in_ok-act-2.ensures.ok
+    body c.in_ok-statement.ensures.kept.parser.ready.sound c.in_ok-act-3.ensures.ok
 
 -- What a builder may be told, and where it stands at a call.
 
@@ -323,8 +323,8 @@ branch-condition-requires g t c =
           };
     }
 
-pub branch-if_test-requires : goal.branch-if_test-requires
-branch-if_test-requires g t c =
+pub branch-act-requires : goal.branch-act-requires
+branch-act-requires g t c =
     let shallow : c.args.self.now.depth < 64 = c.in_ok-check_level.ensures.ok in
     record {
       follows =
@@ -336,9 +336,9 @@ branch-statement-requires g t c κs within =
     let shallow : c.args.self.now.depth < 64 = c.in_ok-check_level.ensures.ok in
     let inside =
     branch_open _ _ _ c.args.self.now.depth _ _ _ shallow c.requires.at.builder c.in_ok-condition.ensures.parses
-    c.in_ok-if_test.ensures.ok in
+    c.in_ok-act.ensures.ok in
     let deep : c.condition.new.self.depth ≡ c.args.self.now.depth + 1 = c.in_ok-condition.ensures.kept.depth in
-    let place : HasPlace (g.B.Build.stands c.if_test.new.self) (room c.condition.new.self.depth 1) =
+    let place : HasPlace (g.B.Build.stands c.act.new.self) (room c.condition.new.self.depth 1) =
     rw deep (branch_place _ _ inside) in (
       deeper t c.args.self.now.depth _ 3 c.decreases shallow deep three,
       (within.0, (within.1, record { builder = place; ready = c.in_ok-condition.ensures.kept.parser.ready; is = tt })),
@@ -347,14 +347,14 @@ branch-statement-requires g t c κs within =
 pub branch-else_part-requires : goal.branch-else_part-requires
 branch-else_part-requires g t c κs within =
     let body =
-    body_at (g.B.Build.stands c.if_test.new.self) (g.B.Build.stands c.statement.new.self.build.now) _
+    body_at (g.B.Build.stands c.act.new.self) (g.B.Build.stands c.statement.new.self.build.now) _
     (c.args.self.now.depth + 1)
     (Part Statement ∷ []) [] c.condition.new.self.parser.place c.statement.new.self.parser.place
     c.in_ok-condition.ensures.kept.depth c.in_ok-statement.ensures.parses in
     let shallow : c.args.self.now.depth < 64 = c.in_ok-check_level.ensures.ok in
     let inside =
     branch_open _ _ _ c.args.self.now.depth _ _ _ shallow c.requires.at.builder c.in_ok-condition.ensures.parses
-    c.in_ok-if_test.ensures.ok in
+    c.in_ok-act.ensures.ok in
     let deep : c.statement.new.self.depth ≡ c.args.self.now.depth + 1 =
     c.in_ok-statement.ensures.kept.depth ∙ c.in_ok-condition.ensures.kept.depth in
     let place : HasInside InBranch (g.B.Build.stands c.statement.new.self.build.now) (room c.statement.new.self.depth 1)
@@ -364,10 +364,10 @@ branch-else_part-requires g t c κs within =
       (within.0, (within.1, record { builder = place; ready = c.in_ok-statement.ensures.kept.parser.ready; is = tt })),
     )
 
-pub branch-end_if-requires : goal.branch-end_if-requires
-branch-end_if-requires g t c =
+pub branch-act-requires-2 : goal.branch-act-requires-2
+branch-act-requires-2 g t c =
     let body =
-    body_at (g.B.Build.stands c.if_test.new.self) (g.B.Build.stands c.statement.new.self.build.now) _
+    body_at (g.B.Build.stands c.act.new.self) (g.B.Build.stands c.statement.new.self.build.now) _
     (c.args.self.now.depth + 1)
     (Part Statement ∷ []) [] c.condition.new.self.parser.place c.statement.new.self.parser.place
     c.in_ok-condition.ensures.kept.depth c.in_ok-statement.ensures.parses in
@@ -378,26 +378,26 @@ branch-end_if-requires g t c =
     let shallow : c.args.self.now.depth < 64 = c.in_ok-check_level.ensures.ok in
     let inside =
     branch_open _ _ _ c.args.self.now.depth _ _ _ shallow c.requires.at.builder c.in_ok-condition.ensures.parses
-    c.in_ok-if_test.ensures.ok in
+    c.in_ok-act.ensures.ok in
     record {
       follows =
           may_end_branch _ _ _ _ _ (branch_kept _ _ _ _ _ _ inside body)
           second;
     }
 
-pub else_part-else_part-requires : goal.else_part-else_part-requires
-else_part-else_part-requires g t c = record { follows = may_tell_else _ _ c.requires.at.builder }
+pub else_part-act-requires : goal.else_part-act-requires
+else_part-act-requires g t c = record { follows = may_tell_else _ _ c.requires.at.builder }
 
 pub else_part-statement-requires : goal.else_part-statement-requires
 else_part-statement-requires g t c κs within =
-    let place : HasPlace (g.B.Build.stands c.else_part.new.self) (room c.args.self.now.depth 1) =
-    else_place _ _ _ c.requires.at.builder c.in_ok-else_part.ensures.ok in (
+    let place : HasPlace (g.B.Build.stands c.act.new.self) (room c.args.self.now.depth 1) =
+    else_place _ _ _ c.requires.at.builder c.in_ok-act.ensures.ok in (
       as_deep t c.args.self.now.depth c.args.self.now.depth c.decreases refl,
       (within.0, (within.1, record { builder = place; ready = c.in_ok-advance.ensures.kept.ready; is = tt })),
     )
 
-pub repetition-begin_while-requires : goal.repetition-begin_while-requires
-repetition-begin_while-requires g t c =
+pub repetition-act-requires : goal.repetition-act-requires
+repetition-act-requires g t c =
     record { follows = may_begin_loop _ c.args.self.now.depth c.requires.at.builder }
 
 pub repetition-condition-requires : goal.repetition-condition-requires
@@ -407,43 +407,43 @@ repetition-condition-requires g t c =
       at =
           record {
             builder = loop_room _ _
-                (loop_open _ _ c.args.self.now.depth shallow c.requires.at.builder c.in_ok-begin_while.ensures.ok);
+                (loop_open _ _ c.args.self.now.depth shallow c.requires.at.builder c.in_ok-act.ensures.ok);
             ready = c.in_ok-advance.ensures.kept.ready;
             is = tt;
           };
     }
 
-pub repetition-while_test-requires : goal.repetition-while_test-requires
-repetition-while_test-requires g t c =
+pub repetition-act-requires-2 : goal.repetition-act-requires-2
+repetition-act-requires-2 g t c =
     let shallow : c.args.self.now.depth < 64 = c.in_ok-check_level.ensures.ok in
-    let inside = loop_open _ _ c.args.self.now.depth shallow c.requires.at.builder c.in_ok-begin_while.ensures.ok in
+    let inside = loop_open _ _ c.args.self.now.depth shallow c.requires.at.builder c.in_ok-act.ensures.ok in
     record { follows = may_test_loop _ _ _ _ _ _ inside c.in_ok-condition.ensures.parses }
 
 pub repetition-statement-requires : goal.repetition-statement-requires
 repetition-statement-requires g t c κs within =
     let shallow : c.args.self.now.depth < 64 = c.in_ok-check_level.ensures.ok in
-    let inside = loop_open _ _ c.args.self.now.depth shallow c.requires.at.builder c.in_ok-begin_while.ensures.ok in
+    let inside = loop_open _ _ c.args.self.now.depth shallow c.requires.at.builder c.in_ok-act.ensures.ok in
     let deep : c.condition.new.self.depth ≡ c.args.self.now.depth + 1 = c.in_ok-condition.ensures.kept.depth in
-    let place : HasPlace (g.B.Build.stands c.while_test.new.self) (room c.condition.new.self.depth 1) =
+    let place : HasPlace (g.B.Build.stands c.act-2.new.self) (room c.condition.new.self.depth 1) =
     rw deep (turn_place _ _
-    (turn_open _ _ _ _ _ _ _ inside c.in_ok-condition.ensures.parses c.in_ok-while_test.ensures.ok)) in (
+    (turn_open _ _ _ _ _ _ _ inside c.in_ok-condition.ensures.parses c.in_ok-act-2.ensures.ok)) in (
       deeper t c.args.self.now.depth _ 3 c.decreases shallow deep three,
       (within.0, (within.1, record { builder = place; ready = c.in_ok-condition.ensures.kept.parser.ready; is = tt })),
     )
 
-pub repetition-end_while-requires : goal.repetition-end_while-requires
-repetition-end_while-requires g t c =
+pub repetition-act-requires-3 : goal.repetition-act-requires-3
+repetition-act-requires-3 g t c =
     let body =
-    body_at (g.B.Build.stands c.while_test.new.self) (g.B.Build.stands c.statement.new.self.build.now) _
+    body_at (g.B.Build.stands c.act-2.new.self) (g.B.Build.stands c.statement.new.self.build.now) _
     (c.args.self.now.depth + 1)
     (Part Statement ∷ []) [] c.condition.new.self.parser.place c.statement.new.self.parser.place
     c.in_ok-condition.ensures.kept.depth c.in_ok-statement.ensures.parses in
     let shallow : c.args.self.now.depth < 64 = c.in_ok-check_level.ensures.ok in
-    let inside = loop_open _ _ c.args.self.now.depth shallow c.requires.at.builder c.in_ok-begin_while.ensures.ok in
+    let inside = loop_open _ _ c.args.self.now.depth shallow c.requires.at.builder c.in_ok-act.ensures.ok in
     record {
       follows =
           may_end_loop _ _ _ _ _ _
-          (turn_open _ _ _ _ _ _ _ inside c.in_ok-condition.ensures.parses c.in_ok-while_test.ensures.ok)
+          (turn_open _ _ _ _ _ _ _ inside c.in_ok-condition.ensures.parses c.in_ok-act-2.ensures.ok)
           body;
     }
 
@@ -525,7 +525,7 @@ else_part-returns-in_err-advance-clause-parses g t c =
     rw (p.1, p.2) (record {
       refused = refused_map _ _ _ ⊥ _ c.in_err-advance.field-0.0 (else_stops _ c.args.self.now.depth sound is)
           (λ never. absurd never) c.in_err-advance.ensures.consumes;
-      grown = λ device. grown _ _ _ c.in_ok-else_part.ensures.ok;
+      grown = λ device. grown _ _ _ c.in_ok-act.ensures.ok;
     })
 
 pub else_part-returns-in_err-statement-clause-parses : goal.else_part-returns-in_err-statement-clause-parses
@@ -540,7 +540,7 @@ else_part-returns-in_err-statement-clause-parses g t c =
           (else_fails _ _ c.args.self.now.depth sound is c.in_ok-advance.ensures.consumes
           c.in_ok-advance.ensures.kept.ready.sound) (λ same. same) c.in_err-statement.ensures.parses.refused;
       grown =
-          λ device. grown_behind _ _ _ _ c.in_ok-else_part.ensures.ok (c.in_err-statement.ensures.parses.grown device);
+          λ device. grown_behind _ _ _ _ c.in_ok-act.ensures.ok (c.in_err-statement.ensures.parses.grown device);
     })
 
 pub else_part-returns-in_ok-statement-clause-parses : goal.else_part-returns-in_ok-statement-clause-parses
@@ -550,7 +550,7 @@ else_part-returns-in_ok-statement-clause-parses g t c =
     word_tested word.Else c.peek.result.now _ c.is_word.result true c.peek.ensures.value c.is_word.ensures
     c.if-is_word.true in
     else_adds _ _ _ _ _ _ c.args.self.now.depth sound is c.in_ok-advance.ensures.consumes
-    c.in_ok-advance.ensures.kept.ready.sound c.in_ok-else_part.ensures.ok c.in_ok-statement.ensures.parses
+    c.in_ok-advance.ensures.kept.ready.sound c.in_ok-act.ensures.ok c.in_ok-statement.ensures.parses
     c.in_ok-statement.ensures.kept.parser.ready.sound
 
 pub else_part-returns-else-is_word-clause-parses : goal.else_part-returns-else-is_word-clause-parses
@@ -634,17 +634,17 @@ else_part-returns-in_ok-statement-clause-kept g t c = record {
 pub else_part-returns-else-is_word-clause-kept : goal.else_part-returns-else-is_word-clause-kept
 else_part-returns-else-is_word-clause-kept g t c = nothing_read c.args.self.now c.requires.at.ready
 
-pub branch-returns-in_err-if_test-clause-parses : goal.branch-returns-in_err-if_test-clause-parses
-branch-returns-in_err-if_test-clause-parses g t c =
+pub branch-returns-in_err-act-clause-parses : goal.branch-returns-in_err-act-clause-parses
+branch-returns-in_err-act-clause-parses g t c =
     let shallow : c.args.self.now.depth < 64 = c.in_ok-check_level.ensures.ok in
     let begun =
     if_past c.args.self.now.parser.place c.advance.new.self.place c.args.self.now.depth c.requires.at.ready.sound
     c.requires.at.is shallow
     c.in_ok-advance.ensures.consumes in
-    let p = err_from_is_err_and c.from_residual-in_err-if_test.result c.from_residual-in_err-if_test.ensures.1 in
+    let p = err_from_is_err_and c.from_residual-in_err-act.result c.from_residual-in_err-act.ensures.1 in
     rw (p.1, p.2) (record {
       refused = (
-        refuses c.in_err-if_test.field-0.0 _ c.in_err-if_test.ensures.memory,
+        refuses c.in_err-act.field-0.0 _ c.in_err-act.ensures.judged,
         first_fails c.args.self.now.parser.place c.advance.new.self.place c.condition.new.self.parser.place
             (g.B.Build.stands c.args.self.now.build.now) (g.B.Build.stands c.condition.new.self.build.now)
             c.args.self.now.depth (Part ElsePart ∷ Close ∷ []) if_closes begun
@@ -656,10 +656,10 @@ branch-returns-in_err-if_test-clause-parses g t c =
       grown = memory_grown _ _;
     })
 
-pub branch-returns-in_err-end_if-clause-parses : goal.branch-returns-in_err-end_if-clause-parses
-branch-returns-in_err-end_if-clause-parses g t c =
+pub branch-returns-in_err-act-2-clause-parses : goal.branch-returns-in_err-act-2-clause-parses
+branch-returns-in_err-act-2-clause-parses g t c =
     let body =
-    body_at (g.B.Build.stands c.if_test.new.self) (g.B.Build.stands c.statement.new.self.build.now) _
+    body_at (g.B.Build.stands c.act.new.self) (g.B.Build.stands c.statement.new.self.build.now) _
     (c.args.self.now.depth + 1)
     (Part Statement ∷ []) [] c.condition.new.self.parser.place c.statement.new.self.parser.place
     c.in_ok-condition.ensures.kept.depth c.in_ok-statement.ensures.parses in
@@ -672,50 +672,50 @@ branch-returns-in_err-end_if-clause-parses g t c =
     if_past c.args.self.now.parser.place c.advance.new.self.place c.args.self.now.depth c.requires.at.ready.sound
     c.requires.at.is shallow
     c.in_ok-advance.ensures.consumes in
-    let p = err_from_is_err_and c.from_residual-in_err-end_if.result c.from_residual-in_err-end_if.ensures.1 in
+    let p = err_from_is_err_and c.from_residual-in_err-act-2.result c.from_residual-in_err-act-2.ensures.1 in
     rw (p.1, p.2) (record {
       refused = (
-        refuses c.in_err-end_if.field-0.0 _ c.in_err-end_if.ensures.memory,
+        refuses c.in_err-act-2.field-0.0 _ c.in_err-act-2.ensures.judged,
         λ b. halts _ _ _ _ _ _ _ _
             ((branch_adds c.args.self.now.parser.place c.advance.new.self.place c.condition.new.self.parser.place
             c.statement.new.self.parser.place c.else_part.new.self.parser.place
             (g.B.Build.stands c.args.self.now.build.now)
-            (g.B.Build.stands c.condition.new.self.build.now) (g.B.Build.stands c.if_test.new.self)
+            (g.B.Build.stands c.condition.new.self.build.now) (g.B.Build.stands c.act.new.self)
             (g.B.Build.stands c.statement.new.self.build.now) (g.B.Build.stands c.else_part.new.self.build.now) unknown
             c.args.self.now.depth shallow begun
             c.in_ok-condition.ensures.parses c.in_ok-condition.ensures.kept.parser.ready.sound
-            c.in_ok-if_test.ensures.ok body second
+            c.in_ok-act.ensures.ok body second
             c.in_ok-else_part.ensures.kept.parser.ready.sound (λ profile acts h. tt)).derives b)
             c.in_ok-else_part.ensures.kept.parser.ready.near,
       );
       grown = memory_grown _ _;
     })
 
-pub repetition-returns-in_err-begin_while-clause-parses : goal.repetition-returns-in_err-begin_while-clause-parses
-repetition-returns-in_err-begin_while-clause-parses g t c =
+pub repetition-returns-in_err-act-clause-parses : goal.repetition-returns-in_err-act-clause-parses
+repetition-returns-in_err-act-clause-parses g t c =
     let p =
-    err_from_is_err_and c.from_residual-in_err-begin_while.result c.from_residual-in_err-begin_while.ensures.1 in
+    err_from_is_err_and c.from_residual-in_err-act.result c.from_residual-in_err-act.ensures.1 in
     rw (p.1, p.2) (record {
       refused = (
-        refuses c.in_err-begin_while.field-0.0 _ c.in_err-begin_while.ensures.memory,
+        refuses c.in_err-act.field-0.0 _ c.in_err-act.ensures.judged,
         λ b. halts_here _ (Part Statement ∷ []) (ABody b ∷ []) _ _ c.requires.at.ready.near,
       );
       grown = memory_grown _ _;
     })
 
-pub repetition-returns-in_err-while_test-clause-parses : goal.repetition-returns-in_err-while_test-clause-parses
-repetition-returns-in_err-while_test-clause-parses g t c =
+pub repetition-returns-in_err-act-2-clause-parses : goal.repetition-returns-in_err-act-2-clause-parses
+repetition-returns-in_err-act-2-clause-parses g t c =
     let shallow : c.args.self.now.depth < 64 = c.in_ok-check_level.ensures.ok in
     let begun =
     while_past c.args.self.now.parser.place c.advance.new.self.place c.args.self.now.depth c.requires.at.ready.sound
     c.requires.at.is shallow
     c.in_ok-advance.ensures.consumes in
-    let p = err_from_is_err_and c.from_residual-in_err-while_test.result c.from_residual-in_err-while_test.ensures.1 in
+    let p = err_from_is_err_and c.from_residual-in_err-act-2.result c.from_residual-in_err-act-2.ensures.1 in
     rw (p.1, p.2) (record {
       refused = (
-        refuses c.in_err-while_test.field-0.0 _ c.in_err-while_test.ensures.memory,
+        refuses c.in_err-act-2.field-0.0 _ c.in_err-act-2.ensures.judged,
         first_fails c.args.self.now.parser.place c.advance.new.self.place c.condition.new.self.parser.place
-            (g.B.Build.stands c.begin_while.new.self) (g.B.Build.stands c.condition.new.self.build.now)
+            (g.B.Build.stands c.act.new.self) (g.B.Build.stands c.condition.new.self.build.now)
             c.args.self.now.depth (Make Repeat ∷ Close ∷ []) while_closes begun
             c.in_ok-condition.ensures.parses c.in_ok-condition.ensures.kept.parser.ready.sound _
             (λ b. halts_here _ (Part Statement ∷ []) (ABody b ∷ []) _ _
@@ -724,10 +724,10 @@ repetition-returns-in_err-while_test-clause-parses g t c =
       grown = memory_grown _ _;
     })
 
-pub repetition-returns-in_err-end_while-clause-parses : goal.repetition-returns-in_err-end_while-clause-parses
-repetition-returns-in_err-end_while-clause-parses g t c =
+pub repetition-returns-in_err-act-3-clause-parses : goal.repetition-returns-in_err-act-3-clause-parses
+repetition-returns-in_err-act-3-clause-parses g t c =
     let body =
-    body_at (g.B.Build.stands c.while_test.new.self) (g.B.Build.stands c.statement.new.self.build.now) _
+    body_at (g.B.Build.stands c.act-2.new.self) (g.B.Build.stands c.statement.new.self.build.now) _
     (c.args.self.now.depth + 1)
     (Part Statement ∷ []) [] c.condition.new.self.parser.place c.statement.new.self.parser.place
     c.in_ok-condition.ensures.kept.depth c.in_ok-statement.ensures.parses in
@@ -736,30 +736,30 @@ repetition-returns-in_err-end_while-clause-parses g t c =
     while_past c.args.self.now.parser.place c.advance.new.self.place c.args.self.now.depth c.requires.at.ready.sound
     c.requires.at.is shallow
     c.in_ok-advance.ensures.consumes in
-    let p = err_from_is_err_and c.from_residual-in_err-end_while.result c.from_residual-in_err-end_while.ensures.1 in
+    let p = err_from_is_err_and c.from_residual-in_err-act-3.result c.from_residual-in_err-act-3.ensures.1 in
     rw (p.1, p.2) (record {
       refused = (
-        refuses c.in_err-end_while.field-0.0 _ c.in_err-end_while.ensures.memory,
+        refuses c.in_err-act-3.field-0.0 _ c.in_err-act-3.ensures.judged,
         λ b. halts _ _ _ _ _ _ _ _
             ((repetition_adds c.args.self.now.parser.place c.advance.new.self.place c.condition.new.self.parser.place
             c.statement.new.self.parser.place (g.B.Build.stands c.args.self.now.build.now)
-            (g.B.Build.stands c.begin_while.new.self)
-            (g.B.Build.stands c.condition.new.self.build.now) (g.B.Build.stands c.while_test.new.self)
+            (g.B.Build.stands c.act.new.self)
+            (g.B.Build.stands c.condition.new.self.build.now) (g.B.Build.stands c.act-2.new.self)
             (g.B.Build.stands c.statement.new.self.build.now) unknown c.args.self.now.depth shallow begun
-            c.in_ok-begin_while.ensures.ok c.in_ok-condition.ensures.parses
-            c.in_ok-condition.ensures.kept.parser.ready.sound c.in_ok-while_test.ensures.ok
+            c.in_ok-act.ensures.ok c.in_ok-condition.ensures.parses
+            c.in_ok-condition.ensures.kept.parser.ready.sound c.in_ok-act-2.ensures.ok
             body c.in_ok-statement.ensures.kept.parser.ready.sound
             (λ profile acts h. tt)).derives b) c.in_ok-statement.ensures.kept.parser.ready.near,
       );
       grown = memory_grown _ _;
     })
 
-pub else_part-returns-in_err-else_part-clause-parses : goal.else_part-returns-in_err-else_part-clause-parses
-else_part-returns-in_err-else_part-clause-parses g t c =
+pub else_part-returns-in_err-act-clause-parses : goal.else_part-returns-in_err-act-clause-parses
+else_part-returns-in_err-act-clause-parses g t c =
     let p = err_from_is_err_and c.from_residual.result c.from_residual.ensures.1 in
     rw (p.1, p.2) (record {
       refused = (
-        refuses c.in_err-else_part.field-0.0 _ c.in_err-else_part.ensures.memory,
+        refuses c.in_err-act.field-0.0 _ c.in_err-act.ensures.judged,
         λ s e b. halts_here _ (Part ElsePart ∷ []) (before_else s e b) _ _ c.requires.at.ready.near,
       );
       grown = memory_grown _ _;

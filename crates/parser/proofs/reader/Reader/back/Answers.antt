@@ -11,14 +11,14 @@ use Rattle.parser.proofs.Openings.{may_push}
 use Rattle.parser.proofs.SimpleLaws.{back_adds, back_fails, zero_adds}
 use Rattle.parser.proofs.reader.Reader.back.Goals as goal
 
-pub constant-requires : goal.constant-requires
-constant-requires g c = record { follows = may_push _ (room c.args.self.now.depth 1) c.requires.at.builder }
+pub act-requires : goal.act-requires
+act-requires g c = record { follows = may_push _ (room c.args.self.now.depth 1) c.requires.at.builder }
 
 pub returns-then-is_punctuator-clause-parses : goal.returns-then-is_punctuator-clause-parses
 returns-then-is_punctuator-clause-parses g c =
     let sound : is_fault c.args.self.now.parser.place.position.reading.next.token ≡ false = c.requires.at.ready.sound in
     let is : is_punctuator punctuator.Semicolon c.args.self.now.parser.place.position.reading.next.token ≡ true = cc in
-    zero_adds _ _ _ c.args.self.now.depth sound is c.in_ok-constant.ensures.ok
+    zero_adds _ _ _ c.args.self.now.depth sound is c.in_ok-act.ensures.ok
 
 pub returns-in_err-expression-clause-parses : goal.returns-in_err-expression-clause-parses
 returns-in_err-expression-clause-parses g c =
@@ -46,12 +46,12 @@ returns-then-is_punctuator-clause-kept g c =
 pub returns-clause-kept : goal.returns-clause-kept
 returns-clause-kept g c = went _ _ c.in_ok-expression.ensures.kept
 
-pub returns-in_err-constant-clause-parses : goal.returns-in_err-constant-clause-parses
-returns-in_err-constant-clause-parses g c =
+pub returns-in_err-act-clause-parses : goal.returns-in_err-act-clause-parses
+returns-in_err-act-clause-parses g c =
     let p = err_from_is_err_and c.from_residual.result c.from_residual.ensures.1 in
     rw (p.1, p.2) (record {
       refused = (
-        refuses c.in_err-constant.field-0.0 _ c.in_err-constant.ensures.memory,
+        refuses c.in_err-act.field-0.0 _ c.in_err-act.ensures.judged,
         halts_here _ (Part Back ∷ []) [] _ _ c.requires.at.ready.near,
       );
       grown = memory_grown _ _;

@@ -27,8 +27,8 @@ returns-in_err-expect-clause-parses g c =
       grown = λ device. grown _ _ _ c.in_ok-expression.ensures.parses.added;
     })
 
-pub chop-requires : goal.chop-requires
-chop-requires g c =
+pub act-requires : goal.act-requires
+act-requires g c =
     let e = c.in_ok-expression.ensures.parses in
     record {
       follows =
@@ -40,7 +40,7 @@ pub returns-clause-parses : goal.returns-clause-parses
 returns-clause-parses g c =
     evaluation_adds _ _ _ _ _ _ c.args.self.now.depth c.requires.at.ready.sound c.requires.at.is
     c.in_ok-expression.ensures.parses c.in_ok-expect.ensures.matches c.in_ok-expect.ensures.kept.ready.sound
-    c.in_ok-chop.ensures.ok
+    c.in_ok-act.ensures.ok
 
 pub returns-clause-kept : goal.returns-clause-kept
 returns-clause-kept g c = record {
@@ -50,12 +50,12 @@ returns-clause-kept g c = record {
   builder = c.in_ok-expression.ensures.kept.builder;
 }
 
-pub returns-in_err-chop-clause-parses : goal.returns-in_err-chop-clause-parses
-returns-in_err-chop-clause-parses g c =
-    let p = err_from_is_err_and c.from_residual-in_err-chop.result c.from_residual-in_err-chop.ensures.1 in
+pub returns-in_err-act-clause-parses : goal.returns-in_err-act-clause-parses
+returns-in_err-act-clause-parses g c =
+    let p = err_from_is_err_and c.from_residual-in_err-act.result c.from_residual-in_err-act.ensures.1 in
     rw (p.1, p.2) (record {
       refused = (
-        refuses c.in_err-chop.field-0.0 _ c.in_err-chop.ensures.memory,
+        refuses c.in_err-act.field-0.0 _ c.in_err-act.ensures.judged,
         λ b. halts _ _ _ _ _ _ _ _
             ((evaluation_adds _ _ _ _ _ unknown c.args.self.now.depth c.requires.at.ready.sound c.requires.at.is
             c.in_ok-expression.ensures.parses c.in_ok-expect.ensures.matches

@@ -10,8 +10,8 @@ use Rattle.parser.proofs.Blocks.{block_refused, brace_refused, closing_sound, de
 use Rattle.parser.proofs.Closing.{begun, closed, has_place, may_begin, may_end}
 use Rattle.parser.proofs.reader.Reader.function.Goals as goal
 
-pub begin_function-requires : goal.begin_function-requires
-begin_function-requires g c =
+pub act-requires : goal.act-requires
+act-requires g c =
     record {
       follows =
           may_begin _ c.in_ok-number.number c.parameters.result c.requires.at.builder c.in_ok-number.ensures.begun.few
@@ -23,7 +23,7 @@ function_block-requires g c = record {
   at = record {
     builder = has_place _ c.parameters.result
         (begun _ _ c.in_ok-number.number c.parameters.result c.requires.at.builder c.in_ok-number.ensures.begun.few
-        c.parameters.ensures.most c.in_ok-begin_function.ensures.ok);
+        c.parameters.ensures.most c.in_ok-act.ensures.ok);
     flat = c.requires.at.flat;
     ready = c.in_ok-number.ensures.kept.ready;
   };
@@ -37,13 +37,13 @@ returns-in_err-number-clause-reads g c =
     (FailsAt 0 heading_items [] c.args.self.now.parser.place) ⊥ ⊥ c.in_err-number.field-0.0 (λ d fails. fails 0)
     (λ same. same) c.in_err-number.ensures.matches))
 
-pub returns-in_err-begin_function-clause-reads : goal.returns-in_err-begin_function-clause-reads
-returns-in_err-begin_function-clause-reads g c =
+pub returns-in_err-act-clause-reads : goal.returns-in_err-act-clause-reads
+returns-in_err-act-clause-reads g c =
     let p =
-    err_from_is_err_and c.from_residual-in_err-begin_function.result c.from_residual-in_err-begin_function.ensures.1
+    err_from_is_err_and c.from_residual-in_err-act.result c.from_residual-in_err-act.ensures.1
     in
     rw (p.1, p.2) (
-      refuses c.in_err-begin_function.field-0.0 _ c.in_err-begin_function.ensures.memory,
+      refuses c.in_err-act.field-0.0 _ c.in_err-act.ensures.judged,
       definition_halts (g.B.Build.stands c.args.self.now.build.now) _ (Part FunctionBlock ∷ []) [] _ _ _
           (headed _ _ (c.in_ok-number.ensures.matches 0)) c.in_ok-number.ensures.kept.ready.near,
     )
@@ -54,9 +54,9 @@ returns-in_err-function_block-clause-reads g c =
     err_from_is_err_and c.from_residual-in_err-function_block.result c.from_residual-in_err-function_block.ensures.1
     in
     rw (p.1, p.2) (block_refused _ (g.B.Build.stands c.args.self.now.build.now)
-    (g.B.Build.stands c.begin_function.new.self) _ _
+    (g.B.Build.stands c.act.new.self) _ _
     _ c.in_ok-number.number c.parameters.result c.in_err-function_block.field-0.0 _ (c.in_ok-number.ensures.matches 0)
-    c.in_ok-begin_function.ensures.ok c.in_err-function_block.ensures.parses.grown
+    c.in_ok-act.ensures.ok c.in_err-function_block.ensures.parses.grown
     c.in_err-function_block.ensures.parses.refused)
 
 pub close-requires : goal.close-requires
@@ -66,7 +66,7 @@ close-requires g c =
     record {
       «open» = may_end _ _ c.parameters.result c.variables-variables.result c.in_ok-function_block.ensures.parses.tree
           (begun _ _ c.in_ok-number.number c.parameters.result c.requires.at.builder c.in_ok-number.ensures.begun.few
-          c.parameters.ensures.most c.in_ok-begin_function.ensures.ok)
+          c.parameters.ensures.most c.in_ok-act.ensures.ok)
           c.in_ok-function_block.ensures.parses.added c.in_ok-function_block.ensures.parses.numbered
           c.in_ok-function_block.ensures.parses.narrow
           (omega (arith, same, c.variables-variables.ensures.first)) c.variables-variables.ensures.most;
@@ -79,7 +79,7 @@ returns-in_err-close-clause-reads g c =
     c.parameters.result c.in_err-close.field-0.0 _
     c.in_ok-function_block.ensures.kept.parser.ready.near (c.in_ok-number.ensures.matches 0)
     c.in_ok-function_block.ensures.parses
-    c.in_ok-begin_function.ensures.ok
+    c.in_ok-act.ensures.ok
     (closing_sound _ c.in_ok-function_block.ensures.parses.closed) c.in_ok-function_block.ensures.parses.closed
     c.in_err-close.ensures.ends)
 
@@ -94,7 +94,7 @@ returns-in_err-expect-clause-reads g c =
       parameters = c.in_ok-function_block.ensures.parses.kept.parameters ∙ sym c.parameters.ensures.count;
       variables = sym c.variables-variables.ensures.count;
     })
-    (ended _ _ (rw c.in_ok-close.ensures.kept.parser at c.end_definition.ensures)) c.in_ok-begin_function.ensures.ok
+    (ended _ _ (rw c.in_ok-close.ensures.kept.parser at c.end_definition.ensures)) c.in_ok-act.ensures.ok
     c.in_ok-close.ensures.ends
     (closing_sound _ c.in_ok-function_block.ensures.parses.closed) c.in_err-expect.ensures.matches)
 
@@ -110,7 +110,7 @@ returns-clause-reads g c =
             variables = sym c.variables-variables.ensures.count;
           })
           (ended _ _ (rw c.in_ok-close.ensures.kept.parser at c.end_definition.ensures))
-          c.in_ok-begin_function.ensures.ok c.in_ok-close.ensures.ends
+          c.in_ok-act.ensures.ok c.in_ok-close.ensures.ends
           c.in_ok-expect.ensures.matches (closing_sound _ c.in_ok-function_block.ensures.parses.closed)
           c.in_ok-expect.ensures.kept.ready.sound,
       closed (g.B.Build.stands c.args.self.now.build.now) (g.B.Build.stands c.close.new.self.build.now)
@@ -120,11 +120,11 @@ returns-clause-reads g c =
           c.in_ok-number.ensures.begun.few (omega (arith, same, c.variables-variables.ensures.first))
           c.variables-variables.ensures.most
           c.in_ok-function_block.ensures.parses.numbered c.in_ok-function_block.ensures.parses.narrow
-          (told_function (g.B.Build.stands c.args.self.now.build.now) (g.B.Build.stands c.begin_function.new.self)
+          (told_function (g.B.Build.stands c.args.self.now.build.now) (g.B.Build.stands c.act.new.self)
           (g.B.Build.stands c.function_block.new.self.build.now) (g.B.Build.stands c.close.new.self.build.now)
           c.in_ok-number.number
           c.parameters.result c.variables-variables.result c.in_ok-function_block.ensures.parses.tree
-          c.in_ok-begin_function.ensures.ok c.in_ok-function_block.ensures.parses.added
+          c.in_ok-act.ensures.ok c.in_ok-function_block.ensures.parses.added
           c.in_ok-close.ensures.ends.added),
     )
 

@@ -1,6 +1,6 @@
 use Rattle.std.proofs.Common.{refl}
 use Rattle.std.proofs.lemmas.Result.{err_from_is_err_and}
-use Rattle.grammar.specs.Actions.{GiveBack}
+use Rattle.grammar.specs.declared.actions.Action.TheVariants.{GiveBack}
 use Rattle.grammar.specs.Following.{AValue, is_number}
 use Rattle.grammar.proofs.FollowingLaws.{origin_of}
 use Rattle.parser.proofs.Advances.{kept_then, on, on_then}
@@ -43,8 +43,8 @@ returns-in_err-expect-clause-parses g c =
       grown = λ device. grown _ _ _ c.in_ok-back.ensures.parses.added;
     })
 
-pub give_back-requires : goal.give_back-requires
-give_back-requires g c =
+pub act-requires : goal.act-requires
+act-requires g c =
     let e = c.in_ok-back.ensures.parses in
     record {
       follows =
@@ -58,7 +58,7 @@ returns-clause-parses g c =
     return_adds _ _ _ _ _ _ _ c.args.self.now.depth c.requires.at.ready.sound c.requires.at.is
     c.in_ok-advance.ensures.consumes
     c.in_ok-back.ensures.parses c.in_ok-expect.ensures.matches c.in_ok-expect.ensures.kept.ready.sound
-    c.in_ok-give_back.ensures.ok
+    c.in_ok-act.ensures.ok
 
 pub returns-clause-kept : goal.returns-clause-kept
 returns-clause-kept g c = record {
@@ -69,12 +69,12 @@ returns-clause-kept g c = record {
   builder = c.in_ok-back.ensures.kept.builder;
 }
 
-pub returns-in_err-give_back-clause-parses : goal.returns-in_err-give_back-clause-parses
-returns-in_err-give_back-clause-parses g c =
-    let p = err_from_is_err_and c.from_residual-in_err-give_back.result c.from_residual-in_err-give_back.ensures.1 in
+pub returns-in_err-act-clause-parses : goal.returns-in_err-act-clause-parses
+returns-in_err-act-clause-parses g c =
+    let p = err_from_is_err_and c.from_residual-in_err-act.result c.from_residual-in_err-act.ensures.1 in
     rw (p.1, p.2) (record {
       refused = (
-        refuses c.in_err-give_back.field-0.0 _ c.in_err-give_back.ensures.memory,
+        refuses c.in_err-act.field-0.0 _ c.in_err-act.ensures.judged,
         λ b. halts _ _ _ _ _ _ _ _
             ((return_adds _ _ _ _ _ _ unknown c.args.self.now.depth c.requires.at.ready.sound c.requires.at.is
             c.in_ok-advance.ensures.consumes c.in_ok-back.ensures.parses c.in_ok-expect.ensures.matches

@@ -1,6 +1,6 @@
 use Rattle.std.proofs.Common.{refl, pos, [], ◌∷◌, arith}
 use Rattle.std.proofs.lemmas.Result.{err_from_is_err_and}
-use Rattle.grammar.specs.Actions.{PushConstant, StoreVariable}
+use Rattle.grammar.specs.declared.actions.Action.TheVariants.{PushConstant, StoreVariable}
 use Rattle.grammar.specs.Tree.{Assign, Constant}
 use Rattle.parser.proofs.Advances.{on, on_then}
 use Rattle.parser.proofs.Growing.{grown_nothing, memory_grown, refuses, unknown}
@@ -28,15 +28,15 @@ returns-in_err-var-clause-parses g c =
       grown = λ device. grown_nothing _;
     })
 
-pub constant-requires : goal.constant-requires
-constant-requires g c = record { follows = constant_follows _ _ (pos 1) c.requires.at.builder }
+pub act-requires : goal.act-requires
+act-requires g c = record { follows = constant_follows _ _ (pos 1) c.requires.at.builder }
 
-pub store-requires-2 : goal.store-requires-2
-store-requires-2 g c = record {
+pub act-requires-2 : goal.act-requires-2
+act-requires-2 g c = record {
   follows = rw c.store.ensures
       (next_follows _ _ (PushConstant (pos 1) ∷ []) (StoreVariable c.in_ok-var.var (step_store c.args.step)) []
       (tree_follows _ _ (Assign (step_store c.args.step) c.in_ok-var.var (Constant (pos 1))) c.requires.at.builder
-      (c.in_ok-var.ensures.within, tt) (omega arith)) c.in_ok-constant.ensures.ok);
+      (c.in_ok-var.ensures.within, tt) (omega arith)) c.in_ok-act.ensures.ok);
 }
 
 pub returns-clause-parses : goal.returns-clause-parses
@@ -44,7 +44,7 @@ returns-clause-parses g c =
     before_adds _ _ _ c.args.self.now.parser.place _ _ c.args.step c.in_ok-var.var c.requires.at.is
     c.in_ok-advance.ensures.consumes c.in_ok-var.ensures.matches c.in_ok-var.ensures.within
     c.in_ok-var.ensures.kept.ready.sound
-    c.in_ok-constant.ensures.ok (rw c.store.ensures at c.in_ok-store.ensures.ok)
+    c.in_ok-act.ensures.ok (rw c.store.ensures at c.in_ok-act-2.ensures.ok)
 
 pub returns-clause-kept : goal.returns-clause-kept
 returns-clause-kept g c = record {
@@ -53,12 +53,12 @@ returns-clause-kept g c = record {
   builder = refl;
 }
 
-pub returns-in_err-constant-clause-parses : goal.returns-in_err-constant-clause-parses
-returns-in_err-constant-clause-parses g c =
-    let p = err_from_is_err_and c.from_residual-in_err-constant.result c.from_residual-in_err-constant.ensures.1 in
+pub returns-in_err-act-clause-parses : goal.returns-in_err-act-clause-parses
+returns-in_err-act-clause-parses g c =
+    let p = err_from_is_err_and c.from_residual-in_err-act.result c.from_residual-in_err-act.ensures.1 in
     rw (p.1, p.2) (record {
       refused = (
-        refuses c.in_err-constant.field-0.0 _ c.in_err-constant.ensures.memory,
+        refuses c.in_err-act.field-0.0 _ c.in_err-act.ensures.judged,
         λ depth. halts _ _ _ _ _ _ _ _
             (before_adds unknown unknown unknown c.args.self.now.parser.place _ _ c.args.step c.in_ok-var.var
             c.requires.at.is c.in_ok-advance.ensures.consumes c.in_ok-var.ensures.matches c.in_ok-var.ensures.within
@@ -68,12 +68,12 @@ returns-in_err-constant-clause-parses g c =
       grown = memory_grown _ _;
     })
 
-pub returns-in_err-store-clause-parses : goal.returns-in_err-store-clause-parses
-returns-in_err-store-clause-parses g c =
-    let p = err_from_is_err_and c.from_residual-in_err-store.result c.from_residual-in_err-store.ensures.1 in
+pub returns-in_err-act-2-clause-parses : goal.returns-in_err-act-2-clause-parses
+returns-in_err-act-2-clause-parses g c =
+    let p = err_from_is_err_and c.from_residual-in_err-act-2.result c.from_residual-in_err-act-2.ensures.1 in
     rw (p.1, p.2) (record {
       refused = (
-        refuses c.in_err-store.field-0.0 _ c.in_err-store.ensures.memory,
+        refuses c.in_err-act-2.field-0.0 _ c.in_err-act-2.ensures.judged,
         λ depth. halts _ _ _ _ _ _ _ _
             (before_adds unknown unknown unknown c.args.self.now.parser.place _ _ c.args.step c.in_ok-var.var
             c.requires.at.is c.in_ok-advance.ensures.consumes c.in_ok-var.ensures.matches c.in_ok-var.ensures.within

@@ -1,6 +1,6 @@
 use Rattle.std.proofs.Common.{[], arith}
 use Rattle.std.proofs.lemmas.Result.{err_from_is_err_and}
-use Rattle.grammar.specs.Actions.{FetchVariable}
+use Rattle.grammar.specs.declared.actions.Action.TheVariants.{FetchVariable}
 use Rattle.grammar.specs.Tree.{Variable}
 use Rattle.parser.proofs.Growing.{grown_nothing, memory_grown, refuses, unknown}
 use Rattle.parser.proofs.Segments.{halts}
@@ -18,8 +18,8 @@ returns-in_err-var-clause-parses g c =
       grown = λ device. grown_nothing _;
     })
 
-pub fetch-requires : goal.fetch-requires
-fetch-requires g c =
+pub act-requires : goal.act-requires
+act-requires g c =
     record {
       follows =
           may_first _ (FetchVariable c.in_ok-var.var) []
@@ -32,15 +32,15 @@ returns-clause-parses g c =
     fetch_adds _ _ c.args.self.now.parser.place _ c.in_ok-var.var (is_named _ c.requires.at.is.named)
     c.requires.at.is.plain
     none c.in_ok-var.ensures.matches c.in_ok-var.ensures.within c.in_ok-var.ensures.kept.ready.sound
-    c.in_ok-fetch.ensures.ok
+    c.in_ok-act.ensures.ok
 
-pub returns-in_err-fetch-clause-parses : goal.returns-in_err-fetch-clause-parses
-returns-in_err-fetch-clause-parses g c =
+pub returns-in_err-act-clause-parses : goal.returns-in_err-act-clause-parses
+returns-in_err-act-clause-parses g c =
     let none : NoStep c.args.self.now.parser.place = λ s. rw c.after.ensures.value at (c.in_default.ensures.none s) in
-    let p = err_from_is_err_and c.from_residual-in_err-fetch.result c.from_residual-in_err-fetch.ensures.1 in
+    let p = err_from_is_err_and c.from_residual-in_err-act.result c.from_residual-in_err-act.ensures.1 in
     rw (p.1, p.2) (record {
       refused = (
-        refuses c.in_err-fetch.field-0.0 _ c.in_err-fetch.ensures.memory,
+        refuses c.in_err-act.field-0.0 _ c.in_err-act.ensures.judged,
         λ depth. halts _ _ _ _ _ _ _ _
             ((fetch_adds unknown unknown c.args.self.now.parser.place _ c.in_ok-var.var
             (is_named _ c.requires.at.is.named) c.requires.at.is.plain none c.in_ok-var.ensures.matches

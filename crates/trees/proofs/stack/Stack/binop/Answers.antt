@@ -1,6 +1,6 @@
 use Rattle.std.proofs.Common.{sym, subst, ◌∷◌}
 use Rattle.std.proofs.lemmas.Result.{on_ok_weaker}
-use Rattle.grammar.specs.Actions.{ApplyBinop}
+use Rattle.grammar.specs.declared.actions.Action.TheVariants.{ApplyBinop}
 use Rattle.trees.specs.Opened.{Continues, IsAllowed}
 use Rattle.trees.specs.declared.stack.Open.TheVariants.{Value}
 use Rattle.trees.proofs.MakingLaws.{left_allowed, binop_continues}

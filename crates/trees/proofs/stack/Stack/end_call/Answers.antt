@@ -1,6 +1,6 @@
 use Rattle.std.proofs.Common.{sym, subst, ap, ◌∙◌, ◌∷◌}
 use Rattle.std.proofs.lemmas.Result.{on_ok_weaker}
-use Rattle.grammar.specs.Actions.{EndCall}
+use Rattle.grammar.specs.declared.actions.Action.TheVariants.{EndCall}
 use Rattle.trees.specs.Opened.{Continues}
 use Rattle.trees.specs.declared.stack.Open.TheVariants.{Value}
 use Rattle.trees.specs.declared.tree.Expr.TheVariants.{Call}

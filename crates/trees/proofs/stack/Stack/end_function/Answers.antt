@@ -1,5 +1,5 @@
 use Rattle.std.proofs.Common.{subst}
-use Rattle.grammar.specs.Actions.{EndFunction}
+use Rattle.grammar.specs.declared.actions.Action.TheVariants.{EndFunction}
 use Rattle.trees.specs.Opened.{IsAllowed}
 use Rattle.trees.proofs.MakingLaws.{function_ends}
 use Rattle.trees.proofs.stack.Stack.end_function.Goals as goal
