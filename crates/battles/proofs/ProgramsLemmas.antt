@@ -3,10 +3,11 @@ use Rattle.std.proofs.Common.{◌≡◌, ℕ, ◌<◌, ◌+◌, zero, suc, List,
 use Rattle.std.proofs.lemmas.List.{map-append, take_more}
 use Rattle.std.proofs.lemmas.Grind.{flat_map-append}
 use Rattle.std.proofs.lemmas.Option.{get_or_from_slice_get, slice_get_within}
-use Rattle.std.specs.Prelude.{slice_get, flat_map}
+use Rattle.std.specs.Prelude.{slice_get, slice_set, flat_map}
 use Rattle.std.specs.Option.{option_to_list}
 use Rattle.code.specs.Generation.{ObjectCode}
 use Rattle.operations.specs.declared.labels.Operations.{Operations}
+use Rattle.operations.specs.Filling.{translated}
 use Rattle.engine.specs.Executables.{Executable, IsTranslated, made_of}
 use Rattle.battles.specs.Programs.{AllSome}
 use Rattle.battles.specs.Translated.{AreTranslated}
@@ -45,34 +46,27 @@ kept_more {A} kept x all =
     ∙ ap (λ l. map (λ (x : A). Some x) l) (sym (list_more kept x))
 
 -- one more program, with its operations
-pub translated_more : (codes : List ObjectCode) (operations : List (Option Operations)) (code : ObjectCode)
-    (o : Option Operations) → AreTranslated codes operations → IsTranslated (made_of code o) →
-    AreTranslated (codes ++ code ∷ []) (operations ++ o ∷ [])
-translated_more [] [] code o are one = (one, tt)
-translated_more [] (p ∷ others) code o are one = absurd are
-translated_more (c ∷ codes) [] code o are one = absurd are
-translated_more (c ∷ codes) (p ∷ others) code o are one = (are.0, translated_more codes others code o are.1 one)
-
-pub translated_length : (codes : List ObjectCode) (operations : List (Option Operations)) →
-    AreTranslated codes operations → length operations ≡ length codes
-translated_length [] [] are = refl
-translated_length [] (p ∷ others) are = absurd are
-translated_length (c ∷ codes) [] are = absurd are
-translated_length (c ∷ codes) (p ∷ others) are = ap suc (translated_length codes others are.1)
+pub translated_more : (codes : List ObjectCode) (operations : List Operations) (code : ObjectCode) (o : Operations) →
+    AreTranslated codes operations → length codes < length operations → IsTranslated (made_of code (translated o)) →
+    AreTranslated (codes ++ code ∷ []) (slice_set operations (length codes) o)
+translated_more [] [] code o are room one = absurd (omega (arith, room))
+translated_more [] (p ∷ others) code o are room one = (one, tt)
+translated_more (c ∷ codes) [] code o are room one = absurd are
+translated_more (c ∷ codes) (p ∷ others) code o are room one =
+    (are.0, translated_more codes others code o are.1 (omega (arith, room)) one)
 
 -- those of one program
-pub translated_at : (codes : List ObjectCode) (operations : List (Option Operations)) (place : ℕ) (code : ObjectCode)
-    (o : Option Operations) → AreTranslated codes operations → slice_get codes place ≡ Some code →
-    place < length operations → o ≡ get_or operations place o → IsTranslated (made_of code o)
-translated_at [] [] place code o are here low there = absurd (cc)
-translated_at [] (p ∷ others) place code o are here low there = absurd are
-translated_at (c ∷ codes) [] place code o are here low there = absurd are
-translated_at (c ∷ codes) (p ∷ others) zero code o are here low there =
+pub translated_at : (codes : List ObjectCode) (operations : List Operations) (place : ℕ) (code : ObjectCode)
+    (o : Operations) → AreTranslated codes operations → slice_get codes place ≡ Some code → o ≡ get_or operations place o →
+    IsTranslated (made_of code (translated o))
+translated_at [] operations place code o are here there = absurd (cc)
+translated_at (c ∷ codes) [] place code o are here there = absurd are
+translated_at (c ∷ codes) (p ∷ others) zero code o are here there =
     let same : c ≡ code = cc in
-    subst (λ (o : Option Operations). IsTranslated (made_of code o)) (sym there)
-    (subst (λ (c : ObjectCode). IsTranslated (made_of c p)) same are.0)
-translated_at (c ∷ codes) (p ∷ others) (suc place) code o are here low there =
-    translated_at codes others place code o are.1 here (omega arith) there
+    subst (λ (o : Operations). IsTranslated (made_of code (translated o))) (sym there)
+    (subst (λ (c : ObjectCode). IsTranslated (made_of c (translated p))) same are.0)
+translated_at (c ∷ codes) (p ∷ others) (suc place) code o are here there =
+    translated_at codes others place code o are.1 here there
 
 -- one more is looked up
 pub looked_up : (exes : List Executable) (codes : List ObjectCode) (n : ℕ) (exe : Executable)

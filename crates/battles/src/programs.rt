@@ -1,12 +1,14 @@
 //! The programs of a series.
 
-ghost use Rattle.std.specs.Prelude.{◌≡◌, ◌<◌, ◌≤◌, [], ◌∷◌, ◌++◌, List, length, flat_map, slice_get, Some, option_map};
+ghost use Rattle.std.specs.Prelude.{◌≡◌, ◌<◌, ◌≤◌, [], ◌∷◌, ◌++◌, List, length, flat_map, slice_get, Some};
 ghost use Rattle.std.specs.Option.{option_to_list};
 ghost use Rattle.battles.specs.Pairing.{paired};
 ghost use Rattle.battles.specs.Programs.{AllSome, AreOfProfile};
 ghost use Rattle.battles.specs.Translated.{AreTranslated};
 ghost use Rattle.code.specs.Generation.{ObjectCode};
+ghost use Rattle.settings.specs.declared.limits.TheConstants.{FILES_MAX};
 ghost use Rattle.engine.specs.Executables.{IsTranslated, made_of};
+ghost use Rattle.operations.specs.Filling.{translated};
 
 use arrayvec::ArrayVec;
 use code::Program;
@@ -19,8 +21,8 @@ use std::marker::Model;
 #[derive(Drop)]
 pub struct Programs {
     programs: ArrayVec<Option<Program>, FILES_MAX>,
-    // those of each program: none if it couldn't be translated
-    operations: ArrayVec<Option<Operations>, FILES_MAX>,
+    // by the program's index, made where they stay
+    operations: [Operations; FILES_MAX],
 }
 
 impl Model for Programs {
@@ -28,7 +30,8 @@ impl Model for Programs {
 
     ghost view = { λ p. flat_map option_to_list p.programs.items };
 
-    ghost invariant = { λ p. AllSome p.programs.items × AreTranslated (view p) p.operations.items };
+    ghost invariant = { λ p. AllSome p.programs.items × AreTranslated (view p) p.operations
+        × (length p.operations ≡ FILES_MAX) };
 }
 
 impl Programs {
@@ -38,7 +41,7 @@ impl Programs {
     {
         Programs {
             programs: ArrayVec::new(),
-            operations: ArrayVec::new(),
+            operations: Default::default(),
         }
     }
 
@@ -56,7 +59,8 @@ impl Programs {
         requires alike { AreOfProfile program.profile self.old }
         ensures { self.new ≡ self.old ++ program ∷ [] }
     {
-        self.operations.push(translate(&program));
+        let file = self.len();
+        translate(&program, &mut self.operations.as_mut_slice()[file]);
         self.programs.push(Some(program));
     }
 
@@ -72,16 +76,14 @@ impl Programs {
         }
     }
 
-    /// Returns the operations of the file with this index, if there are any.
-    fn translation(&self, file: usize) -> Option<&Operations>
+    /// Returns the operations of the file with this index.
+    fn translation(&self, file: usize) -> &Operations
         requires { file < length self.now }
         ensures { (code : ObjectCode) → slice_get self.now file ≡ Some code
-            → IsTranslated (made_of code (option_map (λ o. o.now) result)) }
+            → IsTranslated (made_of code (translated result.now)) }
     {
-        match &self.operations.as_slice()[file] {
-            Some(operations) => Some(operations),
-            None => None,
-        }
+        prove!(self.len() <= FILES_MAX);
+        &self.operations[file]
     }
 
     /// Returns how many robots fight: one of each program, and two of a single one.
