@@ -3,7 +3,7 @@ use Rattle.std.proofs.Common.{◌≡◌, ℕ, ◌<◌, ◌+◌, zero, suc, List,
 use Rattle.std.proofs.lemmas.List.{map-append, take_more}
 use Rattle.std.proofs.lemmas.Grind.{flat_map-append}
 use Rattle.std.proofs.lemmas.Option.{get_or_from_slice_get, slice_get_within}
-use Rattle.std.specs.Prelude.{slice_get, slice_set, flat_map}
+use Rattle.std.specs.Prelude.{slice_get, flat_map}
 use Rattle.std.specs.Option.{option_to_list}
 use Rattle.code.specs.Generation.{ObjectCode}
 use Rattle.operations.specs.declared.labels.Operations.{Operations}
@@ -46,27 +46,49 @@ kept_more {A} kept x all =
     ∙ ap (λ l. map (λ (x : A). Some x) l) (sym (list_more kept x))
 
 -- one more program, with its operations
-pub translated_more : (codes : List ObjectCode) (operations : List Operations) (code : ObjectCode) (o : Operations) →
-    AreTranslated codes operations → length codes < length operations → IsTranslated (made_of code (translated o)) →
-    AreTranslated (codes ++ code ∷ []) (slice_set operations (length codes) o)
-translated_more [] [] code o are room one = absurd (omega (arith, room))
-translated_more [] (p ∷ others) code o are room one = (one, tt)
-translated_more (c ∷ codes) [] code o are room one = absurd are
-translated_more (c ∷ codes) (p ∷ others) code o are room one =
-    (are.0, translated_more codes others code o are.1 (omega (arith, room)) one)
+pub translated_more : (codes : List ObjectCode) (kept : List (Option Operations)) (code : ObjectCode)
+    (o : Operations) → AreTranslated codes kept → IsTranslated (made_of code (translated o)) →
+    AreTranslated (codes ++ code ∷ []) (kept ++ Some o ∷ [])
+translated_more [] [] code o are one = (one, tt)
+translated_more [] (p ∷ others) code o are one = absurd are
+translated_more (c ∷ codes) [] code o are one = absurd are
+translated_more (c ∷ codes) (None ∷ others) code o are one = absurd are
+translated_more (c ∷ codes) (Some p ∷ others) code o are one = (are.0, translated_more codes others code o are.1 one)
 
--- those of one program
-pub translated_at : (codes : List ObjectCode) (operations : List Operations) (place : ℕ) (code : ObjectCode)
-    (o : Operations) → AreTranslated codes operations → slice_get codes place ≡ Some code → o ≡ get_or operations place o →
-    IsTranslated (made_of code (translated o))
-translated_at [] operations place code o are here there = absurd (cc)
-translated_at (c ∷ codes) [] place code o are here there = absurd are
-translated_at (c ∷ codes) (p ∷ others) zero code o are here there =
+pub translated_length : (codes : List ObjectCode) (kept : List (Option Operations)) → AreTranslated codes kept →
+    length kept ≡ length codes
+translated_length [] [] are = refl
+translated_length [] (p ∷ others) are = absurd are
+translated_length (c ∷ codes) [] are = absurd are
+translated_length (c ∷ codes) (None ∷ others) are = absurd are
+translated_length (c ∷ codes) (Some p ∷ others) are = ap suc (translated_length codes others are.1)
+
+-- those of one program are there
+pub translated_there : (codes : List ObjectCode) (kept : List (Option Operations)) (place : ℕ)
+    (found : Option Operations) → AreTranslated codes kept → place < length kept → found ≡ get_or kept place found →
+    found ≡ None → ⊥
+translated_there [] [] place found are low there none = absurd (omega (arith, low))
+translated_there [] (p ∷ others) place found are low there none = absurd are
+translated_there (c ∷ codes) [] place found are low there none = absurd are
+translated_there (c ∷ codes) (None ∷ others) place found are low there none = absurd are
+translated_there (c ∷ codes) (Some p ∷ others) zero found are low there none = absurd (cc (there, none))
+translated_there (c ∷ codes) (Some p ∷ others) (suc place) found are low there none =
+    translated_there codes others place found are.1 (omega (arith, low)) there none
+
+-- and they are its translation
+pub translated_at : (codes : List ObjectCode) (kept : List (Option Operations)) (place : ℕ) (code : ObjectCode)
+    (found : Option Operations) (o : Operations) → AreTranslated codes kept → slice_get codes place ≡ Some code →
+    found ≡ get_or kept place found → found ≡ Some o → IsTranslated (made_of code (translated o))
+translated_at [] kept place code found o are here there is = absurd (cc)
+translated_at (c ∷ codes) [] place code found o are here there is = absurd are
+translated_at (c ∷ codes) (None ∷ others) place code found o are here there is = absurd are
+translated_at (c ∷ codes) (Some p ∷ others) zero code found o are here there is =
     let same : c ≡ code = cc in
-    subst (λ (o : Operations). IsTranslated (made_of code (translated o))) (sym there)
+    let alike : p ≡ o = cc (there, is) in
+    subst (λ (o : Operations). IsTranslated (made_of code (translated o))) alike
     (subst (λ (c : ObjectCode). IsTranslated (made_of c (translated p))) same are.0)
-translated_at (c ∷ codes) (p ∷ others) (suc place) code o are here there =
-    translated_at codes others place code o are.1 here there
+translated_at (c ∷ codes) (Some p ∷ others) (suc place) code found o are here there is =
+    translated_at codes others place code found o are.1 here there is
 
 -- one more is looked up
 pub looked_up : (exes : List Executable) (codes : List ObjectCode) (n : ℕ) (exe : Executable)

@@ -6,9 +6,8 @@ ghost use Rattle.battles.specs.Pairing.{paired};
 ghost use Rattle.battles.specs.Programs.{AllSome, AreOfProfile};
 ghost use Rattle.battles.specs.Translated.{AreTranslated};
 ghost use Rattle.code.specs.Generation.{ObjectCode};
-ghost use Rattle.settings.specs.declared.limits.TheConstants.{FILES_MAX};
-ghost use Rattle.engine.specs.Executables.{IsTranslated, made_of};
 ghost use Rattle.operations.specs.Filling.{translated};
+ghost use Rattle.engine.specs.Executables.{IsTranslated, made_of};
 
 use arrayvec::ArrayVec;
 use code::Program;
@@ -21,8 +20,8 @@ use std::marker::Model;
 #[derive(Drop)]
 pub struct Programs {
     programs: ArrayVec<Option<Program>, FILES_MAX>,
-    // by the program's index, made where they stay
-    operations: [Operations; FILES_MAX],
+    // those of each program, which are none if it couldn't be translated
+    operations: ArrayVec<Option<Operations>, FILES_MAX>,
 }
 
 impl Model for Programs {
@@ -30,8 +29,7 @@ impl Model for Programs {
 
     ghost view = { λ p. flat_map option_to_list p.programs.items };
 
-    ghost invariant = { λ p. AllSome p.programs.items × AreTranslated (view p) p.operations
-        × (length p.operations ≡ FILES_MAX) };
+    ghost invariant = { λ p. AllSome p.programs.items × AreTranslated (view p) p.operations.items };
 }
 
 impl Programs {
@@ -41,7 +39,7 @@ impl Programs {
     {
         Programs {
             programs: ArrayVec::new(),
-            operations: Default::default(),
+            operations: ArrayVec::new(),
         }
     }
 
@@ -59,8 +57,9 @@ impl Programs {
         requires alike { AreOfProfile program.profile self.old }
         ensures { self.new ≡ self.old ++ program ∷ [] }
     {
-        let file = self.len();
-        translate(&program, &mut self.operations.as_mut_slice()[file]);
+        let mut operations = Operations::default();
+        translate(&program, &mut operations);
+        self.operations.push(Some(operations));
         self.programs.push(Some(program));
     }
 
@@ -82,8 +81,10 @@ impl Programs {
         ensures { (code : ObjectCode) → slice_get self.now file ≡ Some code
             → IsTranslated (made_of code (translated result.now)) }
     {
-        prove!(self.len() <= FILES_MAX);
-        &self.operations[file]
+        match &self.operations.as_slice()[file] {
+            Some(operations) => operations,
+            None => unreachable!(),
+        }
     }
 
     /// Returns how many robots fight: one of each program, and two of a single one.

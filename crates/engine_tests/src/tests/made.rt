@@ -1,12 +1,12 @@
-//! Programs of sources, and what engines run, for tests.
+//! Programs of sources, and their operations, for tests.
 
 ghost use Rattle.std.specs.Prelude.{◌≡◌, Some};
 ghost use Rattle.operations.specs.declared.labels.Operations.{Operations};
+ghost use Rattle.operations.specs.Filling.{translated};
 ghost use Rattle.operations.specs.Translation.{IsTranslation};
 
 use code::{Maker, Profile, Program};
-use engine::Executable;
-use operations::Operations;
+use operations::{Operations, translate};
 use parser::parse;
 use std::test::Fail;
 use tokens::Pieces;
@@ -20,13 +20,11 @@ pub fn program_of(profile: Profile, source: &[u8]) -> Result<Program, Fail> {
     }
 }
 
-/// Returns what an engine runs: a program, and its operations if there are any.
-pub fn executable_of<'a>(program: &'a Program, operations: &'a Option<Operations>) -> Executable<'a>
-    requires { (t : Operations) → operations.now ≡ Some t → IsTranslation program.now t }
-    ensures { result.program ≡ program.now }
+/// Translates a program, if that can be.
+pub fn operations_of(program: &Program) -> Operations
+    ensures { (t : Operations) → translated result ≡ Some t → IsTranslation program.now t }
 {
-    match operations {
-        Some(operations) => Executable::new(program, Some(operations)),
-        None => Executable::new(program, None),
-    }
+    let mut operations = Operations::default();
+    translate(program, &mut operations);
+    operations
 }

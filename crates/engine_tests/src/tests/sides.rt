@@ -6,10 +6,9 @@ ghost use Rattle.code.specs.Standing.{FitsProgram as MachineFits};
 ghost use Rattle.engine.specs.Engines.{FitsProgram, IsStopped};
 ghost use Rattle.engine.specs.Questions.{IsAsked, want_of};
 
-use crate::tests::made::{executable_of, program_of};
+use crate::tests::made::{operations_of, program_of};
 use code::{Intrinsic, Machine, Profile, Program, Want};
 use engine::{Engine, Executable, Question};
-use operations::translate;
 use std::process::Abort;
 use std::test::Fail;
 
@@ -171,8 +170,8 @@ fn both_run(rt: &impl Abort, exe: &Executable<'_>, program: &Program, cycles: u1
 /// Compiles a good source, translates it if it can be, and returns how often each side asks in so many cycles.
 fn sides_of(rt: &impl Abort, profile: Profile, source: &[u8], cycles: u16) -> Result<Sides, Fail> {
     let program = program_of(profile, source)?;
-    let operations = translate(&program);
-    let exe = executable_of(&program, &operations);
+    let operations = operations_of(&program);
+    let exe = Executable::new(&program, &operations);
     Ok(both_run(rt, &exe, &program, cycles))
 }
 

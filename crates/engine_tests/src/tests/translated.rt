@@ -1,8 +1,7 @@
 //! Which sources are translated.
 
-use crate::tests::made::program_of;
+use crate::tests::made::{operations_of, program_of};
 use code::Profile;
-use operations::translate;
 use std::alloc::{AllocError, Global};
 use std::process::Abort;
 use std::test::Fail;
@@ -10,7 +9,7 @@ use std::test::Fail;
 /// Reports whether a good source is translated.
 fn is_translated(profile: Profile, source: &[u8]) -> Result<bool, Fail> {
     let program = program_of(profile, source)?;
-    Ok(translate(&program).is_some())
+    Ok(!operations_of(&program).is_empty())
 }
 
 /// What a source tries, the source, and whether it is translated in the first and in the second profile.
