@@ -4,6 +4,7 @@ use Rattle.std.proofs.lemmas.Bool.{cases_eq}
 use Rattle.std.proofs.lemmas.List.{get_or-set_same, get_or-set_other}
 use Rattle.std.specs.Prelude.{slice_get}
 use Rattle.arena.specs.Ground.{Ground}
+use Rattle.engine.specs.declared.engines.Engine.{Engine}
 use Rattle.engine.specs.Executables.{Executable}
 use Rattle.battles.specs.Carrying.{Runner}
 use Rattle.battles.specs.Keeping.{AreManned, CanRun, HavePlaces, Keeps}
@@ -24,6 +25,24 @@ can_run exes runners arena i exe none manned inside here = record {
   turn_number = omega (arith, manned.few, inside);
   inside = omega (arith, manned.robots, inside);
   fits = fits_at runners exes i exe none manned.fits here;
+}
+
+-- what some turns keep, and then others
+pub keeps_on : {exe : Executable} {one other : Engine} {before between after : Ground} → Keeps exe one before between →
+    Keeps exe other between after → Keeps exe other before after
+keeps_on first then = record {
+  fits = then.fits;
+  robots = then.robots ∙ first.robots;
+  updates = then.updates ∙ first.updates;
+}
+
+-- after a robot's turns it can run on
+pub can_run_on : (i : ℕ) (exe : Executable) (one other : Engine) (before after : Ground) → CanRun i exe one before →
+    Keeps exe other before after → CanRun i exe other after
+can_run_on i exe one other before after can kept = record {
+  turn_number = can.turn_number;
+  inside = omega (arith, kept.robots, can.inside);
+  fits = kept.fits;
 }
 
 -- after a robot's turns all are manned still

@@ -1,6 +1,7 @@
 //! Replies: what the field answers to a live robot, and the turn that its machine takes with that.
 
-ghost use Rattle.std.specs.Prelude.{◌≡◌, ◌≢◌, true, ℤ, List};
+ghost use Rattle.std.specs.Prelude.{◌≡◌, ◌≢◌, true, ℤ, List, length};
+ghost use Rattle.arena.specs.Answer.{answer};
 ghost use Rattle.arena.specs.Field.{Field, is_live};
 ghost use Rattle.arena.specs.Ground.{lives};
 ghost use Rattle.arena.specs.Standing.{StandsFor as IsGroundOf};
@@ -13,6 +14,7 @@ ghost use Rattle.battles.specs.Keeping.{CanRun, Keeps};
 use arena::Arena;
 use code::Want;
 use engine::{Engine, Executable, Question};
+use grammar::Intrinsic;
 
 /// Takes the next turn of a live robot, whose machine asks this. No turn hurts a robot. A function that moves, shoots,
 /// looks or draws is called by its name. Each call has a reply of its own: one reply after all of them takes longer.
@@ -51,37 +53,25 @@ pub(crate) fn turn(
             machine.reply(exe, question, arena.drive(robot, degree, speed));
         }
         Question::Restart => machine.restart(exe),
-        Question::Plain(want) => turn_plainly(machine, exe, arena, robot, want),
+        Question::Plain(want) => match want {
+            Want::Ask(intrinsic, words) => {
+                machine.reply(exe, question, ask_plainly(arena, robot, intrinsic, words));
+            }
+            _ => machine.restart(exe),
+        },
     }
 }
 
-/// Takes the next turn of a live robot whose plain machine wants this. It stays out of the loop that runs robots.
+/// Answers a live robot whose plain machine asks. It stays out of the loop that runs robots.
 #[cold]
 #[inline(never)]
-fn turn_plainly(
-    machine: &mut Engine,
-    exe: &Executable<'_>,
-    arena: &mut Arena,
-    robot: usize,
-    want: Want,
-)
-    requires runs { CanRun robot exe.now machine.old arena.old }
-    requires asked { IsAsked exe.now machine.old (Question.Plain want) }
-    requires some { want ≢ Quiet }
-    requires lives { lives arena.old robot ≡ true }
-    ensures field { (r : Behaviour) (f : Field) (trace : List ℤ) → r trace ≡ want
-        → is_live f robot ≡ true → IsGroundOf arena.old f → IsGroundOf arena.new (step r robot f trace).0 }
-    ensures trace { (r : Behaviour) (f : Field) (trace : List ℤ) → r trace ≡ want
-        → is_live f robot ≡ true → IsGroundOf arena.old f → IsReached machine.old exe.now trace
-        → IsReached machine.new exe.now (step r robot f trace).1 }
-    ensures keeps { Keeps exe.now machine.new arena.old arena.new }
+fn ask_plainly(arena: &mut Arena, robot: usize, intrinsic: Intrinsic, words: [i32; 2]) -> i32
+    requires { lives arena.old robot ≡ true }
+    ensures reply { (f : Field) → IsGroundOf arena.old f → result ≡ (answer f robot intrinsic words).0 }
+    ensures stands { (f : Field) → IsGroundOf arena.old f → IsGroundOf arena.new (answer f robot intrinsic words).1 }
+    ensures updates { arena.new.updates ≡ arena.old.updates }
+    ensures manned { length arena.new.robots ≡ length arena.old.robots }
     ensures alive { lives arena.new robot ≡ true }
 {
-    match want {
-        Want::Ask(intrinsic, words) => {
-            let reply = arena.ask(robot, intrinsic, words);
-            machine.reply(exe, Question::Plain(want), reply);
-        }
-        _ => machine.restart(exe),
-    }
+    arena.ask(robot, intrinsic, words)
 }
