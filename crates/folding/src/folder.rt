@@ -1,4 +1,4 @@
-//! A builder that works out operators on constants while a source is read, around another builder.
+//! A watcher that works out operators on constants while a source is read.
 
 ghost use Rattle.std.specs.Prelude.{◌≡◌};
 ghost use Rattle.arith.specs.Op.{value_of};
@@ -7,31 +7,27 @@ use crate::folds::{Fold, Folds};
 use arith::binop;
 use arrayvec::ArrayVec;
 use code::Profile;
-use grammar::{Action, Build, BuildFault, Op};
+use grammar::{Action, Op, Watch};
 
 /// The most values that are known at once.
 const MOST_KNOWN: usize = 64;
 
-/// A folder: each action goes to the builder inside as it is, and beside it is found out which code is constant.
+/// A folder: it finds out which code is constant, beside a builder that takes each action as it is.
 ///
-/// It doesn't pass a value on in place of what it was made of: a builder represents the actions of the file, and a
-/// `Maker` that was told others gives no program.
+/// No value is passed on in place of what it was made of: a builder represents the actions of the file, and a `Maker`
+/// that was told others gives no program.
 #[derive(Drop)]
-pub struct Folder<B> {
-    inner: B,
+pub struct Folder {
     profile: Profile,
     next: u32,
     known: ArrayVec<Fold, MOST_KNOWN>,
     folds: Folds,
 }
 
-impl<B> Folder<B> {
-    /// Folds around this builder, which is new and goes by this profile.
-    pub fn around(inner: B, profile: Profile) -> Folder<B>
-        ensures { result.inner ≡ inner }
-    {
+impl Folder {
+    /// Makes a folder before the first action, for a builder that goes by this profile.
+    pub fn new(profile: Profile) -> Folder {
         Folder {
-            inner,
             profile,
             next: 0,
             known: ArrayVec::new(),
@@ -39,25 +35,13 @@ impl<B> Folder<B> {
         }
     }
 
-    /// Takes an action: a constant's value is known, and an operator's if both sides are.
-    fn take(&mut self, action: Action)
-        ensures { self.new.inner ≡ self.old.inner }
-    {
-        let begin = self.next;
-        let instructions = action.instructions(self.profile);
-        let end = begin.saturating_add(u32::from(instructions));
-        self.next = end;
-        match action {
-            Action::PushConstant(value) => self.remember(Fold { begin, end, value }),
-            Action::ApplyBinop(op) => self.combine(op),
-            _ => self.settle(),
-        }
+    /// Returns what was found.
+    pub fn into_folds(self) -> Folds {
+        self.folds
     }
 
     /// Takes a binary operator: if both sides are known, so is its value.
-    fn combine(&mut self, op: Op)
-        ensures { self.new.inner ≡ self.old.inner }
-    {
+    fn combine(&mut self, op: Op) {
         let (right, left) = (self.known.pop(), self.known.pop());
         match (left, right) {
             (Some(left), Some(right)) => {
@@ -72,9 +56,7 @@ impl<B> Folder<B> {
     }
 
     /// Keeps a known value. If there is no room, the oldest one is let go: it is found.
-    fn remember(&mut self, fold: Fold)
-        ensures { self.new.inner ≡ self.old.inner }
-    {
+    fn remember(&mut self, fold: Fold) {
         if self.known.is_full() {
             let oldest = self.known.remove(0);
             self.folds.add(oldest);
@@ -83,9 +65,7 @@ impl<B> Folder<B> {
     }
 
     /// Adds the known values to what was found, and forgets them.
-    fn settle(&mut self)
-        ensures { self.new.inner ≡ self.old.inner }
-    {
+    fn settle(&mut self) {
         for fold in self.known.as_slice() {
             self.folds.add(*fold);
         }
@@ -93,10 +73,18 @@ impl<B> Folder<B> {
     }
 }
 
-impl<B: Drop> Folder<B> {
-    /// Returns what was found, and lets the builder inside go.
-    pub fn into_folds(self) -> Folds {
-        self.folds
+impl Watch for Folder {
+    /// Takes an action: a constant's value is known, and an operator's if both sides are.
+    fn see(&mut self, action: Action) {
+        let begin = self.next;
+        let instructions = action.instructions(self.profile);
+        let end = begin.saturating_add(u32::from(instructions));
+        self.next = end;
+        match action {
+            Action::PushConstant(value) => self.remember(Fold { begin, end, value }),
+            Action::ApplyBinop(op) => self.combine(op),
+            _ => self.settle(),
+        }
     }
 }
 
@@ -110,16 +98,5 @@ fn worked_out(op: Op, left: Fold, right: Fold, end: u32) -> Fold
         begin: left.begin,
         end,
         value: binop(op, left.value, right.value),
-    }
-}
-
-impl<B: Build> Build for Folder<B> {
-    ghost stands = { λ f. B.stands f.inner };
-
-    ghost denied = { B.denied };
-
-    fn act(&mut self, action: Action) -> Result<(), BuildFault> {
-        self.take(action);
-        self.inner.act(action)
     }
 }

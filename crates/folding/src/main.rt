@@ -11,7 +11,7 @@ use crate::folder::Folder;
 use crate::folds::Folds;
 use crate::listing::folded;
 use code::{Maker, Profile, Program};
-use grammar::{Diagnostic, ParseFault};
+use grammar::{Diagnostic, ParseFault, Watched};
 use parser::parse;
 use std::io::{ErrorKind, Write};
 use std::{env, fs, io};
@@ -49,7 +49,10 @@ fn compiled(source: &[u8], profile: Profile) -> Result<(Program, Folds), ParseFa
 
 /// Finds what can be folded in the code of a source.
 fn folds_of(source: &[u8], profile: Profile) -> Result<Folds, ParseFault> {
-    let mut folder = Folder::around(Maker::new(profile), profile);
-    let _ = parse(&mut Pieces::new(source, WINDOW), &mut folder)?;
-    Ok(folder.into_folds())
+    let mut watched = Watched {
+        watcher: Folder::new(profile),
+        builder: Maker::new(profile),
+    };
+    let _ = parse(&mut Pieces::new(source, WINDOW), &mut watched)?;
+    Ok(watched.watcher.into_folds())
 }

@@ -1,7 +1,7 @@
 //! The actions that a parse reports to a builder, in the order of the tokens.
 
-ghost use Rattle.std.specs.Prelude.{◌≡◌, ◌≤◌, if◌then◌else◌};
-ghost use Rattle.grammar.specs.Actions.{end_length, instructions, middle_length};
+ghost use Rattle.std.specs.Prelude.{◌≡◌, ◌≤◌};
+ghost use Rattle.grammar.specs.Actions.{instructions};
 
 use crate::names::{Callee, Var};
 use crate::operators::StoreOp;
@@ -54,42 +54,16 @@ impl Action {
         ensures value { result ≡ instructions profile self }
         ensures most { result ≤ 4 }
     {
+        let short = profile.short_circuit();
         match self {
-            Action::ApplyBinop(op) => end_length(profile, op),
-            Action::LogicMiddle(op) => middle_length(profile, op),
+            Action::LogicMiddle(Op::And) if short => 1,
+            Action::LogicMiddle(Op::Or) if short => 4,
+            Action::LogicMiddle(_) => 0,
+            Action::ApplyBinop(Op::And) if short => 4,
             Action::ElsePart | Action::EndWhile => 2,
             Action::EndIf | Action::BeginWhile => 0,
             Action::BeginFunction(_, _) | Action::EndFunction(_) => 0,
             _ => 1,
         }
-    }
-}
-
-/// Returns how many instructions are between the sides of an operator.
-fn middle_length(profile: Profile, op: Op) -> u16
-    ensures value { result ≡ (if profile.short_circuit then middle_length op else 0) }
-    ensures most { result ≤ 4 }
-{
-    if !profile.short_circuit() {
-        return 0;
-    }
-    match op {
-        Op::And => 1,
-        Op::Or => 4,
-        _ => 0,
-    }
-}
-
-/// Returns how many instructions are at the end of an operator's right side.
-fn end_length(profile: Profile, op: Op) -> u16
-    ensures value { result ≡ (if profile.short_circuit then end_length op else 1) }
-    ensures most { result ≤ 4 }
-{
-    if !profile.short_circuit() {
-        return 1;
-    }
-    match op {
-        Op::And => 4,
-        _ => 1,
     }
 }

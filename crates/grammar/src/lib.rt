@@ -13,6 +13,7 @@ mod operators;
 mod pools;
 mod profiles;
 mod scope;
+mod watching;
 
 pub use actions::Action;
 pub use arith::Op;
@@ -27,3 +28,4 @@ pub use pools::{Function, MOST_NAMES, Pools};
 pub use profiles::Profile;
 pub use scope::{Scope, intrinsic, number_of};
 pub use tokens::{DeviceFault, Feed, Name};
+pub use watching::{Watch, Watched};

@@ -133,9 +133,7 @@ impl Scope {
         if let Some(var) = self.variable(name) {
             return Ok(var);
         }
-        if self.has_most_variables() {
-            return Err(Code::TooManyVariables);
-        }
+        check_room(self.current.variables().len())?;
         let var = self.next_local();
         self.add_variable(name);
         Ok(var)
@@ -150,9 +148,7 @@ impl Scope {
         if !self.is_local_new(name) {
             return Ok(());
         }
-        if self.has_most_variables() {
-            return Err(Code::TooManyVariables);
-        }
+        check_room(self.current.variables().len())?;
         self.add_variable(name);
         Ok(())
     }
@@ -166,9 +162,7 @@ impl Scope {
         if !self.is_local_new(name) {
             return Err(Code::BadParameterDeclaration);
         }
-        if self.has_most_variables() {
-            return Err(Code::TooManyVariables);
-        }
+        check_room(self.current.variables().len())?;
         self.add_parameter(name);
         Ok(())
     }
@@ -194,9 +188,7 @@ impl Scope {
         if !self.is_external_new(name) {
             return Ok(());
         }
-        if self.has_most_externals() {
-            return Err(Code::TooManyVariables);
-        }
+        check_room(self.pools.externals().len())?;
         self.add_external(name);
         Ok(())
     }
@@ -386,20 +378,6 @@ impl Scope {
         number_of(self.pools.externals(), name).is_none()
     }
 
-    /// Reports whether there is no room for a further variable of the function.
-    fn has_most_variables(&self) -> bool
-        ensures most { result ≡ nat_le MOST_NAMES (length self.now.current.variables) }
-    {
-        self.current.variables().len() >= MOST_NAMES
-    }
-
-    /// Reports whether there is no room for a further external.
-    fn has_most_externals(&self) -> bool
-        ensures most { result ≡ nat_le MOST_NAMES (length self.now.externals) }
-    {
-        self.pools.externals().len() >= MOST_NAMES
-    }
-
     /// Returns the function's next variable.
     fn next_local(&self) -> Var
         ensures { result ≡ Var.Local (length self.now.current.variables) }
@@ -429,6 +407,18 @@ impl Scope {
         ensures { self.new ≡ with_external name.now self.old }
     {
         self.pools.add_external(name);
+    }
+}
+
+/// Checks that a list of so many variables, a function's or the externals, has room for one more.
+fn check_room(variables: usize) -> Result<(), Code>
+    ensures room { OnOk result (nat_le MOST_NAMES variables ≡ false) }
+    ensures full { IfErr result (λ c. (c ≡ Code.TooManyVariables) × (nat_le MOST_NAMES variables ≡ true)) }
+{
+    if variables < MOST_NAMES {
+        Ok(())
+    } else {
+        Err(Code::TooManyVariables)
     }
 }
 

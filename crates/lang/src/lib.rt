@@ -4,7 +4,7 @@
 
 pub use grammar::{
     Action, Build, BuildFault, Callee, Code, Diagnostic, Function, Intrinsic, MOST_NAMES, Op,
-    ParseFault, Pools, Profile, StoreOp, Var,
+    ParseFault, Pools, Profile, StoreOp, Var, Watch, Watched,
 };
 pub use parser::parse;
 pub use round_trip::laws;

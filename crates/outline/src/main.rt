@@ -5,7 +5,7 @@
 mod depths;
 
 use crate::depths::Depths;
-use lang::{Diagnostic, Name, ParseFault, Profile, TreeMaker, parse};
+use lang::{Diagnostic, Name, ParseFault, Profile, TreeMaker, Watched, parse};
 use std::io::ErrorKind;
 use std::{env, fs, io, str};
 use tokens::Pieces;
@@ -20,8 +20,11 @@ fn main(rt: HostRuntime) -> io::Result<()> {
 
 /// Prints the outline of a source, or its first fault.
 fn outline(rt: &HostRuntime, source: &[u8]) -> io::Result<()> {
-    let mut depths = Depths::around(TreeMaker::new(rt.alloc(), Profile::first()));
-    let pools = match parse(&mut Pieces::new(source, 4096), &mut depths) {
+    let mut watched = Watched {
+        watcher: Depths::new(),
+        builder: TreeMaker::new(rt.alloc(), Profile::first()),
+    };
+    let pools = match parse(&mut Pieces::new(source, 4096), &mut watched) {
         Ok(pools) => pools,
         Err(ParseFault::Source(Diagnostic { line, code })) => {
             return println!(rt; "line {line}: {}", code.text());
@@ -36,7 +39,7 @@ fn outline(rt: &HostRuntime, source: &[u8]) -> io::Result<()> {
             .split_at(usize::from(function.parameters()));
         print_names(rt, "  parameters", parameters)?;
         print_names(rt, "  variables", others)?;
-        println!(rt; "  nesting {}", depths.deepest(number as u8))?;
+        println!(rt; "  nesting {}", watched.watcher.deepest(number as u8))?;
     }
     Ok(())
 }
