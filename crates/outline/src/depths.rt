@@ -1,6 +1,6 @@
 //! A builder that counts how deep the statements of each function are nested, around another builder.
 
-ghost use Rattle.std.specs.Prelude.{◌≡◌, ◌≤◌};
+ghost use Rattle.std.specs.Prelude.{◌≡◌};
 
 use lang::{Action, Build, BuildFault};
 
