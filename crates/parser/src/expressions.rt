@@ -16,7 +16,9 @@ use crate::parser::Parser;
 use crate::reader::Reader;
 use crate::signs::{Sign, sign_of, step_of};
 use crate::token_predicates::is_punctuator;
-use grammar::{Action, Binary, Build, BuildFault, Op, ParseFault, StoreOp, operator_from, store_operator};
+use grammar::{
+    Action, Binary, Build, BuildFault, Op, ParseFault, StoreOp, operator_from, store_operator,
+};
 use tokens::{Feed, Punctuator, Token};
 
 impl<F: Feed, B: Build> Reader<'_, '_, '_, F, B> {

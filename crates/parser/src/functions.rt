@@ -20,7 +20,8 @@ impl<F: Feed, B: Build> Reader<'_, '_, '_, F, B> {
         ensures kept { Proceeds result self.old self.new }
     {
         let number = heading(&mut self.parser)?;
-        self.build.act(Action::BeginFunction(number, self.parser.parameters()))?;
+        self.build
+            .act(Action::BeginFunction(number, self.parser.parameters()))?;
         self.function_block()?;
         let variables = self.parser.variables();
         self.close(variables)?;

@@ -1,6 +1,6 @@
 //! The builder that makes trees.
 
-ghost use Rattle.std.specs.Prelude.{◌≡◌, ◌+◌, [], min, nat_le, true, ⊤};
+ghost use Rattle.std.specs.Prelude.{◌≡◌, ◌+◌, [], min, nat_le, ⊤};
 ghost use Rattle.trees.specs.Standing.{Stands};
 
 use crate::memory::put;

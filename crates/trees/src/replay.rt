@@ -1,6 +1,6 @@
 //! Reports the trees to a builder, action by action.
 
-ghost use Rattle.std.specs.Prelude.{ℤ, pos, [], ◌∷◌, ◌++◌, IsErrOf, IsTrue, OnOk, map};
+ghost use Rattle.std.specs.Prelude.{pos, [], ◌∷◌, ◌++◌, IsErrOf, OnOk, map};
 ghost use Rattle.grammar.specs.declared.actions.Action.TheVariants.{BeginWhile, Chop, FetchVariable, IfTest};
 ghost use Rattle.grammar.specs.declared.actions.Action.TheVariants.{PushConstant, StoreVariable, WhileTest};
 ghost use Rattle.grammar.specs.Actions.{args_actions, body_actions, expr_actions, function_actions, last_return};
