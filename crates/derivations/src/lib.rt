@@ -15,7 +15,7 @@ mod trackers;
 pub use addresses::{MOST_PLACES, Place, Places, lines};
 pub use candidates::{fitting, spelled};
 pub use choices::{choice, enters};
-pub use emissions::{Action, Emission, MOST_ACTIONS, Origin};
+pub use emissions::{Emission, MOST_ACTIONS, Origin};
 pub use locations::{Located, locate};
 pub use steps::{Derivation, Pending, StepEnd};
 pub use symbols::{Item, MOST_ITEMS, Production, Role, SemanticAction, Symbol};

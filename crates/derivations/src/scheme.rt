@@ -1,10 +1,28 @@
 //! The translation scheme: what each step of a derivation emits.
 
 use crate::choices::operator_at;
-use crate::emissions::{Action, Emission, Origin};
+use crate::emissions::{Emission, Origin};
 use crate::symbols::{Item, Role, SemanticAction, Symbol};
-use grammar::Op;
+use grammar::{Action, Callee, Op, StoreOp, Var};
 use tokens::{Punctuator, Token, Word};
+
+/// A constant, of any value.
+const CONSTANT: Action = Action::PushConstant(0);
+
+/// The value of any variable.
+const FETCH: Action = Action::FetchVariable(Var::Local(0));
+
+/// A store by any operator.
+const STORE: Action = Action::StoreVariable(Var::Local(0), StoreOp::Set);
+
+/// The end of a call, of any function.
+const END_CALL: Action = Action::EndCall(Callee::Function(0));
+
+/// The begin of any function.
+const BEGIN_FUNCTION: Action = Action::BeginFunction(0, 0);
+
+/// The end of any function.
+const END_FUNCTION: Action = Action::EndFunction(0);
 
 /// Returns what a step emits, by the item in front, the next token, and the two items after the one in front.
 pub(crate) fn emitted(front: Item, next: &Token, behind: [Option<Item>; 2]) -> Emission {
@@ -14,7 +32,7 @@ pub(crate) fn emitted(front: Item, next: &Token, behind: [Option<Item>; 2]) -> E
         (Item::Naming(Role::Called), Token::Name(_)) => {
             Emission::of(&[Action::BeginCall], Origin::Next)
         }
-        (Item::Number, Token::Constant(_)) => Emission::of(&[Action::Constant], Origin::Next),
+        (Item::Number, Token::Constant(_)) => Emission::of(&[CONSTANT], Origin::Next),
         (Item::Make(action), _) => making(action, behind),
         _ => Emission::of(&[], Origin::Next),
     }
@@ -29,7 +47,7 @@ fn making(action: SemanticAction, behind: [Option<Item>; 2]) -> Emission {
         }
         SemanticAction::Evaluate => Emission::of(on_rule(action), Origin::Passed),
         SemanticAction::Define => Emission::of(on_rule(action), Origin::Next),
-        SemanticAction::Operate(op) => Emission::of(&[Action::Binop(op)], Origin::Chosen),
+        SemanticAction::Operate(op) => Emission::of(&[Action::ApplyBinop(op)], Origin::Chosen),
         _ => Emission::of(on_rule(action), Origin::Chosen),
     }
 }
@@ -51,11 +69,9 @@ fn on_body(behind: [Option<Item>; 2]) -> &'static [Action] {
 /// Returns what is emitted as a symbol's production is chosen by the next token.
 fn on_choice(symbol: Symbol, next: &Token) -> &'static [Action] {
     match (symbol, *next) {
-        (Symbol::FunctionBlock, Token::Punctuator(Punctuator::OpenCurly)) => {
-            &[Action::BeginFunction]
-        }
+        (Symbol::FunctionBlock, Token::Punctuator(Punctuator::OpenCurly)) => { &[BEGIN_FUNCTION] }
         (Symbol::Statement, Token::Word(Word::While)) => &[Action::BeginWhile],
-        (Symbol::Unary, Token::Punctuator(Punctuator::Minus)) => &[Action::Constant],
+        (Symbol::Unary, Token::Punctuator(Punctuator::Minus)) => &[CONSTANT],
         (Symbol::Tail(level), _) => match operator_at(level, next) {
             Some(Op::And) => &[Action::LogicMiddle(Op::And)],
             Some(Op::Or) => &[Action::LogicMiddle(Op::Or)],
@@ -68,22 +84,20 @@ fn on_choice(symbol: Symbol, next: &Token) -> &'static [Action] {
 /// Returns what is emitted as a tree is made, other than that of a binary operator or a body.
 fn on_rule(action: SemanticAction) -> &'static [Action] {
     match action {
-        SemanticAction::Negate => &[Action::Binop(Op::Subtract)],
-        SemanticAction::Not => &[Action::Constant, Action::Binop(Op::Equal)],
-        SemanticAction::Complement => &[Action::Constant, Action::Binop(Op::BitXor)],
-        SemanticAction::Fetch => &[Action::Fetch],
-        SemanticAction::Store(_) => &[Action::Store],
-        SemanticAction::StepBefore(_) => &[Action::Constant, Action::Store],
-        SemanticAction::StepBehind(_) => {
-            &[Action::Fetch, Action::Constant, Action::Store, Action::Chop]
-        }
-        SemanticAction::Invoke => &[Action::EndCall],
+        SemanticAction::Negate => &[Action::ApplyBinop(Op::Subtract)],
+        SemanticAction::Not => &[CONSTANT, Action::ApplyBinop(Op::Equal)],
+        SemanticAction::Complement => &[CONSTANT, Action::ApplyBinop(Op::BitXor)],
+        SemanticAction::Fetch => &[FETCH],
+        SemanticAction::Store(_) => &[STORE],
+        SemanticAction::StepBefore(_) => &[CONSTANT, STORE],
+        SemanticAction::StepBehind(_) => { &[FETCH, CONSTANT, STORE, Action::Chop] }
+        SemanticAction::Invoke => &[END_CALL],
         SemanticAction::Evaluate => &[Action::Chop],
         SemanticAction::Decide | SemanticAction::DecideElse => &[Action::EndIf],
         SemanticAction::Repeat => &[Action::EndWhile],
-        SemanticAction::Zero => &[Action::Constant],
+        SemanticAction::Zero => &[CONSTANT],
         SemanticAction::GiveBack => &[Action::GiveBack],
-        SemanticAction::Define => &[Action::Constant, Action::GiveBack, Action::EndFunction],
+        SemanticAction::Define => &[CONSTANT, Action::GiveBack, END_FUNCTION],
         SemanticAction::Operate(_) | SemanticAction::Pass | SemanticAction::Empty => &[],
     }
 }

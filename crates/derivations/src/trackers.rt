@@ -117,7 +117,7 @@ impl Tracker {
     }
 
     /// Keeps the place of so many instructions. Answers whether there was room.
-    fn keep(&mut self, count: usize, place: Place) -> bool {
+    fn keep(&mut self, count: u16, place: Place) -> bool {
         for _ in 0..count {
             if self.places.try_push(place).is_err() {
                 return false;

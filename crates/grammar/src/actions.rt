@@ -9,7 +9,7 @@ use crate::profiles::Profile;
 use arith::Op;
 
 /// An action: a step in building a program.
-#[derive(Clone, Copy, PartialEq, Eq)]
+#[derive(Clone, Copy, Default, PartialEq, Eq)]
 pub enum Action {
     /// Takes a constant as the next value.
     PushConstant(i32),
@@ -31,6 +31,7 @@ pub enum Action {
     /// Ends the first branch, and the second follows.
     ElsePart,
     /// Ends an `if`.
+    #[default]
     EndIf,
     /// Begins a `while`, whose condition follows.
     BeginWhile,
