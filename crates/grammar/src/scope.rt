@@ -130,13 +130,10 @@ impl Scope {
         ensures within { IfOk result (IsVariable MOST_NAMES MOST_NAMES) }
         ensures refused { IfErr result (λ c. RefusesName Mentioned name.now self.old c) }
     {
-        if let Some(var) = self.variable(name) {
-            return Ok(var);
+        match self.variable(name) {
+            Some(var) => Ok(var),
+            None => self.add_local(name),
         }
-        check_room(self.current.variables().len())?;
-        let var = self.next_local();
-        self.add_variable(name);
-        Ok(var)
     }
 
     /// Declares a local. A name that is declared again names the same variable.
@@ -148,8 +145,7 @@ impl Scope {
         if !self.is_local_new(name) {
             return Ok(());
         }
-        check_room(self.current.variables().len())?;
-        self.add_variable(name);
+        self.add_local(name)?;
         Ok(())
     }
 
@@ -185,11 +181,10 @@ impl Scope {
         ensures known { OnOk result ((line : ℕ) → Knows External name.now line self.old self.new) }
         ensures refused { IfErr result (λ c. RefusesName External name.now self.old c) }
     {
-        if !self.is_external_new(name) {
-            return Ok(());
+        if self.is_external_new(name) {
+            check_room(self.pools.externals().len())?;
+            self.add_external(name);
         }
-        check_room(self.pools.externals().len())?;
-        self.add_external(name);
         Ok(())
     }
 
@@ -378,19 +373,18 @@ impl Scope {
         number_of(self.pools.externals(), name).is_none()
     }
 
-    /// Returns the function's next variable.
-    fn next_local(&self) -> Var
-        ensures { result ≡ Var.Local (length self.now.current.variables) }
+    /// Adds a variable to the function, if there is room, and returns it.
+    fn add_local(&mut self, name: &Name) -> Result<Var, Code>
+        ensures added { IfOk result (λ v. (v ≡ Var.Local (length self.old.current.variables))
+            × (nat_le MOST_NAMES (length self.old.current.variables) ≡ false)
+            × (self.new ≡ with_variable name.now self.old)) }
+        ensures full { IfErr result (λ c. (c ≡ Code.TooManyVariables)
+            × (nat_le MOST_NAMES (length self.old.current.variables) ≡ true)) }
     {
-        Var::Local(self.current.variables().len() as u8)
-    }
-
-    /// Adds a variable to the function.
-    fn add_variable(&mut self, name: &Name)
-        requires { length self.old.current.variables < MOST_NAMES }
-        ensures { self.new ≡ with_variable name.now self.old }
-    {
+        let number = self.current.variables().len();
+        check_room(number)?;
         self.current.add_local(name);
+        Ok(Var::Local(number as u8))
     }
 
     /// Adds a parameter to the function.
