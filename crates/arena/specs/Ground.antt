@@ -1,7 +1,7 @@
 -- What an arena keeps of a field: sums of each way, one number of damage for each robot, and the missiles in the air.
 use Rattle.std.specs.Prelude.{ℕ, ◌==◌, ◌&&◌, Bool, List, nat_lt, ℤ, slice_index_or}
 use Rattle.rand_pcg.specs.Lcg.{Lcg}
-pub use Rattle.arena.specs.declared.slots.Missile.{Missile}
+pub use Rattle.arena.specs.declared.missile.Missile.{Missile}
 use Rattle.arena.specs.Leg.{Leg, place_x, place_y}
 use Rattle.arena.specs.Sums.{sum_east, sum_north, step_east, step_north}
 use Rattle.arena.specs.Field.{Shot, Robot, damage_of, no_robot}

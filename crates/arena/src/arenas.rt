@@ -13,11 +13,11 @@ ghost use Rattle.arena.specs.Ground.{most_updates, Body, body_of, lives};
 ghost use Rattle.arena.specs.Standing.{StandsFor, Answers};
 
 use crate::limits::MOST_ROBOTS;
+use crate::missile::Missile;
 use crate::missiles::Missiles;
 use crate::random::{generator, random_number};
 use crate::robots::Robot;
 use crate::scans::scan;
-use crate::slots::Missile;
 use crate::starts::{drawn_robots, placed_robots};
 use crate::updates::{is_still, move_on};
 use arith::{atan, cos, norm_degree, root, sin, tan};

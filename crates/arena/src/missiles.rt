@@ -12,9 +12,8 @@ ghost use Rattle.arena.specs.Outlook.{own_bursts};
 
 use crate::bursts::Burst;
 use crate::limits::{MOST_BURSTS, MOST_ROBOTS};
-use crate::slots::{
-    Missile, Slots, bursts, fire, land, may_fire, next_burst, no_missiles, none_flies,
-};
+use crate::missile::Missile;
+use crate::slots::{Slots, bursts, fire, land, may_fire, next_burst, no_missiles, none_flies};
 use arrayvec::ArrayVec;
 use std::marker::Model;
 

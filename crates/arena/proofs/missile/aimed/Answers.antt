@@ -2,7 +2,7 @@ use Rattle.std.proofs.Common.{◌≤◌, ℤ, unsigned_abs, ◌*ℤ◌, w32, ap,
 use Rattle.std.proofs.lemmas.Int.{to_z-of_z}
 use Rattle.arena.specs.Leg.{last_place, clamped, along}
 use Rattle.arena.proofs.Products.{product_fits, product_back}
-use Rattle.arena.proofs.slots.aimed.Goals as goal
+use Rattle.arena.proofs.missile.aimed.Goals as goal
 
 pub overflow_mul-way : goal.overflow_mul-way
 overflow_mul-way c =
