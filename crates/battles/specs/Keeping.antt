@@ -32,7 +32,7 @@ pub record Keeps (exe : Executable) (machine : Engine) (before after : Ground) :
   pub robots : length after.robots ≡ length before.robots
   pub updates : after.updates ≡ before.updates
 
--- A robot ran for n cycles of at most so many. If it stopped before these were over, it waits to draw.
+-- A robot ran for n cycles of at most so many. If it stopped before these were over, its machine waits.
 pub record RanWithin (limit n : ℕ) (exe : Executable) (runner : Runner) : Type 0 where
   pub most : n ≤ limit
   pub waits : n < limit → Waits exe runner
