@@ -197,7 +197,8 @@ impl<'a> Walk<'a> {
     fn count(&mut self) {
         let emission = self.derivation.emission();
         for action in emission.actions() {
-            self.code = self.code.saturating_add(action.instructions(self.profile));
+            let instructions = action.instructions(self.profile);
+            self.code = self.code.saturating_add(usize::from(instructions));
         }
     }
 }
