@@ -7,10 +7,10 @@ use Rattle.std.proofs.lemmas.List.Sums.{fold-append}
 use Rattle.std.proofs.lemmas.Bool.{ne_eqb, cases_lt}
 use Rattle.arith.specs.Root.{root_of}
 use Rattle.arena.proofs.Roots.{root_grows, root_of_0, root_of_1}
-use Rattle.arena.specs.Field.{Robot, Field, robot_at, metres_x, metres_y}
+use Rattle.arena.specs.Field.{Robot, Field, robot_at}
 use Rattle.arena.specs.Collisions.{square, others}
 use Rattle.arena.specs.Scan.{sees, range_of, nearest, scanned}
-use Rattle.arena.specs.Nearer.{square_to, nearer}
+use Rattle.arena.specs.Nearer.{square_to, out_of_sight, IsSquare, IsLeast, range_at}
 
 strictly : (k i : ℕ) → i ≤ k → (k ≡ i → ⊥) → i + 1 ≤ k
 strictly k i h differs = by_order (cases_lt i k)
@@ -69,83 +69,68 @@ others_none none i e =
     let size : length none ≡ 0 = ap length e in
     rw (take_all i none (omega (arith, size)), drop_all (i + 1) none (omega (arith, size))) (append-nil none ∙ e)
 
-pub none_yet : {X : Type 0} (f : X → ℕ) (p : X → Bool) (i : ℕ) → 0 ≡ fold nearer 0 (map f (filter p (others [] i)))
-none_yet f p i = sym (ap (λ l. fold nearer 0 (map f (filter p l))) (others_none [] i refl))
+pub none_yet : {X : Type 0} (f : X → ℕ) (p : X → Bool) (i : ℕ) →
+    IsLeast out_of_sight (map f (filter p (others [] i)))
+none_yet f p i = rw (others_none [] i refl) (record { least = refl; none = λ e. refl })
 
 -- one more of the others, which is seen or not
-pub one_more : {X : Type 0} (f : X → ℕ) (p : X → Bool) (xs : List X) (k i : ℕ) (d : X) (so_far : ℕ) →
-    k < length xs → (k ≡ i → ⊥) → so_far ≡ fold nearer 0 (map f (filter p (others (take k xs) i))) →
-    cond (p (get_or xs k d)) (nearer so_far (f (get_or xs k d))) so_far ≡
-    fold nearer 0 (map f (filter p (others (take (k + 1) xs) i)))
-one_more f p xs k i d so_far inside differs e = by_sight (p (get_or xs k d)) refl
+pub one_more : {X : Type 0} (f : X → ℕ) (p : X → Bool) (xs : List X) (k i : ℕ) (d : X) (so_far next : ℕ) →
+    k < length xs → (k ≡ i → ⊥) → IsLeast so_far (map f (filter p (others (take k xs) i))) →
+    next ≡ cond (p (get_or xs k d)) (min so_far (f (get_or xs k d))) so_far →
+    (p (get_or xs k d) ≡ true → next ≤ 2000000) →
+    IsLeast next (map f (filter p (others (take (k + 1) xs) i)))
+one_more f p xs k i d so_far next inside differs before is near = by_sight (p (get_or xs k d)) refl
   where
-    by_sight : (b : Bool) → p (get_or xs k d) ≡ b →
-        cond b (nearer so_far (f (get_or xs k d))) so_far ≡
-        fold nearer 0 (map f (filter p (others (take (k + 1) xs) i)))
+    by_sight : (b : Bool) → p (get_or xs k d) ≡ b → IsLeast next (map f (filter p (others (take (k + 1) xs) i)))
     by_sight true seen =
+        let small = near seen in
         rw (
           others_more xs k i d inside differs,
           filter-append p (others (take k xs) i) (get_or xs k d ∷ []),
           seen,
           map-append f (filter p (others (take k xs) i)) (get_or xs k d ∷ []),
-          fold-append nearer 0 (map f (filter p (others (take k xs) i))) (f (get_or xs k d) ∷ []),
-          e,
-        ) refl
+        )
+        (record {
+          least = is ∙
+              rw (
+                seen,
+                fold-append min out_of_sight (map f (filter p (others (take k xs) i))) (f (get_or xs k d) ∷ []),
+                sym before.least,
+              ) refl;
+          none = λ e. absurd (omega arith);
+        })
     by_sight false unseen =
-        e ∙
+        let same : next ≡ so_far = is ∙ rw unseen refl in
         rw (
           others_more xs k i d inside differs,
           filter-append p (others (take k xs) i) (get_or xs k d ∷ []),
           unseen,
           append-nil (filter p (others (take k xs) i)),
-        ) refl
+          same,
+        ) before
 
 -- the one that scans is passed over
 pub none_more : {X : Type 0} (f : X → ℕ) (p : X → Bool) (xs : List X) (k i : ℕ) (d : X) (so_far : ℕ) →
-    k < length xs → k ≡ i → so_far ≡ fold nearer 0 (map f (filter p (others (take k xs) i))) →
-    so_far ≡ fold nearer 0 (map f (filter p (others (take (k + 1) xs) i)))
-none_more f p xs k i d so_far inside same e =
-    e ∙ ap (λ l. fold nearer 0 (map f (filter p l))) (sym (others_same xs k i d inside same))
+    k < length xs → k ≡ i → IsLeast so_far (map f (filter p (others (take k xs) i))) →
+    IsLeast so_far (map f (filter p (others (take (k + 1) xs) i)))
+none_more f p xs k i d so_far inside same before = rw (others_same xs k i d inside same) before
 
--- no range is 0, so going on with the nearer one finds the least
+-- the range of the nearest is that of the least square, since the root of a greater number isn't less
 
-nearer_is : (n r : ℕ) → 1 ≤ n → nearer n r ≡ min n r
-unfolding nearer
-nearer_is n r h = rw (ne_eqb n 0 (λ e. omega arith)) refl
+abbrev pub whole : ℕ → ℕ
+whole n = max 1 (unsigned_abs (root_of (pos n)))
 
-found_least : {X : Type 0} (f : X → ℕ) → ((x : X) → 1 ≤ f x) → (n : ℕ) → 1 ≤ n → (xs : List X) →
-    fold min n (map f xs) ≡ fold nearer n (map f xs)
-found_least f some n h [] = refl
-found_least f some n h (x ∷ xs) =
-    let here = some x in
-    let low : 1 ≤ min n (f x) = omega arith in
-    found_least f some (min n (f x)) low xs ∙ ap (λ m. fold nearer m (map f xs)) (sym (nearer_is n (f x) h))
-
-pub nearest_is : {X : Type 0} (f : X → ℕ) → ((x : X) → 1 ≤ f x) → (xs : List X) →
-    nearest (map f xs) ≡ fold nearer 0 (map f xs)
-unfolding nearest nearer
-nearest_is f some [] = refl
-nearest_is f some (x ∷ xs) = found_least f some (f x) (some x) xs
-
-some_square : (a b : Robot) → 1 ≤ square_to a b
-unfolding square_to
-some_square a b = omega arith
-
--- the range of the nearest is the root of the least square, since the root of a greater number isn't less
-abbrev whole : ℕ → ℕ
-whole n = unsigned_abs (root_of (pos n))
-
-at_least_1 : (n : ℕ) → max 1 (whole n) ≡ whole (max 1 n)
+pub at_least_1 : (n : ℕ) → whole n ≡ unsigned_abs (root_of (pos (max n 1)))
 at_least_1 zero = let none = root_of_0 in let one = root_of_1 in omega arith
 at_least_1 (suc n) =
     let one = root_of_1 in
     let more = root_grows 1 (suc n) (omega arith) in
-    let same : max 1 (suc n) ≡ suc n = omega arith in
+    let same : max (suc n) 1 ≡ suc n = omega arith in
     rw same (omega arith)
 
 range_is : (a b : Robot) → range_of a b ≡ whole (square_to a b)
 unfolding range_of square_to
-range_is a b = at_least_1 (square (metres_x a) (metres_y a) (metres_x b) (metres_y b))
+range_is a b = refl
 
 min_whole : (a b : ℕ) → min (whole a) (whole b) ≡ whole (min a b)
 min_whole a b = elim (cases_lt a b) [
@@ -159,32 +144,48 @@ least_whole f n [] = refl
 least_whole f n (x ∷ xs) =
     ap (λ m. fold min m (map (λ x. whole (f x)) xs)) (min_whole n (f x)) ∙ least_whole f (min n (f x)) xs
 
-nearest_whole : {X : Type 0} (f : X → ℕ) (xs : List X) →
-    nearest (map (λ x. whole (f x)) xs) ≡ whole (nearest (map f xs))
-unfolding nearest
-nearest_whole f [] = sym root_of_0
-nearest_whole f (x ∷ xs) = least_whole f (f x) xs
-
 each_same : {X : Type 0} (f g : X → ℕ) (xs : List X) → ((x : X) → f x ≡ g x) → map f xs ≡ map g xs
 each_same f g [] h = refl
 each_same f g (x ∷ xs) h = ap (λ n. n ∷ map f xs) (h x) ∙ ap (λ ns. g x ∷ ns) (each_same f g xs h)
 
-ranges_are : (from : Robot) (xs : List Robot) →
-    whole (nearest (map (square_to from) xs)) ≡ nearest (map (range_of from) xs)
-ranges_are from xs =
-    sym (nearest_whole (square_to from) xs) ∙
-    ap nearest (sym (each_same (range_of from) (λ x. whole (square_to from x)) xs (range_is from)))
+-- a first number that is no less than `most` counts as `most`
+least_below : (most n : ℕ) (ns : List ℕ) → fold min (min most n) ns ≡ min most (fold min n ns)
+least_below most n [] = refl
+least_below most n (m ∷ ns) =
+    let same : min (min most n) m ≡ min most (min n m) = omega arith in
+    ap (λ k. fold min k ns) same ∙ least_below most (min n m) ns
 
--- a scan takes the root of the least of the squares
-pub scan_is : (field : Field) (i degree resolution least range : ℕ) →
-    least ≡
-    fold nearer 0
+-- what a squared distance has as its range
+pub in_sight : (square : ℕ) → square ≤ 2000000 → range_at square ≡ whole square
+unfolding range_at
+in_sight square h = rw (ne_eqb square 4294967295 (λ e. omega arith)) refl
+
+nearest_in_sight : {X : Type 0} (f : X → ℕ) (least : ℕ) (xs : List X) → least ≤ 2000000 →
+    IsLeast least (map f xs) → range_at least ≡ nearest (map (λ x. whole (f x)) xs)
+unfolding nearest
+nearest_in_sight f least [] h is = absurd (omega (arith, h, is.least))
+nearest_in_sight f least (x ∷ xs) h is =
+    let below = least_below out_of_sight (f x) (map f xs) in
+    let same : least ≡ fold min (f x) (map f xs) = omega (arith, h, is.least, below) in
+    in_sight least h ∙ ap whole same ∙ sym (least_whole f (f x) xs)
+
+nearest_is : {X : Type 0} (f : X → ℕ) (least : ℕ) (xs : List X) → IsSquare least → IsLeast least (map f xs) →
+    range_at least ≡ nearest (map (λ x. whole (f x)) xs)
+unfolding nearest range_at
+nearest_is f least [] (inl e) is = rw e refl
+nearest_is f least (x ∷ xs) (inl e) is = let size = ap length (is.none e) in absurd (omega (arith, size))
+nearest_is f least xs (inr h) is = nearest_in_sight f least xs h is
+
+-- a scan answers the range at the least of the squares
+pub scan_is : (field : Field) (i degree resolution least range : ℕ) → IsSquare least →
+    IsLeast least
     (map (square_to (robot_at field i))
     (filter (sees (robot_at field i) degree resolution) (others field.robots i))) →
-    range ≡ unsigned_abs (root_of (pos least)) →
+    range ≡ range_at least →
     range ≡ scanned field i degree resolution
 unfolding scanned
-scan_is field i degree resolution least range e r =
+scan_is field i degree resolution least range square is r =
     let from = robot_at field i in
     let seen = filter (sees from degree resolution) (others field.robots i) in
-    r ∙ ap whole (e ∙ sym (nearest_is (square_to from) (some_square from) seen)) ∙ ranges_are from seen
+    r ∙ nearest_is (square_to from) least seen square is ∙
+    ap nearest (sym (each_same (range_of from) (λ x. whole (square_to from x)) seen (range_is from)))

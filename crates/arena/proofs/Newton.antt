@@ -28,9 +28,14 @@ pub record IsNear (n guess : ℕ) : Type 0 where
   pub some : 0 < guess
   pub bound : guess ≤ 2000
 
-pub near_root_is : (n log : ℕ) → 0 < n → n ≤ 2000000 → 2 ^ log ≤ n → n < 2 * 2 ^ log →
-    IsNear n ((2 ^ ((log + 1) / 2) + n / 2 ^ ((log + 1) / 2)) / 2)
-near_root_is n log some most low high =
+-- a power of 2 near the root, and the mean of it and of how often it goes into the number
+pub record IsStart (n power : ℕ) : Type 0 where
+  pub some : 0 < power
+  pub most : power ≤ 1024
+  pub often : n / power < 2 * power
+
+pub start_is : (n log : ℕ) → n ≤ 2000000 → 2 ^ log ≤ n → n < 2 * 2 ^ log → IsStart n (2 ^ ((log + 1) / 2))
+start_is n log most low high =
     let k = (log + 1) / 2 in
     let p = 2 ^ k in
     let digits = few_digits n log low most in
@@ -38,9 +43,30 @@ near_root_is n log some most low high =
     let one : 2 ^ 0 ≤ p = pow-le-pow_right {n = 2} (omega arith) {i = 0} {j = k} (omega arith) in
     let twice : 2 ^ (k + k) ≡ p * p = pow-add 2 k k in
     let up : 2 ^ log ≤ 2 ^ (k + k) = pow-le-pow_right {n = 2} (omega arith) {i = log} {j = k + k} (omega arith) in
-    let less : n / p < 2 * p = goes_less n p (2 * p) (omega arith) in
-    let above = step_above n p (omega arith) in
-    record { above = above; some = some_root n ((p + n / p) / 2) some above; bound = omega arith }
+    record { some = omega arith; most = omega arith; often = goes_less n p (2 * p) (omega arith) }
+
+-- the guess after it, and a further step from there, which leads up by 1 at most
+pub first_near : (n power : ℕ) → 0 < n → IsStart n power → IsNear n ((power + n / power) / 2)
+first_near n power some is =
+    let above = step_above n power is.some in
+    record {
+      above = above;
+      some = some_root n ((power + n / power) / 2) some above;
+      bound = omega (arith, is.most, is.often);
+    }
+
+pub first_bound : (n power : ℕ) → IsStart n power → (power + n / power) / 2 ≤ 1536
+first_bound n power is = omega (arith, is.most, is.often)
+
+pub second_near : (n guess : ℕ) → 0 < n → IsNear n guess → guess ≤ 1536 → IsNear n ((guess + n / guess) / 2)
+second_near n guess some near most =
+    let often : n / guess < guess + 3 = goes_less n guess (guess + 3) (omega (arith, near.above, near.some)) in
+    let above = step_above n guess near.some in
+    record {
+      above = above;
+      some = some_root n ((guess + n / guess) / 2) some above;
+      bound = omega (arith, most, often);
+    }
 
 -- a step from a guess above the root leads down, and not below the root
 pub next_near : (n guess : ℕ) → 0 < n → IsNear n guess → n < guess * guess → IsNear n ((guess + n / guess) / 2)

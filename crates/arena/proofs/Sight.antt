@@ -1,5 +1,5 @@
 -- The ways from a robot to the others, and the arc of a scan.
-use Rattle.std.proofs.Common.{◌≡◌, ℕ, unsigned_abs, ℤ, pos, ◌-ℤ◌, Bool, true, false, ◌&&◌, ◌||◌, ◌==◌, nat_le, cond, refl, ◌∙◌, arith}
+use Rattle.std.proofs.Common.{◌≡◌, ℕ, unsigned_abs, ℤ, pos, ◌-ℤ◌, Bool, true, false, ◌&&◌, ◌||◌, ◌==◌, nat_le, min, cond, refl, sym, ◌∙◌, arith}
 use Rattle.std.specs.Int.{abs_diff}
 use Rattle.std.specs.Ordering.{int_eq}
 use Rattle.std.proofs.lemmas.Int.{ints}
@@ -9,7 +9,7 @@ use Rattle.arith.specs.Bearing.{bearing_of}
 use Rattle.arena.specs.Field.{Robot, is_alive, metres_x, metres_y}
 use Rattle.arena.specs.Collisions.{square}
 use Rattle.arena.specs.Scan.{east_to, north_to, in_arc, sees}
-use Rattle.arena.specs.Nearer.{leads_into, square_of, square_to, nearer}
+use Rattle.arena.specs.Nearer.{leads_into, square_of, square_to}
 
 either : (b : Bool) → (b || true) ≡ true
 either true = refl
@@ -67,6 +67,14 @@ pub beside_unseen : (a : Robot) (degree resolution : ℕ) (b : Robot) →
     leads_into (east_to a b) (north_to a b) degree resolution ≡ false → sees a degree resolution b ≡ false
 beside_unseen a degree resolution b beside = sees_by_way a b degree resolution ∙ rw beside (neither (is_alive b))
 
+pub seen_leads : (a b : Robot) (degree resolution : ℕ) → sees a degree resolution b ≡ true →
+    leads_into (east_to a b) (north_to a b) degree resolution ≡ true
+seen_leads a b degree resolution seen = second (is_alive b) _ (sym (sees_by_way a b degree resolution) ∙ seen)
+  where
+    second : (p q : Bool) → (p && q) ≡ true → q ≡ true
+    second true q e = e
+    second false q e = cc
+
 way_length : (a b : ℕ) → unsigned_abs (pos b -ℤ pos a) ≡ abs_diff a b
 way_length a b = omega (arith, ints)
 
@@ -75,8 +83,8 @@ unfolding square_to square square_of east_to north_to
 square_by_way a b = rw (way_length (metres_x a) (metres_x b), way_length (metres_y a) (metres_y b)) refl
 
 pub seen_so_far : (a : Robot) (degree resolution : ℕ) (b : Robot) (so_far : ℕ) → is_alive b ≡ true →
-    cond (sees a degree resolution b) (nearer so_far (square_to a b)) so_far ≡
+    cond (sees a degree resolution b) (min so_far (square_to a b)) so_far ≡
     cond (leads_into (east_to a b) (north_to a b) degree resolution)
-    (nearer so_far (square_of (east_to a b) (north_to a b))) so_far
+    (min so_far (square_of (east_to a b) (north_to a b))) so_far
 seen_so_far a degree resolution b so_far live =
     rw (sees_by_way a b degree resolution, live, square_by_way a b) refl

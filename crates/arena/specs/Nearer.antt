@@ -1,8 +1,9 @@
 -- The nearest robot of a scan, found by comparing squared distances along ways.
-use Rattle.std.specs.Prelude.{◌≡◌, ℕ, ◌+◌, ◌*◌, Bool, ◌&&◌, ◌||◌, nat_le, min, max, ◌==◌, if◌then◌else◌, ℤ, pos, unsigned_abs}
+use Rattle.std.specs.Prelude.{◌≡◌, ◌⊎◌, ◌≤◌, ℕ, ◌+◌, ◌*◌, Bool, ◌&&◌, ◌||◌, nat_le, min, max, fold, List, [], ◌==◌, if◌then◌else◌, ℤ, pos, unsigned_abs}
 use Rattle.std.specs.Ordering.{int_eq}
 use Rattle.arith.specs.Degree.{apart}
 use Rattle.arith.specs.Bearing.{bearing_of}
+use Rattle.arith.specs.Root.{root_of}
 use Rattle.arena.specs.Field.{Robot, metres_x, metres_y}
 use Rattle.arena.specs.Collisions.{square}
 
@@ -16,14 +17,27 @@ unfoldable pub leads_into : ℤ → ℤ → ℕ → ℕ → Bool
 leads_into east north degree resolution =
     (int_eq east (pos 0) && int_eq north (pos 0)) || nat_le (apart (bearing_of east north) degree) resolution
 
--- its squared length, and at least 1
+-- its squared length
 unfoldable pub square_of : ℤ → ℤ → ℕ
-square_of east north = max 1 (unsigned_abs east * unsigned_abs east + unsigned_abs north * unsigned_abs north)
+square_of east north = unsigned_abs east * unsigned_abs east + unsigned_abs north * unsigned_abs north
 
--- ranges compare as these do: the squared distance in whole metres, and at least 1
+-- ranges compare as these do: the squared distance in whole metres
 unfoldable pub square_to : Robot → Robot → ℕ
-square_to from to = max 1 (square (metres_x from) (metres_y from) (metres_x to) (metres_y to))
+square_to from to = square (metres_x from) (metres_y from) (metres_x to) (metres_y to)
 
--- the lesser of two such squares, of which the first may be 0, for none
-unfoldable pub nearer : ℕ → ℕ → ℕ
-nearer range other = if range == 0 then other else min range other
+-- more than any squared distance: it stands for no robot
+abbrev pub out_of_sight : ℕ
+out_of_sight = 4294967295
+
+-- a squared distance in the field, or none
+abbrev pub IsSquare : ℕ → Type 0
+IsSquare n = (n ≡ out_of_sight) ⊎ (n ≤ 2000000)
+
+-- the least of some squares, or none if there are none
+pub record IsLeast (n : ℕ) (squares : List ℕ) : Type 0 where
+  pub least : n ≡ fold min out_of_sight squares
+  pub none : n ≡ out_of_sight → squares ≡ []
+
+-- the range at a squared distance, at least 1, or 0 for no robot
+unfoldable pub range_at : ℕ → ℕ
+range_at square = if square == out_of_sight then 0 else max 1 (unsigned_abs (root_of (pos square)))

@@ -1,16 +1,19 @@
 //! What a scan sees.
 
-ghost use Rattle.std.specs.Prelude.{◌≡◌, ◌+◌, ◌*◌, ◌<◌, ◌≤◌, true, false, if◌then◌else◌, map, filter, fold, length, pos, unsigned_abs};
+ghost use Rattle.std.specs.Prelude.{◌≡◌, ◌+◌, ◌*◌, ◌/◌, ◌<◌, ◌≤◌, true, false, if◌then◌else◌, map, filter, min, length, pos, unsigned_abs};
 ghost use Rattle.arith.specs.Root.{root_of};
 ghost use Rattle.arena.specs.Field.{Robot as FieldRobot, Field, robot_at};
 ghost use Rattle.arena.specs.Collisions.{others};
 ghost use Rattle.arena.specs.Scan.{sees, scanned};
-ghost use Rattle.arena.specs.Nearer.{IsAt, leads_into, square_of, square_to, nearer};
+ghost use Rattle.arena.specs.Nearer.{IsAt, IsLeast, IsSquare, leads_into, range_at, square_of, square_to};
 ghost use Rattle.arena.specs.Ground.{body_of};
 
 use crate::arcs::Arc;
 use crate::robots::Robot;
 use crate::ways::{Spot, Way};
+
+/// More than any squared distance: it stands for no robot.
+const OUT_OF_SIGHT: u32 = u32::MAX;
 
 /// Returns the range in metres of the nearest live robot whose bearing differs from a degree by at most the resolution
 /// of at most 10, or 0.
@@ -23,19 +26,19 @@ pub(crate) fn scan(robots: &[Robot], robot: usize, degree: u16, resolution: u16)
     distance(nearest(robots, robot, degree, resolution))
 }
 
-/// Returns the squared distance of the nearest of the other robots that a robot sees, or 0.
+/// Returns the squared distance of the nearest of the other robots that a robot sees, if there is one.
 fn nearest(robots: &[Robot], robot: usize, degree: u16, resolution: u16) -> u32
     requires inside { robot < length robots.now }
     requires degree { degree < 360 }
     requires resolution { resolution ≤ 10 }
-    ensures nearest { (field : Field) → robots.now ≡ map body_of field.robots → result
-        ≡ fold nearer 0 (map (square_to (robot_at field robot))
+    ensures nearest { (field : Field) → robots.now ≡ map body_of field.robots → IsLeast result
+        (map (square_to (robot_at field robot))
         (filter (sees (robot_at field robot) degree resolution) (others field.robots robot))) }
-    ensures most { result ≤ 2000000 }
+    ensures square { IsSquare result }
 {
     let from = Spot::of(&robots[robot]);
     let arc = Arc::around(degree, resolution);
-    let mut nearest = 0;
+    let mut nearest = OUT_OF_SIGHT;
     for (i, other) in robots.iter().enumerate() {
         if i != robot {
             nearest = nearer(&from, &arc, other, nearest);
@@ -44,14 +47,15 @@ fn nearest(robots: &[Robot], robot: usize, degree: u16, resolution: u16) -> u32
     nearest
 }
 
-/// Returns the squared distance of a robot if it is seen and nearer than the one so far, else the one so far, of which 0
-/// is none.
+/// Returns the squared distance of a robot if it is seen and nearer than the one so far, else the one so far.
 #[inline(always)]
 fn nearer(from: &Spot, arc: &Arc, other: &Robot, so_far: u32) -> u32
-    requires so_far { so_far ≤ 2000000 }
+    requires so_far { IsSquare so_far }
     ensures value { (a b : FieldRobot) → IsAt from.now.x from.now.y a → other.now ≡ body_of b
-        → result ≡ (if sees a arc.now.degree arc.now.resolution b then nearer so_far (square_to a b) else so_far) }
-    ensures most { result ≤ 2000000 }
+        → result ≡ (if sees a arc.now.degree arc.now.resolution b then min so_far (square_to a b) else so_far) }
+    ensures square { IsSquare result }
+    ensures seen { (a b : FieldRobot) → IsAt from.now.x from.now.y a → other.now ≡ body_of b
+        → sees a arc.now.degree arc.now.resolution b ≡ true → result ≤ 2000000 }
 {
     if !other.is_alive() {
         return so_far;
@@ -63,47 +67,48 @@ fn nearer(from: &Spot, arc: &Arc, other: &Robot, so_far: u32) -> u32
     shorter(&way, arc, so_far)
 }
 
-/// Returns the squared length of a way if it leads into an arc and is shorter than the one so far, else the one so far,
-/// of which 0 is none. Whether one leads into the arc that isn't shorter need not be known.
+/// Returns the squared length of a way if it leads into an arc and is shorter than the one so far, else the one so far.
+/// Whether one leads into the arc that isn't shorter need not be known.
 fn shorter(way: &Way, arc: &Arc, so_far: u32) -> u32
-    requires so_far { so_far ≤ 2000000 }
+    requires so_far { IsSquare so_far }
     ensures value { result ≡ (if leads_into way.now.east way.now.north arc.now.degree arc.now.resolution
-        then nearer so_far (square_of way.now.east way.now.north) else so_far) }
-    ensures most { result ≤ 2000000 }
+        then min so_far (square_of way.now.east way.now.north) else so_far) }
+    ensures square { IsSquare result }
+    ensures seen { leads_into way.now.east way.now.north arc.now.degree arc.now.resolution ≡ true → result ≤ 2000000 }
 {
     let square = way.square();
-    if is_no_nearer(square, so_far) {
+    if so_far <= square {
         return so_far;
     }
     if arc.holds(way) { square } else { so_far }
 }
 
-/// Reports whether a squared distance isn't less than the one so far, of which 0 is none.
-#[tactic(auto, using(std::proofs::lemmas::Bool::Decides::nat_tests), unfolding(crate::specs::Nearer::nearer))]
-fn is_no_nearer(square: u32, so_far: u32) -> bool
-    ensures kept { result ≡ true → nearer so_far square ≡ so_far }
-    ensures nearer { result ≡ false → nearer so_far square ≡ square }
+/// Returns the range in metres at a squared distance, at least 1, and 0 for none.
+fn distance(square: u32) -> u16
+    requires { IsSquare square }
+    ensures { result ≡ range_at square }
 {
-    so_far != 0 && so_far <= square
+    if square == OUT_OF_SIGHT {
+        return 0;
+    }
+    whole_root(square.max(1))
 }
 
 /// Returns the whole root of a squared distance, by Newton's steps down from a guess that isn't below it.
-fn distance(square: u32) -> u16
-    requires { square ≤ 2000000 }
+fn whole_root(square: u32) -> u16
+    requires some { 0 < square }
+    requires most { square ≤ 2000000 }
     ensures { result ≡ unsigned_abs (root_of (pos square)) }
 {
-    if square == 0 {
-        return 0;
-    }
     let mut guess = near_root(square);
     while square < guess * guess {
-        guess = (guess + square / guess) / 2;
+        guess = closer(square, guess);
     }
     guess as u16
 }
 
-/// Returns a guess that isn't below the root of a squared distance, and at most a sixteenth above it: the mean of a power
-/// of 2 near the root and of how often it goes into the square.
+/// Returns a guess that isn't below the root of a squared distance, and hardly above it: two steps from a power of 2 near
+/// the root.
 fn near_root(square: u32) -> u32
     requires some { 0 < square }
     requires most { square ≤ 2000000 }
@@ -111,5 +116,15 @@ fn near_root(square: u32) -> u32
     ensures bound { result ≤ 2000 }
 {
     let power = 1 << ((square.ilog2() + 1) / 2);
-    (power + square / power) / 2
+    closer(square, closer(square, power))
+}
+
+/// Returns the mean of a guess and of how often it goes into a square: that is no less than the root.
+fn closer(square: u32, guess: u32) -> u32
+    requires some { 0 < guess }
+    requires square { square ≤ 2000000 }
+    requires guess { guess ≤ 2000 }
+    ensures { result ≡ (guess + square / guess) / 2 }
+{
+    (guess + square / guess) / 2
 }

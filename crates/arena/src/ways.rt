@@ -60,12 +60,11 @@ impl Way {
         self.east == 0 && self.north == 0
     }
 
-    /// Returns the squared length, at least 1.
+    /// Returns the squared length.
     pub fn square(&self) -> u32
         ensures value { result ≡ square_of self.now.east self.now.north }
         ensures most { result ≤ 2000000 }
     {
-        let square = (self.east * self.east + self.north * self.north) as u32;
-        square.max(1)
+        (self.east * self.east + self.north * self.north) as u32
     }
 }

@@ -1,19 +1,20 @@
-use Rattle.std.proofs.Common.{pos, unsigned_abs, ap, sym, ◌∙◌}
-use Rattle.arith.specs.Root.{root_of}
-use Rattle.arena.proofs.Roots.{root_of_0}
-use Rattle.arena.proofs.Newton.{next_near, root_is}
+use Rattle.std.proofs.Common.{inl, inr, refl, sym, ◌∙◌, arith}
+use Rattle.arena.specs.Nearer.{range_at}
+use Rattle.arena.proofs.Nearest.{in_sight, at_least_1}
 use Rattle.arena.proofs.scans.distance.Goals as goal
 
-pub returns-then-square-eq0 : goal.returns-then-square-eq0
-returns-then-square-eq0 c = sym (ap (λ n. unsigned_abs (root_of (pos n))) c.if-square-eq0.true ∙ root_of_0)
+pub returns-then-square-eq-OUT_OF_SIGHT : goal.returns-then-square-eq-OUT_OF_SIGHT
+unfolding range_at
+returns-then-square-eq-OUT_OF_SIGHT c = rw c.if-square-eq-OUT_OF_SIGHT.true refl
 
-pub loop-guess-preserved : goal.loop-guess-preserved
-loop-guess-preserved c = record {
-  some = c.loop-guess.invariant.some;
-  near = next_near c.args.square c.loop-guess.guess c.loop-guess.invariant.some c.loop-guess.invariant.near
-      c.loop-guess-test.true;
-}
+pub whole_root-requires-clause-most : goal.whole_root-requires-clause-most
+whole_root-requires-clause-most c = elim c.requires [
+  | inl none ↦ absurd (c.if-square-eq-OUT_OF_SIGHT.false none)
+  | inr most ↦ omega (arith, most, c.max.ensures)
+]
 
 pub returns : goal.returns
-returns c =
-    root_is c.args.square c.loop-guess.guess c.requires c.loop-guess.invariant.near c.loop-guess-test.false
+returns c = elim c.requires [
+  | inl none ↦ absurd (c.if-square-eq-OUT_OF_SIGHT.false none)
+  | inr most ↦ rw c.max.ensures at (c.whole_root.ensures) ∙ sym (in_sight c.args.square most ∙ at_least_1 c.args.square)
+]

@@ -3,4 +3,4 @@ use Rattle.arena.proofs.scans.scan.Goals as goal
 
 pub returns : goal.returns
 returns c = λ field e.
-    scan_is field c.args.robot _ _ _ _ (c.nearest.ensures.nearest field e) c.distance.ensures
+    scan_is field c.args.robot _ _ _ _ c.nearest.ensures.square (c.nearest.ensures.nearest field e) c.distance.ensures

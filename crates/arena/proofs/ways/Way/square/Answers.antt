@@ -4,25 +4,25 @@ use Rattle.arena.specs.Nearer.{square_of}
 use Rattle.arena.proofs.Squares.{square_fits, both_bits, both_fit, both_back, both_most}
 use Rattle.arena.proofs.ways.Way.square.Goals as goal
 
-pub overflow_mul-square : goal.overflow_mul-square
-overflow_mul-square c =
+pub overflow_mul-result : goal.overflow_mul-result
+overflow_mul-result c =
     let way = c.args.self.now in
     let small = way.east_in_field in
     square_fits way.east (omega (arith, small))
 
-pub overflow_mul-square-2 : goal.overflow_mul-square-2
-overflow_mul-square-2 c =
+pub overflow_mul-result-2 : goal.overflow_mul-result-2
+overflow_mul-result-2 c =
     let way = c.args.self.now in
     let small = way.north_in_field in
     square_fits way.north (omega (arith, small))
 
-pub overflow_add-square : goal.overflow_add-square
-overflow_add-square c =
+pub overflow_add-result : goal.overflow_add-result
+overflow_add-result c =
     let way = c.args.self.now in
     both_fit way.east way.north way.east_in_field way.north_in_field
 
-pub overflow_cast-square : goal.overflow_cast-square
-overflow_cast-square c =
+pub overflow_cast-result : goal.overflow_cast-result
+overflow_cast-result c =
     let way = c.args.self.now in
     let most = both_most way.east way.north way.east_in_field way.north_in_field in
     rw (both_back way.east way.north way.east_in_field way.north_in_field) (tt, record { fits = omega (arith, most) })

@@ -1,6 +1,6 @@
 use Rattle.std.proofs.Common.{◌<◌}
 use Rattle.arena.proofs.Newton.{IsNear}
-use Rattle.arena.proofs.scans.distance.Given as goal
+use Rattle.arena.proofs.scans.whole_root.Given as goal
 
 -- the guess isn't below the root
 abbrev pub invariant-loop-guess : goal.invariant-loop-guess
