@@ -1,4 +1,4 @@
-use Rattle.std.proofs.Common.{◌≡◌, ◌<◌, ◌++◌, [], ◌∷◌, length, List, ℕ, rules, false}
+use Rattle.std.proofs.Common.{◌≡◌, ◌<◌, ◌++◌, [], ◌∷◌, length, List, ℕ, Err, false, ap, arith}
 use Rattle.std.specs.Borrow.{Bor}
 use Rattle.std.proofs.lemmas.List.{take-map}
 use Rattle.std.proofs.lemmas.List.Elements.{All-push}
@@ -7,19 +7,22 @@ use Rattle.command.proofs.running.open_files.Goals as goal
 
 pub returns-in-Err-Refused-clause-refused : goal.returns-in-Err-Refused-clause-refused
 returns-in-Err-Refused-clause-refused g c =
-    let within : c.loop-word.word-index < length c.args.words.now = search rules in
+    let within : c.loop-word.word-index < length c.args.words.now =
+    omega (arith, c.loop-word-test.true, c.loop-word.auto.word-index-end) in
     record {
       place = c.loop-word.word-index;
       here = word_at c.args.words.now c.loop-word.word-index _ within;
-      refused = search rules;
+      refused = c.in-Err-Refused.ensures.refused (ap Err c.in-Err-Refused.field-0-is);
       opened = rw (take-map (λ (word : Bor (List ℕ)). word.now) c.loop-word.word-index c.args.words.now)
           c.loop-word.invariant.4;
     }
 
 pub loop-word-preserved : goal.loop-word-preserved
 loop-word-preserved g c =
-    let within : c.loop-word.word-index < length c.args.words.now = search rules in
-    let items : c.push.new.self.items ≡ c.loop-word.feeds.items ++ c.in-Ok.file ∷ [] = search rules in (
+    let within : c.loop-word.word-index < length c.args.words.now =
+    omega (arith, c.loop-word-test.true, c.loop-word.auto.word-index-end) in
+    let items : c.push.new.self.items ≡ c.loop-word.feeds.items ++ c.in-Ok.file ∷ [] =
+    rw c.if-is_err.ensures.negation at c.push.ensures.items in (
       rw items (told_more g.D.File.Feed.device (g.D.Opener.files c.args.disk.now).fails
           (λ feed. (g.D.File.Feed.device feed).to_come)
           (g.D.Opener.files c.args.disk.now).holds c.args.words.now
