@@ -16,7 +16,7 @@ use Rattle.grammar.specs.Derivation.{Definition}
 use Rattle.grammar.specs.Faults.{definitions_actions}
 use Rattle.grammar.specs.Following.{InFunction, Opened, open_count, few_open, follow, follow_all, then_follow, is_number, is_var_numbered, is_callee_numbered, only_on, most_numbers}
 use Rattle.grammar.specs.Nesting.{nesting, body_nesting, right_side}
-use Rattle.grammar.specs.Origins.{origin_of, ends_in_return}
+use Rattle.grammar.specs.Laws.Origins.{origin_of, ends_in_return}
 use Rattle.grammar.specs.Resolved.{InBody}
 use Rattle.grammar.specs.Tree.{Expr, Constant, Binary, Call, NoMore, Argument, Body, Done, ExpressionStatement, IfStatement, IfElseStatement, While, Return, join}
 use Rattle.grammar.proofs.FollowingLaws.{Leads, chain, definition_leads}

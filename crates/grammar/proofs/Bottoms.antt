@@ -15,7 +15,7 @@ use Rattle.grammar.specs.Derivation.{State, Value, Definition, start, step, step
 use Rattle.grammar.specs.Faults.{Fault, faults_of, faults_at}
 use Rattle.grammar.specs.Grammar.{Symbol, Source, Types, Head, More, Parameters, ParameterTypes, FunctionBlock, Block, Declarations, Statements, Statement, ElsePart, Back, Expression, Level, Tail, Unary, Primary, Arguments, MoreArguments, Role, Item, Exactly, AWord, AName, AConstant, AnEnd, Part, Make, Close, Production, choice, assignment_or, tail_production, is_fault, is_punctuator, is_word}
 use Rattle.grammar.specs.Operators.{operator_at, store_of}
-use Rattle.grammar.specs.Parsing.{IsIn}
+use Rattle.grammar.specs.Laws.Parsing.{IsIn}
 use Rattle.grammar.specs.Profile.{Profile}
 use Rattle.grammar.specs.Scope.{Scope}
 use Rattle.grammar.proofs.LastTokens.{EndsWithLast}

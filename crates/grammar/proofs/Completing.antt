@@ -11,7 +11,7 @@ use Rattle.grammar.specs.declared.actions.Action.TheVariants.{EndIf}
 use Rattle.grammar.specs.Actions.{body_actions, last_return}
 use Rattle.grammar.specs.Beginning.{AreTellable, IsTellable}
 use Rattle.grammar.specs.Derivation.{Value, Definition, last_body, made}
-use Rattle.grammar.specs.Emission.{on_rule}
+use Rattle.grammar.specs.Laws.Emission.{on_rule}
 use Rattle.grammar.specs.Faults.{definitions_actions}
 use Rattle.grammar.specs.Grammar.{Symbol, Source, Types, Head, More, Parameters, ParameterTypes, FunctionBlock, Block}
 use Rattle.grammar.specs.Grammar.{Declarations, Statements, Statement, ElsePart, Back, Expression, Level, Tail, Unary}

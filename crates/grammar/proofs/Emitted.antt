@@ -10,7 +10,7 @@ use Rattle.grammar.specs.Beginning.{IsBeginning}
 use Rattle.grammar.specs.Derivation.{State, start, Value, Definition, last_body, definition_of, next_of, after_of}
 use Rattle.grammar.specs.Derivation.{name_of_token, constant_value, is_end, matched, name_matched, constant_matched}
 use Rattle.grammar.specs.Derivation.{replaced, step_of, stepped, run}
-use Rattle.grammar.specs.Emission.{on_item, emitted, emissions}
+use Rattle.grammar.specs.Laws.Emission.{on_item, emitted, emissions}
 use Rattle.grammar.specs.Faults.{definitions_actions, faults_at, faults_in}
 use Rattle.grammar.specs.Grammar.{Item, Exactly, AWord, AName, AConstant, AnEnd, Part, Make, Close, Operate, Negate}
 use Rattle.grammar.specs.Grammar.{Not, Complement, Fetch, Store, StepBefore, StepBehind, Pass, Invoke, Empty, Evaluate}
@@ -22,8 +22,8 @@ use Rattle.grammar.proofs.Beginnings.{beginning_follows}
 use Rattle.grammar.proofs.NumberedActions.{numbered}
 use Rattle.grammar.proofs.ResolvedLaws.{Sound, run_sound, start_sound, stepped_sound}
 use Rattle.grammar.proofs.Runs.{append_empty}
-use Rattle.grammar.specs.Emitted.{EmitsABeginning, EmitsAPart, EmitsItsFunctions, IsPart, BeginningsAreNumbered}
-use Rattle.grammar.specs.Emitted.{NextMayFollow}
+use Rattle.grammar.specs.Laws.Emitted.{EmitsABeginning, EmitsAPart, EmitsItsFunctions, IsPart, BeginningsAreNumbered}
+use Rattle.grammar.specs.Laws.Emitted.{NextMayFollow}
 use Rattle.grammar.proofs.Completing.{Completes, completes}
 use Rattle.grammar.proofs.TellingLimits.{allowed, unlimited}
 use Rattle.grammar.proofs.TellingSteps.{StateTells, defined_told, stepped_tells}

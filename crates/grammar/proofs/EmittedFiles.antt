@@ -8,7 +8,7 @@ use Rattle.grammar.specs.Actions.{actions}
 use Rattle.grammar.specs.Compiled.{all_defined, all_faults, defined_as, enough, last_line, last_state}
 use Rattle.grammar.specs.Compiled.{main_name, order_of}
 use Rattle.grammar.specs.Derivation.{Definition, State, next_of, run, start, step_of}
-use Rattle.grammar.specs.Emitted.{EmitsItsFile}
+use Rattle.grammar.specs.Laws.Emitted.{EmitsItsFile}
 use Rattle.grammar.specs.Faults.{Fault, definitions_actions, faults_at, faults_in, item_faults, misfit, misfits}
 use Rattle.grammar.specs.Grammar.{Item, is_fault}
 use Rattle.grammar.specs.Profile.{Profile}

@@ -11,7 +11,7 @@ use Rattle.grammar.specs.Actions.{numbered_actions, functions_actions}
 use Rattle.grammar.specs.Compiled.{compiled_tokens, diagnostic, last_line, defined_as, in_front, all_defined, file_of, main_name, order_of, resolved}
 use Rattle.grammar.specs.Derivation.{State, Definition, state}
 use Rattle.grammar.specs.Faults.{definitions_actions}
-use Rattle.grammar.specs.Naming.{line_of_undefined}
+use Rattle.grammar.specs.Laws.Naming.{line_of_undefined}
 use Rattle.grammar.specs.Pools.{FunctionNames, names_of, names_of_function}
 use Rattle.grammar.specs.Profile.{Profile}
 use Rattle.grammar.specs.Resolved.{IsAmong, AreDistinct}
@@ -19,7 +19,7 @@ use Rattle.grammar.specs.Scope.{Scope, function_number}
 use Rattle.grammar.specs.Tree.{Function, File}
 use Rattle.grammar.proofs.ResolvedLaws.{Sound, compiled_is_resolved, order_below}
 use Rattle.grammar.proofs.Verdicts.{clean_verdict}
-use Rattle.grammar.specs.Finished.{PassesAll, Finished, Undefined, WithoutMain, known_names}
+use Rattle.grammar.specs.Laws.Finished.{PassesAll, Finished, Undefined, WithoutMain, known_names}
 use Rattle.grammar.proofs.NamedFunctions.{AreNamed, sound_of_passes, named_of_passes}
 use Rattle.grammar.proofs.Places.{map_of_places}
 

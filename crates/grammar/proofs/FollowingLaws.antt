@@ -19,7 +19,7 @@ use Rattle.grammar.specs.Following.{Open, InFunction, AValue, BeforeRight, InCal
 use Rattle.grammar.specs.Nesting.{nesting, args_nesting, body_nesting, right_side}
 use Rattle.arith.specs.Op.{is_logic}
 -- how the value of an expression came about
-pub use Rattle.grammar.specs.Origins.{origin_of}
+pub use Rattle.grammar.specs.Laws.Origins.{origin_of}
 use Rattle.grammar.specs.Resolved.{IsVariable, IsCallable, InExpr, InArgs, InBody, InFile, IsAmong}
 use Rattle.grammar.specs.Tree.{Expr, Constant, Variable, Binary, Assign, Postfix, Call, Args, NoMore, Argument, Body, Done, ExpressionStatement, IfStatement, IfElseStatement, While, Return, Function}
 use Rattle.grammar.specs.Laws.{EachFileFollows}

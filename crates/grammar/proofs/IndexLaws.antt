@@ -4,7 +4,7 @@ use Rattle.std.proofs.lemmas.Bool.{cases_eq}
 use Rattle.std.proofs.lemmas.List.{get_or_append_left, get_or_push, get_or-set_other, get_or-set_same, length-set}
 use Rattle.std.proofs.lemmas.Slice.Eq.{bytes_eq-Decides}
 use Rattle.std.specs.Str.{bytes_eq}
-use Rattle.grammar.specs.Index.{IsIndexed, NoneBefore, Notes, bucket_of, start_of}
+use Rattle.grammar.specs.Laws.Index.{IsIndexed, NoneBefore, Notes, bucket_of, start_of}
 use Rattle.grammar.specs.Pools.{FunctionNames}
 use Rattle.grammar.specs.Scope.{only_named}
 

@@ -1,7 +1,7 @@
 -- What the derivations of known sources emit, worked out.
 use Rattle.std.proofs.Common.{refl}
 use Rattle.grammar.specs.Intrinsics.{intrinsic_named, name_of}
-use Rattle.grammar.specs.KnownEmissions.{KnownEmissions}
+use Rattle.grammar.specs.Known.Emissions.{KnownEmissions}
 
 pub emissions_known : KnownEmissions
 unfolding intrinsic_named name_of

@@ -5,7 +5,7 @@ use Rattle.grammar.specs.Faults.{most_levels}
 use Rattle.grammar.specs.Following.{most_numbers}
 use Rattle.grammar.specs.Intrinsics.{intrinsic_named, name_of}
 use Rattle.grammar.specs.Profile.{first_profile}
-use Rattle.grammar.specs.KnownSources.{calls_begun, KnownBeginnings, KnownLimits, KnownMisfits, KnownNameFaults, KnownNeeds, KnownTrees}
+use Rattle.grammar.specs.Known.Sources.{calls_begun, KnownBeginnings, KnownLimits, KnownMisfits, KnownNameFaults, KnownNeeds, KnownTrees}
 use Rattle.grammar.proofs.Beginnings.{follows_begins}
 
 pub trees : KnownTrees

@@ -6,7 +6,7 @@ use Rattle.tokens.specs.Words.{word_of}
 use Rattle.grammar.specs.Compiled.{compiled}
 use Rattle.grammar.specs.Faults.{most_levels}
 use Rattle.grammar.specs.Intrinsics.{intrinsic_named, name_of}
-use Rattle.grammar.specs.KnownTexts.{KnownTexts}
+use Rattle.grammar.specs.Known.Texts.{KnownTexts}
 use Rattle.grammar.specs.Need.{built, need}
 use Rattle.grammar.specs.Profile.{first_profile}
 

@@ -6,7 +6,7 @@ use Rattle.grammar.specs.Compiled.{order_of}
 use Rattle.grammar.specs.Derivation.{State, state, start, Value, Definition, definition_of, last_body, next_of, after_of, line_of, name_of_token, constant_value, is_end, matched, name_matched, constant_matched, replaced, step_of, step, stepped, run}
 use Rattle.grammar.specs.Faults.{faults_at, faults_in}
 use Rattle.grammar.specs.Grammar.{Item, Exactly, AWord, AName, AConstant, AnEnd, Part, Make, Close, Define, Role, Defined, External, Parameter, Typed, Local, Called, Mentioned, Production, choice, is_fault, is_punctuator, is_word}
-use Rattle.grammar.specs.Parsing.{Passes}
+use Rattle.grammar.specs.Laws.Parsing.{Passes}
 use Rattle.grammar.specs.Pools.{FunctionNames, names_of_function}
 use Rattle.grammar.specs.Profile.{Profile}
 use Rattle.grammar.specs.Resolved.{IsAmong, AreDistinct}

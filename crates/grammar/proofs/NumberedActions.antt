@@ -6,7 +6,7 @@ use Rattle.grammar.specs.declared.operators.StoreOp.{StoreOp}
 use Rattle.grammar.specs.declared.actions.Action.{Action}
 use Rattle.grammar.specs.declared.actions.Action.TheVariants.{FetchVariable, StoreVariable, EndCall, BeginFunction}
 use Rattle.grammar.specs.declared.actions.Action.TheVariants.{EndFunction}
-use Rattle.grammar.specs.Emitted.{IsNumbered, AreNumbered}
+use Rattle.grammar.specs.Laws.Emitted.{IsNumbered, AreNumbered}
 use Rattle.grammar.specs.Following.{AValue, Fetched, InFunction, Opened, call_done, few_open, follow, follow_all}
 use Rattle.grammar.specs.Following.{is_callee_numbered, is_var_numbered, stored, then_follow, within}
 use Rattle.grammar.specs.Resolved.{IsVariable}

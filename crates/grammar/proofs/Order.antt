@@ -5,7 +5,7 @@ use Rattle.std.specs.Prelude.{nat_lt, nat_le, if◌then◌else◌, Some, slice_g
 use Rattle.grammar.specs.declared.diagnostics.Code.{Code}
 use Rattle.grammar.specs.declared.diagnostics.Code.TheVariants as code
 use Rattle.grammar.specs.Faults.{Fault, is_first, first_of, number_of}
-use Rattle.grammar.specs.Parsing.{IsIn}
+use Rattle.grammar.specs.Laws.Parsing.{IsIn}
 use Rattle.grammar.proofs.Firsts.{reflexive}
 
 -- what the test says: fewer tokens are left at g, or as many, and the code is not larger

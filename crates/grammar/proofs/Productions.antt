@@ -11,7 +11,7 @@ use Rattle.arith.specs.declared.operators.Op.{Op}
 use Rattle.grammar.specs.declared.operators.StoreOp.{StoreOp}
 use Rattle.grammar.specs.Grammar.{Role, Symbol, Source, Types, Head, More, Parameters, ParameterTypes, FunctionBlock, Block, Declarations, Statements, Statement, ElsePart, Back, Expression, Level, Tail, Unary, Primary, Arguments, MoreArguments, Mentioned, Part, assignment_or, choice, tail_production}
 use Rattle.grammar.specs.Operators.{operator_at, store_of}
-use Rattle.grammar.specs.Scheme.{ActsByRows, ChoosesRows, HasOneRole, IsSymbol, action_rows, actions_after, in_words, listed, of_symbol, plain, role_of, roles_in, roles_of}
+use Rattle.grammar.specs.Laws.Scheme.{ActsByRows, ChoosesRows, HasOneRole, IsSymbol, action_rows, actions_after, in_words, listed, of_symbol, plain, role_of, roles_in, roles_of}
 
 -- the production chosen is the row's, with the semantic actions listed for it
 abbrev Fits : Symbol → Token → Token → Type 0

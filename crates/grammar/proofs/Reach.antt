@@ -10,7 +10,7 @@ use Rattle.grammar.specs.Derivation.{State, start, run}
 use Rattle.grammar.specs.Faults.{Fault, first_of}
 use Rattle.grammar.specs.Laws.{WhatWasReadIsNeeded}
 use Rattle.grammar.specs.Need.{last_end, need, needed}
-use Rattle.grammar.specs.Parsing.{IsIn, IsFault}
+use Rattle.grammar.specs.Laws.Parsing.{IsIn, IsFault}
 use Rattle.grammar.specs.Profile.{Profile}
 use Rattle.grammar.proofs.Bottoms.{fault_at_token}
 use Rattle.grammar.proofs.Firsts.{at_rest}

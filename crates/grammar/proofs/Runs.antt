@@ -3,7 +3,7 @@ use Rattle.std.proofs.Common.{◌≡◌, ℕ, zero, suc, ◌+◌, List, [], ◌�
 use Rattle.grammar.specs.declared.diagnostics.Diagnostic.{Diagnostic}
 use Rattle.grammar.specs.Derivation.{State, stepped, run}
 use Rattle.grammar.specs.Faults.{Fault, faults_at, faults_in}
-use Rattle.grammar.specs.Parsing.{IsIn, IsFault, IsFirstFault, Fails, Passes}
+use Rattle.grammar.specs.Laws.Parsing.{IsIn, IsFault, IsFirstFault, Fails, Passes}
 use Rattle.grammar.specs.Profile.{Profile}
 
 pub run-add : (m n : ℕ) (s : State) → run (m + n) s ≡ run n (run m s)

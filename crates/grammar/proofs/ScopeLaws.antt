@@ -16,8 +16,8 @@ use Rattle.grammar.specs.declared.diagnostics.Code.TheVariants as code
 use Rattle.grammar.specs.Faults.{fault, no_room, parameter_faults}
 use Rattle.grammar.specs.Grammar.{Called}
 use Rattle.grammar.specs.Intrinsics.{intrinsic_named}
-use Rattle.grammar.specs.Index.{NoneBefore}
-use Rattle.grammar.specs.Naming.{IsKept, Knows, line_of_undefined}
+use Rattle.grammar.specs.Laws.Index.{NoneBefore}
+use Rattle.grammar.specs.Laws.Naming.{IsKept, Knows, line_of_undefined}
 use Rattle.grammar.specs.Pools.{FunctionNames}
 use Rattle.grammar.specs.Scope.{Scope, is_local_new, is_function_new, function_number, number_of_name, only_named, with_new_function}
 

@@ -7,7 +7,7 @@ use Rattle.tokens.specs.declared.located_tokens.Word.{Word}
 use Rattle.grammar.specs.Derivation.{State, state, Value, AnExpr, Definition, stepped, next_of, after_of, line_of, made, defined, behind_rule, of_name, name_of_token, constant_value, is_end}
 use Rattle.grammar.specs.Faults.{faults_at, item_faults, level_faults, role_faults}
 use Rattle.grammar.specs.Grammar.{Item, Exactly, AWord, AName, AConstant, AnEnd, Part, Make, Close, Symbol, Role, SemanticAction, choice, is_punctuator, is_word, is_fault}
-use Rattle.grammar.specs.Parsing.{Passes}
+use Rattle.grammar.specs.Laws.Parsing.{Passes}
 use Rattle.grammar.specs.Profile.{Profile}
 use Rattle.grammar.specs.Scope.{Scope, behind_name}
 use Rattle.grammar.specs.Tree.{Constant}

@@ -10,7 +10,7 @@ use Rattle.grammar.specs.declared.actions.Action.TheVariants.{PushConstant, Begi
 use Rattle.grammar.specs.Actions.{expr_actions, args_actions, body_actions}
 use Rattle.grammar.specs.Beginning.{AreTellable}
 use Rattle.grammar.specs.Derivation.{Value, AnExpr, AVariable, ACall, ABody, Definition, last_body, made}
-use Rattle.grammar.specs.Emission.{on_rule}
+use Rattle.grammar.specs.Laws.Emission.{on_rule}
 use Rattle.grammar.specs.Faults.{definitions_actions, levels}
 use Rattle.grammar.specs.Grammar.{Symbol, Source, Types, Head, More, Parameters, ParameterTypes, FunctionBlock, Block}
 use Rattle.grammar.specs.Grammar.{Declarations, Statements, Statement, ElsePart, Back, Expression, Level, Tail, Unary}

@@ -16,7 +16,7 @@ use Rattle.grammar.specs.declared.actions.Action.TheVariants.{PushConstant, Stor
 use Rattle.grammar.specs.declared.actions.Action.TheVariants.{EndCall}
 use Rattle.grammar.specs.Actions.{expr_actions, args_actions, middle}
 use Rattle.grammar.specs.Derivation.{Value, AnExpr, ACall, Definition}
-use Rattle.grammar.specs.Emission.{on_choice, on_operator}
+use Rattle.grammar.specs.Laws.Emission.{on_choice, on_operator}
 use Rattle.grammar.specs.Faults.{levels}
 use Rattle.grammar.specs.Grammar.{Symbol, Source, Types, Head, More, Parameters, ParameterTypes, FunctionBlock, Block}
 use Rattle.grammar.specs.Grammar.{Declarations, Statements, Statement, ElsePart, Back, Expression, Level, Tail, Unary}

@@ -13,7 +13,7 @@ use Rattle.grammar.specs.declared.actions.Action.TheVariants.{EndCall, IfTest, E
 use Rattle.grammar.specs.declared.actions.Action.TheVariants.{Chop, BeginFunction}
 use Rattle.grammar.specs.Actions.{expr_actions, body_actions}
 use Rattle.grammar.specs.Derivation.{Value, AnExpr, ABody, Definition}
-use Rattle.grammar.specs.Emission.{on_choice}
+use Rattle.grammar.specs.Laws.Emission.{on_choice}
 use Rattle.grammar.specs.Faults.{levels}
 use Rattle.grammar.specs.Grammar.{Symbol, Source, Head, More, FunctionBlock, Block, Statements, Statement, ElsePart}
 use Rattle.grammar.specs.Grammar.{Back, Expression, Role, Defined, External, Parameter, Typed, Local, Called, Mentioned}

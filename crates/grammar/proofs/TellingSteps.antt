@@ -15,7 +15,7 @@ use Rattle.grammar.specs.Derivation.{State, Value, AnExpr, AVariable, ACall, Def
 use Rattle.grammar.specs.Derivation.{of_name, next_of, after_of, line_of, name_of_token, constant_value, is_end}
 use Rattle.grammar.specs.Derivation.{matched, name_matched, constant_matched, replaced, step_of, stepped}
 use Rattle.grammar.specs.declared.operators.StoreOp.{StoreOp}
-use Rattle.grammar.specs.Emission.{on_choice, on_name, on_constant, on_rule, on_item, emitted}
+use Rattle.grammar.specs.Laws.Emission.{on_choice, on_name, on_constant, on_rule, on_item, emitted}
 use Rattle.grammar.specs.Faults.{definitions_actions}
 use Rattle.grammar.specs.Grammar.{Symbol, FunctionBlock, Statement, Tail, Unary, Item, Exactly, AWord, AName, AConstant}
 use Rattle.grammar.specs.Grammar.{AnEnd, Part, Make, Close, SemanticAction, Operate, Negate, Not, Complement, Fetch}

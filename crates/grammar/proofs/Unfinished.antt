@@ -9,7 +9,7 @@ use Rattle.grammar.specs.Actions.{expr_actions, body_actions}
 use Rattle.grammar.specs.Following.{InFunction, AValue, BeforeRight, InCall, InBranch, InElse, BeforeTest, InTurn, Open, Opened, open_count, is_place, is_number, statement_done, within}
 use Rattle.grammar.specs.Nesting.{nesting, body_nesting}
 use Rattle.arith.specs.Op.{is_logic}
-use Rattle.grammar.specs.Origins.{origin_of, ends_in_return}
+use Rattle.grammar.specs.Laws.Origins.{origin_of, ends_in_return}
 use Rattle.grammar.specs.Resolved.{InExpr, InBody}
 use Rattle.grammar.specs.Tree.{Expr, Body, Done, ExpressionStatement, IfStatement, IfElseStatement, While, Return, join}
 use Rattle.grammar.proofs.Soundness.{join_in}

@@ -6,7 +6,7 @@ use Rattle.grammar.specs.declared.diagnostics.Diagnostic.{Diagnostic}
 use Rattle.grammar.specs.Compiled.{compiled_tokens, verdict, resolved, enough, diagnostic}
 use Rattle.grammar.specs.Derivation.{State, Definition, start, stepped, run, line_of}
 use Rattle.grammar.specs.Faults.{Fault, faults_at, faults_in, first_of}
-use Rattle.grammar.specs.Parsing.{IsIn, IsFault, IsFirstFault, Fails, Passes}
+use Rattle.grammar.specs.Laws.Parsing.{IsIn, IsFault, IsFirstFault, Fails, Passes}
 use Rattle.grammar.specs.Profile.{Profile}
 use Rattle.grammar.specs.Scope.{Scope}
 use Rattle.grammar.proofs.Weight.{weight}

@@ -1,4 +1,15 @@
 -- Laws on the definitions: a derivation ends, and a source is what its derivation leads to.
+-- The folder Laws has the definitions that laws, proofs and private functions need: a reader needn't believe them.
+pub mod Productions
+pub mod Scheme
+pub mod Naming
+pub mod Climbing
+pub mod Index
+pub mod Parsing
+pub mod Origins
+pub mod Finished
+pub mod Emission
+pub mod Emitted
 use Rattle.std.specs.Prelude.{◌≡◌, ◌≤◌, ℕ, List, [], ◌∷◌, ◌++◌, length, Bool, Some, None, Ok, Err, if◌then◌else◌}
 use Rattle.std.specs.Prelude.{slice_get}
 use Rattle.tokens.specs.Reading.{reach_of}
@@ -18,7 +29,7 @@ use Rattle.grammar.specs.Grammar.{Symbol, Declarations, Statements, Item, Part, 
 use Rattle.grammar.specs.Grammar.{enters}
 use Rattle.grammar.specs.Need.{need}
 use Rattle.grammar.specs.Nesting.{body_nesting}
-use Rattle.grammar.specs.Parsing.{Fails, IsFault, Passes}
+use Rattle.grammar.specs.Laws.Parsing.{Fails, IsFault, Passes}
 use Rattle.grammar.specs.Profile.{Profile}
 use Rattle.grammar.specs.Resolved.{IsResolved}
 use Rattle.grammar.specs.Scope.{Scope}

@@ -1,7 +1,7 @@
 //! An index of the functions by their names: it says from which function on a name is looked for.
 
 ghost use Rattle.std.specs.Prelude.{◌≡◌, ◌<◌, []};
-ghost use Rattle.grammar.specs.Index.{IsIndexed, Notes, bucket_of, start_of};
+ghost use Rattle.grammar.specs.Laws.Index.{IsIndexed, Notes, bucket_of, start_of};
 
 use crate::pools::MOST_NAMES;
 use tokens::Name;
@@ -48,7 +48,7 @@ impl Index {
 
 /// Returns the bucket of a name. Most names that differ have another.
 #[inline(always)]
-#[tactic(auto, unfolding(crate::specs::Index::bucket_of))]
+#[tactic(auto, unfolding(crate::specs::Laws::Index::bucket_of))]
 fn bucket(name: &Name) -> usize
     ensures value { result ≡ bucket_of name.now }
     ensures within { result < BUCKETS }

@@ -1,9 +1,9 @@
 //! Sources that show the rules of the language.
 
-ghost use Rattle.grammar.specs.KnownEmissions.{KnownEmissions};
-ghost use Rattle.grammar.specs.KnownSources.{KnownBeginnings, KnownLimits, KnownMisfits, KnownNameFaults, KnownNeeds};
-ghost use Rattle.grammar.specs.KnownSources.{KnownTrees};
-ghost use Rattle.grammar.specs.KnownTexts.{KnownTexts};
+ghost use Rattle.grammar.specs.Known.Emissions.{KnownEmissions};
+ghost use Rattle.grammar.specs.Known.Sources.{KnownBeginnings, KnownLimits, KnownMisfits, KnownNameFaults, KnownNeeds};
+ghost use Rattle.grammar.specs.Known.Sources.{KnownTrees};
+ghost use Rattle.grammar.specs.Known.Texts.{KnownTexts};
 
 /// Proves that the definitions give these trees and faults of known sources.
 pub fn known_sources()

@@ -1,9 +1,9 @@
 //! Laws on the definitions of the language.
 
-ghost use Rattle.grammar.specs.Emitted.{BeginningsAreNumbered, EmitsABeginning, EmitsAPart, EmitsItsFunctions};
-ghost use Rattle.grammar.specs.Emitted.{EmitsItsFile, NextMayFollow};
-ghost use Rattle.grammar.specs.Finished.{Finished, Undefined, WithoutMain};
-ghost use Rattle.grammar.specs.Scheme.{ActsByRows, ChoosesRows, HasOneRole};
+ghost use Rattle.grammar.specs.Laws.Emitted.{BeginningsAreNumbered, EmitsABeginning, EmitsAPart, EmitsItsFunctions};
+ghost use Rattle.grammar.specs.Laws.Emitted.{EmitsItsFile, NextMayFollow};
+ghost use Rattle.grammar.specs.Laws.Finished.{Finished, Undefined, WithoutMain};
+ghost use Rattle.grammar.specs.Laws.Scheme.{ActsByRows, ChoosesRows, HasOneRole};
 ghost use Rattle.grammar.specs.Laws.{BeginningsAreInOrder, BlocksKeepTheFunction, CompiledIsResolved};
 ghost use Rattle.grammar.specs.Laws.{EachDerivationEnds, EachFileFollows, FaultlessIsResolved, FirstFaultDecides};
 ghost use Rattle.grammar.specs.Laws.{LevelsAreClosed, MayBeTold, WhatIsInOrderBegins, WhatWasReadIsNeeded};

@@ -5,8 +5,8 @@ ghost use Rattle.std.specs.Prelude.{IfSome, OnOk, map, nat_le, is_some, ◌==◌
 ghost use Rattle.std.specs.Str.{bytes_eq};
 ghost use Rattle.std.specs.List.{position, list_any};
 ghost use Rattle.grammar.specs.Intrinsics.{intrinsic_named, is_intrinsic, name_of as intrinsic_name};
-ghost use Rattle.grammar.specs.Index.{NoneBefore};
-ghost use Rattle.grammar.specs.Naming.{line_of_undefined};
+ghost use Rattle.grammar.specs.Laws.Index.{NoneBefore};
+ghost use Rattle.grammar.specs.Laws.Naming.{line_of_undefined};
 ghost use Rattle.grammar.specs.Scope.{number_of_name};
 ghost use Rattle.std.specs.Prelude.{unwrap_or, if◌then◌else◌};
 
@@ -70,8 +70,8 @@ pub struct Scope {
 }
 
 impl Model for Scope {
-    ghost use Rattle.grammar.specs.Index.{IsIndexed};
-    ghost use Rattle.grammar.specs.Naming.{IsKept};
+    ghost use Rattle.grammar.specs.Laws.Index.{IsIndexed};
+    ghost use Rattle.grammar.specs.Laws.Naming.{IsKept};
     ghost use Rattle.grammar.specs.Scope.{Scope as Known, scope_with};
 
     ghost Value = { Known };
@@ -85,12 +85,12 @@ impl Model for Scope {
 impl Scope {
     ghost use Rattle.grammar.specs.Grammar.{Defined, External, Parameter, Typed, Local, Called, Mentioned};
     ghost use Rattle.grammar.specs.Compiled.{main_name};
-    ghost use Rattle.grammar.specs.Naming.{Knows, RefusesName, line_of_undefined};
+    ghost use Rattle.grammar.specs.Laws.Naming.{Knows, RefusesName, line_of_undefined};
     ghost use Rattle.grammar.specs.Resolved.{IsCallable, IsVariable};
     ghost use Rattle.grammar.specs.Scope.{no_names, behind_name, end_definition, has_begun, number_for, is_local_new};
     ghost use Rattle.grammar.specs.Scope.{is_external_new, with_variable, with_parameter, with_external};
     ghost use Rattle.grammar.specs.Scope.{variable_named, variable_of, callee_of, with_new_function};
-    ghost use Rattle.grammar.specs.Naming.{with_begun};
+    ghost use Rattle.grammar.specs.Laws.Naming.{with_begun};
     ghost use Rattle.grammar.specs.Scope.{function_number};
 
     /// Makes the scope before a file's first token, in which nothing is known.

@@ -10,7 +10,7 @@ use Rattle.grammar.specs.Building.{Meaning}
 use Rattle.grammar.specs.Derivation.{Definition, State, state}
 use Rattle.grammar.specs.Faults.{definitions_actions, levels}
 use Rattle.grammar.specs.Grammar.{Item}
-use Rattle.grammar.specs.Parsing.{Passes, Fails}
+use Rattle.grammar.specs.Laws.Parsing.{Passes, Fails}
 use Rattle.grammar.proofs.Runs.{here, then}
 use Rattle.parser.specs.Position.{GoesOn, Place, scope_at, next_at}
 use Rattle.parser.specs.Growing.{HasGrown}

@@ -17,7 +17,7 @@ use Rattle.grammar.specs.Building.{Meaning, AppendsAll}
 use Rattle.grammar.specs.Derivation.{ABody, Definition, Value, definition_of, state}
 use Rattle.grammar.specs.Faults.{definitions_actions, is_too_long}
 use Rattle.grammar.specs.Grammar.{Item, AName, Define, Defined, Exactly, FunctionBlock, Make, ParameterTypes, Parameters, Part, Close, is_fault, is_punctuator}
-use Rattle.grammar.specs.Parsing.{Passes, Fails}
+use Rattle.grammar.specs.Laws.Parsing.{Passes, Fails}
 use Rattle.grammar.specs.Profile.{Profile}
 use Rattle.grammar.specs.Scope.{Scope, end_definition}
 use Rattle.grammar.specs.Tree.{Body}

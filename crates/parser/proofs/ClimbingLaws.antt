@@ -20,7 +20,7 @@ use Rattle.grammar.specs.Following.{AValue, open_count}
 use Rattle.grammar.specs.Grammar.{Item, Level, Part, Tail, Unary, choice, is_fault}
 use Rattle.grammar.specs.Nesting.{nesting, right_side}
 use Rattle.grammar.specs.Operators.{binary_of, if_at, operator_at, operator_of}
-use Rattle.grammar.specs.Climbing.{if_from, operator_from}
+use Rattle.grammar.specs.Laws.Climbing.{if_from, operator_from}
 use Rattle.grammar.specs.Tree.{Binary}
 use Rattle.grammar.proofs.FollowingLaws.{expr_leads, origin_of}
 use Rattle.grammar.proofs.StandingLaws.{stands_then, appends_both}

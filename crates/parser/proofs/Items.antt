@@ -13,7 +13,7 @@ use Rattle.grammar.specs.Compiled.{diagnostic}
 use Rattle.grammar.specs.Derivation.{Value, name_of_token, of_name}
 use Rattle.grammar.specs.Faults.{misfit_code}
 use Rattle.grammar.specs.Grammar.{Exactly, AWord, AName, Role, is_punctuator, is_word, is_fault}
-use Rattle.grammar.specs.Naming.{Knows, RefusesName}
+use Rattle.grammar.specs.Laws.Naming.{Knows, RefusesName}
 use Rattle.grammar.specs.Scope.{Scope}
 use Rattle.grammar.proofs.Firsts.{name_fails, no_punctuator, no_name, no_word}
 use Rattle.grammar.proofs.Steps.{punctuator, name, word}

@@ -5,7 +5,7 @@ use Rattle.tokens.specs.Tokens.{followed_by}
 use Rattle.tokens.specs.declared.located_tokens.LocatedToken.{LocatedToken}
 use Rattle.grammar.specs.Derivation.{state, State, Value, Definition, name_of_token, next_of, line_of, of_name, run, stepped}
 use Rattle.grammar.specs.Grammar.{AName, Role, is_fault}
-use Rattle.grammar.specs.Parsing.{Passes}
+use Rattle.grammar.specs.Laws.Parsing.{Passes}
 use Rattle.grammar.specs.Profile.{first_profile}
 use Rattle.grammar.specs.Scope.{Scope, behind_name}
 use Rattle.parser.specs.Position.{GoesOn, Place, next_at, scope_at}

@@ -8,7 +8,7 @@ use Rattle.grammar.specs.declared.diagnostics.Code.TheVariants as code
 use Rattle.grammar.specs.Faults.{Fault, no_room}
 use Rattle.grammar.specs.Grammar.{Role, Defined, External, Parameter, Typed, Local, Called, Mentioned}
 use Rattle.grammar.specs.Intrinsics.{is_intrinsic}
-use Rattle.grammar.specs.Naming.{Knows}
+use Rattle.grammar.specs.Laws.Naming.{Knows}
 use Rattle.grammar.specs.Scope.{Scope, end_definition, has_begun, is_external_new, is_function_new, is_local_new, is_variable_new, no_names, number_for, only_named, with_external, with_new_function, with_parameter, with_variable}
 use Rattle.parser.specs.declared.roles.Declared.{Declared}
 use Rattle.parser.specs.declared.roles.Declared.TheVariants as kind

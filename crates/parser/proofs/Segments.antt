@@ -13,7 +13,7 @@ use Rattle.grammar.specs.Compiled.{diagnostic}
 use Rattle.grammar.specs.Derivation.{State, run, state, Value, Definition, next_of, line_of}
 use Rattle.grammar.specs.Faults.{misfit_code, levels}
 use Rattle.grammar.specs.Grammar.{Item, is_fault}
-use Rattle.grammar.specs.Parsing.{Fails, IsFault, Passes}
+use Rattle.grammar.specs.Laws.Parsing.{Fails, IsFault, Passes}
 use Rattle.grammar.specs.Profile.{Profile}
 use Rattle.grammar.specs.Scope.{Scope, no_names}
 use Rattle.grammar.proofs.Runs.{then, back, here, later, run-add}

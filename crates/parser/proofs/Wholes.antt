@@ -19,9 +19,9 @@ use Rattle.grammar.specs.Compiled.{compiled, compiled_tokens, diagnostic, last_l
 use Rattle.grammar.specs.Derivation.{run, start, Definition, is_end, next_of, line_of, state}
 use Rattle.grammar.specs.Faults.{misfit_code}
 use Rattle.grammar.specs.Grammar.{AnEnd, Source, is_fault}
-use Rattle.grammar.specs.Naming.{line_of_undefined}
+use Rattle.grammar.specs.Laws.Naming.{line_of_undefined}
 use Rattle.grammar.specs.Need.{built, need}
-use Rattle.grammar.specs.Parsing.{Passes}
+use Rattle.grammar.specs.Laws.Parsing.{Passes}
 use Rattle.grammar.specs.Pools.{Names}
 use Rattle.grammar.specs.Profile.{Profile}
 use Rattle.grammar.specs.Scope.{Scope, function_number, no_names}
@@ -31,7 +31,7 @@ use Rattle.grammar.proofs.Reach.{what_was_read_is_needed}
 use Rattle.grammar.proofs.Runs.{then}
 use Rattle.grammar.proofs.Steps.{last, part}
 use Rattle.grammar.proofs.Verdicts.{clean_verdict, fault_verdict}
-use Rattle.grammar.specs.Finished.{IsFinished, PassesAll}
+use Rattle.grammar.specs.Laws.Finished.{IsFinished, PassesAll}
 use Rattle.grammar.proofs.FileLaws.{finished, undefined, without_main}
 use Rattle.parser.specs.Position.{GoesOn, Place, next_at, scope_at, tokens_at}
 use Rattle.parser.specs.Stopping.{NoneBefore, Stop, Stops, stop_with}

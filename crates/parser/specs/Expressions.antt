@@ -12,7 +12,7 @@ use Rattle.grammar.specs.Building.{Meaning, AppendsAll}
 use Rattle.grammar.specs.Derivation.{ACall, AnExpr}
 use Rattle.grammar.specs.Grammar.{Item, Arguments, Level, Part, Symbol, Tail}
 use Rattle.grammar.specs.Nesting.{args_nesting, nesting, right_side}
-use Rattle.grammar.specs.Climbing.{operator_from}
+use Rattle.grammar.specs.Laws.Climbing.{operator_from}
 use Rattle.grammar.specs.Resolved.{InArgs, InExpr}
 use Rattle.grammar.specs.Tree.{Args, Binary, Expr, NoMore}
 use Rattle.parser.specs.declared.reader.Reader.{Reader}

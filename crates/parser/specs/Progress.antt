@@ -20,9 +20,9 @@ use Rattle.grammar.specs.Following.{InFunction, most_open}
 use Rattle.grammar.specs.Grammar.{Item, AName, Define, Defined, Exactly, FunctionBlock, Make, ParameterTypes}
 use Rattle.grammar.specs.Grammar.{Parameters, Part, Close, Source, is_punctuator}
 use Rattle.grammar.specs.Laws.{KeepsFunction}
-use Rattle.grammar.specs.Naming.{line_of_undefined}
+use Rattle.grammar.specs.Laws.Naming.{line_of_undefined}
 use Rattle.grammar.specs.Nesting.{body_nesting}
-use Rattle.grammar.specs.Parsing.{Passes}
+use Rattle.grammar.specs.Laws.Parsing.{Passes}
 use Rattle.grammar.specs.Profile.{Profile}
 use Rattle.grammar.specs.Resolved.{InBody}
 use Rattle.grammar.specs.Scope.{Scope, function_number}

@@ -15,7 +15,7 @@ use Rattle.grammar.specs.Compiled.{diagnostic}
 use Rattle.grammar.specs.Derivation.{state, Value, Definition, line_of, name_of_token, next_of}
 use Rattle.grammar.specs.Faults.{levels, misfit_code}
 use Rattle.grammar.specs.Grammar.{Item, is_fault}
-use Rattle.grammar.specs.Parsing.{Passes}
+use Rattle.grammar.specs.Laws.Parsing.{Passes}
 use Rattle.grammar.specs.Profile.{Profile}
 use Rattle.parser.specs.Defining.{IsWithin}
 use Rattle.parser.specs.Position.{Place, Position, GoesOn, tokens_at, next_at, scope_at}

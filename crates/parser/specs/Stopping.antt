@@ -8,7 +8,7 @@ use Rattle.grammar.specs.declared.diagnostics.ParseFault.{ParseFault}
 use Rattle.grammar.specs.declared.diagnostics.ParseFault.TheVariants as refusal
 use Rattle.grammar.specs.Derivation.{State, run}
 use Rattle.grammar.specs.Faults.{Fault}
-use Rattle.grammar.specs.Parsing.{Fails, IsFault}
+use Rattle.grammar.specs.Laws.Parsing.{Fails, IsFault}
 use Rattle.grammar.specs.Profile.{Profile}
 
 -- why, and how many bytes were taken from the device by then

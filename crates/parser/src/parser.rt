@@ -10,7 +10,7 @@ ghost use Rattle.grammar.specs.Compiled.{diagnostic, main_name};
 ghost use Rattle.grammar.specs.Derivation.{ACall, AVariable, name_of_token};
 ghost use Rattle.grammar.specs.Faults.{misfit_code};
 ghost use Rattle.grammar.specs.Grammar.{AWord, AName, AnEnd, Called, Defined, Exactly, Mentioned, is_fault};
-ghost use Rattle.grammar.specs.Naming.{Knows, RefusesName, line_of_undefined};
+ghost use Rattle.grammar.specs.Laws.Naming.{Knows, RefusesName, line_of_undefined};
 ghost use Rattle.grammar.specs.Resolved.{IsCallable, IsVariable};
 ghost use Rattle.grammar.specs.Scope.{end_definition, function_number};
 ghost use Rattle.grammar.specs.Tree.{NoMore};

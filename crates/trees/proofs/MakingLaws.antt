@@ -13,7 +13,7 @@ use Rattle.grammar.specs.declared.actions.Action.TheVariants.{EndWhile, GiveBack
 use Rattle.grammar.specs.Actions.{body_actions, args_actions, expr_actions}
 use Rattle.grammar.specs.Following.{InFunction, AValue, BeforeRight, Opened, Origin, Computed, follow, only_on, statement_done, call_done, is_step, stored, same_op, is_callee_numbered}
 use Rattle.arith.specs.Op.{is_logic}
-use Rattle.grammar.specs.Origins.{origin_of, ends_in_return}
+use Rattle.grammar.specs.Laws.Origins.{origin_of, ends_in_return}
 use Rattle.grammar.specs.Tree.{Args, Body, Done}
 use Rattle.grammar.specs.Tree as tree
 use Rattle.grammar.proofs.FollowingLaws.{same_op_is}

@@ -8,7 +8,7 @@ use Rattle.grammar.specs.declared.operators.StoreOp.{StoreOp}
 use Rattle.grammar.specs.declared.actions.Action.{Action}
 use Rattle.grammar.specs.declared.actions.Action.TheVariants.{Chop, GiveBack}
 use Rattle.grammar.specs.Actions.{body_actions, args_actions, expr_actions, function_actions, last_return}
-use Rattle.grammar.specs.Origins.{ends_in_return}
+use Rattle.grammar.specs.Laws.Origins.{ends_in_return}
 use Rattle.grammar.specs.Tree.{Args, Body, Done}
 use Rattle.grammar.specs.Tree as tree
 use Rattle.grammar.proofs.UnfinishedSteps.{number_is}

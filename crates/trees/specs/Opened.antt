@@ -6,7 +6,7 @@ use Rattle.grammar.specs.declared.actions.Action.TheVariants.{BeginFunction, End
 use Rattle.grammar.specs.Actions.{expr_actions, body_actions, function_actions, middle}
 use Rattle.grammar.specs.Following.{Open, InFunction, AValue, BeforeRight, InCall, InBranch, InElse, BeforeTest, InTurn}
 use Rattle.grammar.specs.Following.{Opened, follow}
-use Rattle.grammar.specs.Origins.{origin_of, ends_in_return}
+use Rattle.grammar.specs.Laws.Origins.{origin_of, ends_in_return}
 use Rattle.grammar.specs.Tree.{Body}
 use Rattle.trees.specs.Trees.{expr_tree, body_tree, function_tree}
 use Rattle.trees.specs.declared.tree.Function.{Function}

@@ -1,4 +1,4 @@
-use Rattle.grammar.specs.Index.{NoneBefore}
+use Rattle.grammar.specs.Laws.Index.{NoneBefore}
 use Rattle.grammar.proofs.scope.function_number.Given as goal
 
 -- no function so far has the name

@@ -1,5 +1,5 @@
 use Rattle.std.proofs.Common.{◌≡◌, drop}
-use Rattle.grammar.specs.Naming.{line_of_undefined}
+use Rattle.grammar.specs.Laws.Naming.{line_of_undefined}
 use Rattle.grammar.proofs.scope.line_of_undefined.Given as goal
 
 -- the definition of each function so far began

@@ -1,7 +1,7 @@
 use Rattle.std.proofs.Common.{rules, ◌≡◌, ◌<◌, length, false, eqb, sym, subst}
 use Rattle.std.specs.List.{list_any}
 use Rattle.grammar.proofs.ScopeLaws.{kept_begun, room_begun}
-use Rattle.grammar.specs.Naming.{IsKept}
+use Rattle.grammar.specs.Laws.Naming.{IsKept}
 use Rattle.grammar.proofs.scope.Scope.begin.Goals as goal
 
 -- src/scope.rt:275:9

@@ -6,7 +6,7 @@ use Rattle.tokens.specs.declared.located_tokens.Token.TheVariants as token
 use Rattle.grammar.specs.Derivation.{ACall}
 use Rattle.grammar.specs.Grammar.{Called}
 use Rattle.grammar.specs.Tree.{NoMore}
-use Rattle.grammar.specs.Naming.{Knows}
+use Rattle.grammar.specs.Laws.Naming.{Knows}
 use Rattle.parser.specs.Segment.{IsNoName}
 use Rattle.parser.specs.Position.{Standing}
 use Rattle.parser.proofs.Items.{name_derives, name_misfits, name_refused, name_stops}

@@ -4,7 +4,7 @@ use Rattle.tokens.specs.declared.located_tokens.LocatedToken.{LocatedToken}
 use Rattle.tokens.specs.Reading.{IsNear}
 use Rattle.tokens.specs.declared.located_tokens.Token.TheVariants as token
 use Rattle.grammar.specs.Grammar.{Defined}
-use Rattle.grammar.specs.Naming.{Knows}
+use Rattle.grammar.specs.Laws.Naming.{Knows}
 use Rattle.grammar.specs.Scope.{number_for}
 use Rattle.parser.specs.Segment.{IsNoName}
 use Rattle.parser.specs.Position.{Standing, scope_of}

@@ -7,7 +7,7 @@ use Rattle.tokens.specs.declared.located_tokens.Punctuator.TheVariants as punctu
 use Rattle.grammar.specs.declared.diagnostics.ParseFault.TheVariants as refusal
 use Rattle.grammar.specs.Grammar.{Expression, Level, Part, Unary, is_fault, is_punctuator}
 use Rattle.grammar.specs.Operators.{operator_of}
-use Rattle.grammar.specs.Climbing.{operator_from}
+use Rattle.grammar.specs.Laws.Climbing.{operator_from}
 use Rattle.parser.specs.Room.{HasLeft, HasRoom, room}
 use Rattle.parser.proofs.Advances.{kept_then, on, on_then}
 use Rattle.parser.proofs.Keeping.{shut, went, went_then}

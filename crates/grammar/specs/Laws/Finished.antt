@@ -7,8 +7,8 @@ use Rattle.grammar.specs.Actions.{actions}
 use Rattle.grammar.specs.Compiled.{compiled_tokens, diagnostic, last_line, main_name}
 use Rattle.grammar.specs.Derivation.{Definition, start, state}
 use Rattle.grammar.specs.Faults.{definitions_actions}
-use Rattle.grammar.specs.Naming.{line_of_undefined}
-use Rattle.grammar.specs.Parsing.{Passes}
+use Rattle.grammar.specs.Laws.Naming.{line_of_undefined}
+use Rattle.grammar.specs.Laws.Parsing.{Passes}
 use Rattle.grammar.specs.Pools.{Names, names_of}
 use Rattle.grammar.specs.Profile.{Profile}
 use Rattle.grammar.specs.Resolved.{IsResolved}

@@ -4,8 +4,8 @@ use Rattle.grammar.specs.declared.diagnostics.Code.{Code}
 use Rattle.grammar.specs.declared.diagnostics.Code.TheVariants as code
 use Rattle.grammar.specs.Actions.{function_actions}
 use Rattle.grammar.specs.Compiled.{compiled, diagnostic}
-use Rattle.grammar.specs.KnownSources.{constant, distance_file, empty_function, file_of_main, nearest_else_tree}
-use Rattle.grammar.specs.KnownSources.{sum_of_postfix_tree}
+use Rattle.grammar.specs.Known.Sources.{constant, distance_file, empty_function, file_of_main, nearest_else_tree}
+use Rattle.grammar.specs.Known.Sources.{sum_of_postfix_tree}
 use Rattle.grammar.specs.Need.{built, need}
 use Rattle.grammar.specs.Profile.{first_profile}
 use Rattle.grammar.specs.Tree.{ExpressionStatement, Done, File}

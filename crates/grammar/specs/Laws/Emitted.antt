@@ -8,7 +8,7 @@ use Rattle.grammar.specs.Actions.{actions}
 use Rattle.grammar.specs.Beginning.{IsBeginning}
 use Rattle.grammar.specs.Compiled.{compiled_tokens, enough}
 use Rattle.grammar.specs.Derivation.{Definition, start, run}
-use Rattle.grammar.specs.Emission.{emitted, emissions}
+use Rattle.grammar.specs.Laws.Emission.{emitted, emissions}
 use Rattle.grammar.specs.Faults.{definitions_actions, faults_at, faults_in, most_names}
 use Rattle.grammar.specs.Profile.{Profile}
 use Rattle.grammar.specs.Resolved.{IsVariable, IsCallable}

@@ -19,7 +19,7 @@ use Rattle.grammar.specs.Grammar.{Arguments, MoreArguments, Operate, Negate, Not
 use Rattle.grammar.specs.Grammar.{StepBehind, Pass, Invoke, Empty, Evaluate, Decide, DecideElse, Repeat, Zero, GiveBack}
 use Rattle.grammar.specs.Grammar.{Define, Item, Exactly, AWord, AName, AConstant, AnEnd, Part, Make, Close, Production}
 use Rattle.grammar.specs.Grammar.{choice}
-use Rattle.grammar.specs.Productions.{Row, rows}
+use Rattle.grammar.specs.Laws.Productions.{Row, rows}
 
 -- a symbol, a production of it, and its semantic actions, each after so many words; the end of a level is one of them
 abbrev pub ActionRow : Type 0

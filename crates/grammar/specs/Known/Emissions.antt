@@ -15,9 +15,9 @@ use Rattle.grammar.specs.declared.actions.Action.TheVariants.{Chop, BeginFunctio
 use Rattle.grammar.specs.Actions.{actions}
 use Rattle.grammar.specs.Compiled.{enough}
 use Rattle.grammar.specs.Derivation.{start}
-use Rattle.grammar.specs.Emission.{emissions}
-use Rattle.grammar.specs.KnownSources as known
-use Rattle.grammar.specs.KnownSources.{a, f, x, ro, rc, co, cc, end, equals, number, in_main, on_lines, file_of_main}
+use Rattle.grammar.specs.Laws.Emission.{emissions}
+use Rattle.grammar.specs.Known.Sources as known
+use Rattle.grammar.specs.Known.Sources.{a, f, x, ro, rc, co, cc, end, equals, number, in_main, on_lines, file_of_main}
 use Rattle.grammar.specs.Tree.{File}
 
 -- the derivation of the source emits these actions, one after another
