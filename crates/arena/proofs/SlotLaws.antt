@@ -2,7 +2,7 @@
 use Rattle.std.proofs.Common.{◌≡◌, ◌≢◌, ℕ, zero, suc, ◌+◌, ◌<◌, ◌≤◌, List, [], ◌∷◌, ◌++◌, length, map, filter, take, sum, get_or, set, All, replicate, Bool, true, false, ◌&&◌, ◌==◌, nat_lt, cond, refl, sym, ap, ◌∙◌, subst, ◌⊎◌, inl, inr, length-append, length-set, append-nil, not, arith}
 use Rattle.std.proofs.lemmas.Bool.{ne_eqb, ltb-true}
 use Rattle.std.proofs.lemmas.Bool.Decides.{nat_tests, eqb_tells}
-use Rattle.std.proofs.lemmas.List.{map-append, get_or-set_same, get_or-set_other, length-map, take_more}
+use Rattle.std.proofs.lemmas.List.{map-append, get_or-set_same, get_or-set_other, length-map}
 use Rattle.std.proofs.lemmas.List.Elements.{All-append, All-more, All-push, All-set, filter-append}
 use Rattle.std.proofs.lemmas.List.Filters.{length-filter_both}
 use Rattle.std.proofs.lemmas.List.Sums.{sum_by-append}
@@ -314,14 +314,6 @@ two_landed update slots landed size each two k d l =
     let most = two k [] inside in
     rw (inside_is landed k d [] l, each k inside) (omega arith)
 
--- one missile more that still flies
-pub flies_more : (update : ℕ) (ms : List Missile) (i : ℕ) (m : Missile) → i < length ms → m ≡ get_or ms i m →
-    nat_lt update m.burst ≡ true → filter (λ m. nat_lt update m.burst) (take i ms) ≡ take i ms →
-    filter (λ m. nat_lt update m.burst) (take (i + 1) ms) ≡ take (i + 1) ms
-flies_more update ms i m h e flies before =
-    rw (take_more ms i m h, ← e, filter-append (λ m. nat_lt update m.burst) (take i ms) (m ∷ []), before)
-    (ap (λ b. take i ms ++ cond b (m ∷ []) []) flies)
-
 -- with nothing in the air nothing is hurt, and nothing is in the air after the update
 sum_none : (f : List Missile → ℕ) (slots : List (List Missile)) → f [] ≡ 0 → All (λ s. s ≡ []) slots →
     sum (map f slots) ≡ 0
@@ -398,14 +390,6 @@ least_more ms i m n next l e low here h =
 
 pub sooner : (n next : ℕ) (ms : List Missile) → next ≤ n → All (λ m. n ≤ m.burst) ms → All (λ m. next ≤ m.burst) ms
 sooner n next ms low h = λ k d inside. omega (arith, h k d inside)
-
-pub least_of_more : (slots : List (List Missile)) (i : ℕ) (ms : List Missile) (n own next : ℕ) → i < length slots →
-    ms ≡ get_or slots i ms → next ≤ n → next ≤ own → All (λ m. own ≤ m.burst) ms → NoneBefore n (take i slots) →
-    NoneBefore next (take (i + 1) slots)
-least_of_more slots i ms n own next l e low lower here h =
-    let Later : List Missile → Type 0 = λ ms. All (λ m. next ≤ m.burst) ms in
-    All-more Later slots i ms l (λ k d inside. sooner n next (get_or (take i slots) k d) low (h k d inside))
-    (subst Later e (sooner own next ms lower here))
 
 pub sooner_all : (n next : ℕ) (slots : List (List Missile)) → next ≤ n → NoneBefore n slots → NoneBefore next slots
 sooner_all n next slots low h = λ k d l. sooner n next (get_or slots k d) low (h k d l)

@@ -1,5 +1,5 @@
 -- Sums of one axis: where they lead.
-use Rattle.std.proofs.Common.{◌≡◌, ◌⊎◌, inl, inr, ℕ, ◌+◌, ◌/◌, ◌≤◌, ◌<◌, max, ℤ, pos, negsuc, unsigned_abs, ◌+ℤ◌, ◌*ℤ◌, ◌≤ℤ◌, false, FitsSigned, to_z, of_z, w32, zero, suc, refl, sym, arith}
+use Rattle.std.proofs.Common.{◌≡◌, ◌⊎◌, inl, inr, ℕ, ◌+◌, ◌/◌, ◌≤◌, ◌<◌, ℤ, pos, negsuc, unsigned_abs, ◌+ℤ◌, ◌*ℤ◌, ◌≤ℤ◌, false, FitsSigned, to_z, of_z, w32, zero, suc, refl, sym, arith}
 use Rattle.std.specs.Int.{abs_diff}
 use Rattle.std.proofs.lemmas.Int.{ints, to_z-of_z, fits_signed_from_abs}
 use Rattle.std.proofs.lemmas.Bool.{cases_lt}
@@ -131,9 +131,3 @@ grown_back s step field small =
     bits_are s step (fits_signed_from_abs w32 s (omega (arith, most)))
     (fits_signed_from_abs w32 step (omega (arith, small)))
     (fits_signed_from_abs w32 (s +ℤ step) (omega (arith, most, small, size)))
-
--- a gap of sums is at least one of places
-pub gap_leads : (a b c d : ℕ) →
-    max (abs_diff a b) (abs_diff c d) / 100000 ≤
-    max (abs_diff (a / 100000) (b / 100000)) (abs_diff (c / 100000) (d / 100000))
-gap_leads a b c d = omega arith

@@ -2,7 +2,7 @@
 use Rattle.std.proofs.Common.{◌≡◌, ℕ, zero, suc, ◌+◌, ◌*◌, ◌/◌, ◌^◌, ◌-◌, ◌<◌, ◌≤◌, nat_le, cond, ℤ, pos, unsigned_abs, ap, arith, inl, inr}
 use Rattle.std.proofs.lemmas.Nat.{mul-le, pow-add}
 use Rattle.std.proofs.lemmas.Grind.{pow_more}
-use Rattle.std.proofs.Math.Nat.{lt-div-mul-add, div-mul-le_self, pow-le-pow_right}
+use Rattle.std.proofs.Math.Nat.{lt-div-mul-add, pow-le-pow_right}
 use Rattle.std.proofs.lemmas.Bool.{cases_lt}
 use Rattle.std.proofs.lemmas.Bool.Decides.{leb_tells}
 use Rattle.std.proofs.lemmas.Int.{to_z-of_z, to_z_pos}
@@ -70,14 +70,6 @@ step_above n guess some =
     let mean = sum_squared guess (q + 1) in
     let half : guess + (q + 1) ≤ 2 * (y + 1) = omega arith in
     let squares = mul-le (guess + (q + 1)) (guess + (q + 1)) (2 * (y + 1)) (2 * (y + 1)) half half in
-    omega arith
-
-pub step_reached : (n guess : ℕ) → guess ≤ (guess + n / guess) / 2 → guess * guess ≤ n
-step_reached n guess h =
-    let q = n / guess in
-    let less : q * guess ≤ n = div-mul-le_self n guess in
-    let up : guess ≤ q = omega arith in
-    let product = mul-le guess guess q guess up (omega arith) in
     omega arith
 
 -- a number above 0 has a root above 0

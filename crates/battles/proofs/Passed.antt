@@ -5,13 +5,13 @@ use Rattle.std.proofs.lemmas.List.{get_or-set_same, get_or-set_other}
 use Rattle.std.proofs.lemmas.Bool.{cases_eq, cases_lt}
 use Rattle.std.proofs.lemmas.Bool.Decides.{nat_tests}
 use Rattle.arena.specs.Field.{Field, is_live}
-use Rattle.arena.specs.Ground.{Ground, lives}
+use Rattle.arena.specs.Ground.{Ground}
 use Rattle.arena.specs.Standing.{StandsFor as IsGroundOf}
 use Rattle.engine.specs.Executables.{Executable}
 use Rattle.engine.specs.Engines.{FitsProgram}
 use Rattle.battles.specs.Battle.{Behaviour, Stage}
 use Rattle.battles.specs.Carrying.{Runner, AreRobotsOf, EachFits, EachIsAt, HasReached, IsAt, IsRobotOf}
-use Rattle.battles.specs.Windows.{AreAhead, AreTurnNumbers, HasCome, HasRun, rounds}
+use Rattle.battles.specs.Windows.{AreTurnNumbers, HasCome, HasRun, rounds}
 use Rattle.battles.proofs.Ahead.{Runs, come_alone, opens, closes}
 use Rattle.battles.proofs.Alone.{quiet_alone, quiet_runs}
 use Rattle.battles.proofs.Running.{at_less, quiet_less}
@@ -30,17 +30,6 @@ goes_ahead runner exe r i f trace n arena within live is ground at =
       stands = rw (quiet_alone r i f trace n live quiet) ground;
       at = rw (quiet_alone r i f trace n live quiet) (at_less runner n exe trace within at);
     }
-
--- one robot more is ahead
-pub ahead_more : (n cycles : ℕ) (arena : Ground) (runners : List Runner) → AreAhead n cycles arena runners
-    → ((none : Runner) → lives arena n ≡ true → cycles ≤ (get_or runners n none).ahead) →
-    AreAhead (n + 1) cycles arena runners
-ahead_more n cycles arena runners before here i none within lives = elim (cases_lt i n) [
-  | inl less ↦ before i none less lives
-  | inr last ↦
-      let same : i ≡ n = omega arith in
-      rw same (here none (rw same at lives))
-]
 
 -- So many robots have passed the window; the others are at its begin.
 pub record HavePassed (robots : List Behaviour) (exes : List Executable) (k w : ℕ) (runners : List Runner)

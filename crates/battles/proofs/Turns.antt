@@ -1,5 +1,5 @@
 -- The turns of a window: that of robot i in cycle c, counted from 0, has the number 4 * c + i.
-use Rattle.std.proofs.Common.{◌≡◌, ◌≢◌, ℕ, ◌+◌, ◌*◌, ◌%◌, ◌<◌, ◌≤◌, zero, suc, Bool, true, false, List, [], ◌∷◌, length, set, get_or, ◌⊎◌, inl, inr, refl, sym, ap, ◌∙◌, arith}
+use Rattle.std.proofs.Common.{◌≡◌, ◌≢◌, ℕ, ◌+◌, ◌*◌, ◌%◌, ◌<◌, ◌≤◌, zero, suc, Bool, true, false, List, length, set, get_or, ◌⊎◌, inl, inr, refl, sym, ap, ◌∙◌, arith}
 use Rattle.std.specs.Prelude.{nat_lt, nat_le, min}
 use Rattle.std.proofs.lemmas.Bool.{cases_Bool, cases_eq, cases_lt, false≢true}
 use Rattle.std.proofs.lemmas.List.{get_or-set_same, get_or-set_other, length-set}
@@ -219,31 +219,3 @@ rest_all robots next n w s are all most first past =
           sym (grind (arith, nat_tests))
     ])
     ∙ rw all (rows robots 0 w s (omega arith) (omega (arith, all, most)))
-
--- the numbers of the first turns of a window
-pub four_turn_numbers : (a b c d : ℕ) → a % 4 ≡ 0 → b % 4 ≡ 1 → c % 4 ≡ 2 → d % 4 ≡ 3 →
-    AreTurnNumbers (a ∷ b ∷ c ∷ d ∷ [])
-four_turn_numbers a b c d first second third fourth = record { four = omega arith; own = each }
-  where
-    each : (i : ℕ) → i < 4 → get_or (a ∷ b ∷ c ∷ d ∷ []) i 0 % 4 ≡ i
-    each zero small = first
-    each (suc zero) small = second
-    each (suc (suc zero)) small = third
-    each (suc (suc (suc zero))) small = fourth
-    each (suc (suc (suc (suc i)))) small = absurd (omega arith)
-
-pub four_first : (a b c d n : ℕ) → (0 < n → a ≡ 0) → (1 < n → b ≡ 1) → (2 < n → c ≡ 2) → (3 < n → d ≡ 3)
-    → (i : ℕ) → i < n → i < 4 → get_or (a ∷ b ∷ c ∷ d ∷ []) i 0 ≡ i
-four_first a b c d n first second third fourth zero low small = first low
-four_first a b c d n first second third fourth (suc zero) low small = second low
-four_first a b c d n first second third fourth (suc (suc zero)) low small = third low
-four_first a b c d n first second third fourth (suc (suc (suc zero))) low small = fourth low
-four_first a b c d n first second third fourth (suc (suc (suc (suc i)))) low small = absurd (omega arith)
-
-pub four_past : (a b c d n end : ℕ) → (n ≤ 0 → end ≤ a) → (n ≤ 1 → end ≤ b) → (n ≤ 2 → end ≤ c) → (n ≤ 3 → end ≤ d)
-    → (i : ℕ) → n ≤ i → i < 4 → end ≤ get_or (a ∷ b ∷ c ∷ d ∷ []) i 0
-four_past a b c d n end first second third fourth zero high small = first high
-four_past a b c d n end first second third fourth (suc zero) high small = second high
-four_past a b c d n end first second third fourth (suc (suc zero)) high small = third high
-four_past a b c d n end first second third fourth (suc (suc (suc zero))) high small = fourth high
-four_past a b c d n end first second third fourth (suc (suc (suc (suc i)))) high small = absurd (omega arith)

@@ -1,7 +1,6 @@
 -- The steps of a maker: how many instructions each makes, and how many addresses it leaves open.
-use Rattle.std.specs.Prelude.{ℕ, ◌+◌, ◌≡◌, ◌<◌, ◌≤◌, List, [], ◌∷◌, ◌++◌, Bool, true, false, length, pos, nat_lt, if◌then◌else◌}
+use Rattle.std.specs.Prelude.{ℕ, ◌+◌, ◌≡◌, List, [], ◌∷◌, ◌++◌, Bool, true, false, length, pos, if◌then◌else◌}
 use Rattle.std.proofs.Common.{refl, sym, ap, ◌∙◌, arith, length-append, add-zero, zero-add}
-use Rattle.std.proofs.lemmas.Bool.Decides.{nat_tests}
 use Rattle.std.proofs.lemmas.List.{length-set}
 use Rattle.arith.specs.declared.operators.Op.{Op}
 use Rattle.arith.specs.declared.operators.Op.TheVariants as op
@@ -16,7 +15,6 @@ use Rattle.code.specs.declared.instr.Instr.{Instr}
 use Rattle.code.specs.declared.instr.Instr.TheVariants.{Fetch, Store, Const, Binop, Fcall, Retsub, Branch, Truth}
 use Rattle.code.specs.declared.instr.Instr.TheVariants as instr
 use Rattle.code.specs.Making.{Made, made_nothing, with_code, with_function, with_branch, with_turn, with_other, opening, closing, without_open, begun_right, ended_right, first_of, rest_of, making, made_from, made}
-use Rattle.code.specs.Told.{Adds}
 
 -- how many addresses a step leaves open goes by how many were open
 pub record IsStep (f : Made → Made) (n : ℕ) : Type 0 where
@@ -210,67 +208,3 @@ length-made p acts = length-made_from (made_nothing p) acts ∙ zero-add (code_l
 
 pub profile_made : (p : Profile) (acts : List Action) → (made p acts).profile ≡ p
 profile_made p acts = profile_made_from (made_nothing p) acts
-
--- an instruction where there is room, as a maker puts it
-pub record Puts (m m' : Made) (i : Instr) : Type 0 where
-  pub room : length m.code < m.profile.instructions → m' ≡ with_code m (i ∷ [])
-  pub full : m.profile.instructions ≤ length m.code → m' ≡ m
-
-pub adds_put : {m m' : Made} {i : Instr} → Puts m m' i → Adds m m' (with_code m (i ∷ [])) 1
-adds_put {m} {m'} {i} puts = by (nat_lt (length m.code) m.profile.instructions) refl
-  where
-    by : (b : Bool) → nat_lt (length m.code) m.profile.instructions ≡ b → Adds m m' (with_code m (i ∷ [])) 1
-    by true t =
-        let same = puts.room (grind (arith, nat_tests, t)) in
-        record {
-          room = λ h. same;
-          full = λ h. omega (arith, h, ap (λ (m : Made). length m.code) same, length-append m.code (i ∷ []));
-          opened = ap (λ (m : Made). length m.opened) same;
-          profile = ap (λ (m : Made). m.profile) same;
-        }
-    by false t =
-        let large : m.profile.instructions ≤ length m.code = grind (arith, nat_tests, t) in
-        let same = puts.full large in
-        record {
-          room = λ h. absurd (omega (arith, h, large));
-          full = λ h. omega (arith, large, ap (λ (m : Made). length m.code) same);
-          opened = ap (λ (m : Made). length m.opened) same;
-          profile = ap (λ (m : Made). m.profile) same;
-        }
-
--- what is made without an instruction
-pub adds_none : {m m' : Made} {f : Made → Made} → IsStep f 0 → m' ≡ f m → Adds m m' (f m) 0
-adds_none {m} {m'} {f} step same = record {
-  room = λ h. same;
-  full = λ h. omega (arith, h, ap (λ (m : Made). length m.code) same, step.grows m);
-  opened = ap (λ (m : Made). length m.opened) same;
-  profile = ap (λ (m : Made). m.profile) same ∙ step.keeps m;
-}
-
--- one step, and then another
-pub adds_both : {m m1 m2 : Made} {f g : Made → Made} {n k : ℕ} → IsStep f n → IsStep g k → Adds m m1 (f m) n →
-    Adds m1 m2 (g m1) k → Adds m m2 (g (f m)) (n + k)
-adds_both {m} {m1} {m2} {f} {g} {n} {k} one two first second = record {
-  room = λ h.
-      let same : m1 ≡ f m = first.room (omega (arith, h)) in
-      let size = ap (λ (m : Made). length m.code) same in
-      second.room (omega (arith, h, size, one.grows m, limit)) ∙ ap g same;
-  full = λ h. by_room h (nat_lt (length m.code + n) m.profile.instructions) refl;
-  opened = second.opened ∙ two.opens m1 (f m) first.opened;
-  profile = second.profile ∙ first.profile;
-}
-  where
-    limit : m1.profile.instructions ≡ m.profile.instructions
-    limit = ap (λ (p : Profile). p.instructions) first.profile
-
-    by_room : m.profile.instructions ≤ length m.code + (n + k) → (b : Bool) →
-        nat_lt (length m.code + n) m.profile.instructions ≡ b → m.profile.instructions ≤ length m2.code
-    by_room h true t =
-        let same : m1 ≡ f m = first.room (grind (arith, nat_tests, t)) in
-        let size = ap (λ (m : Made). length m.code) same in
-        let long : m1.profile.instructions ≤ length m1.code + k = omega (arith, h, size, one.grows m, limit) in
-        omega (arith, second.full long, limit)
-    by_room h false t =
-        let over : m.profile.instructions ≤ length m.code + n = grind (arith, nat_tests, t) in
-        let long : m1.profile.instructions ≤ length m1.code + k = omega (arith, first.full over, limit) in
-        omega (arith, second.full long, limit)

@@ -31,7 +31,3 @@ measures_fitting (Err fault.Full) denied before fits refuses = absurd refuses
 pub measured_over : {A : Type 0} (result : Result A BuildFault) (denied : Type 0) (before : Meaning) →
     Measures result denied before → result ≡ Err fault.Full → IsOver before
 measured_over result denied before m is = subst (λ r. Measures r denied before) is m
-
-pub measured_denied : {A : Type 0} (result : Result A BuildFault) (denied : Type 0) (before : Meaning) →
-    Measures result denied before → result ≡ Err fault.Memory → denied
-measured_denied result denied before m is = (subst (λ r. Measures r denied before) is m).0

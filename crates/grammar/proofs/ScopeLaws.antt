@@ -131,10 +131,6 @@ called_new name line scope new own unknown small e = rw e (record {
   behind = rw (function_new name scope own unknown) refl;
 })
 
-pub position_by : {A B : Type 0} (p : B → Bool) (f : A → B) (xs : List A) →
-    position (λ x. p (f x)) xs ≡ position p (map f xs)
-position_by p f xs = sym (position_of_map p f xs)
-
 pub kept_nothing : {F : Type 0} (functions : List F) (lines begun : List ℕ) → functions ≡ [] → lines ≡ [] → begun ≡ [] →
     IsKept functions lines begun
 unfolding IsDistinct

@@ -137,10 +137,6 @@ same_rest profile s f g a b l =
     let y : IsRest (run b.steps s).rest s.rest = run_rests b.steps s in
     p ∙ same_tails x.before y.before _ _ (sym x.is ∙ y.is) (ap length (sym p) ∙ l ∙ ap length q) ∙ sym q
 
-some_fault : (f : Fault) (xs : List Fault) → IsIn f xs → (g : Fault) × (gs : List Fault) × (xs ≡ g ∷ gs)
-some_fault f [] h = absurd h
-some_fault f (g ∷ gs) h = (g, gs, refl)
-
 verdict_at : (profile : Profile) (located_tokens : List LocatedToken) (s : State) (f : Fault) (faults : List Fault)
     (scope : Scope) (functions : List Definition) →
     IsFirstFault profile s f → ((g : Fault) → IsIn g faults → IsFault profile s g) → IsIn f faults →

@@ -156,14 +156,6 @@ pub leave : (used : ℕ) (before mid after : Meaning) (front between : List Item
 leave used before mid after front between at now denied more f a memory =
     refused_map used _ _ denied more f (λ d. stops_then before mid after front between at now d a) memory
 
--- a refusal of a callee within a segment
-pub leave_segment : (used : ℕ) (before : Meaning) (front stack : List Item) (at : Place) (denied more : Type 0)
-    (f : ParseFault) → levels stack ≡ 0 →
-    (denied → more) → Refused (FailsAt 0 front [] at) denied used f →
-    Refused (StopsReading before before (front ++ stack) at) more used f
-leave_segment used before front stack at denied more f depths memory =
-    refused_map used _ _ denied more f (λ d. segment_stops before front stack at d depths) memory
-
 -- the first fault stands at the next token
 pub reading_fails_at_next : (before after : Meaning) (front : List Item) (at : Place) (d : Diagnostic) (used : ℕ) →
     IsNearTo at.position.reading used →

@@ -31,7 +31,7 @@ use Rattle.parser.specs.Expressions.{AddsExpr, Parses, ParsesLevels}
 use Rattle.parser.proofs.NameLaws.{behind_name_is}
 use Rattle.parser.proofs.Parts.{MakesOnly}
 use Rattle.parser.proofs.Productions.{Chooses, EntersLevel, chosen, chosen_within, item_done, makes_and_closes, punctuator_ends, punctuator_past, name_too_deep, same_self}
-use Rattle.parser.proofs.TellingLaws.{next_follows, room_within}
+use Rattle.parser.proofs.TellingLaws.{next_follows}
 use Rattle.parser.proofs.OperandLaws.{IsNamed, after_name, is_named, named_sound, tree_follows}
 use Rattle.grammar.proofs.StandingLaws.{appends_both}
 use Rattle.tokens.specs.Reading.{IsNearTo}
@@ -262,10 +262,6 @@ assignment_adds before mid after at now next there depth o v a shallow item goes
       (makes_and_closes there depth (Store o) (AnExpr h.tree ∷ AVariable v ∷ []) (AnExpr (Assign o v h.tree) ∷ [])
       sound (store_makes o v h.tree)) (λ stack same. same);
 }
-
-pub value_room : (before : Meaning) (depth : ℕ) → depth < 64 → HasRoom before (room depth 1) →
-    HasRoom before (room (depth + 1) 1)
-value_room before depth shallow h = room_within before (room (depth + 1) 1) (room depth 1) h (omega arith)
 
 pub store_follows : (before now : Meaning) (depth : ℕ) (o : StoreOp) (v : Var) (e : Expr) → depth < 64 →
     HasRoom before (room depth 1) → IsVariable 64 64 v → InExpr 64 64 64 e → nesting e ≤ room (depth + 1) 1 →

@@ -242,13 +242,6 @@ next_argument_room before now at there depth front pending h a =
 
 -- Calls.
 
-call_choice : (name : List ℕ) →
-    choice Primary (token.Name name) (token.Punctuator punctuator.OpenRound) ≡
-    Some
-    (AName Called ∷ Exactly punctuator.OpenRound ∷ Part Arguments ∷ Exactly punctuator.CloseRound ∷ Make Invoke ∷
-    Close ∷ [])
-call_choice name = refl
-
 call_chooses : (at : Place) → IsNamed (next_at at).token → is_punctuator punctuator.OpenRound (after_at at) ≡ true →
     Chooses at Primary
     (AName Called ∷ Exactly punctuator.OpenRound ∷ Part Arguments ∷ Exactly punctuator.CloseRound ∷ Make Invoke ∷

@@ -1,6 +1,6 @@
 -- What a name in its role leaves of the names known: the limits hold, and the function that is being defined stays.
 use Rattle.std.proofs.Common.{◌≡◌, ℕ, ◌+◌, ◌<◌, ◌≤◌, List, [], ◌∷◌, ◌++◌, refl, sym, ◌∙◌, Bool, true, false, arith, length, le_refl, le_trans}
-use Rattle.std.proofs.lemmas.List.{length-append, length-set}
+use Rattle.std.proofs.lemmas.List.{length-append}
 use Rattle.std.specs.Prelude.{if◌then◌else◌}
 use Rattle.tokens.specs.declared.located_tokens.LocatedToken.{LocatedToken}
 use Rattle.grammar.specs.declared.diagnostics.Code.{Code}
@@ -9,7 +9,7 @@ use Rattle.grammar.specs.Faults.{Fault, no_room}
 use Rattle.grammar.specs.Grammar.{Role, Defined, External, Parameter, Typed, Local, Called, Mentioned}
 use Rattle.grammar.specs.Intrinsics.{is_intrinsic}
 use Rattle.grammar.specs.Laws.Naming.{Knows}
-use Rattle.grammar.specs.Scope.{Scope, end_definition, has_begun, is_external_new, is_function_new, is_local_new, is_variable_new, no_names, number_for, only_named, with_external, with_new_function, with_parameter, with_variable}
+use Rattle.grammar.specs.Scope.{Scope, has_begun, is_external_new, is_function_new, is_local_new, is_variable_new, number_for, only_named, with_external, with_new_function, with_parameter, with_variable}
 use Rattle.parser.specs.declared.roles.Declared.{Declared}
 use Rattle.parser.specs.declared.roles.Declared.TheVariants as kind
 use Rattle.parser.specs.Defining.{IsWithin, StaysAt, StaysIn, StaysInBody}
@@ -226,12 +226,6 @@ pub stays_body_then : (a b c : Scope) → StaysInBody a b → StaysInBody b c �
 stays_body_then a b c h i =
     record { function = stays_then a b c h.function i.function; parameters = i.parameters ∙ h.parameters }
 
-pub stays_at : (declared : Declared) (scope : Scope) → StaysAt declared scope scope
-stays_at kind.Externals scope = stays_body scope
-stays_at kind.Parameters scope = (stays_body scope).function
-stays_at kind.TypedParameters scope = stays_body scope
-stays_at kind.Locals scope = stays_body scope
-
 pub stays_at_then : (declared : Declared) (a b c : Scope) → StaysAt declared a b → StaysAt declared b c →
     StaysAt declared a c
 stays_at_then kind.Externals a b c h i = stays_body_then a b c h i
@@ -250,13 +244,3 @@ begins_then number a b c h i = record {
 }
 
 -- At the begin of a file, and behind a function, the limits hold.
-
-pub nothing_within : IsWithin no_names
-nothing_within = record { functions = omega arith; parameters = omega arith; variables = omega arith }
-
-pub ended_within : (scope : Scope) → IsWithin scope → IsWithin (end_definition scope)
-ended_within scope w = record {
-  functions = rw (length-set scope.functions scope.number scope.current) w.functions;
-  parameters = omega arith;
-  variables = omega arith;
-}

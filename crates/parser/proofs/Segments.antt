@@ -60,10 +60,6 @@ goes_told : (position : Position) (more : Option (List ℕ)) (located_tokens : L
 goes_told position None located_tokens e = absurd (cc)
 goes_told position (Some bytes) located_tokens e = record { behind = _; is = sym (some_same _ _ e) }
 
-reached_by : (position : Position) (more other : Option (List ℕ)) (rest : List LocatedToken) →
-    GoesOn (place position more) rest → GoesOn (place position other) rest
-reached_by position more other rest g = record { behind = g.behind; is = g.is }
-
 -- tokens that are told are such as the place may have
 pub told_goes : (at : Place) (located_tokens : List LocatedToken) → tokens_at at ≡ Some located_tokens →
     GoesOn at located_tokens

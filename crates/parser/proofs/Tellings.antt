@@ -23,9 +23,6 @@ place_deeper before depth shallow h =
     record
     { opened = h.opened; place = h.place; stands = h.stands; few = omega (arith, h.few, room_deeper depth shallow) }
 
-pub room_at_place : (before : Meaning) (depth : ℕ) → HasPlace before (room depth 1) → HasRoom before (room depth 1)
-room_at_place before depth h = place_room before (room depth 1) (room depth 1) (omega arith) h
-
 pub room_in_brackets : (before : Meaning) (depth : ℕ) → depth < 64 → HasPlace before (room depth 1) →
     HasRoom before (room (depth + 1) 1)
 room_in_brackets before depth shallow h =

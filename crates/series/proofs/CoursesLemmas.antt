@@ -92,22 +92,6 @@ score_more ended outcome i is_alive count lives survived =
         ≡ with_match (score_of ended i) b n
     by_end b n some = by_test b (n == 1) (nat_le 2 n) _ _ _ (λ lives. several n (some lives))
 
--- each score adds up to the matches
-pub with_match_adds : (score : Score) (is_alive : Bool) (count matches : ℕ)
-    → score.won + score.tied + score.lost ≡ matches
-    →
-    (with_match score is_alive count).won + (with_match score is_alive count).tied +
-    (with_match score is_alive count).lost ≡ matches + 1
-with_match_adds score is_alive count matches adds = by_end is_alive (count == 1)
-  where
-    by_end : (b one : Bool) → let later : Score =
-        if b then (if one then record score { won = score.won + 1 } else record score { tied = score.tied + 1 }) else
-        record score { lost = score.lost + 1 } in
-        later.won + later.tied + later.lost ≡ matches + 1
-    by_end true true = omega arith
-    by_end true false = omega arith
-    by_end false one = omega arith
-
 -- how the match of this number ended
 pub outcome_is : (setup : Setup) (files : List File) (number : ℕ) (outcome : Outcome)
     → outcome ≡ battle (robots_of setup.profile files) setup.seed number setup.limit →

@@ -104,15 +104,6 @@ one_call before now after bytes left n so_far some all told whole = elim (so_far
   | inr (once, none) ↦ let no : length left ≡ 0 = ap length none in absurd (omega arith)
 ]
 
--- if none is left, it was one portion
-pub one_portion : (before now : Portions) (bytes left : List ℕ) →
-    (TakesWhole before → InOneCall before now bytes left) → length left ≡ 0
-    → TakesWhole before → 0 < length bytes → length bytes ≤ page_bytes → now ≡ and_portions before (bytes ∷ [])
-one_portion before now bytes left so_far none whole some fits = elim (so_far whole) [
-  | inl (same, all) ↦ let no : length left ≡ length bytes = ap length all in absurd (omega arith)
-  | inr (once, none) ↦ once
-]
-
 -- the bytes of the first portions, with one portion more
 pub joined_more : {X : Type 0} (bytes : X → List ℕ) (xs : List X) (n : ℕ) (x : X) → n < length xs → x ≡ get_or xs n x
     → concat (map bytes (take (n + 1) xs)) ≡ concat (map bytes (take n xs)) ++ bytes x

@@ -20,15 +20,6 @@ use Rattle.tokens.proofs.TokenLemmas.{chosen, other, run-takes, no_line}
 use Rattle.tokens.proofs.PunctuatorLemmas.{punctuator_of-spelled, punctuator-located_token, none-of-two, none-of-three, none-of-four}
 use Rattle.tokens.proofs.ToRead.{to_read-here, first-ahead, none-ahead}
 
--- what begins with b
-from-here : (made made' : Ahead → List LocatedToken) (b : ℕ) →
-    ((line place : ℕ) (rest : List ℕ) (too_long : Bool) →
-    made (here line place (b ∷ rest) too_long) ≡ made' (here line place (b ∷ rest) too_long)) →
-    (a : Ahead) (rest : List ℕ) → a.bytes ≡ b ∷ rest → made a ≡ made' a
-from-here made made' b h a rest e =
-    subst (λ (xs : List ℕ). made (here a.line a.place xs a.too_long) ≡ made' (here a.line a.place xs a.too_long))
-    (sym e) (h a.line a.place rest a.too_long)
-
 located_tokens-by : (b : ℕ) (f : Front) (a : Ahead) (rest : List ℕ) → a.bytes ≡ b ∷ rest → front (b ∷ rest) ≡ f →
     located_tokens a ≡ cut_front f a located_tokens
 located_tokens-by b f a rest e h = located_tokens-front a ∙ ap (λ x. cut_front x a located_tokens) (ap front e ∙ h)

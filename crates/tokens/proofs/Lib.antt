@@ -1,5 +1,4 @@
 pub mod CharacterLemmas
-pub mod WordLemmas
 pub mod KnownTokens
 pub mod NameLemmas
 pub mod SourceLemmas

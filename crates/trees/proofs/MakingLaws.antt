@@ -8,7 +8,7 @@ use Rattle.grammar.specs.declared.names.Var.{Var}
 use Rattle.arith.specs.declared.operators.Op.{Op}
 use Rattle.grammar.specs.declared.operators.StoreOp.{StoreOp}
 use Rattle.grammar.specs.declared.actions.Action.{Action}
-use Rattle.grammar.specs.declared.actions.Action.TheVariants.{ApplyBinop, LogicMiddle, BeginCall, EndCall, EndIf}
+use Rattle.grammar.specs.declared.actions.Action.TheVariants.{ApplyBinop, BeginCall, EndCall, EndIf}
 use Rattle.grammar.specs.declared.actions.Action.TheVariants.{EndWhile, GiveBack, Chop, EndFunction}
 use Rattle.grammar.specs.Actions.{body_actions, args_actions, expr_actions}
 use Rattle.grammar.specs.Following.{InFunction, AValue, BeforeRight, Opened, Origin, Computed, follow, only_on, statement_done, call_done, is_step, stored, same_op, is_callee_numbered}
@@ -130,26 +130,6 @@ while_continues b c xs ys is a =
 only_true : (b : Bool) (o : Opened) → IsTrue (is_some (only_on b o)) → b ≡ true
 only_true true o h = refl
 only_true false o h = absurd (cc)
-
-pub middle_continues : (o : Op) (xs : List entry.Open) → IsAllowed (LogicMiddle o) xs →
-    Continues (LogicMiddle o) xs (RightSide o ∷ xs)
-middle_continues o [] h = absurd (cc)
-middle_continues o (Value left ∷ xs) h =
-    let logic : is_logic o ≡ true =
-    only_true (is_logic o) (BeforeRight o ∷ AValue (origin_of (expr_tree left)) ∷ opened xs) h in
-    record { follows = rw logic refl; adds = rw logic refl }
-middle_continues o (RightSide p ∷ xs) h = absurd (cc)
-middle_continues o (Call ∷ xs) h = absurd (cc)
-middle_continues o (Test ∷ xs) h = absurd (cc)
-middle_continues o (entry_of.Body b ∷ xs) h = at_place b.heading h
-  where
-    at_place : (g : Heading) →
-        IsTrue (is_some (follow (LogicMiddle o) (place_of g (body_tree b.statements.items) ∷ opened xs))) →
-        Continues (LogicMiddle o) (entry_of.Body b ∷ xs) (RightSide o ∷ entry_of.Body b ∷ xs)
-    at_place (heading.Function n p) k = absurd (cc)
-    at_place (heading.First c) k = absurd (cc)
-    at_place (heading.Second c t) k = absurd (cc)
-    at_place (heading.Loop c) k = absurd (cc)
 
 -- below the right side is the left one, past the middle if there is one
 pub left_is : (xs : List entry.Open) → ends_in_value xs ≡ false → ends_in_value (past_middle xs) ≡ true →

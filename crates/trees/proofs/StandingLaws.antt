@@ -306,16 +306,6 @@ is_over m over p acts s =
     let q : Passed m.profile acts = s.passed (omega (arith, over)) in
     rw s.profile q.over
 
-pub stands_new : (m : Kept) (p : Profile) → IsProfile p →
-    m ≡ record { profile = p; functions = []; stack = []; code = 0 } → Stands m p []
-stands_new m p known is =
-    rw is (record {
-      profile = refl;
-      known = known;
-      builds = λ _. record { actions = refl; opens = refl; counted = refl };
-      passed = λ over. absurd (omega (arith, some p known, over));
-    })
-
 -- What the maker's calls need: m is the maker before, q the one that has counted the action's instructions.
 
 within_limit : (m q : Kept) (a : Action) (over : Bool) → IsProfile m.profile →
@@ -358,12 +348,6 @@ went_on m q xs a over r by functions stack counted is not_over may told =
     (subst (λ ys. Continues a ys xs) stack k) counted
     (within_limit m q a over may.stood.known counted is not_over).1 may)
     told
-
-pub over_at_end : (m q : Kept) (over : Bool) → q.code ≡ min (m.code + 0) 65535 →
-    over ≡ nat_le m.profile.instructions q.code → over ≡ true → IsOver (λ p acts. Stands m p acts)
-over_at_end m q over counted is passed =
-    let many : m.profile.instructions ≤ q.code = grind (arith, nat_tests, is, passed) in
-    is_over m (omega (arith, counted, many))
 
 pub fits_at_end : (m q : Kept) (over : Bool) → IsProfile m.profile → q.code ≡ min (m.code + 0) 65535 →
     over ≡ nat_le m.profile.instructions q.code → over ≡ false → FitsWithin (λ p acts. Stands m p acts)

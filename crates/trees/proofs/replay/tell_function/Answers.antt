@@ -7,7 +7,7 @@ use Rattle.trees.specs.Replaying.{IsOverWith}
 use Rattle.trees.specs.Trees.{body_tree}
 use Rattle.trees.proofs.ReplayLaws.{actions-Function, may_next, over_finish, over_then}
 use Rattle.trees.proofs.replay.tell_function.Goals as goal
-use Rattle.grammar.proofs.Judging.{measured_denied, measured_over}
+use Rattle.grammar.proofs.Judging.{measured_over}
 use Rattle.grammar.proofs.StandingLaws.{appends_both, may_first, may_front, may_then}
 
 pub act-requires : goal.act-requires
@@ -35,24 +35,6 @@ tell_last_return-requires g c =
     (body_actions (body_tree c.args.function.now.body.items)) =
     rw c.deref.ensures.value at c.in_ok-tell_statements.ensures.ok in
     may_front _ last_return _ (may_then _ (at c.tell_statements.new.build) _ _ told inside)
-
-pub act-requires-2 : goal.act-requires-2
-act-requires-2 g c =
-    let at = g.B.Build.stands in
-    let whole = subst (MayFollowAll (at c.args.build.now)) (actions-Function c.args.function.now) c.requires in
-    let inside =
-    may_next _ (at c.act.new.self)
-    (BeginFunction c.args.function.now.number c.args.function.now.parameters) _ c.in_ok-act.ensures.ok
-    whole in
-    let told : AppendsAll (at c.act.new.self) (at c.tell_statements.new.build)
-    (body_actions (body_tree c.args.function.now.body.items)) =
-    rw c.deref.ensures.value at c.in_ok-tell_statements.ensures.ok in
-    let end = may_then _ (at c.tell_statements.new.build) _ _ told inside in
-    record {
-      follows =
-          may_first _ _ _
-          (may_then _ (at c.tell_last_return.new.build) last_return _ c.in_ok-tell_last_return.ensures.ok end);
-    }
 
 pub returns-clause-ok : goal.returns-clause-ok
 returns-clause-ok g c =
@@ -86,9 +68,3 @@ returns-clause-full g c =
     (over_finish fourth c.args.function.now.variables
     (measured_over c.act-2.result g.B.Build.denied (at c.tell_last_return.new.build) c.act-2.ensures.judged
     full)))))
-
-pub returns-clause-memory : goal.returns-clause-memory
-returns-clause-memory g c =
-    λ memory.
-    measured_denied c.act-2.result g.B.Build.denied (g.B.Build.stands c.tell_last_return.new.build)
-    c.act-2.ensures.judged memory

@@ -1,25 +1,8 @@
 use Rattle.std.proofs.Common.{◌≡◌, ◌+◌, ◌*◌, unsigned_abs, to_z, of_z, w32, ap, arith}
 use Rattle.arena.specs.declared.ways.Way.{Way}
 use Rattle.arena.specs.Nearer.{square_of}
-use Rattle.arena.proofs.Squares.{square_fits, both_bits, both_fit, both_back, both_most}
+use Rattle.arena.proofs.Squares.{both_bits, both_back, both_most}
 use Rattle.arena.proofs.ways.Way.square.Goals as goal
-
-pub overflow_mul-result : goal.overflow_mul-result
-overflow_mul-result c =
-    let way = c.args.self.now in
-    let small = way.east_in_field in
-    square_fits way.east (omega (arith, small))
-
-pub overflow_mul-result-2 : goal.overflow_mul-result-2
-overflow_mul-result-2 c =
-    let way = c.args.self.now in
-    let small = way.north_in_field in
-    square_fits way.north (omega (arith, small))
-
-pub overflow_add-result : goal.overflow_add-result
-overflow_add-result c =
-    let way = c.args.self.now in
-    both_fit way.east way.north way.east_in_field way.north_in_field
 
 pub overflow_cast-result : goal.overflow_cast-result
 overflow_cast-result c =

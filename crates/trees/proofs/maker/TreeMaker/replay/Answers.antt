@@ -5,10 +5,6 @@ use Rattle.grammar.specs.Building.{AppendsAll}
 use Rattle.trees.specs.Trees.{made_actions}
 use Rattle.trees.proofs.ReplayLaws.{appends_those, function_may, functions_more, may_replay, over_those}
 use Rattle.trees.proofs.maker.TreeMaker.replay.Goals as goal
-use Rattle.grammar.proofs.StandingLaws.{appends_none}
-
-pub loop-function-init : goal.loop-function-init
-loop-function-init g c = appends_none (g.B.Build.stands c.args.build.now)
 
 pub tell_function-requires : goal.tell_function-requires
 tell_function-requires g c =
