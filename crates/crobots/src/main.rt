@@ -5,6 +5,7 @@ use command::{StreamSink, program_of};
 use std::process::ExitCode;
 use std::{env, io};
 
+/// Does what the command line asks for, and returns the status.
 fn main(rt: HostRuntime) -> ExitCode {
     let mut out = StreamSink::new(rt.stdout());
     let mut err = StreamSink::new(rt.stderr());

@@ -10,6 +10,7 @@ use std::io::ErrorKind;
 use std::{env, fs, io, str};
 use tokens::Pieces;
 
+/// Prints the outline of the file that the first word names.
 fn main(rt: HostRuntime) -> io::Result<()> {
     let Some(word) = env::args(&rt)?.nth(1) else {
         return Err(ErrorKind::InvalidInput.into());

@@ -242,5 +242,3 @@ begins_then number a b c h i = record {
   mentioned = omega (arith, h.mentioned, i.functions);
   within = λ w. i.within (h.within w);
 }
-
--- At the begin of a file, and behind a function, the limits hold.
