@@ -28,6 +28,3 @@ mod warnings;
 pub use compiling::compile;
 pub use explaining::add_explanation;
 pub use warnings::add_warnings;
-
-#[cfg(test)]
-mod tests;

@@ -13,8 +13,6 @@ mod nodes;
 mod origins;
 mod pages;
 mod spelling;
-#[cfg(test)]
-mod tests;
 mod texts;
 mod token_rows;
 
