@@ -8,6 +8,7 @@ use arrayvec::ArrayVec;
 use grammar::Intrinsic;
 use std::process::Abort;
 
+mod number_tests;
 mod plain;
 
 /// Places robots, at places in tenths of a metre.

@@ -16,8 +16,6 @@ mod operators;
 mod roots;
 mod tables;
 mod tangents;
-#[cfg(test)]
-mod tests;
 
 pub use bearings::{bearing, bears_within};
 pub use circle::{cos, cosine_at, sin, sine_at};

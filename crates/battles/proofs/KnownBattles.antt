@@ -17,12 +17,12 @@ use Rattle.arith.specs.Table.{sines, tangents}
 use Rattle.arith.specs.Op.{value_of}
 use Rattle.std.specs.Int.{int_wrap}
 use Rattle.code.specs.Values.{stored}
+use Rattle.grammar.specs.Limits.{most_levels}
 use Rattle.grammar.specs.Profile.{first_profile, second_profile}
 use Rattle.tokens.specs.Tokens.{tokens, located_tokens}
 use Rattle.tokens.specs.Punctuators.{punctuator_of}
 use Rattle.tokens.specs.Words.{word_of}
 use Rattle.grammar.specs.Compiled.{compiled}
-use Rattle.grammar.specs.Faults.{most_levels}
 use Rattle.grammar.specs.Intrinsics.{intrinsic_named, name_of}
 use Rattle.battles.specs.KnownBattles.{idle_file, KnownBattles, KnownShortBattles}
 use Rattle.battles.specs.Pairing.{robots_of}

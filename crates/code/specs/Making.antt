@@ -7,6 +7,7 @@ use Rattle.grammar.specs.declared.actions.Action.TheVariants.{BeginWhile, WhileT
 use Rattle.grammar.specs.declared.actions.Action.TheVariants.{BeginFunction, EndFunction}
 use Rattle.arith.specs.declared.operators.Op.{Op}
 use Rattle.arith.specs.declared.operators.Op.TheVariants as op
+use Rattle.grammar.specs.Limits.{most_names}
 use Rattle.grammar.specs.Profile.{Profile}
 use Rattle.code.specs.declared.instr.Instr.{Instr}
 use Rattle.code.specs.declared.instr.Instr.TheVariants.{Fetch, Store, Const, Binop, Fcall, Retsub, Branch, Truth}
@@ -21,7 +22,7 @@ pub record Made : Type 0 where
   pub opened : List ℕ
 
 abbrev pub made_nothing : Profile → Made
-made_nothing p = record { profile = p; code = []; addresses = replicate 64 0; opened = [] }
+made_nothing p = record { profile = p; code = []; addresses = replicate most_names 0; opened = [] }
 
 -- more instructions
 abbrev pub with_code : Made → List Instr → Made

@@ -28,7 +28,7 @@ impl Model for Program {
     ghost use Rattle.code.specs.Generation.{ObjectCode};
     ghost use Rattle.code.specs.Finishing.{IsOfSomeFile};
     ghost use Rattle.grammar.specs.Profile.{IsProfile};
-    ghost use Rattle.grammar.specs.declared.pools.TheConstants.{MOST_NAMES};
+    ghost use Rattle.grammar.specs.declared.limits.TheConstants.{MOST_NAMES};
 
     ghost Value = { ObjectCode };
 

@@ -1,6 +1,6 @@
-//! Tests of the program over given words, files and streams.
+//! Tests of the program over given words, files and streams; and of the options that the other programs read with `tools`.
 //!
-//! They are a crate of their own: so `command` isn't proved once more with them.
+//! They are a crate of their own: so neither crate is proved once more with them.
 #![tactic(auto)]
 
 #[cfg(test)]

@@ -16,6 +16,8 @@ use std::test::Fail;
 use std::{fs, io};
 use tokens::{DeviceFault, Feed};
 
+mod option_tests;
+
 /// The line of wrong usage.
 const USAGE: &[u8] =
     b"usage: crobots (-c | -mMATCHES) [-lCYCLES] [-sSEED] [-pPROFILE] [-fFIRST] FILE...\n";

@@ -19,6 +19,3 @@ pub use emissions::{Emission, MOST_ACTIONS, Origin};
 pub use locations::{Located, locate};
 pub use steps::{Derivation, Pending, StepEnd};
 pub use symbols::{Item, MOST_ITEMS, Production, Role, SemanticAction, Symbol};
-
-#[cfg(test)]
-mod tests;

@@ -11,7 +11,7 @@ use crate::told::add_token;
 use crate::walks::Walk;
 use crate::wanted::add_wanted;
 use derivations::{Located, fitting, locate};
-use grammar::{Code, Diagnostic, Profile};
+use grammar::{Code, Diagnostic, MOST_LEVELS, MOST_NAMES, Profile};
 use std::alloc::{AllocError, Global};
 use tokens::{CONSTANT_MAX, NAME_BYTES, SOURCE_BYTES};
 
@@ -150,13 +150,15 @@ fn add_limit(text: &mut String, found: &Found<'_>) -> Result<(), AllocError> {
         }
         Code::ConstantTooLarge => write!(text, "the greatest number is {CONSTANT_MAX}")?,
         Code::SourceTooLong => write!(text, "a source has at most {SOURCE_BYTES} bytes")?,
-        Code::NestedTooDeeply => text.push_str(
-            "at most 64 blocks, branches, loops, assignments, brackets and calls are open at once",
+        Code::NestedTooDeeply => write!(
+            text,
+            "at most {MOST_LEVELS} blocks, branches, loops, assignments, brackets and calls are open at once"
         )?,
-        Code::TooManyVariables => text.push_str(
-            "a function has at most 64 variables, and a file at most 64 outside its functions",
+        Code::TooManyVariables => write!(
+            text,
+            "a function has at most {MOST_NAMES} variables, and a file at most {MOST_NAMES} outside its functions"
         )?,
-        Code::TooManyFunctions => text.push_str("a file has at most 64 functions")?,
+        Code::TooManyFunctions => write!(text, "a file has at most {MOST_NAMES} functions")?,
         _ => {
             let most = found.profile.instructions();
             write!(

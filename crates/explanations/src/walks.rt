@@ -1,12 +1,9 @@
 //! A walk along the derivation of a source, with what each name means where it stands.
 
 use derivations::{Derivation, Item, Located, Role, SemanticAction, StepEnd};
-use grammar::{Callee, Code, Profile, Scope, Var, code_of};
+use grammar::{Callee, Code, MOST_LEVELS, Profile, Scope, Var, code_of};
 use std::alloc::{AllocError, Global};
 use tokens::{Name, Token, Word};
-
-/// The most levels that are open at once.
-const MOST_LEVELS: usize = 64;
 
 /// What a name means where it stands.
 #[derive(Clone, Copy, Debug, PartialEq, Eq)]
@@ -111,7 +108,7 @@ impl<'a> Walk<'a> {
     pub fn step(&mut self) -> Result<Event, AllocError> {
         let event = self.coming();
         self.count();
-        let levels = self.derivation.levels();
+        let were_too_many = self.has_too_many_levels();
         let outcome = self.derivation.step()?;
         let token = self.derivation.place();
         Ok(match outcome {
@@ -123,7 +120,7 @@ impl<'a> Walk<'a> {
                 }
             }
             StepEnd::Done => Event::Done,
-            StepEnd::Stepped if levels <= MOST_LEVELS && self.derivation.levels() > MOST_LEVELS => {
+            StepEnd::Stepped if !were_too_many && self.has_too_many_levels() => {
                 Event::Refused {
                     token,
                     code: Code::NestedTooDeeply,
@@ -131,6 +128,11 @@ impl<'a> Walk<'a> {
             }
             StepEnd::Stepped => event,
         })
+    }
+
+    /// Reports whether more levels are open than may be.
+    fn has_too_many_levels(&self) -> bool {
+        self.derivation.levels() > usize::from(MOST_LEVELS)
     }
 
     /// Returns what the next step comes upon, if it fits.

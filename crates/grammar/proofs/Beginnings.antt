@@ -14,7 +14,7 @@ use Rattle.grammar.specs.Actions.{expr_actions, body_actions, function_actions, 
 use Rattle.grammar.specs.Beginning.{IsTellable, AreTellable, IsBeginning}
 use Rattle.grammar.specs.Derivation.{Definition}
 use Rattle.grammar.specs.Faults.{definitions_actions}
-use Rattle.grammar.specs.Following.{InFunction, Opened, open_count, few_open, follow, follow_all, then_follow, is_number, is_var_numbered, is_callee_numbered, only_on, most_numbers}
+use Rattle.grammar.specs.Following.{InFunction, Opened, open_count, few_open, follow, follow_all, then_follow, is_number, is_var_numbered, is_callee_numbered, only_on}
 use Rattle.grammar.specs.Nesting.{nesting, body_nesting, right_side}
 use Rattle.grammar.specs.Laws.Origins.{origin_of, ends_in_return}
 use Rattle.grammar.specs.Resolved.{InBody}
@@ -259,7 +259,6 @@ made_begins acts o m = by m.held m.actions m.fits
 
 pub begin_makes : (n k : ℕ) (q : Opened) → follow (BeginFunction n k) [] ≡ Some q →
     ((n < 64) × (k ≤ 64)) × (InFunction k false ∷ [] ≡ q)
-unfolding most_numbers
 begin_makes n k q e = by (nat_lt n 64) (nat_le k 64) refl refl e
   where
     by : (a b : Bool) → nat_lt n 64 ≡ a → nat_le k 64 ≡ b → only_on (a && b) (InFunction k false ∷ []) ≡ Some q →
@@ -276,7 +275,6 @@ pub record FinishesBy (v k : ℕ) (o q : Opened) (last : Bool) : Type 0 where
 
 pub finish_makes : (v k : ℕ) (last : Bool) (q : Opened) → follow (EndFunction v) (InFunction k last ∷ []) ≡ Some q →
     FinishesBy v k (InFunction k last ∷ []) q last
-unfolding most_numbers
 finish_makes v k false q e = absurd (cc)
 finish_makes v k true q e = by (nat_le k v) (nat_le v 64) refl refl e
   where

@@ -10,10 +10,11 @@ use Rattle.grammar.specs.declared.diagnostics.Code.{Code}
 use Rattle.grammar.specs.declared.diagnostics.Code.TheVariants as code
 use Rattle.grammar.specs.Compiled.{diagnostic}
 use Rattle.grammar.specs.Derivation.{State, state, Value, Definition, definition_of, last_body, stepped, run, next_of, after_of, line_of, name_of_token}
-use Rattle.grammar.specs.Faults.{Fault, fault, faults_at, is_first, item_faults, level_faults, length_faults, name_faults, role_faults, no_room, misfits, misfit_code, levels, number_of, most_levels, most_names, is_too_long, only_if}
+use Rattle.grammar.specs.Faults.{Fault, fault, faults_at, is_first, item_faults, level_faults, length_faults, name_faults, role_faults, no_room, misfits, misfit_code, levels, number_of, is_too_long, only_if}
 use Rattle.grammar.specs.Grammar.{Item, Exactly, AWord, AName, AConstant, AnEnd, Part, Make, Close, Symbol, Role, Defined, External, Parameter, Typed, Local, Called, Mentioned, Define, choice, enters, is_punctuator, is_word, is_fault}
 use Rattle.grammar.specs.Intrinsics.{is_intrinsic}
 use Rattle.grammar.specs.Laws.Parsing.{IsIn, IsFirstFault, Fails}
+use Rattle.grammar.specs.Limits.{most_levels, most_names}
 use Rattle.grammar.specs.Profile.{Profile}
 use Rattle.grammar.specs.Scope.{Scope, has_begun, is_external_new, is_function_new, is_local_new, is_variable_new}
 -- a step never adds tokens

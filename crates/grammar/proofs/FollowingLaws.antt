@@ -15,7 +15,7 @@ use Rattle.grammar.specs.declared.actions.Action.TheVariants.{BeginWhile, WhileT
 use Rattle.grammar.specs.declared.actions.Action.TheVariants.{BeginFunction, EndFunction}
 use Rattle.grammar.specs.Actions.{expr_actions, args_actions, body_actions, last_return, middle, function_actions}
 use Rattle.grammar.specs.Actions.{functions_actions, numbered_actions}
-use Rattle.grammar.specs.Following.{Open, InFunction, AValue, BeforeRight, InCall, InBranch, InElse, BeforeTest, InTurn, Opened, Origin, Number, Fetched, Stepped, Computed, open_count, is_place, few_open, follow, follow_all, then_follow, most_numbers, is_var_numbered, is_callee_numbered, statement_done, call_done, is_number, same_op, same_var}
+use Rattle.grammar.specs.Following.{Open, InFunction, AValue, BeforeRight, InCall, InBranch, InElse, BeforeTest, InTurn, Opened, Origin, Number, Fetched, Stepped, Computed, open_count, is_place, few_open, follow, follow_all, then_follow, is_var_numbered, is_callee_numbered, statement_done, call_done, is_number, same_op, same_var}
 use Rattle.grammar.specs.Nesting.{nesting, args_nesting, body_nesting, right_side}
 use Rattle.arith.specs.Op.{is_logic}
 -- how the value of an expression came about
@@ -60,12 +60,10 @@ follow_one a o p e small = follow_cons a [] o p e small
 -- Numbers in range.
 
 var_numbered : (v : Var) → IsVariable 64 64 v → is_var_numbered v ≡ true
-unfolding most_numbers
 var_numbered (var.Local j) h = lt-ltb j 64 h
 var_numbered (var.External j) h = lt-ltb j 64 h
 
 callee_numbered : (f : Callee) → IsCallable 64 f → is_callee_numbered f ≡ true
-unfolding most_numbers
 callee_numbered (callee.Function k) h = lt-ltb k 64 h
 callee_numbered (callee.Intrinsic i) h = refl
 
@@ -312,12 +310,10 @@ keeps_function (Return e rest) parameters before =
 
 pub function_begins : (number parameters : ℕ) → number < 64 → parameters ≤ 64 →
     follow (BeginFunction number parameters) [] ≡ Some (InFunction parameters false ∷ [])
-unfolding most_numbers
 function_begins number parameters h k = rw (lt-ltb number 64 h, le-leb parameters 64 k) refl
 
 pub function_finishes : (parameters variables : ℕ) → parameters ≤ variables → variables ≤ 64 →
     follow (EndFunction variables) (InFunction parameters true ∷ []) ≡ Some []
-unfolding most_numbers
 function_finishes parameters variables h k = rw (le-leb parameters variables h, le-leb variables 64 k) refl
 
 -- a function's actions, by its number, its parameters, its variables and its body

@@ -1,9 +1,8 @@
 -- The known sources, worked out.
 use Rattle.std.proofs.Common.{refl, ◌∷◌}
 use Rattle.grammar.specs.declared.actions.Action.TheVariants.{BeginFunction}
-use Rattle.grammar.specs.Faults.{most_levels}
-use Rattle.grammar.specs.Following.{most_numbers}
 use Rattle.grammar.specs.Intrinsics.{intrinsic_named, name_of}
+use Rattle.grammar.specs.Limits.{most_levels}
 use Rattle.grammar.specs.Profile.{first_profile}
 use Rattle.grammar.specs.Known.Sources.{calls_begun, KnownBeginnings, KnownLimits, KnownMisfits, KnownNameFaults, KnownNeeds, KnownTrees}
 use Rattle.grammar.proofs.Beginnings.{follows_begins}
@@ -87,7 +86,6 @@ limits = record {
 }
 
 pub beginnings : KnownBeginnings
-unfolding most_numbers
 beginnings = record {
   sum_of_postfix = refl;
   distance = refl;

@@ -4,9 +4,9 @@ use Rattle.tokens.specs.Punctuators.{punctuator_of}
 use Rattle.tokens.specs.Tokens.{located_tokens, tokens}
 use Rattle.tokens.specs.Words.{word_of}
 use Rattle.grammar.specs.Compiled.{compiled}
-use Rattle.grammar.specs.Faults.{most_levels}
 use Rattle.grammar.specs.Intrinsics.{intrinsic_named, name_of}
 use Rattle.grammar.specs.Known.Texts.{KnownTexts}
+use Rattle.grammar.specs.Limits.{most_levels}
 use Rattle.grammar.specs.Need.{built, need}
 use Rattle.grammar.specs.Profile.{first_profile}
 

@@ -7,10 +7,11 @@ use Rattle.grammar.specs.declared.diagnostics.Code.TheVariants as code
 use Rattle.grammar.specs.Compiled.{order_of}
 use Rattle.grammar.specs.Derivation.{State, state, Value, Definition, next_of, after_of, line_of, name_of_token}
 use Rattle.grammar.specs.Derivation.{step_of}
-use Rattle.grammar.specs.Faults.{Fault, fault, faults_at, item_faults, levels, misfit, misfits, most_levels}
+use Rattle.grammar.specs.Faults.{Fault, fault, faults_at, item_faults, levels, misfit, misfits}
 use Rattle.grammar.specs.Faults.{name_faults, only_if, role_faults}
 use Rattle.grammar.specs.Grammar.{Symbol, FunctionBlock, Item, AName, Part, Make, Define, Role, Called, Mentioned}
 use Rattle.grammar.specs.Grammar.{enters, is_fault}
+use Rattle.grammar.specs.Limits.{most_levels}
 use Rattle.grammar.specs.Profile.{Profile}
 use Rattle.grammar.specs.Resolved.{IsAmong}
 use Rattle.grammar.specs.Scope.{Scope, behind_name, callee_of, variable_of}

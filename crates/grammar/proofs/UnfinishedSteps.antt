@@ -15,7 +15,7 @@ use Rattle.grammar.specs.declared.actions.Action.TheVariants.{LogicMiddle, Begin
 use Rattle.grammar.specs.declared.actions.Action.TheVariants.{BeginWhile, WhileTest, EndWhile, GiveBack, Chop}
 use Rattle.grammar.specs.declared.actions.Action.TheVariants.{BeginFunction, EndFunction}
 use Rattle.grammar.specs.Actions.{expr_actions, args_actions, body_actions}
-use Rattle.grammar.specs.Following.{AValue, BeforeRight, InCall, InBranch, InElse, BeforeTest, Opened, Origin, Number, Fetched, Stepped, Computed, open_count, is_place, is_number, is_step, is_var_numbered, is_callee_numbered, same_var, same_op, stored, statement_done, call_done, only_on, within, follow, most_numbers}
+use Rattle.grammar.specs.Following.{AValue, BeforeRight, InCall, InBranch, InElse, BeforeTest, Opened, Origin, Number, Fetched, Stepped, Computed, open_count, is_place, is_number, is_step, is_var_numbered, is_callee_numbered, same_var, same_op, stored, statement_done, call_done, only_on, within, follow}
 use Rattle.grammar.specs.Nesting.{nesting, args_nesting, body_nesting, right_side}
 use Rattle.arith.specs.Op.{is_logic}
 use Rattle.grammar.specs.Laws.Origins.{origin_of, ends_in_return}
@@ -56,12 +56,10 @@ if_false false p q e = (refl, some_same p q e)
 -- Numbers in range, and what is tested of values.
 
 pub variable_in : (v : Var) → is_var_numbered v ≡ true → IsVariable 64 64 v
-unfolding most_numbers
 variable_in (var.Local n) h = grind (arith, nat_tests)
 variable_in (var.External n) h = grind (arith, nat_tests)
 
 pub callee_in : (f : Callee) → is_callee_numbered f ≡ true → IsCallable 64 f
-unfolding most_numbers
 callee_in (callee.Function n) h = grind (arith, nat_tests)
 callee_in (callee.Intrinsic i) h = tt
 

@@ -1,10 +1,10 @@
 -- Which lists of actions may be reported to a builder: the beginnings of those of some functions.
 use Rattle.std.specs.Prelude.{◌≡◌, ◌<◌, ◌≤◌, List, [], ◌∷◌, ◌++◌, length}
 use Rattle.grammar.specs.declared.actions.Action.{Action}
-use Rattle.grammar.specs.declared.pools.TheConstants.{MOST_NAMES}
+use Rattle.grammar.specs.declared.limits.TheConstants.{MOST_NAMES}
 use Rattle.grammar.specs.Derivation.{Definition}
 use Rattle.grammar.specs.Faults.{definitions_actions}
-use Rattle.grammar.specs.Following.{most_open}
+use Rattle.grammar.specs.Limits.{most_open}
 use Rattle.grammar.specs.Nesting.{body_nesting}
 use Rattle.grammar.specs.Resolved.{InBody}
 

@@ -16,16 +16,9 @@ use Rattle.grammar.specs.Derivation.{after_of, name_of_token}
 use Rattle.grammar.specs.Grammar.{Item, AName, Part, Make, Close, Define, Symbol, Role, Defined, External, Parameter}
 use Rattle.grammar.specs.Grammar.{Typed, Local, Called, Mentioned, is_fault, enters}
 use Rattle.grammar.specs.Intrinsics.{is_intrinsic}
+use Rattle.grammar.specs.Limits.{most_levels, most_names}
 use Rattle.grammar.specs.Profile.{Profile}
 use Rattle.grammar.specs.Scope.{Scope, has_begun, is_external_new, is_function_new, is_local_new, is_variable_new}
-
--- the most levels that are open at once
-unfoldable pub most_levels : ℕ
-most_levels = 64
-
--- the most externals, variables of a function, and functions
-abbrev pub most_names : ℕ
-most_names = 64
 
 -- a fault: the tokens from its token on, and its code
 pub record Fault : Type 0 where

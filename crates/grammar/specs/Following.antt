@@ -13,15 +13,8 @@ use Rattle.grammar.specs.declared.actions.Action.TheVariants.{PushConstant, Fetc
 use Rattle.grammar.specs.declared.actions.Action.TheVariants.{LogicMiddle, BeginCall, EndCall, IfTest, ElsePart, EndIf}
 use Rattle.grammar.specs.declared.actions.Action.TheVariants.{BeginWhile, WhileTest, EndWhile, GiveBack, Chop}
 use Rattle.grammar.specs.declared.actions.Action.TheVariants.{BeginFunction, EndFunction}
+use Rattle.grammar.specs.Limits.{most_names, most_open}
 use Rattle.arith.specs.Op.{is_logic}
-
--- the most calls, ifs, whiles and right sides of && and || that are open at once
-abbrev pub most_open : ℕ
-most_open = 200
-
--- the most externals, variables of a function, and functions, by whose numbers actions go
-unfoldable pub most_numbers : ℕ
-most_numbers = 64
 
 -- how a value came about, as far as it matters for what follows
 pub data Origin : Type 0 where
@@ -98,11 +91,11 @@ abbrev pub stored : Var → Origin → Origin
 stored v origin = if is_number 1 origin then Stepped v else Computed
 
 abbrev pub is_var_numbered : Var → Bool
-is_var_numbered (var.Local n) = nat_lt n most_numbers
-is_var_numbered (var.External n) = nat_lt n most_numbers
+is_var_numbered (var.Local n) = nat_lt n most_names
+is_var_numbered (var.External n) = nat_lt n most_names
 
 abbrev pub is_callee_numbered : Callee → Bool
-is_callee_numbered (callee.Function n) = nat_lt n most_numbers
+is_callee_numbered (callee.Function n) = nat_lt n most_names
 is_callee_numbered (callee.Intrinsic i) = true
 
 abbrev pub same_op : Op → Op → Bool
@@ -131,9 +124,9 @@ follow GiveBack (AValue origin ∷ opened) = statement_done (is_number 0 origin)
 follow Chop (AValue origin ∷ AValue below ∷ opened) = only_on (is_step origin below) (AValue Computed ∷ opened)
 follow Chop (AValue origin ∷ opened) = statement_done false opened
 follow (BeginFunction number parameters) [] =
-    only_on (nat_lt number most_numbers && nat_le parameters most_numbers) (InFunction parameters false ∷ [])
+    only_on (nat_lt number most_names && nat_le parameters most_names) (InFunction parameters false ∷ [])
 follow (EndFunction variables) (InFunction parameters true ∷ []) = only_on
-    (nat_le parameters variables && nat_le variables most_numbers) []
+    (nat_le parameters variables && nat_le variables most_names) []
 follow action opened = None
 
 -- not too much is open

@@ -24,9 +24,10 @@ use Rattle.grammar.specs.declared.actions.Action.{Action}
 use Rattle.grammar.specs.Actions.{actions}
 use Rattle.grammar.specs.Building.{Meaning, MayFollow, StandsOpen}
 use Rattle.grammar.specs.Beginning.{IsBeginning}
-use Rattle.grammar.specs.Following.{AreInOrder, Opened, follow, follow_all, most_open, open_count}
+use Rattle.grammar.specs.Following.{AreInOrder, Opened, follow, follow_all, open_count}
 use Rattle.grammar.specs.Grammar.{Symbol, Declarations, Statements, Item, Part, Make, Define, Production, choice}
 use Rattle.grammar.specs.Grammar.{enters}
+use Rattle.grammar.specs.Limits.{most_open}
 use Rattle.grammar.specs.Need.{need}
 use Rattle.grammar.specs.Nesting.{body_nesting}
 use Rattle.grammar.specs.Laws.Parsing.{Fails, IsFault, Passes}

@@ -7,6 +7,7 @@ pub mod Pools
 pub mod Grammar
 pub mod Scope
 pub mod Derivation
+pub mod Limits
 pub mod Faults
 pub mod Compiled
 pub mod Need

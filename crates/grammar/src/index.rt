@@ -3,7 +3,7 @@
 ghost use Rattle.std.specs.Prelude.{◌≡◌, ◌<◌, []};
 ghost use Rattle.grammar.specs.Laws.Index.{IsIndexed, Notes, bucket_of, start_of};
 
-use crate::pools::MOST_NAMES;
+use crate::limits::MOST_NAMES;
 use tokens::Name;
 
 /// How many buckets there are for the names.

@@ -8,6 +8,7 @@ mod diagnostics;
 mod index;
 mod known;
 pub mod laws;
+mod limits;
 mod names;
 mod operators;
 mod pools;
@@ -20,11 +21,12 @@ pub use arith::Op;
 pub use build::{Build, BuildFault};
 pub use diagnostics::{Code, Diagnostic, ParseFault, code_of};
 pub use known::{known_emissions, known_sources, known_texts};
+pub use limits::{MOST_LEVELS, MOST_NAMES};
 pub use names::{Callee, Intrinsic, Var};
 pub use operators::{
     Binary, StoreOp, operator_from, operator_punctuator, store_operator, store_punctuator,
 };
-pub use pools::{Function, MOST_NAMES, Pools};
+pub use pools::{Function, Pools};
 pub use profiles::Profile;
 pub use scope::{Scope, intrinsic, number_of};
 pub use tokens::{DeviceFault, Feed, Name};

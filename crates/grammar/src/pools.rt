@@ -2,12 +2,10 @@
 
 ghost use Rattle.std.specs.Prelude.{◌≡◌, ◌+◌, ◌<◌, ◌≤◌, ℕ, List, [], ◌∷◌, ◌++◌, length, set};
 
+use crate::limits::MOST_NAMES;
 use arrayvec::ArrayVec;
 use std::marker::Model;
 use tokens::Name;
-
-/// The most externals, the most variables of a function, and the most functions.
-pub const MOST_NAMES: usize = 64;
 
 /// A function's name, and its variables: the parameters first, then the locals by first mention.
 #[derive(Drop)]
@@ -20,7 +18,7 @@ pub struct Function {
 impl Model for Function {
     ghost use Rattle.std.specs.Prelude.{◌≤◌, length};
     ghost use Rattle.grammar.specs.Pools.{FunctionNames};
-    ghost use Rattle.grammar.specs.declared.pools.TheConstants.{MOST_NAMES};
+    ghost use Rattle.grammar.specs.declared.limits.TheConstants.{MOST_NAMES};
 
     ghost Value = { FunctionNames };
 
@@ -131,7 +129,7 @@ pub struct Pools {
 impl Model for Pools {
     ghost use Rattle.std.specs.Prelude.{◌≤◌, take};
     ghost use Rattle.grammar.specs.Pools.{Names};
-    ghost use Rattle.grammar.specs.declared.pools.TheConstants.{MOST_NAMES};
+    ghost use Rattle.grammar.specs.declared.limits.TheConstants.{MOST_NAMES};
 
     ghost Value = { Names };
 

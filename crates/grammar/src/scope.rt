@@ -12,8 +12,9 @@ ghost use Rattle.std.specs.Prelude.{unwrap_or, if◌then◌else◌};
 
 use crate::diagnostics::Code;
 use crate::index::Index;
+use crate::limits::MOST_NAMES;
 use crate::names::{Callee, Intrinsic, Var};
-use crate::pools::{Function, MOST_NAMES, Pools};
+use crate::pools::{Function, Pools};
 use arrayvec::ArrayVec;
 use std::marker::Model;
 use tokens::{NAME_BYTES, Name};

@@ -1,4 +1,5 @@
-//! The tests, by what they try: builders, devices, large files, refused memory, pieces and trees.
+//! The tests, by what they try: builders, devices, large files, refused memory, pieces and trees; tokens; and the places
+//! of instructions.
 
 mod builder_tests;
 mod checks;
@@ -6,7 +7,9 @@ mod device_tests;
 mod large_tests;
 mod memory_tests;
 mod piece_tests;
+mod place_tests;
 mod recorder;
 mod refuser;
 mod sources;
+mod token_tests;
 mod tree_tests;

@@ -12,10 +12,11 @@ use Rattle.grammar.specs.declared.diagnostics.ParseFault.TheVariants as refusal
 use Rattle.grammar.specs.Building.{Meaning}
 use Rattle.grammar.specs.Compiled.{diagnostic}
 use Rattle.grammar.specs.Derivation.{ABody, Definition, state}
-use Rattle.grammar.specs.Faults.{fault, levels, misfit_code, most_levels, only_if}
+use Rattle.grammar.specs.Faults.{fault, levels, misfit_code, only_if}
 use Rattle.grammar.specs.Grammar.{Item, Declarations, Define, Empty, Exactly, FunctionBlock, Make, Part, Close, Statements, choice, is_fault, is_punctuator}
 use Rattle.grammar.specs.Laws.{KeepsFunction}
 use Rattle.grammar.specs.Laws.Parsing.{Passes}
+use Rattle.grammar.specs.Limits.{most_levels}
 use Rattle.grammar.specs.Profile.{first_profile}
 use Rattle.grammar.specs.Scope.{Scope}
 use Rattle.grammar.specs.Tree.{Done}

@@ -14,9 +14,10 @@ use Rattle.grammar.specs.declared.diagnostics.Code.TheVariants as code
 use Rattle.grammar.specs.declared.diagnostics.ParseFault.TheVariants as refusal
 use Rattle.grammar.specs.Compiled.{diagnostic}
 use Rattle.grammar.specs.Derivation.{State, Value, Definition, behind_rule, defined, made, next_of, state}
-use Rattle.grammar.specs.Faults.{fault, item_faults, level_faults, levels, most_levels, only_if}
+use Rattle.grammar.specs.Faults.{fault, item_faults, level_faults, levels, only_if}
 use Rattle.grammar.specs.Grammar.{AWord, Exactly, Item, Make, Part, SemanticAction, Close, Symbol, choice, is_fault, is_punctuator, is_word, enters}
 use Rattle.grammar.specs.Laws.Parsing.{Passes}
+use Rattle.grammar.specs.Limits.{most_levels}
 use Rattle.grammar.specs.Profile.{Profile}
 use Rattle.grammar.specs.Scope.{Scope}
 use Rattle.grammar.proofs.Firsts.{too_deep, too_deep_word}

@@ -15,8 +15,9 @@ use Rattle.grammar.specs.declared.diagnostics.ParseFault.{ParseFault}
 use Rattle.grammar.specs.declared.diagnostics.ParseFault.TheVariants as refusal
 use Rattle.grammar.specs.Compiled.{diagnostic}
 use Rattle.grammar.specs.Derivation.{Value, name_of_token, next_of}
-use Rattle.grammar.specs.Faults.{fault, levels, misfit_code, most_levels, only_if}
+use Rattle.grammar.specs.Faults.{fault, levels, misfit_code, only_if}
 use Rattle.grammar.specs.Grammar.{Item, AName, Exactly, Make, Part, Role, SemanticAction, Close, Symbol, choice, is_fault, is_punctuator, enters, same_punctuator}
+use Rattle.grammar.specs.Limits.{most_levels}
 use Rattle.grammar.proofs.Firsts.{no_part, too_deep, too_deep_name}
 use Rattle.grammar.proofs.Runs.{then}
 use Rattle.grammar.proofs.Steps.{part, close}

@@ -2,14 +2,15 @@
 use Rattle.std.specs.Prelude.{ℕ, ◌+◌, ◌≡◌, ◌≤◌, true, List, [], ◌∷◌, Option, Some, None, Result, Ok, Err}
 use Rattle.parser.specs.Stopping.{Stop}
 use Rattle.grammar.specs.declared.diagnostics.ParseFault.{ParseFault}
-use Rattle.grammar.specs.declared.pools.TheConstants.{MOST_NAMES}
+use Rattle.grammar.specs.declared.limits.TheConstants.{MOST_NAMES}
 use Rattle.grammar.specs.declared.actions.Action.{Action}
 use Rattle.grammar.specs.declared.actions.Action.TheVariants.{ElsePart as BetweenBranches}
 use Rattle.grammar.specs.Actions.{body_actions}
 use Rattle.grammar.specs.Building.{Meaning, AppendsAll, StandsOpen}
 use Rattle.grammar.specs.Derivation.{Value, ABody, AnExpr}
-use Rattle.grammar.specs.Following.{Open, Opened, is_place, most_open, open_count}
+use Rattle.grammar.specs.Following.{Open, Opened, is_place, open_count}
 use Rattle.grammar.specs.Grammar.{ElsePart, Part}
+use Rattle.grammar.specs.Limits.{most_open}
 use Rattle.grammar.specs.Nesting.{body_nesting}
 use Rattle.grammar.specs.Resolved.{InBody}
 use Rattle.grammar.specs.Tree.{Body, IfElseStatement, Done, Expr, IfStatement, join}

@@ -5,7 +5,7 @@ use Rattle.grammar.specs.declared.diagnostics.ParseFault.{ParseFault}
 use Rattle.grammar.specs.declared.names.Callee.{Callee}
 use Rattle.grammar.specs.declared.operators.Binary.{Binary as AnOperator}
 use Rattle.arith.specs.declared.operators.Op.{Op}
-use Rattle.grammar.specs.declared.pools.TheConstants.{MOST_NAMES}
+use Rattle.grammar.specs.declared.limits.TheConstants.{MOST_NAMES}
 use Rattle.grammar.specs.declared.actions.Action.TheVariants.{ApplyBinop}
 use Rattle.grammar.specs.Actions.{args_actions, expr_actions, middle}
 use Rattle.grammar.specs.Building.{Meaning, AppendsAll}

@@ -12,15 +12,16 @@ use Rattle.grammar.specs.Building.{Meaning, AppendsAll, StandsOpen}
 use Rattle.grammar.specs.declared.diagnostics.Diagnostic.{Diagnostic}
 use Rattle.grammar.specs.declared.diagnostics.ParseFault.{ParseFault}
 use Rattle.grammar.specs.declared.diagnostics.ParseFault.TheVariants as refusal
-use Rattle.grammar.specs.declared.pools.TheConstants.{MOST_NAMES}
+use Rattle.grammar.specs.declared.limits.TheConstants.{MOST_NAMES}
 use Rattle.grammar.specs.Compiled.{diagnostic, main_name}
 use Rattle.grammar.specs.Derivation.{ABody, Definition, State, is_end, run, state}
 use Rattle.grammar.specs.Faults.{definitions_actions}
-use Rattle.grammar.specs.Following.{InFunction, most_open}
+use Rattle.grammar.specs.Following.{InFunction}
 use Rattle.grammar.specs.Grammar.{Item, AName, Define, Defined, Exactly, FunctionBlock, Make, ParameterTypes}
 use Rattle.grammar.specs.Grammar.{Parameters, Part, Close, Source, is_punctuator}
 use Rattle.grammar.specs.Laws.{KeepsFunction}
 use Rattle.grammar.specs.Laws.Naming.{line_of_undefined}
+use Rattle.grammar.specs.Limits.{most_open}
 use Rattle.grammar.specs.Nesting.{body_nesting}
 use Rattle.grammar.specs.Laws.Parsing.{Passes}
 use Rattle.grammar.specs.Profile.{Profile}

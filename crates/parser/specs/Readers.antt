@@ -5,7 +5,7 @@ use Rattle.grammar.specs.declared.diagnostics.ParseFault.{ParseFault}
 use Rattle.grammar.specs.declared.diagnostics.ParseFault.TheVariants as refusal
 use Rattle.grammar.specs.Building.{Meaning, StandsOpen}
 use Rattle.grammar.specs.Compiled.{diagnostic}
-use Rattle.parser.specs.declared.parser.TheConstants.{MOST_LEVELS}
+use Rattle.grammar.specs.declared.limits.TheConstants.{MOST_LEVELS}
 use Rattle.parser.specs.declared.reader.Reader.{Reader}
 use Rattle.parser.specs.Advancing.{IsReady, StayedOrWentOn, Stopped, WentOn}
 use Rattle.parser.specs.Growing.{BreaksOff}

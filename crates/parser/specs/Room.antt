@@ -1,8 +1,9 @@
 -- How much may still be opened where a builder stands: calls, branches, loops and right sides of && and ||.
 use Rattle.std.specs.Prelude.{ℕ, ◌+◌, ◌-◌, ◌*◌, ◌≡◌, ◌≤◌, ◌∷◌, true}
 use Rattle.grammar.specs.Building.{Meaning, StandsOpen}
-use Rattle.grammar.specs.Following.{Open, AValue, Opened, Origin, is_place, most_open, open_count}
-use Rattle.parser.specs.declared.parser.TheConstants.{MOST_LEVELS}
+use Rattle.grammar.specs.Following.{Open, AValue, Opened, Origin, is_place, open_count}
+use Rattle.grammar.specs.Limits.{most_open}
+use Rattle.grammar.specs.declared.limits.TheConstants.{MOST_LEVELS}
 
 -- the most that the operators from a level on can open, where so many levels of nesting are taken:
 -- each further level of nesting opens a call and the right sides of && and || at most

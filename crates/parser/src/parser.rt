@@ -26,9 +26,6 @@ use grammar::{Callee, Code, Diagnostic, MOST_NAMES, ParseFault, Scope, Var, code
 use std::marker::Model;
 use tokens::{Cursor, Feed, LocatedToken, Name, Punctuator, Token, Word};
 
-/// The most levels that may be open at once.
-pub const MOST_LEVELS: u8 = 64;
-
 /// The next tokens of a device's bytes, and the names known there. Neither the next token nor one that was consumed is
 /// a lexical error. A device that has ended is not asked again.
 ///

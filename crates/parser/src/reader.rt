@@ -3,8 +3,8 @@
 ghost use Rattle.std.specs.Prelude.{◌<◌, IfErr, OnOk};
 ghost use Rattle.parser.specs.Readers.{IsTooDeep};
 
-use crate::parser::{MOST_LEVELS, Parser};
-use grammar::{Build, Code, ParseFault};
+use crate::parser::Parser;
+use grammar::{Build, Code, MOST_LEVELS, ParseFault};
 use tokens::Feed;
 
 /// Reads a file by its grammar: each production is a method, in the module of its part of the grammar.

@@ -5,8 +5,8 @@ use Rattle.tokens.specs.Tokens.{tokens, located_tokens}
 use Rattle.tokens.specs.Punctuators.{punctuator_of}
 use Rattle.tokens.specs.Words.{word_of}
 use Rattle.grammar.specs.Compiled.{compiled}
-use Rattle.grammar.specs.Faults.{most_levels}
 use Rattle.grammar.specs.Intrinsics.{intrinsic_named, name_of}
+use Rattle.grammar.specs.Limits.{most_levels}
 use Rattle.grammar.specs.Profile.{first_profile}
 use Rattle.grammar.specs.Texts.{text_of}
 use Rattle.listings.specs.Listing.{code_lines, externals_lines, function_lines, instr_line, name_line}

@@ -1,6 +1,6 @@
-//! Tests of whole listings, diagnostics and matches, through the public calls of `series`.
+//! Tests of whole listings, diagnostics and matches, through the public calls of `series`; and of `sinks`.
 //!
-//! They are a crate of their own: so neither is `series` proved once more with them, nor are they with `series`.
+//! They are a crate of their own: so neither crate is proved once more with them.
 #![tactic(auto)]
 
 #[cfg(test)]

@@ -1,4 +1,5 @@
-//! The tests, by what they try: listings, machines, matches, replayed trees, whole runs, and series match by match.
+//! The tests, by what they try: listings, machines, matches, replayed trees, whole runs, series match by match,
+//! and sinks.
 
 mod checks;
 mod listing_tests;
@@ -7,3 +8,4 @@ mod match_tests;
 mod replay_tests;
 mod run_tests;
 mod series_tests;
+mod sink_tests;

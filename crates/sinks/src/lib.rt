@@ -13,6 +13,3 @@ pub use sink::{Sink, put_all};
 pub use streams::StreamSink;
 pub use texts::{name_of, put_diagnostic};
 pub use tokens::DeviceFault;
-
-#[cfg(test)]
-mod tests;

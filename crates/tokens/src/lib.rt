@@ -23,6 +23,3 @@ pub use limits::{CONSTANT_MAX, NAME_BYTES, SOURCE_BYTES, WINDOW};
 pub use located_tokens::{LexicalError, LocatedToken, Punctuator, Token, Word};
 pub use memory::Pieces;
 pub use names::Name;
-
-#[cfg(test)]
-mod tests;

@@ -20,6 +20,3 @@ pub use options::{Known, Options, read_options};
 pub use outputs::{Output, write_text};
 pub use spans::{SPAN_OPTIONS, Span};
 pub use wishes::{MATCH_OPTIONS, file_of, number_of, profile, wish};
-
-#[cfg(test)]
-mod tests;

@@ -9,7 +9,8 @@ use Rattle.grammar.specs.Beginning.{IsBeginning}
 use Rattle.grammar.specs.Compiled.{compiled_tokens, enough}
 use Rattle.grammar.specs.Derivation.{Definition, start, run}
 use Rattle.grammar.specs.Laws.Emission.{emitted, emissions}
-use Rattle.grammar.specs.Faults.{definitions_actions, faults_at, faults_in, most_names}
+use Rattle.grammar.specs.Faults.{definitions_actions, faults_at, faults_in}
+use Rattle.grammar.specs.Limits.{most_names}
 use Rattle.grammar.specs.Profile.{Profile}
 use Rattle.grammar.specs.Resolved.{IsVariable, IsCallable}
 use Rattle.grammar.specs.Tree.{File}

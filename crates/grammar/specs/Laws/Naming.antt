@@ -4,7 +4,7 @@ use Rattle.std.specs.Prelude.{if◌then◌else◌}
 use Rattle.std.specs.List.{IsDistinct, list_any}
 use Rattle.tokens.specs.declared.located_tokens.LocatedToken.{LocatedToken}
 use Rattle.grammar.specs.declared.diagnostics.Code.{Code}
-use Rattle.grammar.specs.declared.pools.TheConstants.{MOST_NAMES}
+use Rattle.grammar.specs.declared.limits.TheConstants.{MOST_NAMES}
 use Rattle.grammar.specs.Faults.{fault, role_faults}
 use Rattle.grammar.specs.Grammar.{Role}
 use Rattle.grammar.specs.Scope.{Scope, behind_name, only_named}

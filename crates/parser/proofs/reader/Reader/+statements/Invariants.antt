@@ -1,6 +1,6 @@
 use Rattle.std.proofs.Common.{◌+◌, ◌-◌, ◌*◌, [], ◌∷◌}
 use Rattle.grammar.specs.Grammar.{Part, Statements}
-use Rattle.parser.specs.declared.parser.TheConstants.{MOST_LEVELS}
+use Rattle.grammar.specs.declared.limits.TheConstants.{MOST_LEVELS}
 use Rattle.parser.specs.Advancing.{StayedOrWentOn}
 use Rattle.parser.specs.Readers.{Kept}
 use Rattle.parser.specs.Position.{to_go}

@@ -2,10 +2,12 @@
 
 ghost use Rattle.std.specs.Prelude.{ℕ, Bool, List, ◌<◌, ◌≤◌, ◌-◌, ◌^◌, ◌+◌, ◌≡◌, length, None};
 
-use super::Word::{Else, If, Refused, Return, Type, While};
-use super::*;
 use std::process::Abort;
 use std::test::Fail;
+use tokens::Word::{Else, If, Refused, Return, Type, While};
+use tokens::{
+    Cursor, DeviceFault, Feed, LexicalError, LocatedToken, Name, Pieces, Punctuator, Token, WINDOW,
+};
 
 /// The bytes of the longest name.
 const LONGEST: &[u8] = b"_234567890123456789012345678901";

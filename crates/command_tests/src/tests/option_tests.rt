@@ -1,9 +1,9 @@
 //! Words that give options, and words that don't.
 
-use super::*;
 use std::alloc::Global;
 use std::process::Abort;
 use std::test::Fail;
+use tools::{Fault, Known, SPAN_OPTIONS, Span, read_options};
 
 /// The options of a made-up program.
 const KNOWN: [&[Known]; 3] = [

@@ -1,6 +1,6 @@
 //! What no contract says: that calls with room and memory succeed, and how pieces are cut into portions.
 
-use crate::{Pen, Recorder, Sink, name_of, put_all, put_diagnostic};
+use sinks::{Pen, Recorder, Sink, name_of, put_all, put_diagnostic};
 use std::alloc::{AllocError, Global};
 use std::process::Abort;
 use std::test::Fail;

@@ -1,6 +1,6 @@
 //! The places of instructions of small sources.
 
-use super::*;
+use derivations::{Place, fitting, lines, locate};
 use grammar::Profile;
 use std::process::Abort;
 use std::test::Fail;

@@ -1,5 +1,5 @@
 use Rattle.std.proofs.Common.{◌≤◌}
-use Rattle.tokens.proofs.tests.Many.give.Given as goal
+use Rattle.lang_tests.proofs.tests.token_tests.Many.give.Given as goal
 
 abbrev pub invariant-loop-b : goal.invariant-loop-b
 invariant-loop-b l = l.count ≤ l.b-index

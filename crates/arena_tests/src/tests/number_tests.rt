@@ -2,7 +2,7 @@
 
 ghost use Rattle.std.specs.Prelude.{◌≤◌, ◌↔◌, unsigned_abs, IsTrue};
 
-use crate::{Op, atan, bearing, binop, cos, norm_degree, root, sin, tan};
+use arith::{Op, atan, bearing, binop, cos, norm_degree, root, sin, tan};
 
 const LEAST: i32 = i32::MIN;
 

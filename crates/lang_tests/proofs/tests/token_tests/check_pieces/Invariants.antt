@@ -1,6 +1,6 @@
 use Rattle.std.proofs.Common.{◌≡◌}
 use Rattle.tokens.specs.Window.{KnowsEnd}
-use Rattle.tokens.proofs.tests.check_pieces.Given as goal
+use Rattle.lang_tests.proofs.tests.token_tests.check_pieces.Given as goal
 
 abbrev pub invariant-loop-i : goal.invariant-loop-i
 invariant-loop-i g l = record {
