@@ -1,7 +1,6 @@
 pub mod ProgramsLemmas
 pub mod Stages
 pub mod Cycles
-pub mod Limits
 pub mod Alike
 pub mod Commuting
 pub mod Turns
@@ -13,5 +12,4 @@ pub mod Running
 pub mod Asking
 pub mod Alone
 pub mod Beginnings
-pub mod KnownBattles
 pub mod Manned

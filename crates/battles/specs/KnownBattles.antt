@@ -7,7 +7,7 @@ use Rattle.arith.specs.declared.operators.Op.{Op}
 use Rattle.arith.specs.declared.operators.Op.TheVariants as op
 use Rattle.grammar.specs.declared.operators.StoreOp.TheVariants as store
 use Rattle.grammar.specs.Compiled.{compiled}
-use Rattle.grammar.specs.Known.Sources.{constant, file_of_main, late_read_file, main_of, shot_tree}
+use Rattle.grammar.specs.KnownSources.{constant, file_of_main, late_read_file, main_of, shot_tree}
 use Rattle.grammar.specs.Profile.{Profile, first_profile, second_profile}
 use Rattle.grammar.specs.Tree.{Variable, Binary, Assign, Call, NoMore, Argument, Body, Done, ExpressionStatement, IfStatement, While, File}
 use Rattle.code.specs.KnownPrograms.{shooting_file}

@@ -2,7 +2,6 @@
 #![tactic(auto)]
 
 mod battles;
-mod known;
 mod next_turns;
 mod outcome;
 mod passing;
@@ -14,7 +13,6 @@ mod scheduler;
 mod windows;
 
 pub use battles::battle;
-pub use known::known_battles;
 pub use outcome::Outcome;
 pub use programs::Programs;
 pub use runners::Machines;

@@ -8,7 +8,7 @@ use Rattle.arith.specs.declared.operators.Op.{Op}
 use Rattle.arith.specs.declared.operators.Op.TheVariants as op
 use Rattle.grammar.specs.declared.operators.StoreOp.{StoreOp}
 use Rattle.grammar.specs.declared.operators.StoreOp.TheVariants as store
-use Rattle.grammar.specs.Known.Sources.{call_of, constant, file_of_main, late_read_file, local, main_of, shot_tree}
+use Rattle.grammar.specs.KnownSources.{call_of, constant, file_of_main, late_read_file, local, main_of, shot_tree}
 use Rattle.grammar.specs.Profile.{Profile, first_profile, second_profile}
 use Rattle.grammar.specs.Tree.{Expr, Args, NoMore, Argument, Assign, Binary, Postfix, Body, Call, Done, ExpressionStatement, IfStatement, File, Function, Return, While}
 use Rattle.code.specs.declared.want.Want.{Want}

@@ -1,6 +1,3 @@
-pub mod KnownSources
-pub mod KnownTexts
-pub mod KnownEmissions
 pub mod Runs
 pub mod Rests
 pub mod Steps
@@ -9,8 +6,6 @@ pub mod Endings
 pub mod Firsts
 pub mod Order
 pub mod Verdicts
-pub mod Levels
-pub mod Productions
 pub mod Keeping
 pub mod Widening
 pub mod FollowingLaws
@@ -33,13 +28,3 @@ pub mod Places
 pub mod NamedFunctions
 pub mod FileLaws
 pub mod Joins
-pub mod Telling
-pub mod Fitting
-pub mod TellingProductions
-pub mod TellingOperands
-pub mod TellingSteps
-pub mod TellingLimits
-pub mod Completing
-pub mod NumberedActions
-pub mod Emitted
-pub mod EmittedFiles

@@ -1,15 +1,11 @@
 -- Laws on the definitions: a derivation ends, and a source is what its derivation leads to.
 -- The folder Laws has the definitions that laws, proofs and private functions need: a reader needn't believe them.
-pub mod Productions
-pub mod Scheme
 pub mod Naming
 pub mod Climbing
 pub mod Index
 pub mod Parsing
 pub mod Origins
 pub mod Finished
-pub mod Emission
-pub mod Emitted
 use Rattle.std.specs.Prelude.{◌≡◌, ◌≤◌, ℕ, List, [], ◌∷◌, ◌++◌, length, Bool, Some, None, Ok, Err, if◌then◌else◌}
 use Rattle.std.specs.Prelude.{slice_get}
 use Rattle.tokens.specs.Reading.{reach_of}
@@ -50,18 +46,6 @@ FaultlessIsResolved = (profile : Profile) (located_tokens : List LocatedToken) (
 abbrev pub FirstFaultDecides : Type 0
 FirstFaultDecides = (profile : Profile) (located_tokens : List LocatedToken) (d : Diagnostic)
     → Fails profile (start located_tokens) d → compiled_tokens profile located_tokens ≡ Err d
-
--- a production enters a level exactly if its end closes one
-abbrev pub closes : Production → ℕ
-closes None = 0
-closes (Some items) = levels items
-
-abbrev pub entered_levels : Bool → ℕ
-entered_levels b = if b then 1 else 0
-
-abbrev pub LevelsAreClosed : Type 0
-LevelsAreClosed = (symbol : Symbol) (next after : Token)
-    → closes (choice symbol next after) ≡ entered_levels (enters symbol next after)
 
 -- the actions of a resolved file may follow one another, and leave nothing open, if no function has too much open
 -- at once

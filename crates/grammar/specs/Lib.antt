@@ -18,4 +18,4 @@ pub mod Nesting
 pub mod Building
 pub mod Laws
 pub mod Texts
-pub mod Known
+pub mod KnownSources

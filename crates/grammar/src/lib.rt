@@ -6,7 +6,6 @@ mod actions;
 mod build;
 mod diagnostics;
 mod index;
-mod known;
 pub mod laws;
 mod limits;
 mod names;
@@ -20,7 +19,6 @@ pub use actions::Action;
 pub use arith::Op;
 pub use build::{Build, BuildFault};
 pub use diagnostics::{Code, Diagnostic, ParseFault, code_of};
-pub use known::{known_emissions, known_sources, known_texts};
 pub use limits::{MOST_LEVELS, MOST_NAMES};
 pub use names::{Callee, Intrinsic, Var};
 pub use operators::{

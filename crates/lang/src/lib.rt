@@ -3,10 +3,10 @@
 #![tactic(auto)]
 
 pub use grammar::{
-    Action, Build, BuildFault, Callee, Code, Diagnostic, Function, Intrinsic, MOST_NAMES, Op,
-    ParseFault, Pools, Profile, StoreOp, Var, Watch, Watched,
+    Action, Build, BuildFault, Callee, Code, Diagnostic, Function, Intrinsic, MOST_LEVELS,
+    MOST_NAMES, Op, ParseFault, Pools, Profile, StoreOp, Var, Watch, Watched,
 };
+pub use grammar_laws::{known, laws};
 pub use parser::parse;
-pub use round_trip::laws;
 pub use tokens::{DeviceFault, Feed, Name};
 pub use trees::{Expr, Function as FunctionTree, Statement, TreeMaker};

@@ -1,7 +1,7 @@
 -- Listings of programs that show the rules.
 use Rattle.std.specs.Prelude.{◌≡◌, ℕ, List, [], ◌∷◌, ◌++◌, codes, flat_map}
 use Rattle.arith.specs.declared.operators.Op.TheVariants as op
-use Rattle.grammar.specs.Known.Sources.{constant, distance_file, file_of_main, late_read_file, nearest_else_tree, sum_of_postfix_tree}
+use Rattle.grammar.specs.KnownSources.{constant, distance_file, file_of_main, late_read_file, nearest_else_tree, sum_of_postfix_tree}
 use Rattle.grammar.specs.Profile.{Profile, first_profile, second_profile}
 use Rattle.grammar.specs.Tree.{Binary, Done, File}
 use Rattle.code.specs.KnownPrograms.{asking_file, cannon_of, defined_behind_file, says, sum_file, truth_file}

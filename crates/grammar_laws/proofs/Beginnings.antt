@@ -1,0 +1,118 @@
+-- What expressions and statements begin with, and what the grammar chooses there.
+use Rattle.std.proofs.Common.{◌≡◌, ℕ, List, [], ◌∷◌, ◌++◌, refl, false, append_assoc}
+use Rattle.std.specs.Prelude.{Some}
+use Rattle.tokens.specs.declared.located_tokens.Punctuator.TheVariants as punctuator
+use Rattle.tokens.specs.declared.located_tokens.Token.{Token}
+use Rattle.tokens.specs.declared.located_tokens.Token.TheVariants as token
+use Rattle.grammar.specs.Grammar as grammar
+use Rattle.grammar.specs.Grammar.{Exactly, Part, Make, Declarations, ElsePart, Back, Decide, choice, is_fault}
+use Rattle.grammar_laws.specs.Written.{Sign, Minus, Step, Up, Expression, Constant, Variable, Binary, Signed, Assign, StepBefore, StepBehind, Call, NoMore, Argument, Statement, Evaluate, Statements, Done, Next}
+use Rattle.grammar.specs.Operators.{binary_punctuator}
+use Rattle.grammar_laws.specs.Spelling.{sign_punctuator, step_punctuator, spell, spell_statement, spell_statements}
+use Rattle.grammar_laws.proofs.Leading.{first, second}
+use Rattle.grammar_laws.proofs.Parts.{spell_part}
+
+-- a statement begins with this token
+pub record BeginsStatement (t : Token) : Type 0 where
+  pub sound : is_fault t ≡ false
+  pub no_declaration : (after : Token) → choice Declarations t after ≡ Some []
+  pub no_else : (after : Token) → choice ElsePart t after ≡ Some (Make Decide ∷ [])
+  pub one_more : (after : Token) →
+      choice grammar.Statements t after ≡ Some (Part grammar.Statement ∷ Part grammar.Statements ∷ [])
+
+-- an expression begins with it
+pub record BeginsExpression (t : Token) : Type 0 where
+  pub begins : BeginsStatement t
+  pub evaluates : (after : Token) →
+      choice grammar.Statement t after ≡
+      Some (Part grammar.Expression ∷ Exactly punctuator.Semicolon ∷ Make grammar.Evaluate ∷ [])
+  pub gives_back : (after : Token) → choice Back t after ≡ Some (Part grammar.Expression ∷ [])
+
+begins_constant : (value : ℕ) → BeginsExpression (token.Constant value)
+begins_constant value = record {
+  begins = record { sound = refl; no_declaration = λ after. refl; no_else = λ after. refl; one_more = λ after. refl };
+  evaluates = λ after. refl;
+  gives_back = λ after. refl;
+}
+
+begins_name : (name : List ℕ) → BeginsExpression (token.Name name)
+begins_name name = record {
+  begins = record { sound = refl; no_declaration = λ after. refl; no_else = λ after. refl; one_more = λ after. refl };
+  evaluates = λ after. refl;
+  gives_back = λ after. refl;
+}
+
+begins_round : BeginsExpression (token.Punctuator punctuator.OpenRound)
+begins_round = record {
+  begins = record { sound = refl; no_declaration = λ after. refl; no_else = λ after. refl; one_more = λ after. refl };
+  evaluates = λ after. refl;
+  gives_back = λ after. refl;
+}
+
+begins_sign : (sign : Sign) → BeginsExpression (token.Punctuator (sign_punctuator sign))
+begins_sign Minus = record {
+  begins = record { sound = refl; no_declaration = λ after. refl; no_else = λ after. refl; one_more = λ after. refl };
+  evaluates = λ after. refl;
+  gives_back = λ after. refl;
+}
+begins_sign sign = record {
+  begins = record { sound = refl; no_declaration = λ after. refl; no_else = λ after. refl; one_more = λ after. refl };
+  evaluates = λ after. refl;
+  gives_back = λ after. refl;
+}
+
+begins_step : (step : Step) → BeginsExpression (token.Punctuator (step_punctuator step))
+begins_step Up = record {
+  begins = record { sound = refl; no_declaration = λ after. refl; no_else = λ after. refl; one_more = λ after. refl };
+  evaluates = λ after. refl;
+  gives_back = λ after. refl;
+}
+begins_step step = record {
+  begins = record { sound = refl; no_declaration = λ after. refl; no_else = λ after. refl; one_more = λ after. refl };
+  evaluates = λ after. refl;
+  gives_back = λ after. refl;
+}
+
+part_first : (e : Expression) (rest : List Token) → BeginsExpression (first (spell_part e ++ rest))
+part_first (Constant value) rest = begins_constant value
+part_first (Variable name) rest = begins_name name
+part_first e rest = begins_round
+
+pub expression_first : (e : Expression) (rest : List Token) → BeginsExpression (first (spell e ++ rest))
+expression_first (Constant value) rest = begins_constant value
+expression_first (Variable name) rest = begins_name name
+expression_first (Binary o a b) rest =
+    rw (append_assoc (spell_part a) (token.Punctuator (binary_punctuator o) ∷ spell_part b) rest)
+    (part_first a (token.Punctuator (binary_punctuator o) ∷ spell_part b ++ rest))
+expression_first (Signed sign e) rest = begins_sign sign
+expression_first (Assign o name e) rest = begins_name name
+expression_first (StepBefore step name) rest = begins_step step
+expression_first (StepBehind step name) rest = begins_name name
+expression_first (Call name NoMore) rest = begins_name name
+expression_first (Call name (Argument e more)) rest = begins_name name
+
+pub statement_first : (s : Statement) (rest : List Token) → BeginsStatement (first (spell_statement s ++ rest))
+statement_first (Evaluate e) rest =
+    rw (append_assoc (spell e) (token.Punctuator punctuator.Semicolon ∷ []) rest)
+    (expression_first e (token.Punctuator punctuator.Semicolon ∷ rest)).begins
+statement_first s rest =
+    record { sound = refl; no_declaration = λ after. refl; no_else = λ after. refl; one_more = λ after. refl }
+
+-- what stands behind a statement: another one, or the brace
+pub record Follows (tokens : List Token) : Type 0 where
+  pub sound : is_fault (first tokens) ≡ false
+  pub no_declaration : choice Declarations (first tokens) (second tokens) ≡ Some []
+  pub no_else : choice ElsePart (first tokens) (second tokens) ≡ Some (Make Decide ∷ [])
+
+pub follows : (more : Statements) (rest : List Token) →
+    Follows (spell_statements more ++ token.Punctuator punctuator.CloseCurly ∷ rest)
+follows Done rest = record { sound = refl; no_declaration = refl; no_else = refl }
+follows (Next s more) rest =
+    let tokens : List Token = spell_statements more ++ token.Punctuator punctuator.CloseCurly ∷ rest in
+    let b : BeginsStatement (first (spell_statement s ++ tokens)) = statement_first s tokens in
+    rw (append_assoc (spell_statement s) (spell_statements more) (token.Punctuator punctuator.CloseCurly ∷ rest))
+    (record {
+      sound = b.sound;
+      no_declaration = b.no_declaration (second (spell_statement s ++ tokens));
+      no_else = b.no_else (second (spell_statement s ++ tokens));
+    })

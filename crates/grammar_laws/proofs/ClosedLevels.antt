@@ -1,0 +1,95 @@
+-- The grammar's productions close each level that they open.
+use Rattle.std.proofs.Common.{◌≡◌, ℕ, ◌+◌, refl, [], ◌∷◌, Bool, true, false}
+use Rattle.std.specs.Prelude.{Option, Some, None, nat_lt, if◌then◌else◌, is_some}
+use Rattle.tokens.specs.declared.located_tokens.Punctuator.{Punctuator}
+use Rattle.tokens.specs.declared.located_tokens.Punctuator.TheVariants as punctuator
+use Rattle.tokens.specs.declared.located_tokens.Token.{Token}
+use Rattle.tokens.specs.declared.located_tokens.Token.TheVariants as token
+use Rattle.tokens.specs.declared.located_tokens.Word.TheVariants as word
+use Rattle.arith.specs.declared.operators.Op.{Op}
+use Rattle.grammar.specs.declared.operators.StoreOp.{StoreOp}
+use Rattle.grammar.specs.Grammar.{Symbol, Source, Types, Head, More, Parameters, ParameterTypes, FunctionBlock, Block, Declarations, Statements, Statement, ElsePart, Back, Expression, Level, Tail, Unary, Primary, Arguments, MoreArguments, Part, choice, enters, assignment_or, tail_production}
+use Rattle.grammar_laws.specs.ClosedLevels.{closes, entered_levels, LevelsAreClosed}
+use Rattle.grammar.specs.Operators.{operator_at, store_of}
+
+level_close : (n : ℕ) (b : Bool) →
+    closes (if b then Some (Part (Level (n + 1)) ∷ Part (Tail n) ∷ []) else Some (Part Unary ∷ [])) ≡ 0
+level_close n true = refl
+level_close n false = refl
+
+tail_close : (n : ℕ) (o : Option Op) (m : Punctuator) → closes (Some (tail_production n o m)) ≡ 0
+tail_close n None m = refl
+tail_close n (Some op) m = refl
+
+assignment_close : (o : Option StoreOp) (m : Punctuator) →
+    closes (Some (assignment_or o m)) ≡ entered_levels (is_some o)
+assignment_close None m = refl
+assignment_close (Some op) m = refl
+
+expression_close : (next after : Token) →
+    closes (choice Expression next after) ≡ entered_levels (enters Expression next after)
+expression_close (token.Name name) (token.Punctuator m) = assignment_close (store_of m) m
+expression_close next after = refl
+
+primary_close : (next after : Token) → closes (choice Primary next after) ≡ entered_levels (enters Primary next after)
+primary_close (token.Name name) (token.Punctuator punctuator.OpenRound) = refl
+primary_close (token.Name name) (token.Punctuator punctuator.PlusPlus) = refl
+primary_close (token.Name name) (token.Punctuator punctuator.MinusMinus) = refl
+primary_close (token.Punctuator punctuator.OpenRound) after = refl
+primary_close next after = refl
+
+head_close : (next after : Token) → closes (choice Head next after) ≡ entered_levels (enters Head next after)
+head_close (token.Name name) (token.Punctuator punctuator.OpenRound) = refl
+head_close next after = refl
+
+pub levels_are_close : LevelsAreClosed
+levels_are_close symbol next after = close symbol next after
+  where
+    close : (symbol : Symbol) (next after : Token) →
+        closes (choice symbol next after) ≡ entered_levels (enters symbol next after)
+    close Source token.End after = refl
+    close Source (token.Word word.Type) after = refl
+    close Source (token.Name name) after = refl
+    close Source next after = refl
+    close Types (token.Word word.Type) after = refl
+    close Types next after = refl
+    close Head next after = head_close next after
+    close (More role) (token.Punctuator punctuator.Comma) after = refl
+    close (More role) next after = refl
+    close Parameters (token.Name name) after = refl
+    close Parameters next after = refl
+    close ParameterTypes (token.Word word.Type) after = refl
+    close ParameterTypes next after = refl
+    close FunctionBlock (token.Punctuator punctuator.OpenCurly) after = refl
+    close FunctionBlock next after = refl
+    close Block (token.Punctuator punctuator.OpenCurly) after = refl
+    close Block next after = refl
+    close Declarations (token.Word word.Type) after = refl
+    close Declarations next after = refl
+    close Statements (token.Punctuator punctuator.CloseCurly) after = refl
+    close Statements next after = refl
+    close Statement (token.Punctuator punctuator.Semicolon) after = refl
+    close Statement (token.Punctuator punctuator.OpenCurly) after = refl
+    close Statement (token.Word word.If) after = refl
+    close Statement (token.Word word.While) after = refl
+    close Statement (token.Word word.Return) after = refl
+    close Statement next after = refl
+    close ElsePart (token.Word word.Else) after = refl
+    close ElsePart next after = refl
+    close Back (token.Punctuator punctuator.Semicolon) after = refl
+    close Back next after = refl
+    close Expression next after = expression_close next after
+    close (Level n) next after = level_close n (nat_lt n 11)
+    close (Tail n) (token.Punctuator m) after = tail_close n (operator_at n (token.Punctuator m)) m
+    close (Tail n) next after = refl
+    close Unary (token.Punctuator punctuator.Minus) after = refl
+    close Unary (token.Punctuator punctuator.Not) after = refl
+    close Unary (token.Punctuator punctuator.Tilde) after = refl
+    close Unary (token.Punctuator punctuator.PlusPlus) after = refl
+    close Unary (token.Punctuator punctuator.MinusMinus) after = refl
+    close Unary next after = refl
+    close Primary next after = primary_close next after
+    close Arguments (token.Punctuator punctuator.CloseRound) after = refl
+    close Arguments next after = refl
+    close MoreArguments (token.Punctuator punctuator.Comma) after = refl
+    close MoreArguments next after = refl

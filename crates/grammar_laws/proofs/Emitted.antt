@@ -1,0 +1,242 @@
+-- What a derivation has emitted after some steps.
+use Rattle.std.proofs.Common.{◌≡◌, ℕ, zero, suc, List, [], ◌∷◌, ◌++◌, refl, sym, ap, ◌∙◌, subst, Bool, true, false}
+use Rattle.std.proofs.Common.{append_assoc, append-nil}
+use Rattle.std.proofs.lemmas.List.{append_cancel_left}
+use Rattle.std.specs.Prelude.{Option, Some, None, if◌then◌else◌, unwrap_or}
+use Rattle.tokens.specs.declared.located_tokens.LocatedToken.{LocatedToken}
+use Rattle.grammar.specs.declared.actions.Action.{Action}
+use Rattle.grammar.specs.Actions.{function_actions}
+use Rattle.grammar.specs.Beginning.{IsBeginning}
+use Rattle.grammar.specs.Derivation.{State, start, Value, Definition, last_body, definition_of, next_of, after_of}
+use Rattle.grammar.specs.Derivation.{name_of_token, constant_value, is_end, matched, name_matched, constant_matched}
+use Rattle.grammar.specs.Derivation.{replaced, step_of, stepped, run}
+use Rattle.grammar_laws.specs.Emission.{on_item, emitted, emissions}
+use Rattle.grammar.specs.Faults.{definitions_actions, faults_at, faults_in}
+use Rattle.grammar.specs.Grammar.{Item, Exactly, AWord, AName, AConstant, AnEnd, Part, Make, Close, Operate, Negate}
+use Rattle.grammar.specs.Grammar.{Not, Complement, Fetch, Store, StepBefore, StepBehind, Pass, Invoke, Empty, Evaluate}
+use Rattle.grammar.specs.Grammar.{Decide, DecideElse, Repeat, Zero, GiveBack, Define, Role, Production, choice}
+use Rattle.grammar.specs.Grammar.{is_fault, is_punctuator, is_word}
+use Rattle.grammar.specs.Profile.{Profile}
+use Rattle.grammar.specs.Scope.{Scope}
+use Rattle.grammar.proofs.Beginnings.{beginning_follows}
+use Rattle.grammar_laws.proofs.NumberedActions.{numbered}
+use Rattle.grammar.proofs.ResolvedLaws.{Sound, run_sound, start_sound, stepped_sound}
+use Rattle.grammar.proofs.Runs.{append_empty}
+use Rattle.grammar_laws.specs.Emitted.{EmitsABeginning, EmitsAPart, EmitsItsFunctions, IsPart, BeginningsAreNumbered}
+use Rattle.grammar_laws.specs.Emitted.{NextMayFollow}
+use Rattle.grammar_laws.proofs.Completing.{Completes, completes}
+use Rattle.grammar_laws.proofs.TellingLimits.{allowed, unlimited}
+use Rattle.grammar_laws.proofs.TellingSteps.{StateTells, defined_told, stepped_tells}
+use Rattle.grammar_laws.proofs.Telling.{Ends, Tells}
+
+pub start_tells : (A : Type 0) (located_tokens : List LocatedToken) → StateTells A (start located_tokens) []
+start_tells A located_tokens = record {
+  told = refl;
+  fit = λ a. tt;
+  on =
+      λ values n k more f. record { told = refl; fit = f };
+}
+
+-- What was emitted is that of the functions defined so far, and a part.
+
+record HasPart (acts : List Action) (ds : List Definition) : Type 0 where
+  part : List Action
+  is : acts ≡ definitions_actions ds ++ part
+
+more_part : (acts more : List Action) (ds : List Definition) → HasPart acts ds → HasPart (acts ++ more) ds
+more_part acts more ds h = record {
+  part = h.part ++ more;
+  is = ap (λ xs. xs ++ more) h.is
+      ∙ append_assoc (definitions_actions ds) h.part more;
+}
+
+no_more : (acts : List Action) (ds : List Definition) → HasPart acts ds → HasPart acts (ds ++ [])
+no_more acts ds h = subst (λ (xs : List Definition). HasPart acts xs) (sym (append-nil ds)) h
+
+abbrev IfPart : Option State → List Action → Type 0
+IfPart None acts = Unit {0}
+IfPart (Some s) acts = HasPart acts s.functions
+
+matched_part : (fits : Bool) (stack : List Item) (rest : List LocatedToken) (values : List Value) (scope : Scope)
+    (ds : List Definition) (acts : List Action) → HasPart acts ds →
+    IfPart (matched fits stack rest values scope ds) acts
+matched_part true stack rest values scope ds acts h = h
+matched_part false stack rest values scope ds acts h = tt
+
+constant_part : (value : Option ℕ) (stack : List Item) (rest : List LocatedToken) (values : List Value) (scope : Scope)
+    (ds : List Definition) (acts : List Action) → HasPart acts ds →
+    IfPart (constant_matched value stack rest values scope ds) acts
+constant_part None stack rest values scope ds acts h = tt
+constant_part (Some value) stack rest values scope ds acts h = h
+
+named_part : (role : Role) (name : Option (List ℕ)) (stack : List Item) (rest : List LocatedToken) (values : List Value)
+    (scope : Scope) (ds : List Definition) (acts : List Action) → HasPart acts ds →
+    IfPart (name_matched role name stack rest values scope ds) acts
+named_part role None stack rest values scope ds acts h = tt
+named_part role (Some name) stack rest values scope ds acts h = h
+
+replaced_part : (production : Production) (stack : List Item) (rest : List LocatedToken) (values : List Value)
+    (scope : Scope) (ds : List Definition) (acts : List Action) → HasPart acts ds →
+    IfPart (replaced production stack rest values scope ds) acts
+replaced_part None stack rest values scope ds acts h = tt
+replaced_part (Some items) stack rest values scope ds acts h = h
+
+step_part : (A : Type 0) (stack : List Item) (rest : List LocatedToken) (values : List Value) (scope : Scope)
+    (ds : List Definition) (acts : List Action) → Tells A stack values scope.number scope.current.parameters ds acts →
+    HasPart (acts ++ on_item stack (next_of rest) values scope) ds →
+    IfPart (step_of stack rest values scope ds) (acts ++ on_item stack (next_of rest) values scope)
+step_part A [] rest values scope ds acts t h = tt
+step_part A (Exactly m ∷ stack) rest values scope ds acts t h =
+    matched_part (is_punctuator m (next_of rest)) stack rest values scope ds _ h
+step_part A (AWord w ∷ stack) rest values scope ds acts t h =
+    matched_part (is_word w (next_of rest)) stack rest values scope ds _ h
+step_part A (AName role ∷ stack) rest values scope ds acts t h =
+    named_part role (name_of_token (next_of rest)) stack rest values scope ds _ h
+step_part A (AConstant ∷ stack) rest values scope ds acts t h =
+    constant_part (constant_value (next_of rest)) stack rest values scope ds _ h
+step_part A (AnEnd ∷ stack) rest values scope ds acts t h =
+    matched_part (is_end (next_of rest)) stack rest values scope ds _ h
+step_part A (Part symbol ∷ stack) rest values scope ds acts t h =
+    replaced_part (choice symbol (next_of rest) (after_of rest)) stack rest values scope ds _ h
+step_part A (Make Define ∷ stack) rest values scope ds acts t h =
+    record {
+      part = [];
+      is = sym (defined_told values scope ds acts t.told)
+          ∙ sym (append-nil (definitions_actions (ds ++ definition_of scope (last_body values) ∷ [])));
+    }
+step_part A (Make (Operate o) ∷ stack) rest values scope ds acts t h = no_more _ ds h
+step_part A (Make Negate ∷ stack) rest values scope ds acts t h = no_more _ ds h
+step_part A (Make Not ∷ stack) rest values scope ds acts t h = no_more _ ds h
+step_part A (Make Complement ∷ stack) rest values scope ds acts t h = no_more _ ds h
+step_part A (Make Fetch ∷ stack) rest values scope ds acts t h = no_more _ ds h
+step_part A (Make (Store o) ∷ stack) rest values scope ds acts t h = no_more _ ds h
+step_part A (Make (StepBefore o) ∷ stack) rest values scope ds acts t h = no_more _ ds h
+step_part A (Make (StepBehind o) ∷ stack) rest values scope ds acts t h = no_more _ ds h
+step_part A (Make Pass ∷ stack) rest values scope ds acts t h = no_more _ ds h
+step_part A (Make Invoke ∷ stack) rest values scope ds acts t h = no_more _ ds h
+step_part A (Make Empty ∷ stack) rest values scope ds acts t h = no_more _ ds h
+step_part A (Make Evaluate ∷ stack) rest values scope ds acts t h = no_more _ ds h
+step_part A (Make Decide ∷ stack) rest values scope ds acts t h = no_more _ ds h
+step_part A (Make DecideElse ∷ stack) rest values scope ds acts t h = no_more _ ds h
+step_part A (Make Repeat ∷ stack) rest values scope ds acts t h = no_more _ ds h
+step_part A (Make Zero ∷ stack) rest values scope ds acts t h = no_more _ ds h
+step_part A (Make GiveBack ∷ stack) rest values scope ds acts t h = no_more _ ds h
+step_part A (Close ∷ stack) rest values scope ds acts t h = h
+
+kept_part : (s : State) (o : Option State) (acts : List Action) → HasPart acts s.functions → IfPart o acts →
+    HasPart acts (unwrap_or o s).functions
+kept_part s None acts h k = h
+kept_part s (Some t) acts h k = k
+
+guarded_part : (s : State) (fault : Bool) (o : Option State) (acts more : List Action) → HasPart acts s.functions →
+    IfPart o (acts ++ more) →
+    HasPart (acts ++ (if fault then [] else more)) (unwrap_or (if fault then None else o) s).functions
+guarded_part s true o acts more h k = more_part acts [] s.functions h
+guarded_part s false o acts more h k = kept_part s o (acts ++ more) (more_part acts more s.functions h) k
+
+stepped_part : (A : Type 0) (s : State) (acts : List Action) → StateTells A s acts → HasPart acts s.functions →
+    HasPart (acts ++ emitted s) (stepped s).functions
+stepped_part A s acts t h =
+    guarded_part s (is_fault (next_of s.rest)) (step_of s.stack s.rest s.values s.scope s.functions) acts
+    (on_item s.stack (next_of s.rest) s.values s.scope) h
+    (step_part A s.stack s.rest s.values s.scope s.functions acts t
+    (more_part acts (on_item s.stack (next_of s.rest) s.values s.scope) s.functions h))
+
+-- Any steps.
+
+record Emitted (s : State) (acts : List Action) : Type 0 where
+  tells : StateTells ⊥ s acts
+  part : HasPart acts s.functions
+
+emits : (n : ℕ) (s : State) (acts : List Action) → Emitted s acts → Emitted (run n s) (acts ++ emissions n s)
+emits zero s acts h = subst (λ (xs : List Action). Emitted s xs) (sym (append-nil acts)) h
+emits (suc n) s acts h =
+    subst (λ (xs : List Action). Emitted (run n (stepped s)) xs)
+    (append_assoc acts (emitted s) (emissions n (stepped s)))
+    (emits n (stepped s) (acts ++ emitted s) (record {
+      tells = stepped_tells ⊥ s acts (λ e. unlimited s.stack s.rest s.scope) h.tells;
+      part =
+          stepped_part ⊥ s acts h.tells h.part;
+    }))
+
+emits_from_start : (n : ℕ) (located_tokens : List LocatedToken) →
+    Emitted (run n (start located_tokens)) (emissions n (start located_tokens))
+emits_from_start n located_tokens = emits n (start located_tokens) []
+    (record { tells = start_tells ⊥ located_tokens; part = record { part = []; is = refl } })
+
+clean_tells : (profile : Profile) (n : ℕ) (s : State) (acts : List Action) → faults_in profile n s ≡ [] → Sound s →
+    StateTells (Unit {0}) s acts → StateTells (Unit {0}) (run n s) (acts ++ emissions n s)
+clean_tells profile zero s acts clean sound h = subst (λ (xs : List Action). StateTells (Unit {0}) s xs)
+    (sym (append-nil acts)) h
+clean_tells profile (suc n) s acts clean sound h =
+    let parts = append_empty (faults_at profile s) (faults_in profile n (stepped s)) clean in
+    subst (λ (xs : List Action). StateTells (Unit {0}) (run n (stepped s)) xs)
+    (append_assoc acts (emitted s) (emissions n (stepped s)))
+    (clean_tells profile n (stepped s) (acts ++ emitted s) parts.1 (stepped_sound profile s parts.0 sound)
+    (stepped_tells (Unit {0}) s acts (allowed profile s parts.0 sound) h))
+
+-- The laws.
+
+pub emits_its_functions : EmitsItsFunctions
+emits_its_functions n located_tokens done = sym (ends (run n (start located_tokens))
+    (emissions n (start located_tokens)) done (emits_from_start n located_tokens).tells).told
+  where
+    ends : (s : State) (acts : List Action) → s.stack ≡ [] → StateTells ⊥ s acts → Ends ⊥ s.functions acts
+    ends s acts e h = subst (λ (stack : List Item).
+        Tells ⊥ stack s.values s.scope.number s.scope.current.parameters s.functions acts) e h
+
+definitions_append : (ds more : List Definition) →
+    definitions_actions (ds ++ more) ≡ definitions_actions ds ++ definitions_actions more
+definitions_append [] more = refl
+definitions_append (d ∷ ds) more =
+    ap (λ xs. function_actions d.number d.function ++ xs) (definitions_append ds more)
+    ∙ sym (append_assoc (function_actions d.number d.function) (definitions_actions ds) (definitions_actions more))
+
+part_of_one : (acts : List Action) (ds : List Definition) → HasPart acts ds → Completes ⊥ ds acts → IsPart acts ds
+part_of_one acts ds h c = record {
+  part = h.part;
+  is = h.is;
+  further = c.further;
+  one = c.one;
+  rest = c.rest;
+  begins = append_cancel_left (definitions_actions ds) (h.part ++ c.rest) (definitions_actions c.further)
+      (sym (append_assoc (definitions_actions ds) h.part c.rest) ∙ ap (λ xs. xs ++ c.rest) (sym h.is) ∙ c.begins
+      ∙ definitions_append ds c.further);
+}
+
+pub emits_a_part : EmitsAPart
+emits_a_part n located_tokens = whole (run n (start located_tokens)) (emissions n (start located_tokens))
+    (emits_from_start n located_tokens)
+  where
+    whole : (s : State) (acts : List Action) → Emitted s acts → IsPart acts s.functions
+    whole s acts e = part_of_one acts s.functions e.part
+        (completes ⊥ s.stack s.values s.scope.number s.scope.current.parameters s.functions acts e.tells)
+
+begins : (s : State) (acts : List Action) → StateTells (Unit {0}) s acts → IsBeginning acts
+begins s acts h =
+    let c : Completes (Unit {0}) s.functions acts =
+    completes (Unit {0}) s.stack s.values s.scope.number s.scope.current.parameters s.functions acts h in
+    record { functions = s.functions ++ c.further; tellable = c.fit tt; rest = c.rest; begins = c.begins }
+
+clean_from_start : (profile : Profile) (n : ℕ) (located_tokens : List LocatedToken) →
+    faults_in profile n (start located_tokens) ≡ [] →
+    StateTells (Unit {0}) (run n (start located_tokens)) (emissions n (start located_tokens))
+clean_from_start profile n located_tokens clean = clean_tells profile n (start located_tokens) [] clean
+    (start_sound located_tokens) (start_tells (Unit {0}) located_tokens)
+
+pub emits_a_beginning : EmitsABeginning
+emits_a_beginning profile n located_tokens clean =
+    begins (run n (start located_tokens)) (emissions n (start located_tokens))
+    (clean_from_start profile n located_tokens clean)
+
+pub next_may_follow : NextMayFollow
+next_may_follow profile other n located_tokens clean quiet =
+    begins (stepped (run n (start located_tokens)))
+    (emissions n (start located_tokens) ++ emitted (run n (start located_tokens)))
+    (stepped_tells (Unit {0}) (run n (start located_tokens)) (emissions n (start located_tokens))
+    (allowed other (run n (start located_tokens)) quiet
+    (run_sound profile n (start located_tokens) clean (start_sound located_tokens)))
+    (clean_from_start profile n located_tokens clean))
+
+pub beginnings_are_numbered : BeginningsAreNumbered
+beginnings_are_numbered acts b = numbered acts [] (beginning_follows acts b)

@@ -1,0 +1,206 @@
+-- From a level of operators down to its first operand, and up again behind the last one.
+use Rattle.std.proofs.Common.{◌≡◌, ℕ, zero, suc, ◌+◌, List, [], ◌∷◌, refl, false, true, arith}
+use Rattle.std.proofs.lemmas.Bool.Decides.{nat_tests}
+use Rattle.std.specs.Prelude.{nat_lt}
+use Rattle.tokens.specs.declared.located_tokens.Punctuator.{Punctuator}
+use Rattle.tokens.specs.declared.located_tokens.Punctuator.TheVariants as punctuator
+use Rattle.tokens.specs.declared.located_tokens.Token.{Token}
+use Rattle.tokens.specs.declared.located_tokens.Token.TheVariants as token
+use Rattle.arith.specs.declared.operators.Op.{Op}
+use Rattle.arith.specs.declared.operators.Op.TheVariants as op
+use Rattle.grammar.specs.Derivation.{Value, Definition}
+use Rattle.grammar.specs.Grammar.{Item, Part, Make, Level, Tail, Unary, Operate, is_fault}
+use Rattle.grammar.specs.Scope.{Scope}
+use Rattle.grammar.specs.Operators.{binary_punctuator}
+use Rattle.grammar_laws.proofs.Leading.{Leads, then, at, first, part}
+
+-- the tails of m levels from level n on, the tightest in front
+abbrev pub tails : ℕ → ℕ → List Item → List Item
+tails zero n stack = stack
+tails (suc m) n stack = tails m (n + 1) (Part (Tail n) ∷ stack)
+
+tighter : (m n : ℕ) → suc m + n ≡ 11 → nat_lt n 11 ≡ true
+tighter m n sum = grind (arith, nat_tests)
+
+tightest : (n : ℕ) → zero + n ≡ 11 → nat_lt n 11 ≡ false
+tightest n sum = grind (arith, nat_tests)
+
+next_sum : (m n : ℕ) → suc m + n ≡ 11 → m + (n + 1) ≡ 11
+next_sum m n sum = omega arith
+
+pub down : (m n : ℕ) (stack : List Item) (tokens : List Token) (values : List Value) (scope : Scope)
+    (functions : List Definition) →
+    m + n ≡ 11 → is_fault (first tokens) ≡ false →
+    Leads (at (Part (Level n) ∷ stack) tokens values scope functions)
+    (at (Part Unary ∷ tails m n stack) tokens values scope functions)
+down zero n stack tokens values scope functions sum sound =
+    part (Level n) (Part Unary ∷ []) stack tokens values scope functions sound (rw (tightest n sum) refl)
+down (suc m) n stack tokens values scope functions sum sound = then _ _ _
+    (part (Level n) (Part (Level (n + 1)) ∷ Part (Tail n) ∷ []) stack tokens values scope functions sound
+    (rw (tighter m n sum) refl))
+    (down m (n + 1) (Part (Tail n) ∷ stack) tokens values scope functions (next_sum m n sum) sound)
+
+-- a punctuator behind an expression
+pub data Closing : Type 0 where
+  Round : Closing
+  Comma : Closing
+  Semicolon : Closing
+
+abbrev pub closing_punctuator : Closing → Punctuator
+closing_punctuator Round = punctuator.CloseRound
+closing_punctuator Comma = punctuator.Comma
+closing_punctuator Semicolon = punctuator.Semicolon
+
+no_tail : (n : ℕ) (c : Closing) (stack : List Item) (tokens : List Token) (values : List Value) (scope : Scope)
+    (functions : List Definition) →
+    Leads (at (Part (Tail n) ∷ stack) (token.Punctuator (closing_punctuator c) ∷ tokens) values scope functions)
+    (at stack (token.Punctuator (closing_punctuator c) ∷ tokens) values scope functions)
+no_tail n Round stack tokens values scope functions = record { steps = 1; leads = refl }
+no_tail n c stack tokens values scope functions = record { steps = 1; leads = refl }
+
+pub up : (m n : ℕ) (c : Closing) (stack : List Item) (tokens : List Token) (values : List Value) (scope : Scope)
+    (functions : List Definition) →
+    Leads (at (tails m n stack) (token.Punctuator (closing_punctuator c) ∷ tokens) values scope functions)
+    (at stack (token.Punctuator (closing_punctuator c) ∷ tokens) values scope functions)
+up zero n c stack tokens values scope functions = record { steps = 0; leads = refl }
+up (suc m) n c stack tokens values scope functions = then _ _ _
+    (up m (n + 1) c (Part (Tail n) ∷ stack) tokens values scope functions)
+    (no_tail n c stack tokens values scope functions)
+
+-- up to the level of an operator, and behind its punctuator
+pub record Operates (o : Op) : Type 0 where
+  pub level : ℕ
+  pub above : ℕ
+  pub sum : above + (level + 1) ≡ 11
+  pub goes : (stack : List Item) (tokens : List Token) (values : List Value) (scope : Scope)
+      (functions : List Definition) →
+      Leads (at (tails 10 1 stack) (token.Punctuator (binary_punctuator o) ∷ tokens) values scope functions)
+      (at (Part (Level (level + 1)) ∷ Make (Operate o) ∷ tails level 1 stack) tokens values scope functions)
+
+pub operates : (o : Op) → Operates o
+operates op.Or =
+    record {
+      level = 1;
+      above = 9;
+      sum = refl;
+      goes = λ stack tokens values scope functions. record { steps = 11; leads = refl };
+    }
+operates op.And =
+    record {
+      level = 2;
+      above = 8;
+      sum = refl;
+      goes = λ stack tokens values scope functions. record { steps = 10; leads = refl };
+    }
+operates op.BitOr =
+    record {
+      level = 3;
+      above = 7;
+      sum = refl;
+      goes = λ stack tokens values scope functions. record { steps = 9; leads = refl };
+    }
+operates op.BitXor =
+    record {
+      level = 4;
+      above = 6;
+      sum = refl;
+      goes = λ stack tokens values scope functions. record { steps = 8; leads = refl };
+    }
+operates op.BitAnd =
+    record {
+      level = 5;
+      above = 5;
+      sum = refl;
+      goes = λ stack tokens values scope functions. record { steps = 7; leads = refl };
+    }
+operates op.Equal =
+    record {
+      level = 6;
+      above = 4;
+      sum = refl;
+      goes = λ stack tokens values scope functions. record { steps = 6; leads = refl };
+    }
+operates op.NotEqual =
+    record {
+      level = 6;
+      above = 4;
+      sum = refl;
+      goes = λ stack tokens values scope functions. record { steps = 6; leads = refl };
+    }
+operates op.Less =
+    record {
+      level = 7;
+      above = 3;
+      sum = refl;
+      goes = λ stack tokens values scope functions. record { steps = 5; leads = refl };
+    }
+operates op.Greater =
+    record {
+      level = 7;
+      above = 3;
+      sum = refl;
+      goes = λ stack tokens values scope functions. record { steps = 5; leads = refl };
+    }
+operates op.LessOrEqual =
+    record {
+      level = 7;
+      above = 3;
+      sum = refl;
+      goes = λ stack tokens values scope functions. record { steps = 5; leads = refl };
+    }
+operates op.GreaterOrEqual =
+    record {
+      level = 7;
+      above = 3;
+      sum = refl;
+      goes = λ stack tokens values scope functions. record { steps = 5; leads = refl };
+    }
+operates op.ShiftLeft =
+    record {
+      level = 8;
+      above = 2;
+      sum = refl;
+      goes = λ stack tokens values scope functions. record { steps = 4; leads = refl };
+    }
+operates op.ShiftRight =
+    record {
+      level = 8;
+      above = 2;
+      sum = refl;
+      goes = λ stack tokens values scope functions. record { steps = 4; leads = refl };
+    }
+operates op.Add =
+    record {
+      level = 9;
+      above = 1;
+      sum = refl;
+      goes = λ stack tokens values scope functions. record { steps = 3; leads = refl };
+    }
+operates op.Subtract =
+    record {
+      level = 9;
+      above = 1;
+      sum = refl;
+      goes = λ stack tokens values scope functions. record { steps = 3; leads = refl };
+    }
+operates op.Multiply =
+    record {
+      level = 10;
+      above = 0;
+      sum = refl;
+      goes = λ stack tokens values scope functions. record { steps = 2; leads = refl };
+    }
+operates op.Divide =
+    record {
+      level = 10;
+      above = 0;
+      sum = refl;
+      goes = λ stack tokens values scope functions. record { steps = 2; leads = refl };
+    }
+operates op.Remainder =
+    record {
+      level = 10;
+      above = 0;
+      sum = refl;
+      goes = λ stack tokens values scope functions. record { steps = 2; leads = refl };
+    }

@@ -1,0 +1,125 @@
+-- At a state without a fault what is asked of it for the limits to hold.
+use Rattle.std.proofs.Common.{◌≡◌, ℕ, ◌<◌, List, [], ◌∷◌, ◌++◌, refl, sym, subst, Bool, true, false, arith, length}
+use Rattle.std.proofs.lemmas.Bool.Decides.{nat_tests}
+use Rattle.std.specs.Prelude.{Option, Some, nat_le, if◌then◌else◌}
+use Rattle.tokens.specs.declared.located_tokens.LocatedToken.{LocatedToken}
+use Rattle.grammar.specs.declared.diagnostics.Code.TheVariants as code
+use Rattle.grammar.specs.Compiled.{order_of}
+use Rattle.grammar.specs.Derivation.{State, state, Value, Definition, next_of, after_of, line_of, name_of_token}
+use Rattle.grammar.specs.Derivation.{step_of}
+use Rattle.grammar.specs.Faults.{Fault, fault, faults_at, item_faults, levels, misfit, misfits}
+use Rattle.grammar.specs.Faults.{name_faults, only_if, role_faults}
+use Rattle.grammar.specs.Grammar.{Symbol, FunctionBlock, Item, AName, Part, Make, Define, Role, Called, Mentioned}
+use Rattle.grammar.specs.Grammar.{enters, is_fault}
+use Rattle.grammar.specs.Limits.{most_levels}
+use Rattle.grammar.specs.Profile.{Profile}
+use Rattle.grammar.specs.Resolved.{IsAmong}
+use Rattle.grammar.specs.Scope.{Scope, behind_name, callee_of, variable_of}
+use Rattle.grammar.proofs.Phases.{phase_of}
+use Rattle.grammar.proofs.ResolvedLaws.{Busy, Sound, among_last, ended}
+use Rattle.grammar.proofs.Runs.{append_empty}
+use Rattle.grammar.proofs.Soundness.{Clean, Grows, Known, callee_in, role_grows, variable_in}
+use Rattle.grammar.proofs.Widening.{IsWider, callable_wider, variable_wider}
+use Rattle.grammar_laws.proofs.TellingOperands.{Begins}
+use Rattle.grammar_laws.proofs.TellingSteps.{Allows, NameAllows}
+
+-- Levels.
+
+level_below : (enters : Bool) (open_levels : ℕ) (f : Fault) →
+    only_if enters (only_if (nat_le most_levels open_levels) (f ∷ [])) ≡ [] → enters ≡ true → open_levels < 64
+unfolding most_levels
+level_below true open_levels f clean e = by (nat_le 64 open_levels) refl clean
+  where
+    by : (b : Bool) → nat_le 64 open_levels ≡ b → only_if b (f ∷ []) ≡ [] → open_levels < 64
+    by true is h = absurd (cc)
+    by false is h = grind (arith, nat_tests)
+level_below false open_levels f clean e = absurd (cc)
+
+-- Names.
+
+known_wider : (scope : Scope) (ds : List Definition) → Known scope ds →
+    IsWider (length scope.externals) (length scope.current.variables) (length scope.functions) 64 64 64
+known_wider scope ds k = record { externals = k.externals; locals = k.variables; functions = k.functions }
+
+call_allowed : (name : List ℕ) (scope : Scope) (ds : List Definition) (rest : List LocatedToken) → Known scope ds →
+    Clean (role_faults Called name scope rest) → NameAllows (Unit {0}) Called (Some name) scope
+call_allowed name scope ds rest k clean =
+    let g : Grows scope (behind_name Called name (line_of rest) scope) ds =
+    role_grows Called name (line_of rest) scope ds rest tt k clean in
+    λ a. callable_wider _ _ _ 64 64 64 (known_wider (behind_name Called name (line_of rest) scope) ds g.known)
+    (callee_of name scope) (callee_in name (line_of rest) scope)
+
+mention_allowed : (name : List ℕ) (scope : Scope) (ds : List Definition) (rest : List LocatedToken) → Known scope ds →
+    Clean (role_faults Mentioned name scope rest) → NameAllows (Unit {0}) Mentioned (Some name) scope
+mention_allowed name scope ds rest k clean =
+    let g : Grows scope (behind_name Mentioned name (line_of rest) scope) ds =
+    role_grows Mentioned name (line_of rest) scope ds rest tt k clean in
+    λ a. variable_wider _ _ _ 64 64 64 (known_wider (behind_name Mentioned name (line_of rest) scope) ds g.known)
+    (variable_of name scope) (variable_in name scope)
+
+name_allowed : (role : Role) (name : Option (List ℕ)) (scope : Scope) (ds : List Definition)
+    (rest : List LocatedToken) → Known scope ds → Clean (name_faults role name scope rest) →
+    NameAllows (Unit {0}) role name scope
+name_allowed Called (Some name) scope ds rest k clean = call_allowed name scope ds rest k clean
+name_allowed Mentioned (Some name) scope ds rest k clean = mention_allowed name scope ds rest k clean
+name_allowed role name scope ds rest k clean = tt
+
+-- Functions.
+
+begins_allowed : (symbol : Symbol) (stack : List Item) (rest : List LocatedToken) (values : List Value) (scope : Scope)
+    (ds : List Definition) → Sound (state (Part symbol ∷ stack) rest values scope ds) → Begins (Unit {0}) symbol scope
+begins_allowed FunctionBlock stack rest values scope ds s =
+    let k : Known scope ds = s.known in
+    let b : Busy values scope ds = ended (phase_of stack) values scope ds s.tied in
+    let low : scope.number < length scope.functions =
+    k.below scope.number (subst (λ (ns : List ℕ). IsAmong scope.number ns) (sym b.begun)
+    (among_last scope.number (order_of ds))) in
+    λ a. (omega (arith, low, k.functions), omega (arith, k.parameters, k.variables))
+begins_allowed symbol stack rest values scope ds s = tt
+
+-- Any item.
+
+item_allowed : (profile : Profile) (stack : List Item) (rest : List LocatedToken) (values : List Value) (scope : Scope)
+    (ds : List Definition) → Clean (item_faults profile stack rest values scope ds) →
+    Sound (state stack rest values scope ds) → Allows (Unit {0}) stack rest scope
+item_allowed profile [] rest values scope ds clean s = tt
+item_allowed profile (Part symbol ∷ stack) rest values scope ds clean s = (
+  (λ a e. level_below (enters symbol (next_of rest) (after_of rest)) (levels stack) (fault rest code.NestedTooDeeply)
+      clean e),
+  begins_allowed symbol stack rest values scope ds s,
+)
+item_allowed profile (AName role ∷ stack) rest values scope ds clean s =
+    name_allowed role (name_of_token (next_of rest)) scope ds rest s.known clean
+item_allowed profile (Make Define ∷ stack) rest values scope ds clean s = λ a. (s.known.parameters, s.known.variables)
+item_allowed profile (item ∷ stack) rest values scope ds clean s = tt
+
+guarded_clean : (b : Bool) (rest : List LocatedToken) (xs ys : List Fault) →
+    (if b then misfit rest else xs ++ ys) ≡ [] → b ≡ false → xs ≡ []
+guarded_clean true rest xs ys e is = absurd (cc)
+guarded_clean false rest xs ys e is = (append_empty xs ys e).0
+
+pub allowed : (profile : Profile) (s : State) → faults_at profile s ≡ [] → Sound s → is_fault (next_of s.rest) ≡ false →
+    Allows (Unit {0}) s.stack s.rest s.scope
+allowed profile s clean h e =
+    item_allowed profile s.stack s.rest s.values s.scope s.functions
+    (guarded_clean (is_fault (next_of s.rest)) s.rest (item_faults profile s.stack s.rest s.values s.scope s.functions)
+    (misfits s.stack s.rest (step_of s.stack s.rest s.values s.scope s.functions)) clean e)
+    (record { known = h.known; tied = h.tied })
+
+-- Without limits nothing is asked.
+
+nothing_begins : (symbol : Symbol) (scope : Scope) → Begins ⊥ symbol scope
+nothing_begins FunctionBlock scope = λ a. absurd a
+nothing_begins symbol scope = tt
+
+nothing_named : (role : Role) (name : Option (List ℕ)) (scope : Scope) → NameAllows ⊥ role name scope
+nothing_named Called (Some name) scope = λ a. absurd a
+nothing_named Mentioned (Some name) scope = λ a. absurd a
+nothing_named role name scope = tt
+
+pub unlimited : (stack : List Item) (rest : List LocatedToken) (scope : Scope) → Allows ⊥ stack rest scope
+unlimited [] rest scope = tt
+unlimited (Part symbol ∷ stack) rest scope = ((λ a. absurd a), nothing_begins symbol scope)
+unlimited (AName role ∷ stack) rest scope = nothing_named role (name_of_token (next_of rest)) scope
+unlimited (Make Define ∷ stack) rest scope = λ a. absurd a
+unlimited (item ∷ stack) rest scope = tt

@@ -1,0 +1,14 @@
+pub mod Written
+pub mod Spelling
+pub mod Resolving
+pub mod RoundTrip
+pub mod KnownSpellings
+pub mod Numbering
+pub mod Numbered
+pub mod ClosedLevels
+pub mod Productions
+pub mod Scheme
+pub mod Emission
+pub mod Emitted
+pub mod KnownTexts
+pub mod KnownEmissions

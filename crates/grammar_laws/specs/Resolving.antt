@@ -1,0 +1,97 @@
+-- The tree of what is written, its names resolved in the order of the tokens.
+use Rattle.std.specs.Prelude.{ℕ, pos, negsuc, List}
+use Rattle.arith.specs.declared.operators.Op.TheVariants as op
+use Rattle.grammar.specs.declared.operators.StoreOp.{StoreOp}
+use Rattle.grammar.specs.declared.operators.StoreOp.TheVariants as store
+use Rattle.grammar.specs.Grammar.{Called, Mentioned}
+use Rattle.grammar.specs.Scope.{Scope, behind_name, variable_of, callee_of}
+use Rattle.grammar.specs.Tree as tree
+use Rattle.grammar.specs.Tree.{Expr, Args, Body, join}
+use Rattle.grammar_laws.specs.Written.{Sign, Minus, Not, Tilde, Step, Up, Down, Expression, Constant, Variable, Binary}
+use Rattle.grammar_laws.specs.Written.{Signed, Assign, StepBefore, StepBehind, Call, Arguments, NoMore, Argument}
+use Rattle.grammar_laws.specs.Written.{Statement, Nothing, Evaluate, If, IfElse, While, Return, ReturnValue, Block}
+use Rattle.grammar_laws.specs.Written.{Statements, Done, Next}
+
+-- what is known after a variable's name
+abbrev pub mentioned : List ℕ → Scope → Scope
+mentioned name scope = behind_name Mentioned name 0 scope
+
+-- what is known after the name of a call; lines are left aside, so it is mentioned on line 0
+abbrev pub called : List ℕ → Scope → Scope
+called name scope = behind_name Called name 0 scope
+
+-- what is known after an expression
+abbrev mutual
+  pub behind : Expression → Scope → Scope
+  behind (Constant value) scope = scope
+  behind (Variable name) scope = mentioned name scope
+  behind (Binary o a b) scope = behind b (behind a scope)
+  behind (Signed sign e) scope = behind e scope
+  behind (Assign o name e) scope = behind e (mentioned name scope)
+  behind (StepBefore step name) scope = mentioned name scope
+  behind (StepBehind step name) scope = mentioned name scope
+  behind (Call name arguments) scope = behind_arguments arguments (called name scope)
+
+  pub behind_arguments : Arguments → Scope → Scope
+  behind_arguments NoMore scope = scope
+  behind_arguments (Argument e rest) scope = behind_arguments rest (behind e scope)
+
+-- -e is 0 - e, !e is e == 0, ~e is e ^ -1
+abbrev pub signed : Sign → Expr → Expr
+signed Minus e = tree.Binary op.Subtract (tree.Constant (pos 0)) e
+signed Not e = tree.Binary op.Equal e (tree.Constant (pos 0))
+signed Tilde e = tree.Binary op.BitXor e (tree.Constant (negsuc 0))
+
+abbrev pub step_op : Step → StoreOp
+step_op Up = store.Add
+step_op Down = store.Subtract
+
+-- an expression's tree, if these names are known before it
+abbrev mutual
+  pub tree_of : Expression → Scope → Expr
+  tree_of (Constant value) scope = tree.Constant (pos value)
+  tree_of (Variable name) scope = tree.Variable (variable_of name scope)
+  tree_of (Binary o a b) scope = tree.Binary o (tree_of a scope) (tree_of b (behind a scope))
+  tree_of (Signed sign e) scope = signed sign (tree_of e scope)
+  tree_of (Assign o name e) scope = tree.Assign o (variable_of name scope) (tree_of e (mentioned name scope))
+  tree_of (StepBefore step name) scope = tree.Assign (step_op step) (variable_of name scope) (tree.Constant (pos 1))
+  tree_of (StepBehind step name) scope = tree.Postfix (step_op step) (variable_of name scope)
+  tree_of (Call name arguments) scope = tree.Call (callee_of name scope) (trees_of arguments (called name scope))
+
+  pub trees_of : Arguments → Scope → Args
+  trees_of NoMore scope = tree.NoMore
+  trees_of (Argument e rest) scope = tree.Argument (tree_of e scope) (trees_of rest (behind e scope))
+
+-- what is known after a statement
+abbrev mutual
+  pub behind_statement : Statement → Scope → Scope
+  behind_statement Nothing scope = scope
+  behind_statement (Evaluate e) scope = behind e scope
+  behind_statement (If c body) scope = behind_statements body (behind c scope)
+  behind_statement (IfElse c body other) scope = behind_statements other (behind_statements body (behind c scope))
+  behind_statement (While c body) scope = behind_statements body (behind c scope)
+  behind_statement Return scope = scope
+  behind_statement (ReturnValue e) scope = behind e scope
+  behind_statement (Block body) scope = behind_statements body scope
+
+  pub behind_statements : Statements → Scope → Scope
+  behind_statements Done scope = scope
+  behind_statements (Next s rest) scope = behind_statements rest (behind_statement s scope)
+
+-- what a statement is in a body: a block adds its statements, ; adds none
+abbrev mutual
+  pub body_of : Statement → Scope → Body
+  body_of Nothing scope = tree.Done
+  body_of (Evaluate e) scope = tree.ExpressionStatement (tree_of e scope) tree.Done
+  body_of (If c body) scope = tree.IfStatement (tree_of c scope) (bodies_of body (behind c scope)) tree.Done
+  body_of (IfElse c body other) scope =
+      tree.IfElseStatement (tree_of c scope) (bodies_of body (behind c scope))
+      (bodies_of other (behind_statements body (behind c scope))) tree.Done
+  body_of (While c body) scope = tree.While (tree_of c scope) (bodies_of body (behind c scope)) tree.Done
+  body_of Return scope = tree.Return (tree.Constant (pos 0)) tree.Done
+  body_of (ReturnValue e) scope = tree.Return (tree_of e scope) tree.Done
+  body_of (Block body) scope = bodies_of body scope
+
+  pub bodies_of : Statements → Scope → Body
+  bodies_of Done scope = tree.Done
+  bodies_of (Next s rest) scope = join (body_of s scope) (bodies_of rest (behind_statement s scope))

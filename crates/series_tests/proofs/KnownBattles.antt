@@ -1,0 +1,98 @@
+-- The known battles, worked out.
+use Rattle.std.proofs.Common.{refl, arith, [], ◌∷◌}
+use Rattle.arena.specs.Leg.{clamped, along, way_east, way_north, end_x, end_y, place_x, place_y, leg_anew, steered, approached, sped, grown, is_outside, hits_wall, walled, tried, driven}
+use Rattle.arena.specs.Field.{damage_of, is_alive, no_robot, robot_at, is_live, live_count, metres_x, metres_y}
+use Rattle.arena.specs.Collisions.{candidate, mover, moves, square, is_close, is_no_further, collides, others, touches}
+use Rattle.arena.specs.Shots.{aimed_x, aimed_y, flight, shot, in_air, due_at, ring, bursts}
+use Rattle.arena.specs.Moved.{put_back, leg_after, knocks, moved_robot, moved}
+use Rattle.arena.specs.Scan.{apart, east_to, north_to, in_arc, sees, range_of, nearest, scanned}
+use Rattle.arena.specs.Random.{generator, random_word}
+use Rattle.arena.specs.Start.{standing, quadrant, drawn_place, drawn_robot, start}
+use Rattle.arena.specs.Placed.{placed}
+use Rattle.arena.specs.Answer.{argument, fired, wanting, directed, random_limit, random_number, answer}
+use Rattle.battles.specs.Battle.{granted, step, robot_of, turn, turns, is_due, updated, cycle, is_over, stage_after, first_above, last_cycle, opening, damages_of, battle, alive}
+use Rattle.arith.specs.Circle.{sine_at, cosine_at, sine_of, cosine_of}
+use Rattle.arith.specs.Degree.{degree_of}
+use Rattle.arith.specs.Table.{sines, tangents}
+use Rattle.arith.specs.Op.{value_of}
+use Rattle.std.specs.Int.{int_wrap}
+use Rattle.code.specs.Values.{stored}
+use Rattle.grammar.specs.Limits.{most_levels}
+use Rattle.grammar.specs.Profile.{first_profile, second_profile}
+use Rattle.tokens.specs.Tokens.{tokens, located_tokens}
+use Rattle.tokens.specs.Punctuators.{punctuator_of}
+use Rattle.tokens.specs.Words.{word_of}
+use Rattle.grammar.specs.Compiled.{compiled}
+use Rattle.grammar.specs.Intrinsics.{intrinsic_named, name_of}
+use Rattle.battles.specs.KnownBattles.{idle_file, KnownBattles, KnownShortBattles}
+use Rattle.battles.specs.Pairing.{robots_of}
+use Rattle.code.specs.KnownPrograms.{shooting_file}
+use Rattle.series_tests.proofs.Limits.{longer}
+
+pub battles : KnownBattles
+unfolding clamped along way_east way_north end_x end_y place_x place_y leg_anew steered approached sped grown is_outside
+    hits_wall walled tried driven damage_of is_alive no_robot robot_at is_live live_count metres_x metres_y candidate
+    mover moves square is_close is_no_further collides others touches aimed_x aimed_y flight shot in_air due_at ring
+    bursts put_back leg_after knocks moved_robot moved apart east_to north_to in_arc sees range_of nearest scanned
+    generator random_word standing quadrant drawn_place drawn_robot start placed argument fired wanting directed
+    random_limit random_number answer granted step robot_of turn turns is_due updated cycle is_over stage_after
+    first_above last_cycle opening damages_of battle alive sine_at cosine_at sine_of cosine_of degree_of sines tangents
+    value_of int_wrap stored first_profile second_profile tokens located_tokens punctuator_of word_of most_levels
+    intrinsic_named name_of compiled
+battles = record {
+  empty = record { compiles = refl; ends = refl };
+  none_survives = record {
+    compiles = refl;
+    ends =
+        longer (robots_of first_profile (shooting_file ∷ [])) 1 1 90 500000 90 (100 ∷ 100 ∷ []) refl refl
+        (omega arith) (omega arith);
+  };
+  damages = refl;
+  stopped_before = record { compiles = refl; ends = refl };
+  one_survives = record {
+    compiles = refl;
+    ends =
+        longer (robots_of first_profile (shooting_file ∷ idle_file ∷ [])) 1 1 90 500000 90 (100 ∷ 0 ∷ []) refl refl
+        (omega arith) (omega arith);
+  };
+  one_of_three_survives = record {
+    compiles = refl;
+    ends =
+        longer (robots_of first_profile (idle_file ∷ shooting_file ∷ shooting_file ∷ [])) 1 1 90 500000 90
+        (0 ∷ 100 ∷ 100 ∷ []) refl refl (omega arith) (omega arith);
+  };
+  one_of_four_survives = record {
+    compiles = refl;
+    ends =
+        longer (robots_of first_profile (shooting_file ∷ shooting_file ∷ idle_file ∷ shooting_file ∷ [])) 1 1 90
+        500000 90 (100 ∷ 100 ∷ 0 ∷ 100 ∷ []) refl refl (omega arith) (omega arith);
+  };
+  two_draw_in_turn = record { compiles = refl; ends = refl };
+  three_draw_in_turn = record { compiles = refl; ends = refl };
+  both_sides = record { compiles = refl; ends = refl };
+  late_read = record { compiles = refl; ends = refl };
+  restart = record { compiles = refl; ends = refl };
+}
+
+pub short_battles : KnownShortBattles
+unfolding clamped along way_east way_north end_x end_y place_x place_y leg_anew steered approached sped grown is_outside
+    hits_wall walled tried driven damage_of is_alive no_robot robot_at is_live live_count metres_x metres_y candidate
+    mover moves square is_close is_no_further collides others touches aimed_x aimed_y flight shot in_air due_at ring
+    bursts put_back leg_after knocks moved_robot moved apart east_to north_to in_arc sees range_of nearest scanned
+    generator random_word standing quadrant drawn_place drawn_robot start placed argument fired wanting directed
+    random_limit random_number answer granted step robot_of turn turns is_due updated cycle is_over stage_after
+    first_above last_cycle opening damages_of battle alive sine_at cosine_at sine_of cosine_of degree_of sines tangents
+    value_of int_wrap stored first_profile second_profile tokens located_tokens punctuator_of word_of most_levels
+    intrinsic_named name_of compiled
+short_battles = record {
+  left_out = record { compiles = refl; ends = refl };
+  taken = record { compiles = refl; ends = refl };
+  decided = record { compiles = refl; ends = refl };
+  truth = record { compiles = refl; ends = refl };
+  none_survives = record {
+    compiles = refl;
+    ends =
+        longer (robots_of second_profile (shooting_file ∷ [])) 1 1 90 500000 90 (100 ∷ 100 ∷ []) refl refl
+        (omega arith) (omega arith);
+  };
+}
