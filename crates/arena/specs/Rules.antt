@@ -1,5 +1,5 @@
--- The rules of the field in numbers. Places and distances are in tenths of a metre, headings in degrees, speeds and damage
--- in percent, if nothing else is said. What a burst takes is in `ring` (Shots).
+-- The rules of the field in numbers. Places and distances are in tenths of a metre, headings in degrees, speeds and
+-- damage in percent, if nothing else is said. What a burst takes is in `ring` (Shots).
 use Rattle.std.specs.Prelude.{ℕ}
 
 -- both axes of the field go from 0 to here

@@ -75,7 +75,8 @@ fn shorter(way: &Way, arc: &Arc, so_far: u32) -> u32
     ensures value { result ≡ (if leads_into way.now.east way.now.north arc.now.degree arc.now.resolution
         then min so_far (square_of way.now.east way.now.north) else so_far) }
     ensures square { IsSquare result }
-    ensures seen { leads_into way.now.east way.now.north arc.now.degree arc.now.resolution ≡ true → result ≤ MOST_SQUARE }
+    ensures seen { leads_into way.now.east way.now.north arc.now.degree arc.now.resolution ≡ true
+        → result ≤ MOST_SQUARE }
 {
     let square = way.square();
     if so_far <= square {

@@ -34,9 +34,9 @@ pub fn bearing(dx: i32, dy: i32) -> u16
     0
 }
 
-/// Reports whether the bearing of a point `dx` metres east and `dy` metres north, both at most `MOST_DIFFERENCE` in size
-/// and not both 0, differs from a degree from 0 to 359 by at most `spread` degrees, fewer than 90, round the circle. It
-/// compares the reaches at the ends of this arc with those just beyond them, and works out no bearing.
+/// Reports whether the bearing of a point `dx` metres east and `dy` metres north, both at most `MOST_DIFFERENCE` in
+/// size and not both 0, differs from a degree from 0 to 359 by at most `spread` degrees, fewer than 90, round the
+/// circle. It compares the reaches at the ends of this arc with those just beyond them, and works out no bearing.
 pub fn bears_within(dx: i32, dy: i32, degree: u16, spread: u16) -> bool
     requires dx_in_field { unsigned_abs dx ≤ MOST_DIFFERENCE }
     requires dy_in_field { unsigned_abs dy ≤ MOST_DIFFERENCE }

@@ -6,7 +6,7 @@ ghost use Rattle.grammar.specs.Profile.{first_profile, second_profile, profile_n
 use std::marker::Model;
 
 /// The greatest number of a profile; the least is 1.
-pub const MOST_PROFILE: u8 = 2;
+pub const MOST_PROFILE: u32 = 2;
 
 /// A language profile: what `&&` and `||` evaluate, and how much a program may use. There are two.
 #[derive(Clone, Copy, Debug, PartialEq, Eq)]
@@ -36,7 +36,7 @@ impl Model for Profile {
 
 impl Profile {
     /// Makes the profile of a number.
-    pub fn numbered(number: u64) -> Profile
+    pub fn numbered(number: u32) -> Profile
         requires least { 1 ≤ number }
         requires most { number ≤ MOST_PROFILE }
         ensures { result ≡ profile_numbered number }
