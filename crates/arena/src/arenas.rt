@@ -283,6 +283,7 @@ impl Arena {
     pub(crate) fn keeps_two(&self)
         ensures { All (λ s. length s ≤ 2) self.now.slots }
     {
+        // For the proof alone: a field that is read brings what holds of every arena.
         let _ = &self.updates;
     }
 
@@ -290,6 +291,7 @@ impl Arena {
     pub(crate) fn keeps_slots(&self)
         ensures { length self.now.slots ≡ length self.now.robots }
     {
+        // For the proof alone: a field that is read brings what holds of every arena.
         let _ = &self.updates;
     }
 
