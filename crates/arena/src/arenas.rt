@@ -276,6 +276,7 @@ impl Arena {
     pub(crate) fn keeps_two(&self)
         ensures { All (λ s. length s ≤ MOST_MISSILES) self.now.slots }
     {
+        // For the proof alone: a field that is read brings what holds of every arena.
         let _ = &self.updates;
     }
 
@@ -283,6 +284,7 @@ impl Arena {
     pub(crate) fn keeps_slots(&self)
         ensures { length self.now.slots ≡ length self.now.robots }
     {
+        // For the proof alone: a field that is read brings what holds of every arena.
         let _ = &self.updates;
     }
 
