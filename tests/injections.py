@@ -13,7 +13,7 @@ def works() -> bool:
     return bool(shutil.which("strace")) and subprocess.run(words, capture_output=True, check=False).returncode == 0
 
 
-def run(fault: str, path: str, program: str, *words: str) -> subprocess.CompletedProcess:
+def run(fault: str, path: str, program: str, *words: str) -> subprocess.CompletedProcess[str]:
     """Runs a program for which calls on the file of an absolute path fail: `read:error=EINTR:when=1` is the first read."""
     call = fault.split(":")[0]
     tracer = ["strace", "-f", "-qq", "-o", os.devnull, "-P", os.path.realpath(path), "-e", f"trace={call}", "-e", f"inject={fault}"]

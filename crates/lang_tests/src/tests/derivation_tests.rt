@@ -8,10 +8,10 @@ use tokens::{Name, Punctuator, Token, Word};
 
 /// The columns of the instructions of `SHIFTED`: of `b`, `1`, `>>`, `=` and the semicolon, of the closing brace for the
 /// last return, and of the end.
-const COLUMNS: [u32; 8] = [21, 26, 23, 19, 27, 29, 29, 30];
+const COLUMNS: [u32; 8] = [21, 26, 23, 11, 27, 29, 29, 30];
 
 /// The first `*/` closes the comment that begins with `/*/`.
-const SHIFTED: &[u8] = b"main(){ /*/ 0 */a = b >> 1; }";
+const SHIFTED: &[u8] = b"main(){ a = /*/ 0 */b >> 1; }";
 
 /// Compares the columns of instructions of a source of one line.
 fn check(rt: &impl Abort, source: &[u8], wanted: &[u32]) -> Result<(), Fail> {
