@@ -14,11 +14,14 @@ RobotId = str
 
 @dataclass(frozen=True)
 class Score:
-    """How often one robot won, tied and lost."""
+    """How often one robot won, tied and lost. A robot that died has lost, even if all others died too.
+
+    Against one other robot it is also said how many of the lost matches both lost."""
 
     won: int
     tied: int
     lost: int
+    both: int = 0
 
     @property
     def played(self) -> int:
@@ -145,7 +148,7 @@ class Notable:
 class Pair:
     """What two robots did to each other, from the first one's side.
 
-    The interval is that of its share: wins and half of the ties, of all matches; from 0 to 1."""
+    The interval is that of its share: wins and half of the matches that both survived or lost, of all; from 0 to 1."""
 
     one: RobotId
     other: RobotId
