@@ -10,6 +10,10 @@ from .facts import Battle, Settings
 from .names import UNSEEN
 
 
+# A word that needs no quotes.
+PLAIN = re.compile("[A-Za-z0-9_./-]+")
+
+
 def again(settings: Settings, battle: Battle, files: Sequence[str]) -> list[str]:
     """The words by which `crobots` plays a match again."""
     options = [f"-f{battle.number}", "-m1", f"-l{settings.cycles}", f"-s{battle.seed}", f"-p{settings.profile}"]
@@ -28,6 +32,8 @@ def line(words: Iterable[str]) -> str:
 
 def quoted(word: str) -> str:
     """A word for a shell. One with bytes that can't be shown is written as bash and zsh read it: with their codes."""
+    if PLAIN.fullmatch(word):
+        return word
     if not UNSEEN.search(word):
         return shlex.quote(word)
     return "$'" + re.sub(rb"[^ -&(-\[\]-~]", octal, word.encode("utf-8", "surrogateescape")).decode() + "'"

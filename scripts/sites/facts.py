@@ -51,10 +51,10 @@ class Program:
 
 @dataclass(frozen=True)
 class Version:
-    """A robot's source as it was played from a day on. A day is written as 2026-11-27."""
+    """A robot's source as it was played from a day on; None if only its hash is known. A day is written as 2026-11-27."""
 
     sha256: str
-    source: bytes
+    source: bytes | None
     day: str = ""
 
 
