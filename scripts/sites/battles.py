@@ -10,7 +10,7 @@ from .lookups import Lookup
 from .markup import Markup, joined, tag
 from .notables import DEAD
 from .numbers import count
-from .tables import scrolling
+from .tables import command_line
 
 Replays = AbstractSet[str]
 
@@ -51,5 +51,4 @@ def ways(lookup: Lookup, replays: Replays, battle: Battle, up: str) -> Markup:
 
 def command(lookup: Lookup, battle: Battle) -> Markup:
     """The command line that plays the match again, in the site's folder."""
-    said = commands.line(commands.again(lookup.facts.settings, battle, lookup.files(battle)))
-    return scrolling(tag("pre", tag("code", said)), "Command line", "command")
+    return command_line(commands.again(lookup.facts.settings, battle, lookup.files(battle)))

@@ -175,8 +175,8 @@ class Facts:
     earlier: tuple[Table, ...] = ()
     # what the table goes by
     points: str = "points"
-    # the path of a file with sources, settings and results, and the command line that checks it
+    # the path of a file with sources, settings and results, and the words of the command that checks it
     archive: str = ""
-    verify: str = ""
+    verify: tuple[str, ...] = ()
     # the address of the page that plays battles in a browser
     page: str = ""

@@ -10,7 +10,7 @@ from .markup import Markup, joined, tag
 from .names import named
 from .numbers import count, counted, decimal, interval
 from .scales import Scale
-from .tables import NUMBER, TEXT, Column, table
+from .tables import NAME, NUMBER, TEXT, Column, table
 
 
 def index(lookup: Lookup) -> str:
@@ -42,8 +42,8 @@ def standings(lookup: Lookup) -> Markup:
     facts = lookup.facts
     before = facts.earlier[-1] if facts.earlier else None
     axis = charts.rating_scale([place_of(it) for it in facts.standings])
-    columns: list[Column] = [("Rank", NUMBER), ("Robot", TEXT), (facts.points.capitalize(), NUMBER), ("Rating", NUMBER),
-               ("95 % interval", TEXT), (joined(tag("span", "Rating and interval", class_="unseen"), charts.rating_axis(axis)), TEXT),
+    columns: list[Column] = [("Rank", NUMBER), ("Robot", NAME), (facts.points.capitalize(), NUMBER), ("Rating", NUMBER),
+               (joined(tag("span", "Rating and interval", class_="unseen"), charts.rating_axis(axis)), TEXT), ("95 % interval", TEXT),
                ("Played", NUMBER), ("Won", NUMBER), ("Tied", NUMBER), ("Lost", NUMBER), ("Results", TEXT)]
     if before:
         columns.insert(1, ("Trend", TEXT))
@@ -55,7 +55,7 @@ def row(lookup: Lookup, axis: Scale, it: Standing, before: Table | None) -> list
     """A robot's row."""
     score = it.score
     cells = [str(it.rank), robot(lookup, it), decimal(it.points), joined(charts.whole(it.rating), close(it)),
-             interval(it.low, it.high), charts.rating_row(axis, place_of(it)), count(score.played), count(score.won),
+             charts.rating_row(axis, place_of(it)), interval(it.low, it.high), count(score.played), count(score.won),
              count(score.tied), count(score.lost), charts.parts(score)]
     if before:
         cells.insert(1, trend(it, before))

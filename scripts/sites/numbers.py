@@ -26,7 +26,7 @@ def decimal(number: Decimal) -> str:
 
 def percent(part: float) -> str:
     """A part as a percentage with one digit after its point."""
-    return f"{100 * part:.1f} %"
+    return f"{100 * part:.1f}\N{NO-BREAK SPACE}%"
 
 
 def interval(low: float, high: float) -> str:
