@@ -91,7 +91,7 @@ class Robot:
     withdrawn: str = ""
     # what `crobots-trace --sum` says of it
     sums: str = ""
-    # its last lost matches, the last one first
+    # matches that it lost; if they have days, its last ones, the last one first
     lost: tuple[Battle, ...] = ()
 
 
@@ -175,8 +175,8 @@ class Facts:
     earlier: tuple[Table, ...] = ()
     # what the table goes by
     points: str = "points"
-    # the path of a file with sources, settings and results, and the words of the command that checks it
+    # the path of a file with sources, settings and results, and the command line that checks it
     archive: str = ""
-    verify: tuple[str, ...] = ()
+    verify: str = ""
     # the address of the page that plays battles in a browser
     page: str = ""

@@ -112,9 +112,10 @@ def summed(it: Robot) -> Markup:
 
 
 def lost(lookup: Lookup, replays: Replays, it: Robot, up: str) -> Markup:
-    """Its last lost matches."""
+    """Matches that it lost: if they have days, its last ones."""
     cards = [card(lookup, replays, tag("h3", beaten_by(lookup, it, battle)), battle, up) for battle in it.lost]
-    return section("Last lost matches", tag("div", *cards, class_="battles")) if cards else Markup("")
+    title = "Last lost matches" if lookup.facts.day else "Lost matches"
+    return section(title, tag("div", *cards, class_="battles")) if cards else Markup("")
 
 
 def beaten_by(lookup: Lookup, it: Robot, battle: Battle) -> Markup:
