@@ -18,8 +18,9 @@ def index(lookup: Lookup) -> str:
     facts = lookup.facts
     title = tag("h1", tag("bdi", named(facts.title)))
     if not facts.standings:
-        return page(lookup, places.INDEX, "", title, sentence("Nothing was played yet."))
-    return page(lookup, places.INDEX, "", title, summary(lookup), standings(lookup), reading(lookup), downloads())
+        return page(lookup, places.INDEX, "", title, sentence("Nothing was played yet."), others(lookup), downloads())
+    return page(lookup, places.INDEX, "", title, summary(lookup), standings(lookup), reading(lookup), others(lookup),
+                downloads())
 
 
 def summary(lookup: Lookup) -> Markup:
@@ -98,6 +99,15 @@ def reading(lookup: Lookup) -> Markup:
     if facts.earlier:
         said.append(f" The trend is the change of rank since {facts.earlier[-1].day}.")
     return section("How to read it", sentence(*said), kind="note")
+
+
+def others(lookup: Lookup) -> Markup:
+    """The robots that have no row."""
+    found = [it for it in lookup.facts.robots if lookup.standing(it.id) is None]
+    if not found:
+        return Markup("")
+    items = [tag("li", lookup.robot_link(it.id, ""), f", withdrawn on {it.withdrawn}" if it.withdrawn else "") for it in found]
+    return section("Robots that are not in the table", tag("ul", *items, class_="links"))
 
 
 def downloads() -> Markup:
