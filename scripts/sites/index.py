@@ -72,7 +72,9 @@ def robot(lookup: Lookup, it: Standing) -> Markup:
 
 def close(it: Standing) -> Markup:
     """The mark of a robot whose interval overlaps that of the one above."""
-    return tag("abbr", "≈", title="close to the robot above: their order may be chance", class_="close") if it.close else Markup("")
+    if not it.close:
+        return tag("span", class_="close")
+    return tag("abbr", "≈", title="close to the robot above: their order may be chance", class_="close")
 
 
 def trend(it: Standing, before: Table) -> Markup:

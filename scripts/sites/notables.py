@@ -4,9 +4,11 @@ from __future__ import annotations
 
 from typing import Iterable
 
+from tournaments import records
+
 from .facts import Battle, Notable, RobotId
 
-DEAD = 100
+DEAD = records.DEAD
 
 
 def damage(battle: Battle, robot: RobotId) -> int:

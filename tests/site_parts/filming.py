@@ -24,7 +24,7 @@ with open({{told!r}}, "a") as file:
     file.write(repr(sys.argv[1:]) + chr(10))
 names = [os.path.basename(os.fsencode(it)) for it in sys.argv[-2:]]
 out = sys.stdout.buffer
-if any(b"quoted" in it for it in names):
+if any(b"caf" in it for it in names):
     sys.exit(1)
 out.write(b"cycle robot kind a b c d e".replace(b" ", b"\\t") + b"\\n")
 for at, name in enumerate(names, 1):
@@ -136,7 +136,7 @@ def failed(site: str, told: str) -> Results:
     robots = tuple(replace(it, lost=(long,)) if at == 1 else it for at, it in enumerate(facts.robots))
     publish(replace(facts, robots=robots), site, replays=9999, jobs=4)
     words = asked(told)
-    # of 15 pairs three matches each and five lost ones; the third robot is in five pairs, and in two lost matches
+    # of 15 pairs three matches each and five lost ones; the fifth robot is in five pairs, and in two lost matches
     yield "what can't be filmed", len(words) == 15 * 3 + 5 and len(replays(site)) == 10 * 3 + 3
     yield "no link leads to it", not dangling(site)[1]
     yield "of a long match the end", [it[5:7] for it in words if "--from" in it] == [["--from", "4000"]]

@@ -15,7 +15,7 @@ import zlib
 from base64 import urlsafe_b64decode
 from typing import Any, Iterator
 
-from sites import colours, commands, links, names, notables, scales, shares, sources, sums
+from sites import colours, commands, links, names, notables, places, scales, shares, sources, sums
 from sites.facts import Battle, Score, Seat, Settings
 from sites.markup import Markup, block, tag
 
@@ -31,7 +31,7 @@ FILE_NAMES = {
     "hunter.r": "hunter.r", "a-b.r": "a-b.r", "..": "_2e_2e", ".": "_2e", "": "_", "a..b": "a._2eb", ".hidden": "_2ehidden",
     "end.": "end_2e", "CON": "_43_4f_4e", "con": "_63on", "con.r": "_63on.r", "console.r": "console.r", "index": "_69ndex",
     "com1.r": "_63om1.r", "a/b.r": "a_2fb.r", "a b": "a_20b", "a_b": "a_5fb", "caf\udce9": "caf_ed_b3_a9", "é": "_c3_a9",
-    "<i>": "_3ci_3e",
+    "<i>": "_3ci_3e", "-m1": "_2dm1", "-": "_2d", ".-": "_2e-",
 }
 WORDS = {
     "a.r": "a.r", "sources/a-0.r": "sources/a-0.r", "a b.r": "'a b.r'", "it's.r": "'it'\"'\"'s.r'", "caf\udce9.r": "$'caf\\351.r'",
@@ -70,12 +70,14 @@ def file_names() -> Results:
     """Files' names are safe, and different for different robots."""
     for name, wanted in FILE_NAMES.items():
         yield f"the file of {name!r}", names.file_name(name) == wanted
+    yield "an archive's name", places.archive_file("/tmp/League-2026.1.zip") == "archive/League-2026.1.zip"
+    yield "an archive's bad name", places.archive_file("/tmp/../a b") == "archive/a_20b"
     source = random.Random(1)
     many = {"".join(source.choice("aA._-/ c\udce9o0n") for _ in range(source.randrange(12))) for _ in range(5000)}
     many |= {"x" * length for length in range(60, 300)} | {"A" * length for length in range(20, 100)}
     found = [names.file_name(name) for name in many]
     yield "5,000 robots have files of their own", len({it.lower() for it in found}) == len(many)
-    yield "names of files are safe", all(re.fullmatch(r"(?![.])[a-z0-9._-]{1,80}(?<![.])", it) for it in found)
+    yield "names of files are safe", all(re.fullmatch(r"(?![.-])[a-z0-9._-]{1,80}(?<![.])", it) for it in found)
 
 
 def markup() -> Results:
