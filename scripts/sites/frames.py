@@ -28,10 +28,12 @@ def above(place: str) -> str:
 def head(lookup: Lookup, title: str, up: str) -> Markup:
     whole = named(lookup.facts.title)
     return tag(
-        "head", tag("meta", charset="utf-8"), tag("meta", name="viewport", content="width=device-width, initial-scale=1"),
+        "head", tag("meta", charset="utf-8"),
+        tag("meta", name="viewport", content="width=device-width, initial-scale=1"),
         tag("meta", name="color-scheme", content="light dark"),
         tag("meta", http_equiv="Content-Security-Policy", content=POLICY), tag("link", rel="icon", href="data:,"),
-        tag("title", f"{shown(title)} · {whole}" if title else whole), tag("link", rel="stylesheet", href=up + places.STYLE))
+        tag("title", f"{shown(title)} · {whole}" if title else whole),
+        tag("link", rel="stylesheet", href=up + places.STYLE))
 
 
 def heading(lookup: Lookup, place: str, up: str) -> Markup:

@@ -36,8 +36,8 @@ class Gathering:
         robots = [seat.robot for seat in battles[0].seats]
         for (seat, one), (against, other) in itertools.permutations(enumerate(robots, 1), 2):
             if self._rows[one] < self._rows[other]:
-                it = self._pairs[one, other]
-                it.seats[seat, against] = added([it.seats.get((seat, against), Score(0, 0, 0)), score(battles, seat, against)])
+                it, at = self._pairs[one, other], (seat, against)
+                it.seats[at] = added([it.seats.get(at, Score(0, 0, 0)), score(battles, *at)])
                 it.notable = notables([*dict.fromkeys(known.battle for known in it.notable), *battles], one, other)
         for battle in battles:
             self._add_lost(battle)

@@ -20,14 +20,16 @@ from .tables import command_line, listed
 
 def settings_page(lookup: Lookup) -> str:
     """The page of settings."""
-    return page(lookup, places.SETTINGS, "Settings", tag("h1", "Settings"), rules(lookup), program(lookup), archive(lookup))
+    title = "Settings"
+    return page(lookup, places.SETTINGS, title, tag("h1", title), rules(lookup), program(lookup), archive(lookup))
 
 
 def rules(lookup: Lookup) -> Markup:
     it = lookup.facts.settings
-    rows = [("Played as", ", ".join(SIZE_NAMES[size] for size in it.sizes)), ("Matches of a group", count(it.matches)),
-            ("Cycles of a match, at most", count(it.cycles)), ("Seed", str(it.seed)), ("Language profile", str(it.profile)), *it.more]
-    return section("Matches", listed(rows))
+    return section("Matches", listed([
+        ("Played as", ", ".join(SIZE_NAMES[size] for size in it.sizes)), ("Matches of a group", count(it.matches)),
+        ("Cycles of a match, at most", count(it.cycles)), ("Seed", str(it.seed)),
+        ("Language profile", str(it.profile)), *it.more]))
 
 
 def program(lookup: Lookup) -> Markup:
@@ -46,7 +48,8 @@ def archive(lookup: Lookup) -> Markup:
     name, size = os.path.basename(facts.archive), counted(os.path.getsize(facts.archive), "byte")
     link = tag("a", name, href=places.archive_file(facts.archive), download=name)
     rows = [("File", joined(link, f" ({size})")), ("SHA-256", tag("code", digest))]
-    return section("Archive", sentence("All sources, the settings and all results, in one file."), listed(rows), *verify(facts.verify))
+    said = sentence("All sources, the settings and all results, in one file.")
+    return section("Archive", said, listed(rows), *verify(facts.verify))
 
 
 def verify(line: str) -> list[Markup]:

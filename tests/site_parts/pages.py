@@ -104,7 +104,7 @@ def the_table(folder: str) -> Results:
     yield "the head", [it for at, it in enumerate(found[0]) if at != 5] == head
     # 11 opponents: the first robot wins 6 of 10 against each, and ties 1
     yield "the first row", found[1][:5] + found[1][6:] == [
-        "1", "=same", "hunter.r", "1.900", "2000", "1940 to 2060", "110", "66", "11", "33", ""]
+        "1", "=same ", "hunter.r", "1.900", "2000", "1940 to 2060", "110", "66", "11", "33", ""]
     # it wins 6 against each of 10, and 2 against the first
     yield "the second row", found[2][:5] + found[2][6:] == [
         "2", "▲up 1", made.SCRIPT + "Ada <Lovelace>", "1.791", "250", "190 to 310", "110", "62", "11", "37", ""]
