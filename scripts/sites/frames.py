@@ -45,7 +45,8 @@ def heading(lookup: Lookup, place: str, up: str) -> Markup:
 
 def foot(lookup: Lookup) -> Markup:
     facts = lookup.facts
-    return tag("footer", tag("div", " · ".join(filter(None, (facts.day, facts.program.version))), class_="wide"))
+    program = facts.program.version or f"crobots {facts.program.sha256[:16]}"
+    return tag("footer", tag("div", " · ".join(filter(None, (facts.day, program))), class_="wide"))
 
 
 def section(title: str, *body: str, kind: str | None = None) -> Markup:

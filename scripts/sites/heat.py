@@ -23,7 +23,7 @@ def heat_map(lookup: Lookup) -> str:
     past = tag("a", "past the map", href="#after", class_="skip")
     after = tag("p", tag("a", "Download the pairs (CSV)", href=places.PAIRS), id="after")
     return page(lookup, places.MAP, "Pairs", tag("h1", "Pairs"), sentence(said, kind="lead"), past,
-                tag("section", legend(), grid(lookup)), after)
+                tag("section", legend(), grid(lookup), class_="map"), after)
 
 
 def legend() -> Markup:

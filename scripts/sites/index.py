@@ -8,7 +8,7 @@ from .frames import page, section, sentence
 from .lookups import Lookup, place_of
 from .markup import Markup, joined, tag
 from .names import named
-from .numbers import count, counted, decimal, interval
+from .numbers import INTERVAL, count, counted, decimal, interval
 from .scales import Scale
 from .tables import NAME, NUMBER, TEXT, Column, table
 
@@ -48,7 +48,7 @@ def standings(lookup: Lookup) -> Markup:
     chart = joined(tag("span", "Rating and interval", class_="unseen"), charts.rating_axis(axis))
     columns: list[Column] = [
         ("Rank", NUMBER), ("Robot", NAME), (facts.points.capitalize(), NUMBER), ("Rating", NUMBER), (chart, TEXT),
-        ("95 % interval", TEXT), ("Played", NUMBER), ("Won", NUMBER), ("Tied", NUMBER), ("Lost", NUMBER),
+        (INTERVAL, TEXT), ("Played", NUMBER), ("Won", NUMBER), ("Tied", NUMBER), ("Lost", NUMBER),
         ("Results", TEXT)]
     if before:
         columns.insert(1, ("Trend", TEXT))
@@ -97,7 +97,7 @@ def reading(lookup: Lookup) -> Markup:
     facts = lookup.facts
     said = [
         "A rating says how often a robot beats another: at a distance of 400 it wins ten times as often as it loses. ",
-        "A dot is a rating, its bar the 95 % interval, and an arrow says that the bar goes on. ",
+        f"A dot is a rating, its bar the {INTERVAL}, and an arrow says that the bar goes on. ",
         "≈ marks a robot whose interval overlaps that of the robot above: their order may be chance.",
     ]
     if facts.earlier:

@@ -9,7 +9,7 @@ from .frames import above, page, section, sentence
 from .lookups import Lookup
 from .markup import Markup, joined, name_of, tag
 from .names import named
-from .numbers import count, percent
+from .numbers import INTERVAL, count, percent
 from .shares import share
 from .tables import NUMBER, TEXT, Column, listed, table
 
@@ -36,7 +36,7 @@ def score(lookup: Lookup, pair: Pair) -> Markup:
     axis = charts.share_row(pair.low, share(it), pair.high, f"Share {value}, from {within}")
     rows = [
         ("Matches", count(it.played)), ("Won, tied, lost", said + both),
-        ("Share", f"{value}, 95 % interval {within}"),
+        ("Share", f"{value}, {INTERVAL} {within}"),
         ("Verdict", verdict(lookup, pair)),
     ]
     side = sentence("From the side of ", name_of(one), ":")

@@ -9,13 +9,13 @@ from .frames import above, page, section, sentence
 from .lookups import Lookup
 from .markup import Markup, block, joined, name_of, separated, tag
 from .names import named
-from .numbers import count, counted, decimal, interval, percent
+from .numbers import INTERVAL, count, counted, decimal, interval, percent
 from .shares import share
 from .tables import NUMBER, TEXT, Column, listed, scrolling, table
 
 # So many opponents are the best and the worst ones.
 FEW = 5
-COLUMNS = [("Opponent", TEXT), ("Share", NUMBER), ("95 % interval", TEXT), ("Won", NUMBER), ("Tied", NUMBER),
+COLUMNS = [("Opponent", TEXT), ("Share", NUMBER), (INTERVAL, TEXT), ("Won", NUMBER), ("Tied", NUMBER),
            ("Lost", NUMBER), ("Results", TEXT), ("Pair", TEXT)]
 
 
@@ -68,13 +68,13 @@ def history(lookup: Lookup, it: Robot) -> Markup:
     changes = [version.day for version in it.versions[1:] if version.day]
     chart = scrolling(charts.over_time(days, ranked, changes, label), label)
     note = " A dotted line is a new version." if charts.during(days, changes) else ""
-    return section("Rating over time", chart, sentence(f"The band is the 95 % interval.{note}", kind="note"),
+    return section("Rating over time", chart, sentence(f"The band is the {INTERVAL}.{note}", kind="note"),
                    tag("details", tag("summary", "As a table"), by_day(found)))
 
 
 def by_day(found: list[tuple[str, Place]]) -> Markup:
     """The same as a table, the last day first."""
-    columns: list[Column] = [("Day", TEXT), ("Rank", NUMBER), ("Rating", NUMBER), ("95 % interval", TEXT)]
+    columns: list[Column] = [("Day", TEXT), ("Rank", NUMBER), ("Rating", NUMBER), (INTERVAL, TEXT)]
     return table("Rating by day", columns, [
         [day, str(it.rank), charts.whole(it.rating), interval(it.low, it.high)] for day, it in found[::-1]])
 
@@ -103,7 +103,7 @@ def opponent(lookup: Lookup, pair: Pair, up: str) -> list[str]:
     against = tag("span", " against ", name_of(lookup.robots[pair.other].name), class_="unseen")
     matches = tag("a", "matches", against, href=up + places.pair_page(pair.one, pair.other))
     return [lookup.robot_link(pair.other, up), percent(share(score)), f"{percent(pair.low)} to {percent(pair.high)}",
-            count(score.won), count(score.tied), count(score.lost), charts.parts(score), matches]
+            count(score.won), count(score.tied), count(score.lost), charts.parts(score, 80), matches]
 
 
 def summed(it: Robot) -> Markup:

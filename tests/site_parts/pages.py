@@ -100,7 +100,7 @@ def the_table(folder: str) -> Results:
     """The rows of the table are those of the facts."""
     page = read(os.path.join(folder, "index.html"))
     found = rows(page.one("table"))
-    head = ["Rank", "Trend", "Robot", "Points a match", "Rating", "95 % interval", "Played", "Won", "Tied", "Lost", "Results"]
+    head = ["Rank", "Trend", "Robot", "Points a match", "Rating", "95\u00a0% interval", "Played", "Won", "Tied", "Lost", "Results"]
     yield "the head", [it for at, it in enumerate(found[0]) if at != 5] == head
     # 11 opponents: the first robot wins 6 of 10 against each, and ties 1
     yield "the first row", found[1][:5] + found[1][6:] == [
