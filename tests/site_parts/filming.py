@@ -90,7 +90,8 @@ def some(site: str, told: str) -> Results:
     words = sorted(asked(told))
     yield "so many replays", len(replays(site)) == len(words) == 3
     found = [it[:5] for it in words]
-    yield "their options", found == [["--film", f"-k{it}", "-l500000", f"-s{2**64 - it}", "-p1"] for it in (2, 4001, 4002)]
+    wanted = [["--film", f"-k{it}", "-l500000", f"-s{2**64 - it}", "-p1"] for it in (2, 4001, 4002)]
+    yield "their options", found == wanted
     yield "their robots", [it[-3] == "--" and [os.path.basename(file) for file in it[-2:]] for it in words] == [
         ["hunter.r", "script>.r"], ["hunter.r", "script>.r"], ["script>.r", made.NAMES[2]]]
     page = read(os.path.join(site, "robots", "_3cscript_3ealert_281_29_3c_2fscript_3e.r.html"))
@@ -118,8 +119,8 @@ def kept(site: str, told: str) -> Results:
 def given(site: str) -> Results:
     """A page that is given needs no program."""
     facts = league(2)
-    robots = (facts.robots[0], replace(facts.robots[1], lost=(replace(facts.robots[1].lost[0], replay="<p>a \udce9 page</p>", number=99),)))
-    publish(replace(facts, robots=robots), site)
+    battle = replace(facts.robots[1].lost[0], replay="<p>a \udce9 page</p>", number=99)
+    publish(replace(facts, robots=(facts.robots[0], replace(facts.robots[1], lost=(battle,)))), site)
     found = {content(site, it) for it in replays(site)}
     yield "a page that is given", b"<p>a ? page</p>" in found and not dangling(site)[1]
 

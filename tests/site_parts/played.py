@@ -1,4 +1,4 @@
-"""Tests of the site of a tournament that is played: its numbers are those of the matches, and its command lines play them."""
+"""Tests of the site of a tournament that is played: its numbers are those of the matches, its command lines play them."""
 
 from __future__ import annotations
 
@@ -32,6 +32,7 @@ HERE = os.path.dirname(os.path.abspath(__file__))
 TOP = os.path.normpath(os.path.join(HERE, "..", ".."))
 SETTINGS = ("-m4", "-l20000", "--points", "3,1")
 COMMANDS, REPLAYS = 40, 6
+PERCENTS = "[...document.querySelectorAll('#robots .percent')].map(it => parseInt(it.textContent))"
 Row = dict[str, str]
 
 
@@ -92,7 +93,8 @@ def the_table(site: str, table: list[Row]) -> Results:
     found = rows(read(os.path.join(site, "index.html")).one("table"))[1:]
     minus = "\N{MINUS SIGN}"
     wanted = [[it["rank"], it["robot"], it["points"], it["rating"].replace("-", minus) + ("≈" if it["close"] else ""),
-               f"{it['low']} to {it['high']}".replace("-", minus), it["played"], it["won"], it["tied"], it["lost"]] for it in table]
+               f"{it['low']} to {it['high']}".replace("-", minus), it["played"], it["won"], it["tied"], it["lost"]]
+              for it in table]
     yield "the table", [[*it[:4], *it[5:10]] for it in found] == wanted
     yield "all robots", len(found) == 12
 
@@ -113,7 +115,8 @@ def the_pairs(site: str, long: list[Row]) -> Results:
     for page in pages:
         one, other = page.one("h1").text().split(" against ")
         counted = counts[one, other]
-        by_seat = [[str(seat), str(3 - seat), "2", *(str(counted[f"{it} {seat}"]) for it in ("won", "tied", "lost"))] for seat in (1, 2)]
+        by_seat = [[f"{seat}", f"{3 - seat}", "2", *(str(counted[f"{it} {seat}"]) for it in ("won", "tied", "lost"))]
+                   for seat in (1, 2)]
         yield f"{one} against {other} by seat", [it[:6] for it in rows(page.one("table"))[1:]] == by_seat
         won, tied, lost = (counted[f"{it} 1"] + counted[f"{it} 2"] for it in ("won", "tied", "lost"))
         yield f"{one} against {other}", f"{won} won, {tied} tied, {lost} lost" in page.one("dl").text()
@@ -138,8 +141,8 @@ def the_command_lines(site: str, crobots: str) -> Results:
     for place, card in found[::len(found) // COMMANDS]:
         words, cycles, damages = shown(card)
         ran = subprocess.run([crobots, *words[1:]], cwd=site, capture_output=True, text=True, check=False)
-        report = ran.stdout
-        yield f"{place}: {shlex.join(words)}", f"cycles = {cycles}\n" in report and re.findall(r"damage +(\d+)%", report) == damages
+        ended = re.findall(r"cycles = (\d+)|damage +(\d+)%", ran.stdout)
+        yield f"{place}: {shlex.join(words)}", ["".join(it) for it in ended] == [cycles, *damages]
     lost = [(place, card) for place, card in found if place.startswith("robots/")]
     for place, card in lost:
         name = read(os.path.join(site, place)).one("h1").text()
@@ -167,6 +170,6 @@ def the_replays(facts: Facts, site: str, trace: str) -> Results:
         for place, card, href in linked[:2]:
             browser.load(os.path.normpath(os.path.join(site, os.path.dirname(place), href)))
             browser.value("document.querySelector('#to-end').click()")
-            percents = browser.value("[...document.querySelectorAll('#robots .percent')].map(it => parseInt(it.textContent))")
+            percents = browser.value(PERCENTS)
             yield f"{place}: the replay's damages {percents}", [str(it) for it in percents] == shown(card)[2]
         yield f"the replays' console {browser.messages}", not browser.messages
