@@ -52,11 +52,10 @@ def battles(lookup: Lookup) -> Iterator[Battle]:
 
 def orders(lookup: Lookup, wanted: dict[str, Battle], most: int) -> dict[str, films.Order]:
     """The orders for the first of the matches that have no page yet."""
-    trace = films.trace() if most else ""
-    if not trace:
+    if not most or not films.can_film():
         return {}
     found = ((place, lookup.sources(it), it) for place, it in wanted.items())
-    known = ((place, films.order(trace, lookup.facts.settings, it, sources)) for place, sources, it in found if sources)
+    known = ((place, films.order(lookup.facts.settings, it, sources)) for place, sources, it in found if sources)
     return dict(it for it, _ in zip(known, range(most)))
 
 

@@ -1,4 +1,4 @@
-"""Tests of the site of a tournament that is played: its numbers are those of the matches, its command lines play them."""
+"""Tests of the site of a tournament that is played: its numbers are those of the matches, command lines play them."""
 
 from __future__ import annotations
 
