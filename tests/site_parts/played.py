@@ -26,6 +26,7 @@ from tournaments.tallies import Tally
 
 from .filming import replays
 from .reading import Element, dangling, files, links, read, rows
+from .writing import write
 
 Results = Iterator[tuple[str, bool]]
 HERE = os.path.dirname(os.path.abspath(__file__))
@@ -52,6 +53,7 @@ def results(trace: str = "", crobots: str = "") -> Results:
         publish(facts, site)
         found, wrong = dangling(site)
         yield "links lead somewhere", not wrong and files(site) - found == {"site.list"}
+        yield from the_option(words, paths, site)
         yield from the_table(site, table)
         yield from the_pairs(site, long)
         yield from the_command_lines(site, crobots)
@@ -86,6 +88,21 @@ def read_journal(path: str) -> Facts:
     table = standings(tally, names([it.path for it in among]), scoring)
     return facts_of_tournament("A tournament", records[0].settings, scoring, among, kept_sources(among), table, records,
                                "https://example.org/")
+
+
+def the_option(words: list[str], paths: list[str], site: str) -> Results:
+    """The option --html writes the same site, also if the robots were changed after they were played."""
+    other = os.path.join(os.path.dirname(site), "other")
+    options = ["--html", other, "--title", "A tournament", "--page", "https://example.org/", "--replays", "0"]
+    told([*words, "--csv", *options, *paths])
+    yield "the option --html", not subprocess.run(["diff", "-r", site, other], check=False).returncode
+    write(other, "robots/hunter.r.html", "changed by someone")
+    ran = subprocess.run([*words, *options[:2], "--title", "Another", *paths], capture_output=True, text=True, check=False)
+    yield "a site is written over", (ran.returncode, ran.stderr) == (0, "") and "Another" in read(
+        os.path.join(other, "robots", "hunter.r.html")).one("title").text()
+    os.unlink(os.path.join(other, "site.list"))
+    ran = subprocess.run([*words, *options, *paths], capture_output=True, text=True, check=False)
+    yield f"a file in the way {ran.stderr!r}", ran.returncode == 3 and ran.stdout.startswith("rank") and ran.stderr.count("\n") == 1
 
 
 def the_table(site: str, table: list[Row]) -> Results:
