@@ -10,7 +10,7 @@ from dataclasses import dataclass, field
 from typing import Iterable, Iterator, Mapping, Sequence
 
 from .facts import Battle, BySeat, Notable, Pair, RobotId, Score
-from .notables import DEAD, notables
+from .notables import DEAD, notables, shortness
 from .shares import interval
 
 
@@ -48,12 +48,12 @@ class Gathering:
         for robot in {seat.robot for seat in battle.seats if seat.damage >= DEAD}:
             for survivor in survivors:
                 known = self._lost[robot].get(survivor)
-                if known is None or battle.cycles < known.cycles:
+                if known is None or shortness(battle) < shortness(known):
                     self._lost[robot][survivor] = battle
 
     def pairs(self) -> Iterator[Pair]:
-        """All pairs."""
-        for (one, other), it in self._pairs.items():
+        """All pairs, in the order of the table."""
+        for (one, other), it in sorted(self._pairs.items(), key=lambda it: [self._rows[robot] for robot in it[0]]):
             total = added(it.seats.values())
             seats = tuple(BySeat(*places, found) for places, found in sorted(it.seats.items()))
             yield Pair(one, other, total, *interval(total), seats, it.notable)
