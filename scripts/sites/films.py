@@ -1,4 +1,4 @@
-"""Makes the pages that play matches: each by a child that does what scripts/replay does, if `crobots-trace` is there."""
+"""Makes pages that play matches: each by a child that does what scripts/replay does, if `crobots-trace` is there."""
 
 from __future__ import annotations
 

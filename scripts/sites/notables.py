@@ -31,8 +31,8 @@ def notables(battles: Iterable[Battle], better: RobotId, worse: RobotId) -> tupl
     """Of the matches of two robots the closest, the shortest, the longest and the greatest upset, as far as there are.
 
     They are chosen from the matches that one of both survived. In the closest one it was damaged most. An upset is one
-    that the worse robot survived, the greatest is that in which it was damaged least. Of equal ones the shorter goes, at
-    last by seed and number: so the order of the matches makes no difference."""
+    that the worse robot survived, the greatest is that in which it was damaged least. Of equal ones the shorter goes,
+    at last that of the lower seed and number: so the order of the matches makes no difference."""
     decided = [it for it in battles if winner(it, better, worse)]
 
     def hurt(battle: Battle) -> int:

@@ -180,9 +180,17 @@ def a_robot(folder: str) -> Results:
     yield "the chart", (len([*chart.all("circle")]), len(changes)) == (4, 1)
     label = "Rating from 2026-11-01 to 2026-11-22: from 250 to 2000"
     yield "the chart in words", chart.attributes["aria-label"] == label
+    yield from another_robot(folder)
+
+
+def another_robot(folder: str) -> Results:
+    """The page of a robot with a bad name, and of one whose source is no UTF-8."""
     other = read(os.path.join(folder, "robots", "_3cscript_3ealert_281_29_3c_2fscript_3e.r.html"))
     yield "a bad name", other.one("h1").text() == made.SCRIPT and "by Ada <Lovelace>" in other.text()
     lost = [it for it in other.all("section") if it.one("h2").text() == "Last lost matches"]
+    worst = next(rows(it) for it in other.all("table") if it.one("caption").text() == "Its worst opponents")
+    yield "its worst opponents", [row[:2] for row in worst[1:3]] == [
+        ["hunter.r", "30.0\u00a0%"], [made.NAMES[-1], "70.0\u00a0%"]]
     yield "a lost match", [it.one("h3").text() for it in lost[0].all("article")] == ["Against hunter.r"]
     latin = read(os.path.join(folder, "robots", "caf_ed_b3_a9.r.html"))
     yield "a source that is no UTF-8", "/* caf\ufffd */ main() { }" in latin.text()

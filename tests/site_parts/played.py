@@ -136,7 +136,15 @@ def the_pairs(site: str, long: list[Row]) -> Results:
                    for seat in (1, 2)]
         yield f"{one} against {other} by seat", [it[:6] for it in rows(page.one("table"))[1:]] == by_seat
         won, tied, lost = (counted[f"{it} 1"] + counted[f"{it} 2"] for it in ("won", "tied", "lost"))
+        upsets = [survivor(it) for it in page.all("article") if "upset" in it.one("h3").text()]
+        was_beaten = any(counts[other, one][f"won {seat}"] for seat in (1, 2))
+        yield f"{one} against {other}: an upset", upsets == ([other] if was_beaten else [])
         yield f"{one} against {other}", f"{won} won, {tied} tied, {lost} lost" in page.one("dl").text()
+
+
+def survivor(card: Element) -> str:
+    """Who won a match."""
+    return next(it.one("bdi").text() for it in card.all("li") if "won" in it.text())
 
 
 def cards(site: str) -> list[tuple[str, Element]]:

@@ -23,7 +23,7 @@ from .reading import dangling, files
 
 Results = Iterator[tuple[str, bool]]
 HERE = os.path.dirname(os.path.abspath(__file__))
-CUTS, KILLS = 10, 3
+CUTS, KILLS = 8, 2
 # Publishes the site of a league of so many robots into a folder.
 WRITER = """
 import sys
