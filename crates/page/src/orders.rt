@@ -1,12 +1,11 @@
 //! Orders: what a run is asked to do, as numbers.
 
 ghost use Rattle.std.specs.Prelude.{◌≡◌, ◌<◌, ◌≤◌, true, length, map, IfSome, IsSome};
-ghost use Rattle.settings.specs.Given.{profile_by};
 ghost use Rattle.page.specs.Orders.{AreWithin, mode_by, numbers_of, setup_of, stretch_of};
 
 use crate::stretches::Stretch;
 use arrayvec::ArrayVec;
-use grammar::Profile;
+use grammar::{MOST_PROFILE, Profile};
 use series::{CYCLES_MAX, FILES_MAX, FIRST_MAX, MATCHES_MAX, Mode, Numbers, Settings};
 
 /// What a run is asked to do.
@@ -21,7 +20,7 @@ pub struct Order {
     pub matches: u32,
     /// The most cycles of a match, 1 to 1,000,000,000.
     pub limit: u32,
-    /// The number of the language profile, 1 or 2.
+    /// The number of the language profile, from 1.
     pub profile: u32,
     /// The number of the first match, 1 to 1,000,000.
     pub first: u32,
@@ -66,20 +65,21 @@ impl Order {
     {
         let matches = 1 <= self.matches && self.matches <= MATCHES_MAX;
         let cycles = 1 <= self.limit && self.limit <= CYCLES_MAX;
-        let profile = 1 <= self.profile && self.profile <= 2;
+        let profile = 1 <= self.profile && self.profile <= MOST_PROFILE;
         let first = 1 <= self.first && self.first <= FIRST_MAX;
         self.mode <= 1 && matches && cycles && profile && first
     }
 
     /// Returns the numbers of a run.
     fn numbers(&self) -> Numbers
+        requires { AreWithin self.now }
         ensures { result ≡ numbers_of self.now }
     {
         Numbers {
             matches: self.matches,
             limit: self.limit,
             seed: self.seed,
-            profile: self.profile(),
+            profile: Profile::numbered(self.profile),
             first: self.first,
         }
     }
@@ -92,17 +92,6 @@ impl Order {
             Mode::Listing
         } else {
             Mode::Matches
-        }
-    }
-
-    /// Returns the language profile.
-    fn profile(&self) -> Profile
-        ensures { result ≡ profile_by self.now.profile }
-    {
-        if self.profile == 1 {
-            Profile::first()
-        } else {
-            Profile::second()
         }
     }
 }
