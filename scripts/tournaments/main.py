@@ -39,8 +39,10 @@ def check(given: argparse.Namespace) -> None:
         raise Fault("--merge reads what was played, so it takes no --plan and no --journal")
     if given.merge and words.settings_given(given):
         raise Fault(f"--merge reads the settings from the records, so it takes no {', '.join(words.settings_given(given))}")
-    if given.plan and (given.journal or given.write):
-        raise Fault("--plan plays nothing, so it takes no --journal and no --write")
+    if given.plan and (given.journal or given.write or given.html):
+        raise Fault("--plan plays nothing, so it takes no --journal, no --write and no --html")
+    if not given.html and (given.title or given.page or given.replays is not None):
+        raise Fault("--title, --page and --replays go with --html")
     if given.against and not given.merge:
         raise Fault("--against goes with --merge")
     check_files(given.write)
@@ -76,6 +78,7 @@ def merge(given: argparse.Namespace) -> None:
     if wrong:
         raise Fault(wrong)
     weighed(given, merger.settings)
+    results.keep_sources(merger.robots())
     results.write(merger.settings, merger.robots())
 
 
@@ -120,6 +123,7 @@ def tournament(name: str, arguments: list[str]) -> None:
             return
         results = Results(given)
         done = session(given, Player(program, given.jobs, folder), plan, results.add)
+        results.keep_sources(plan.robots, folder)
     with stopping(f"stopped while the table was made: {done}"):
         results.write(plan.settings, plan.robots)
 

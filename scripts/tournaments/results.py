@@ -7,9 +7,12 @@ import os
 from functools import cached_property
 from typing import Iterable, Sequence
 
+from sites.tournament_facts import kept_sources
+
 from . import robots, tables
 from .faults import Fault, unwritable
 from .output import show, tell, write
+from .publishing import write_site
 from .records import Record
 from .robots import Robot
 from .settings import SIZE_NAMES, Settings
@@ -27,12 +30,18 @@ class Results:
         self._given = given
         self._tally = Tally()
         forms = {given.form, *(form for form, _ in given.write)}
-        self._spool = Spool() if forms & WITH_MATCHES else None
+        self._spool = Spool() if forms & WITH_MATCHES or given.html else None
+        self._sources: dict[str, bytes] = {}
 
     def add(self, record: Record) -> None:
         self._tally.add(record)
         if self._spool:
             self._spool.add(record)
+
+    def keep_sources(self, among: list[Robot], folder: str = "") -> None:
+        """Reads the robots' sources, from the folder of copies if there is one, if a site is to show them."""
+        if self._given.html:
+            self._sources = kept_sources(among, folder)
 
     def write(self, settings: Settings, among: list[Robot]) -> None:
         """Writes the form for standard output, after those for files. A file that can't be written keeps nothing from the rest."""
@@ -41,6 +50,11 @@ class Results:
         for form, path in self._given.write:
             try:
                 write_file(path, forms.pieces(form))
+            except Fault as why:
+                faults.append(why)
+        if self._given.html:
+            try:
+                forms.write_site(self._sources)
             except Fault as why:
                 faults.append(why)
         show(forms.pieces(self._given.form))
@@ -55,6 +69,7 @@ class Forms:
 
     def __init__(self, given: argparse.Namespace, settings: Settings, among: list[Robot], tally: Tally, spool: Spool | None) -> None:
         weights = dict(zip(SIZE_NAMES, given.by_size)) if given.by_size else None
+        self._given = given
         self._scoring = Scoring(given.points[0], given.points[1], weights)
         self._settings = settings
         self._robots = among
@@ -65,6 +80,10 @@ class Forms:
     @cached_property
     def _standings(self) -> list[Standing]:
         return standings(self._tally, self._names, self._scoring)
+
+    def write_site(self, sources: dict[str, bytes]) -> None:
+        """Writes the site, with these sources by their hashes."""
+        write_site(self._given, self._settings, self._scoring, self._robots, sources, self._standings, self._records())
 
     def pieces(self, form: str) -> Iterable[str]:
         """A form, piece by piece."""

@@ -107,6 +107,11 @@ def tournament(name: str) -> Parser:
         forms.add_argument(f"--{form}", dest="form", action="store_const", const=form, default="table", help=f"print {does}")
     it.add_argument("--write", metavar="FORM=FILE", type=target, action="append", default=[],
                     help="write a form (table, csv, matrix, long, json) into a file, too; may be given often")
+    it.add_argument("--html", metavar="FOLDER", help="write a site into this folder: the table, pairs, robots and matches")
+    it.add_argument("--title", metavar="TEXT", help="with --html: the site's title (default Tournament)")
+    it.add_argument("--page", metavar="URL", help="with --html: the page that plays battles in a browser")
+    it.add_argument("--replays", metavar="N", type=within(0, 100_000),
+                    help="with --html: make so many new pages of matches, if crobots-trace is there (default 100)")
     it.add_argument("robots", metavar="ROBOT", nargs="*", help="source files; with --merge, outputs")
     return it
 
