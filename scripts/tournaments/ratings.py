@@ -5,20 +5,24 @@ all or lost all has a rating too. The robots' mean chance against that one is ex
 
 from __future__ import annotations
 
+import itertools
 import math
 from dataclasses import dataclass
-from operator import mul
-from typing import Sequence
+from operator import add, truediv
+from typing import Iterator, Sequence
 
-from .bootstrap import ROUNDS, unpacked
+from . import matrices
+from .bootstrap import ROUNDS, rounds
+from .matrices import Factors, Matrix
 from .tallies import Tally
 
 SCALE = 400 / math.log(10)
 STEP_MAX, STEPS_MAX = 1.5, 200
-# A slope below FLAT needs no step. After a step shorter than CLOSE what is left is about its square: 0.01 of a rating.
-FLAT, CLOSE = 1e-9, 5e-3
+# The curvature is worked out anew if a step isn't shorter than so much of the last one. So what is left after a step
+# shorter than CLOSE is at most a third of it: 0.006 of a rating.
+SHORTER, CLOSE = 0.25, 1e-4
+EXACT = 1e-10
 OUTSIDE = ROUNDS // 40
-Matrix = list[list[float]]
 
 
 @dataclass(frozen=True)
@@ -37,12 +41,23 @@ class Rating:
 def ratings(tally: Tally, robots: int) -> list[Rating]:
     """The ratings of the robots by their positions, with intervals from the bootstrap."""
     places = sorted(tally.pairs)
-    pairs = [tally.pairs[place] for place in places]
-    whole = fitted(robots, places, [it.played for it in pairs], [it.beaten[0] for it in pairs], [it.beaten[1] for it in pairs], [0.0] * robots)
-    played = zip(*(unpacked(it.rounds_played) for it in pairs))
-    ones, others = zip(*(unpacked(it.rounds_beaten[0]) for it in pairs)), zip(*(unpacked(it.rounds_beaten[1]) for it in pairs))
-    rounds = [fitted(robots, places, *drawn, whole) for drawn in zip(played, ones, others)]
-    return [interval(value, sorted(it)) for value, it in zip(whole, zip(*rounds))]
+    pairs = Pairs(robots, places)
+    played = [tally.pairs[place].played for place in places]
+    whole = Fit(pairs, played, scores(tally, robots)).fitted([0.0] * robots, EXACT)
+    factors = matrices.factored(pairs.curvature(played, whole))
+    of_pairs, of_robots = rounds(tally.pairs[place].rounds for place in places), rounds(map(tally.rounds.__getitem__, range(robots)))
+    fits = (Fit(pairs, drawn, [twice / 2 for twice in score]) for drawn, score in zip(of_pairs, of_robots))
+    found = [fit.fitted(whole, CLOSE, factors) for fit in fits]
+    return [interval(value, sorted(it)) for value, it in zip(whole, zip(*found))]
+
+
+def scores(tally: Tally, robots: int) -> list[float]:
+    """How many others each robot has beaten, each tie counted as a half."""
+    found = [0.0] * robots
+    for place, pair in tally.pairs.items():
+        for robot, mine, theirs in zip(place, pair.beaten, reversed(pair.beaten)):
+            found[robot] += (pair.played + mine - theirs) / 2
+    return found
 
 
 def interval(value: float, rounds: list[float]) -> Rating:
@@ -50,63 +65,80 @@ def interval(value: float, rounds: list[float]) -> Rating:
     return Rating(SCALE * value, SCALE * rounds[OUTSIDE], SCALE * rounds[-1 - OUTSIDE])
 
 
-def fitted(robots: int, places: list[tuple[int, int]], played: Sequence[int], ones: Sequence[int], others: Sequence[int], begin: list[float]) -> list[float]:
-    """The strengths of the greatest likelihood, by Newton's method with steps of limited length.
+class Pairs:
+    """The pairs that have played, sorted; sums over the pairs of each robot."""
 
-    Of each pair, the lower position first, it takes how many matches it played, and how many each of both has won."""
-    scores = [(matches + one - other) / 2 for matches, one, other in zip(played, ones, others)]
-    strengths = begin[:]
-    for _ in range(STEPS_MAX):
-        curvature, slope = newton(robots, places, played, scores, strengths)
-        if max(map(abs, slope)) < FLAT:
-            break
-        steps = solved(curvature, slope)
-        longest = max(map(abs, steps))
-        scale = min(1.0, STEP_MAX / longest)
-        strengths = [it + scale * step for it, step in zip(strengths, steps)]
-        if longest < CLOSE:
-            break
-    return strengths
+    def __init__(self, robots: int, places: list[tuple[int, int]]) -> None:
+        self._robots = robots
+        self._ones = [one for one, _ in places]
+        self._others = [other for _, other in places]
+        self._by_other = sorted(range(len(places)), key=self._others.__getitem__)
+        self._ends_of_ones = ends(robots, self._ones)
+        self._ends_of_others = ends(robots, self._others)
 
+    def slope(self, played: Sequence[int], scores: list[float], strengths: list[float]) -> list[float]:
+        """The slope of the likelihood: what each robot's score is more than expected."""
+        powers = [*map(math.exp, strengths)]
+        shares = self._shares(played, powers)
+        sums = map(add, sliced(shares, self._ends_of_ones), sliced([*map(shares.__getitem__, self._by_other)], self._ends_of_others))
+        return [score + 0.5 - power * (it + 1 / (1 + power)) for score, power, it in zip(scores, powers, sums)]
 
-def newton(robots: int, places: list[tuple[int, int]], played: Sequence[int], scores: list[float], strengths: list[float]) -> tuple[Matrix, list[float]]:
-    """The curvature of the likelihood, below the diagonal and on it, and its slope. A score is that of a pair's first robot."""
-    powers = [math.exp(it) for it in strengths]
-    chances = [it / (1 + it) for it in powers]
-    slope = [0.5 - chance for chance in chances]
-    diagonal = [chance * (1 - chance) for chance in chances]
-    curvature = [[0.0] * row for row in range(robots)]
-    for (one, other), matches, score in zip(places, played, scores):
-        chance = powers[one] / (powers[one] + powers[other])
-        expected = matches * chance
-        more, bend = score - expected, expected * (1 - chance)
-        slope[one] += more
-        slope[other] -= more
-        diagonal[one] += bend
-        diagonal[other] += bend
-        curvature[other][one] = -bend
-    for row, bend in zip(curvature, diagonal):
-        row.append(bend)
-    return curvature, slope
+    def curvature(self, played: Sequence[int], strengths: list[float]) -> Matrix:
+        """The curvature of the likelihood, below the diagonal and on it."""
+        powers = [*map(math.exp, strengths)]
+        diagonal = [power / (1 + power) ** 2 for power in powers]
+        found = [[0.0] * row for row in range(self._robots)]
+        for one, other, share in zip(self._ones, self._others, self._shares(played, powers)):
+            bend = share * powers[one] * powers[other] / (powers[one] + powers[other])
+            diagonal[one] += bend
+            diagonal[other] += bend
+            found[other][one] = -bend
+        for row, bend in zip(found, diagonal):
+            row.append(bend)
+        return found
+
+    def _shares(self, played: Sequence[int], powers: list[float]) -> list[float]:
+        """Of each pair its matches divided by both powers: times one's power that is what this one is expected to win."""
+        both = map(add, map(powers.__getitem__, self._ones), map(powers.__getitem__, self._others))
+        return [*map(truediv, played, both)]
 
 
-def solved(matrix: Matrix, right: list[float]) -> list[float]:
-    """Solves a system with a symmetric positive matrix, of which the lower half is given.
+def ends(robots: int, members: list[int]) -> list[int]:
+    """Where the entries of each robot end, once they are sorted by it."""
+    count = [0] * robots
+    for robot in members:
+        count[robot] += 1
+    return [*itertools.accumulate(count)]
 
-    The matrix is taken apart into a lower one with ones on its diagonal, a diagonal one, and the first one turned over."""
-    lower: Matrix = []
-    inverse: list[float] = []
-    found: list[float] = []
-    for given, wanted in zip(matrix, right):
-        made: list[float] = []
-        for row, value in zip(lower, given):
-            made.append(value - sum(map(mul, made, row)))
-        unit = [*map(mul, made, inverse)]
-        inverse.append(1 / (given[-1] - sum(map(mul, made, unit))))
-        found.append(wanted - sum(map(mul, unit, found)))
-        lower.append(unit)
-    found = [*map(mul, found, inverse)]
-    for row in reversed(range(len(found))):
-        for column, factor in enumerate(lower[row]):
-            found[column] -= factor * found[row]
-    return found
+
+def sliced(values: list[float], ends: list[int]) -> Iterator[float]:
+    """The sums of the slices that end there."""
+    return (sum(values[begin:end]) for begin, end in zip([0, *ends], ends))
+
+
+@dataclass
+class Fit:
+    """Matches to which strengths are fitted: how many each pair played, and the score of each robot."""
+
+    pairs: Pairs
+    played: Sequence[int]
+    scores: list[float]
+
+    def fitted(self, begin: list[float], close: float, factors: Factors | None = None) -> list[float]:
+        """The strengths of the greatest likelihood, by Newton's method with steps of limited length.
+
+        A curvature that is given, factored, is used as long as steps get shorter fast."""
+        strengths, before = begin, math.inf
+        for _ in range(STEPS_MAX):
+            if factors is None:
+                factors = matrices.factored(self.pairs.curvature(self.played, strengths))
+            steps = matrices.solved(factors, self.pairs.slope(self.played, self.scores, strengths))
+            longest = max(abs(it) for it in steps)
+            scale = min(1.0, STEP_MAX / longest) if longest else 1.0
+            strengths = [it + scale * step for it, step in zip(strengths, steps)]
+            if longest < close:
+                break
+            if longest > SHORTER * before or scale < 1:
+                factors = None
+            before = longest
+        return strengths
