@@ -5,7 +5,7 @@ from __future__ import annotations
 import json
 from typing import Any, Sequence
 
-from tournaments.tables import aligned, comma_separated, plain
+from tournaments.tables import aligned, comma_separated, rounded
 
 from .seasons import Season
 from .standings import Standing
@@ -17,7 +17,7 @@ HEAD = ["rank", "robot", "played", "won", "tied", "lost", "points", "rating", "l
 def cells(it: Standing) -> list[str]:
     """A row of the table."""
     score, rating = it.score, it.rating
-    return [str(it.rank), it.robot, str(score.played), str(score.won), str(score.tied), str(score.lost), plain(it.points),
+    return [str(it.rank), it.robot, str(score.played), str(score.won), str(score.tied), str(score.lost), rounded(it.points),
             str(round(rating.value)), str(round(rating.low)), str(round(rating.high)), CLOSE if it.close else ""]
 
 
