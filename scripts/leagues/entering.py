@@ -61,7 +61,7 @@ def add(given: argparse.Namespace) -> None:
         raise Fault("--id is for one robot")
     joining = [(given.id or named_after(path), entries.read(path), path) for path in given.robots]
     with opened(given.league) as store:
-        checked(store, [(path, source) for _, source, path in joining])
+        checked(store, program(given.crobots), [(path, source) for _, source, path in joining])
         with store.change():
             for robot, source, _ in joining:
                 entries.add(store, robot, given.author, source, given.day or today())
@@ -73,9 +73,9 @@ def named_after(path: str) -> str:
     return os.path.basename(path).removesuffix(".r")
 
 
-def checked(store: Store, sources: list[tuple[str, bytes]]) -> None:
+def checked(store: Store, crobots: Program, sources: list[tuple[str, bytes]]) -> None:
     """Sees to it that sources compile, by the season's profile."""
-    crobots, profile = program(None), seasons.season(store).rules.profile
+    profile = seasons.season(store).rules.profile
     for path, source in sources:
         compiles(crobots, profile, path, source)
 
@@ -84,7 +84,7 @@ def change(given: argparse.Namespace) -> None:
     """Gives a robot other bytes."""
     source = entries.read(given.robot)
     with opened(given.league) as store:
-        checked(store, [(given.robot, source)])
+        checked(store, program(given.crobots), [(given.robot, source)])
         with store.change():
             entries.change(store, given.id, source, given.day or today())
     show([f"{given.id} changed\n"])

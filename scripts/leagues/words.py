@@ -52,7 +52,8 @@ def points(text: str) -> dict[str, Any]:
 
 def of_rules(it: argparse.ArgumentParser) -> None:
     """The words by which a season's rules are given."""
-    one = it.add_argument_group("rules").add_argument
+    rules = it.add_argument_group("rules")
+    one = rules.add_argument
     one("--mode", metavar="MODE", type=mode, help="who plays whom: pairs, threes, fours, sizes:A,B,C, ladder, gauntlet:ROBOT (default pairs)")
     one("-m", dest="matches", metavar="MATCHES", type=within(1, MATCHES_MAX), help="matches of each group (default 100)")
     one("-l", dest="cycles", metavar="CYCLES", type=within(1, CYCLES_MAX), help="cycles of a match (default 500000)")
@@ -62,8 +63,7 @@ def of_rules(it: argparse.ArgumentParser) -> None:
     one("--sample", metavar="N", type=within(0, 10_000_000), help="play only N groups, drawn by their robots; 0 for all (default 0)")
     one("--until", metavar="all|sure", choices=(ALL, SURE), help="play all matches of a pair, or until its result is sure (default all)")
     one("--anchor", metavar="ROBOT=RATING", type=anchor, help="the robot with a fixed rating, or none (default none)")
-    one("--crobots", metavar="PROGRAM",
-        help="the program (default: crobots on the path, or the one installed or built with this script)")
+    of_program(rules)
 
 
 def ruled(before: Rules, given: argparse.Namespace) -> Rules:
@@ -97,6 +97,10 @@ def of_playing(it: argparse.ArgumentParser) -> None:
     it.add_argument("-j", dest="jobs", metavar="JOBS", type=within(1, 1024), default=os.cpu_count() or 1,
                     help="series at a time (default: the processors)")
     it.add_argument("--quiet", action="store_true", help="don't say how far it is")
+    of_program(it)
+
+
+def of_program(it: argparse._ActionsContainer) -> None:
     it.add_argument("--crobots", metavar="PROGRAM",
                     help="the program (default: crobots on the path, or the one installed or built with this script)")
 
@@ -128,11 +132,13 @@ class Words:
         it = self._command("add", "lets robots join")
         it.add_argument("--id", metavar="ID", help="the robot's id (default: the file's name without .r)")
         it.add_argument("--author", metavar="NAME", default="", help="who wrote them")
+        of_program(it)
         of_day(it)
         it.add_argument("robots", metavar="ROBOT", nargs="+", help="source files")
         it = self._command("change", "gives a robot other bytes")
         it.add_argument("id", metavar="ID", help="the robot's id")
         it.add_argument("robot", metavar="ROBOT", help="its source file")
+        of_program(it)
         of_day(it)
         it = self._command("withdraw", "lets robots leave; their matches are kept")
         it.add_argument("ids", metavar="ID", nargs="+", help="robots' ids")
@@ -170,8 +176,7 @@ class Words:
         it.add_argument("site", metavar="DIR", help="the folder of the site")
         it.add_argument("--title", metavar="TEXT", help="the site's title (default: the league's folder)")
         it.add_argument("--page", metavar="URL", default="", help="the page that plays battles in a browser")
-        it.add_argument("--crobots", metavar="PROGRAM",
-                        help="the program (default: crobots on the path, or the one installed or built with this script)")
+        of_program(it)
         of_day(it)
         it = self._command("verify", "replays matches of an archive, and compares")
         it.add_argument("--all", action="store_true", help="replay all of its matches")
