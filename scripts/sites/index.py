@@ -1,0 +1,106 @@
+"""The first page: the table, with ratings as a chart."""
+
+from __future__ import annotations
+
+from . import charts, places
+from .facts import Standing, Table
+from .frames import page, section, sentence
+from .lookups import Lookup, place_of
+from .markup import Markup, joined, tag
+from .names import named
+from .numbers import count, counted, decimal, interval
+from .scales import Scale
+from .tables import NUMBER, TEXT, Column, table
+
+
+def index(lookup: Lookup) -> str:
+    """The page of the table."""
+    facts = lookup.facts
+    title = tag("h1", tag("bdi", named(facts.title)))
+    if not facts.standings:
+        return page(lookup, places.INDEX, "", title, sentence("Nothing was played yet."))
+    return page(lookup, places.INDEX, "", title, summary(lookup), standings(lookup), reading(lookup), downloads())
+
+
+def summary(lookup: Lookup) -> Markup:
+    """How large all of it is."""
+    facts = lookup.facts
+    parts = [facts.day, counted(len(facts.standings), "robot"), counted(matches(lookup), "match")]
+    return tag("p", " · ".join(filter(None, parts)), class_="lead")
+
+
+def matches(lookup: Lookup) -> int:
+    """How many matches were played, if each had robots of one size; else what the pairs played."""
+    facts = lookup.facts
+    if len(facts.settings.sizes) == 1:
+        return sum(it.score.played for it in facts.standings) // facts.settings.sizes[0]
+    return sum(it.score.played for it in facts.pairs)
+
+
+def standings(lookup: Lookup) -> Markup:
+    """The table, whose rows lead to the robots."""
+    facts = lookup.facts
+    before = facts.earlier[-1] if facts.earlier else None
+    axis = charts.rating_scale([place_of(it) for it in facts.standings])
+    columns: list[Column] = [("Rank", NUMBER), ("Robot", TEXT), (facts.points.capitalize(), NUMBER), ("Rating", NUMBER),
+               ("95 % interval", TEXT), (joined(tag("span", "Rating and interval", class_="unseen"), charts.rating_axis(axis)), TEXT),
+               ("Played", NUMBER), ("Won", NUMBER), ("Tied", NUMBER), ("Lost", NUMBER), ("Results", TEXT)]
+    if before:
+        columns.insert(1, ("Trend", TEXT))
+    rows = [row(lookup, axis, it, before) for it in facts.standings]
+    return tag("section", table("Table", columns, rows, 2 if before else 1), class_="standings")
+
+
+def row(lookup: Lookup, axis: Scale, it: Standing, before: Table | None) -> list[str]:
+    """A robot's row."""
+    score = it.score
+    cells = [str(it.rank), robot(lookup, it), decimal(it.points), joined(charts.whole(it.rating), close(it)),
+             interval(it.low, it.high), charts.rating_row(axis, place_of(it)), count(score.played), count(score.won),
+             count(score.tied), count(score.lost), charts.parts(score)]
+    if before:
+        cells.insert(1, trend(it, before))
+    return cells
+
+
+def robot(lookup: Lookup, it: Standing) -> Markup:
+    """A robot with its author."""
+    author = lookup.robots[it.robot].author
+    link = lookup.robot_link(it.robot, "")
+    return joined(link, tag("span", tag("bdi", named(author)), class_="author")) if author else link
+
+
+def close(it: Standing) -> Markup:
+    """The mark of a robot whose interval overlaps that of the one above."""
+    return tag("abbr", "≈", title="close to the robot above: their order may be chance", class_="close") if it.close else Markup("")
+
+
+def trend(it: Standing, before: Table) -> Markup:
+    """How many ranks a robot rose or fell since the table before."""
+    was = before.places.get(it.robot)
+    if was is None:
+        return tag("span", "new", class_="trend new")
+    rose = was.rank - it.rank
+    if not rose:
+        return tag("span", tag("span", "=", aria_hidden="true"), tag("span", "same", class_="unseen"), class_="trend same")
+    way, sign = ("up", "▲") if rose > 0 else ("down", "▼")
+    return tag("span", tag("span", sign, aria_hidden="true"), tag("span", f"{way} ", class_="unseen"), str(abs(rose)),
+               class_=f"trend {way}")
+
+
+def reading(lookup: Lookup) -> Markup:
+    """What the columns mean."""
+    facts = lookup.facts
+    said = [
+        "A rating says how often a robot beats another one: at a distance of 400 it wins ten times as often as it loses. ",
+        "A dot is a rating, its bar the 95 % interval, and an arrow says that the bar goes on. ",
+        "≈ marks a robot whose interval overlaps that of the robot above: their order may be chance.",
+    ]
+    if facts.earlier:
+        said.append(f" The trend is the change of rank since {facts.earlier[-1].day}.")
+    return section("How to read it", sentence(*said), kind="note")
+
+
+def downloads() -> Markup:
+    """The same as data."""
+    named_files = ((places.TABLE, "the table (CSV)"), (places.PAIRS, "the pairs (CSV)"), (places.EVERYTHING, "everything (JSON)"))
+    return section("Data", tag("ul", *(tag("li", tag("a", said, href=where)) for where, said in named_files), class_="links"))

@@ -1,0 +1,34 @@
+"""Numbers as a reader is shown them."""
+
+from __future__ import annotations
+
+from decimal import ROUND_HALF_EVEN, Decimal
+
+from .charts import whole
+
+
+def count(number: int) -> str:
+    """A whole number with commas between its thousands."""
+    return f"{number:,}"
+
+
+def counted(number: int, what: str) -> str:
+    """So many of something, as '1 match' or '2 matches'."""
+    many = what if number == 1 else what + ("es" if what.endswith("ch") else "s")
+    return f"{count(number)} {many}"
+
+
+def decimal(number: Decimal) -> str:
+    """A number with at most three digits after its point, and no zero at its end."""
+    text = f"{number.quantize(Decimal('0.001'), ROUND_HALF_EVEN):f}"
+    return text.rstrip("0").rstrip(".") if "." in text else text
+
+
+def percent(part: float) -> str:
+    """A part as a percentage with one digit after its point."""
+    return f"{100 * part:.1f} %"
+
+
+def interval(low: float, high: float) -> str:
+    """An interval of ratings."""
+    return f"{whole(low)} to {whole(high)}"

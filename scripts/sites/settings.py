@@ -1,0 +1,55 @@
+"""The page of settings: what was played by which program, and how that is checked."""
+
+from __future__ import annotations
+
+import hashlib
+import os
+
+from . import places
+from .frames import page, section, sentence
+from .lookups import Lookup
+from .markup import Markup, joined, tag
+from .names import shown
+from .numbers import count, counted
+from .tables import listed, scrolling
+
+SIZES = {2: "pairs", 3: "threes", 4: "fours"}
+
+
+def settings_page(lookup: Lookup) -> str:
+    """The page of settings."""
+    return page(lookup, places.SETTINGS, "Settings", tag("h1", "Settings"), rules(lookup), program(lookup), archive(lookup))
+
+
+def rules(lookup: Lookup) -> Markup:
+    it = lookup.facts.settings
+    rows = [("Played as", ", ".join(SIZES[size] for size in it.sizes)), ("Matches of a group", count(it.matches)),
+            ("Cycles of a match, at most", count(it.cycles)), ("Seed", str(it.seed)), ("Language profile", str(it.profile)), *it.more]
+    return section("Matches", listed(rows))
+
+
+def program(lookup: Lookup) -> Markup:
+    """The program that played."""
+    it = lookup.facts.program
+    return section("Program", listed([("Version", shown(it.version)), ("SHA-256 of its file", tag("code", it.sha256))]))
+
+
+def archive(lookup: Lookup) -> Markup:
+    """The archive, and how it is checked."""
+    facts = lookup.facts
+    if not facts.archive:
+        return Markup("")
+    with open(facts.archive, "rb") as file:
+        digest = hashlib.file_digest(file, "sha256").hexdigest()
+    place = places.archive_file(facts.archive)
+    rows = [("File", joined(tag("a", place.rpartition("/")[2], href=place), f" ({counted(os.path.getsize(facts.archive), 'byte')})")),
+            ("SHA-256", tag("code", digest))]
+    return section("Archive", sentence("All sources, the settings and all results, in one file."), listed(rows), *verify(facts.verify))
+
+
+def verify(words: str) -> list[Markup]:
+    """How the archive is checked."""
+    if not words:
+        return []
+    return [sentence("This command plays some of its matches again, and says what differs:"),
+            scrolling(tag("pre", tag("code", words)), "Command line", "command")]

@@ -1,0 +1,34 @@
+"""Tables of HTML: each scrolls by itself, has a caption, and says what its rows and columns are."""
+
+from __future__ import annotations
+
+from typing import Iterable, Sequence
+
+from .markup import Markup, escaped, tag
+
+# What a column has: text on its left side, or numbers on its right one.
+TEXT, NUMBER = None, "number"
+Column = tuple[str, str | None]
+
+
+def table(caption: str, columns: Sequence[Column], rows: Iterable[Sequence[str]], names: int = 0) -> Markup:
+    """A table whose rows are named by the cell of this column."""
+    head = tag("tr", *(tag("th", title, scope="col", class_=kind) for title, kind in columns))
+    kinds = [kind for _, kind in columns]
+    body = [tag("tr", *(cell(text, kind, at == names) for at, (text, kind) in enumerate(zip(row, kinds)))) for row in rows]
+    whole = tag("table", tag("caption", caption), tag("thead", head), tag("tbody", *body))
+    return scrolling(whole, caption)
+
+
+def cell(text: str, kind: str | None, is_name: bool) -> Markup:
+    return tag("th", text, scope="row", class_=kind) if is_name else tag("td", text, class_=kind)
+
+
+def scrolling(inside: Markup, label: str, kind: str = "scroll") -> Markup:
+    """A box that scrolls by itself, also by keys."""
+    return tag("div", inside, class_=kind, tabindex=0, role="region", aria_label=label)
+
+
+def listed(rows: Iterable[tuple[str, str]]) -> Markup:
+    """Terms with what they are."""
+    return tag("dl", *(tag("div", tag("dt", escaped(term)), tag("dd", said)) for term, said in rows if said), class_="facts")
