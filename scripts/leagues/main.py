@@ -11,10 +11,12 @@ from tournaments.programs import program
 from . import entering, showing, turning
 from .days import today
 from .farm import planned
+from .publishing import publish
 from .sessions import checked, play, wanted
 from .seasons import running
 from .store import opened
 from .taking import take
+from .verifying import verify
 from .words import Words
 from tournaments.faults import Fault
 
@@ -45,6 +47,7 @@ def take_records(given: argparse.Namespace) -> None:
 COMMANDS: dict[str, Callable[[argparse.Namespace], None]] = {
     "init": entering.init, "set": entering.settle, "add": entering.add, "change": entering.change, "withdraw": entering.withdraw,
     "play": play_or_plan, "take": take_records, "season": turning.turn, "status": showing.status, "table": showing.table,
+    "publish": publish, "verify": verify,
 }
 
 

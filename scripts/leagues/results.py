@@ -4,7 +4,7 @@ from __future__ import annotations
 
 from itertools import groupby
 from operator import itemgetter
-from typing import Iterator, Sequence
+from typing import Iterator, NamedTuple, Sequence
 
 from tournaments.faults import FILE, Fault
 from tournaments.records import Match, match
@@ -17,13 +17,21 @@ from .store import Store
 Seated = tuple[str, str]
 DEAD = 100
 BY = "seating.cycles = ? AND profile = ? AND program = ?"
-COLUMNS = "seating, battle.number, battle.cycles, damage1, damage2, damage3, damage4"
+COLUMNS = "seating, battle.number, battle.cycles, damage1, damage2, damage3, damage4, battle.day"
 JOINED = f"FROM battle JOIN seating ON seating.number = seating WHERE {BY}"
 INSERT = "INSERT INTO battle VALUES (?, ?, ?, ?, ?, ?, ?, ?)"
 
 
 def seated(hashes: Sequence[str], seed: int) -> Seated:
     return ",".join(hashes), str(seed)
+
+
+class Played(NamedTuple):
+    """A match with its number and the day on which it was played."""
+
+    number: int
+    match: Match
+    day: str
 
 
 class Results:
@@ -72,11 +80,11 @@ class Results:
             found.setdefault(seating, {})[Match(0, tuple(damage)).results] = count
         return found
 
-    def each(self) -> Iterator[tuple[int, list[tuple[int, Match]]]]:
+    def each(self) -> Iterator[tuple[int, list[Played]]]:
         """The matches of each seating, by their numbers."""
         rows = self._store.database.execute(f"SELECT {COLUMNS} {JOINED} ORDER BY seating, battle.number", self._by)
         for seating, battles in groupby(rows, itemgetter(0)):
-            yield int(seating), [(number, ended(cycles, damage)) for _, number, cycles, *damage in battles]
+            yield int(seating), [Played(number, ended(cycles, damage), day) for _, number, cycles, *damage, day in battles]
 
 
 def ended(cycles: int, damage: Sequence[int | None]) -> Match:

@@ -7,8 +7,7 @@ from decimal import Decimal
 from typing import Sequence
 
 from tournaments.ratings import Rating, ratings
-from tournaments.records import Record
-from tournaments.records import Series
+from tournaments.records import Record, Series
 from tournaments.robots import Robot
 from tournaments.tallies import Score, Tally
 
@@ -39,7 +38,7 @@ def standings(schedule: Schedule, results: Results) -> list[Standing]:
     field = schedule.field
     parts = scores(schedule, results)
     played, worth = total(parts, len(field.robots)), points(parts, len(field.robots), field.rules)
-    rated = anchored(schedule, ratings(tallied(schedule, results), len(field.robots))) if parts else []
+    rated = rating(schedule, tallied(schedule, results)) if parts else []
     rungs = on_ladder(schedule, results) if field.rules.mode == LADDER else {}
     found: list[Standing] = []
     order = sorted(range(len(field.robots)), key=lambda at: (
@@ -75,15 +74,14 @@ def tallied(schedule: Schedule, results: Results) -> Tally:
         if number in where:
             seats, seed = where[number]
             series = Series(seats, seed, battles[0][0], len(battles))
-            said = ",".join(":".join(map(str, (match.cycles, *match.damage))) for _, match in battles)
+            said = ",".join(":".join(map(str, (match.cycles, *match.damage))) for _, match, _ in battles)
             tally.add(Record(schedule.settings, series, tuple(robots[at] for at in seats), said))
     return tally
 
 
-def anchored(schedule: Schedule, rated: list[Rating]) -> list[Rating]:
-    """The ratings, all higher or lower by so much that the robot with the fixed rating has it."""
+def rating(schedule: Schedule, tally: Tally) -> list[Rating]:
+    """The ratings of all robots. If one has a fixed rating, the others have theirs above it or below it."""
     rules = schedule.field.rules
-    if not rules.anchor:
-        return rated
-    by = rules.anchored - rated[schedule.place(rules.anchor)].value
-    return [Rating(it.value + by, it.low + by, it.high + by) for it in rated]
+    anchor = schedule.place(rules.anchor) if rules.anchor else None
+    rated = ratings(tally, len(schedule.keys), anchor)
+    return [Rating(it.value + rules.anchored, it.low + rules.anchored, it.high + rules.anchored) for it in rated]

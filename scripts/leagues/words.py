@@ -94,10 +94,14 @@ def of_day(it: argparse.ArgumentParser) -> None:
 
 def of_playing(it: argparse.ArgumentParser) -> None:
     """The words of what plays."""
-    it.add_argument("-j", dest="jobs", metavar="JOBS", type=within(1, 1024), default=os.cpu_count() or 1,
-                    help="series at a time (default: the processors)")
+    of_jobs(it)
     it.add_argument("--quiet", action="store_true", help="don't say how far it is")
     of_program(it)
+
+
+def of_jobs(it: argparse.ArgumentParser) -> None:
+    it.add_argument("-j", dest="jobs", metavar="JOBS", type=within(1, 1024), default=os.cpu_count() or 1,
+                    help="programs at a time (default: the processors)")
 
 
 def of_program(it: argparse._ActionsContainer) -> None:
@@ -176,7 +180,11 @@ class Words:
         it.add_argument("site", metavar="DIR", help="the folder of the site")
         it.add_argument("--title", metavar="TEXT", help="the site's title (default: the league's folder)")
         it.add_argument("--page", metavar="URL", default="", help="the page that plays battles in a browser")
-        of_program(it)
+        it.add_argument("--replays", metavar="N", type=within(0, 100_000), default=100,
+                        help="make so many new pages of matches, if crobots-trace is there (default 100)")
+        it.add_argument("--sums", metavar="N", type=within(0, 1000), default=10,
+                        help="sum up so many matches of each robot, if crobots-trace is there (default 10)")
+        of_jobs(it)
         of_day(it)
         it = self._command("verify", "replays matches of an archive, and compares")
         it.add_argument("--all", action="store_true", help="replay all of its matches")
