@@ -1,4 +1,4 @@
-"""The commands that say who plays and by which rules: init, set, add, change, withdraw."""
+"""The commands that say who plays and by which rules: init, rules, add, change, withdraw."""
 
 from __future__ import annotations
 
@@ -26,8 +26,8 @@ def init(given: argparse.Namespace) -> None:
     show([f"{given.league} is a league now\n"])
 
 
-def settle(given: argparse.Namespace) -> None:
-    """Changes the rules of the season."""
+def rules(given: argparse.Namespace) -> None:
+    """Changes the rules of the season, if any are given, and says them."""
     with opened(given.league) as store, store.change():
         season = seasons.running(store)
         by = ruled(season.rules, given)
@@ -96,6 +96,6 @@ def withdraw(given: argparse.Namespace) -> None:
         by = seasons.season(store).rules
         for robot in given.ids:
             if robot in (by.anchor, by.champion):
-                raise Fault(f"the rules name the robot {robot}, so it can't leave; `set` changes them")
+                raise Fault(f"the rules name the robot {robot}, so it can't leave; `rules` changes them")
             entries.withdraw(store, robot, given.day or today())
     show(f"{robot} left\n" for robot in given.ids)

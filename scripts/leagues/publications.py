@@ -10,7 +10,7 @@ from tournaments.ratings import Rating
 from tournaments.tallies import Score
 
 from .seasons import Season
-from .standings import Standing
+from .standings import Standing, placed
 from .store import Store
 
 COLUMNS = "division, rank, robot, sha256, won, tied, lost, points, rating, low, high"
@@ -52,8 +52,11 @@ def publications(store: Store) -> list[Publication]:
 def published(store: Store, number: int) -> list[Standing]:
     """The table of a publication."""
     rows = store.rows(f"SELECT {COLUMNS} FROM standing WHERE publication = ? ORDER BY division, rank, robot", number)
-    return [Standing(division, rank, robot, sha256, Score(won, tied, lost), Decimal(points), Rating(rating, low, high))
-            for division, rank, robot, sha256, won, tied, lost, points, rating, low, high in rows]
+    found: list[Standing] = []
+    for division, rank, robot, sha256, won, tied, lost, points, *rating in rows:
+        it = Standing(division, rank, robot, sha256, Score(won, tied, lost), Decimal(points), Rating(*rating))
+        found.append(placed(found, it))
+    return found
 
 
 def final(store: Store, season: Season) -> list[Standing]:

@@ -39,6 +39,10 @@ class Schedule:
         for division in range(1, divisions + 1):
             yield from self._among(self.field.places(division) if divisions > 1 else range(len(self.keys)))
 
+    def is_of_a_division(self, group: Group) -> bool:
+        """Reports whether all robots of a group are of one division. Else one is there for the ratings alone."""
+        return len({self.field.division(self.field.robots[at].robot) for at in group}) == 1
+
     def _among(self, places: Sequence[int]) -> Iterator[Group]:
         """The groups of these robots."""
         if not self.settings.sample:

@@ -64,9 +64,9 @@ def begin(store: Store, name: str, day: str, by: Rules, divisions: dict[str, int
 
 def end(store: Store, season: Season, day: str) -> None:
     """Ends a season."""
-    if day < season.begun:
-        raise Fault(f"the season {season.name} began on {season.begun}, so it can't end on {day}")
-    count = store.one("SELECT count(*) FROM entry")[0]
+    count, last = store.one("SELECT count(*), max(day) FROM entry")
+    if day < max(season.begun, last or ""):
+        raise Fault(f"the season {season.name} goes on since {season.begun}, the last entry is of {last}: it can't end on {day}")
     store.run("UPDATE season SET ended = ?, last_entry = ? WHERE number = ?", day, count, season.number)
 
 

@@ -8,10 +8,10 @@ from contextlib import closing
 from dataclasses import dataclass
 
 from tournaments.faults import Fault
-from tournaments.output import tell
+from tournaments.output import show, tell
 from tournaments.plans import Plan
 from tournaments.playing import Player
-from tournaments.programs import Program
+from tournaments.programs import Program, program
 from tournaments.progress import Progress
 from tournaments.records import Record, Series
 from tournaments.robots import Robot
@@ -19,6 +19,7 @@ from tournaments.settings import Group
 from tournaments.signals import Stopped, watch
 
 from .days import today
+from .farm import planned
 from .locks import alone
 from .missing import missing, nearest
 from .results import Results, keep, seated
@@ -27,7 +28,7 @@ from .schedules import Schedule
 from .scores import points, scores
 from .seasons import Season, field, running
 from .sources import laid
-from .store import Store
+from .store import Store, opened
 
 
 @dataclass(frozen=True)
@@ -66,28 +67,40 @@ def wanted(store: Store, season: Season, jobs: int, piece: int | None) -> Wanted
     return Wanted(Plan(schedule.settings, robots, most, tuple(series)), folder)
 
 
-def checked(season: Season, program: Program) -> None:
+def checked(season: Season, found: Program) -> None:
     """Refuses a program that isn't the season's."""
-    if program.sha256 != season.rules.program:
-        raise Fault(f"{program.path} is not the program of this season: its hash is {program.sha256[:16]}, "
+    if found.sha256 != season.rules.program:
+        raise Fault(f"{found.path} is not the program of this season: its hash is {found.sha256[:16]}, "
                     f"that of the season's is {season.rules.program[:16]}")
 
 
-def play(store: Store, given: argparse.Namespace, program: Program) -> None:
+def play(given: argparse.Namespace) -> None:
+    """Plays what is missing, or prints it."""
+    found = program(given.crobots)
+    with opened(given.league) as store:
+        if not given.plan:
+            play_all(store, given, found)
+            return
+        season = running(store)
+        checked(season, found)
+        show(planned(wanted(store, season, given.jobs, given.piece).plan, found.path, given.piece, given.chunk))
+
+
+def play_all(store: Store, given: argparse.Namespace, found: Program) -> None:
     """Plays until nothing is wanted any more, or a signal asks for the end."""
     with alone(store.folder):
         done = 0
         while True:
             season = running(store)
-            checked(season, program)
+            checked(season, found)
             now = wanted(store, season, given.jobs, given.piece)
             if not now.records:
                 tell(f"{given.script}: {'all' if done else 'nothing was missing: all'} matches are there\n")
                 return
-            done += play_round(store, given, program, season.rules, now)
+            done += play_round(store, given, found, season.rules, now)
 
 
-def play_round(store: Store, given: argparse.Namespace, program: Program, by: Rules, now: Wanted) -> int:
+def play_round(store: Store, given: argparse.Namespace, found: Program, by: Rules, now: Wanted) -> int:
     """Plays what is wanted now; answers how many matches that were."""
     progress = Progress(len(now.records), given.quiet, given.script)
     with watch() as stop:
@@ -97,7 +110,7 @@ def play_round(store: Store, given: argparse.Namespace, program: Program, by: Ru
             progress.glance()
 
         try:
-            with closing(Player(program, given.jobs, now.folder).play(now.records, glance)) as ended:
+            with closing(Player(found, given.jobs, now.folder).play(now.records, glance)) as ended:
                 for record in ended:
                     keep_record(store, by, record, given.day or today())
                     progress.count(record.series.count)

@@ -36,7 +36,7 @@ class Standing:
 def standings(schedule: Schedule, results: Results) -> list[Standing]:
     """The robots of each division, best first. In a ladder that is from the top to the bottom."""
     field = schedule.field
-    parts = scores(schedule, results)
+    parts = {group: it for group, it in scores(schedule, results).items() if schedule.is_of_a_division(group)}
     played, worth = total(parts, len(field.robots)), points(parts, len(field.robots), field.rules)
     rated = rating(schedule, tallied(schedule, results)) if parts else []
     rungs = on_ladder(schedule, results) if field.rules.mode == LADDER else {}
@@ -61,7 +61,7 @@ def placed(above: Sequence[Standing], it: Standing) -> Standing:
 def on_ladder(schedule: Schedule, results: Results) -> dict[int, int]:
     """The rung of each robot, the top first; those that haven't entered are below."""
     it = ladder(schedule, Verdicts(schedule, results))
-    return {robot: rung for rung, robot in enumerate((*it.rungs[::-1], *it.waiting), 1)}
+    return {robot: rung for rung, robot in enumerate((*it.rungs, *it.waiting), 1)}
 
 
 def tallied(schedule: Schedule, results: Results) -> Tally:

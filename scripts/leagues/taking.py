@@ -2,6 +2,7 @@
 
 from __future__ import annotations
 
+import argparse
 import itertools
 from dataclasses import dataclass, field
 from typing import Iterator, Sequence
@@ -9,11 +10,15 @@ from typing import Iterator, Sequence
 from tournaments import seats
 from tournaments.faults import Fault
 from tournaments.merging import opened
+from tournaments.output import show, tell
 from tournaments.records import NoRecord, Record, played
 
+from .days import today
 from .results import keep, seated
 from .rules import Rules
+from .seasons import running
 from .store import Store
+from .store import opened as opened_league
 
 
 @dataclass
@@ -25,7 +30,18 @@ class Taken:
     wrong: list[str] = field(default_factory=list)
 
 
-def take(store: Store, by: Rules, files: Sequence[str], day: str) -> Taken:
+def take(given: argparse.Namespace) -> None:
+    """Takes records, and says what came of it."""
+    with opened_league(given.league) as store:
+        taken = taken_from(store, running(store).rules, given.files, given.day or today())
+    for why in taken.wrong:
+        tell(f"{given.script}: {why}\n")
+    show([f"{taken.new} matches are new, {taken.known} were there\n"])
+    if taken.wrong:
+        raise Fault(f"{len(taken.wrong)} lines were refused")
+
+
+def taken_from(store: Store, by: Rules, files: Sequence[str], day: str) -> Taken:
     """Takes the records of files, or of standard input. What is right is kept, whatever else is wrong."""
     taken = Taken()
     copies = copies_of(store)

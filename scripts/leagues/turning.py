@@ -24,7 +24,7 @@ from .store import Store, opened
 from .words import checked, ruled
 
 
-def turn(given: argparse.Namespace) -> None:
+def season(given: argparse.Namespace) -> None:
     """Does what is asked of the seasons."""
     if (given.what == "begin") != bool(given.name):
         raise Fault("`begin` takes a season's name, and nothing else does")
@@ -58,11 +58,14 @@ def begin(store: Store, given: argparse.Namespace) -> None:
     last = seasons.season(store)
     if not last.ended:
         raise Fault(f"the season {last.name} goes on; `season end` ends it")
+    day = given.day or today()
+    if day < last.ended:
+        raise Fault(f"the season {last.name} ended on {last.ended}, so none can begin on {day}")
     by = replace(last.rules, seed=(last.rules.seed + 1) % (SEED_MAX + 1), divisions=given.divisions or last.rules.divisions)
     by = checked(ruled(by, given))
     if given.crobots:
         by = replace(by, program=program(given.crobots).sha256)
-    seasons.begin(store, given.name, given.day or today(), by, divided(store, last, by, given.move))
+    seasons.begin(store, given.name, day, by, divided(store, last, by, given.move))
 
 
 def divided(store: Store, last: Season, by: Rules, move: int) -> dict[str, int]:

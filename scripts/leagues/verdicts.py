@@ -33,10 +33,12 @@ class Verdicts:
         self._each = schedule.settings.each(2)
 
     def on(self, pair: Group) -> Verdict:
+        """The verdict: if all matches don't make it sure either, it is that of more wins, as without the test."""
         parts = self._parts(pair)
         if self._schedule.field.rules.sure:
             better, matches = decision(parts)
-            return Verdict(better, matches // 2, bool(better) or matches // 2 >= self._each)
+            if better:
+                return Verdict(better, matches // 2, True)
         total = Count()
         for part in parts:
             total = total.plus(part)

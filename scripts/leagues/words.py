@@ -132,7 +132,7 @@ class Words:
         it.add_argument("--season", metavar="NAME", default="1", help="the name of its first season (default 1)")
         of_rules(it)
         of_day(it)
-        of_rules(self._command("set", "changes the rules of the season"))
+        of_rules(self._command("rules", "says the rules of the season, and changes those that are given"))
         it = self._command("add", "lets robots join")
         it.add_argument("--id", metavar="ID", help="the robot's id (default: the file's name without .r)")
         it.add_argument("--author", metavar="NAME", default="", help="who wrote them")
