@@ -6,11 +6,12 @@ from typing import AbstractSet
 
 from . import charts, commands
 from .facts import Battle, Seat
+from .films import MOST_CYCLES
 from .lookups import Lookup
 from .markup import Markup, joined, tag
 from .notables import DEAD
 from .numbers import count
-from .tables import scrolling
+from .tables import command_line
 
 Replays = AbstractSet[str]
 
@@ -43,7 +44,9 @@ def seat(lookup: Lookup, battle: Battle, it: Seat, up: str) -> Markup:
 def ways(lookup: Lookup, replays: Replays, battle: Battle, up: str) -> Markup:
     """Links to what plays the match."""
     replay, browser = lookup.replay(battle), lookup.browser(battle)
-    found = [tag("a", "Watch the replay", href=up + replay, class_="button")] if replay in replays else []
+    part = not battle.replay and battle.cycles > MOST_CYCLES
+    said = f"Watch its last {count(MOST_CYCLES)} cycles" if part else "Watch the replay"
+    found = [tag("a", said, href=up + replay, class_="button")] if replay in replays else []
     if browser:
         found.append(tag("a", "Open it in the browser's page", href=browser, class_="button"))
     return tag("p", joined(*found), class_="ways") if found else Markup("")
@@ -51,5 +54,4 @@ def ways(lookup: Lookup, replays: Replays, battle: Battle, up: str) -> Markup:
 
 def command(lookup: Lookup, battle: Battle) -> Markup:
     """The command line that plays the match again, in the site's folder."""
-    said = commands.line(commands.again(lookup.facts.settings, battle, lookup.files(battle)))
-    return scrolling(tag("pre", tag("code", said)), "Command line", "command")
+    return command_line(commands.again(lookup.facts.settings, battle, lookup.files(battle)))

@@ -10,8 +10,8 @@ from .facts import Place, Score
 from .markup import Markup, joined, tag
 from .scales import Scale, scale
 
-ROW_WIDTH, ROW_HEIGHT = 240, 26
-TIME_WIDTH, TIME_HEIGHT, TIME_LEFT, TIME_BOTTOM = 640, 220, 48, 28
+ROW_WIDTH, ROW_HEIGHT = 280, 26
+TIME_WIDTH, TIME_HEIGHT, TIME_LEFT, TIME_BOTTOM = 760, 230, 48, 28
 MINUS = "\N{MINUS SIGN}"
 
 

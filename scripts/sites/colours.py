@@ -10,7 +10,7 @@ Colour = tuple[int, int, int]
 # who see few colours can tell apart.
 LIGHT: tuple[Colour, Colour, Colour] = ((200, 82, 10), (241, 241, 238), (24, 92, 168))
 DARK: tuple[Colour, Colour, Colour] = ((240, 140, 66), (44, 50, 58), (98, 168, 240))
-INKS: tuple[Colour, Colour] = ((16, 21, 27), (255, 255, 255))
+INKS: tuple[Colour, Colour] = ((0, 0, 0), (255, 255, 255))
 
 
 def step(share: float) -> int:

@@ -91,7 +91,7 @@ class Robot:
     withdrawn: str = ""
     # what `crobots-trace --sum` says of it
     sums: str = ""
-    # its last lost matches, the last one first
+    # matches that it lost; if they have days, its last ones, the last one first
     lost: tuple[Battle, ...] = ()
 
 

@@ -21,8 +21,8 @@ def heat_map(lookup: Lookup) -> str:
     said = ("Each cell is the share of the robot on its left against the one above: its wins, and half of the matches that "
             "both survived or lost. Blue is more than a half, orange less. A cell leads to the pair.")
     after = tag("a", "past the map", href="#after", class_="skip")
-    return page(lookup, places.MAP, "Pairs", tag("h1", "Pairs"), sentence(said), legend(), after, grid(lookup),
-                tag("p", tag("a", "Download the pairs (CSV)", href=places.PAIRS), id="after"))
+    return page(lookup, places.MAP, "Pairs", tag("h1", "Pairs"), sentence(said, kind="lead"), after,
+                tag("section", legend(), grid(lookup)), tag("p", tag("a", "Download the pairs (CSV)", href=places.PAIRS), id="after"))
 
 
 def legend() -> Markup:
@@ -56,7 +56,7 @@ def cell(lookup: Lookup, one: Standing, other: Standing, is_dense: bool) -> Mark
     """What a robot did against another."""
     pair = lookup.pair(one.robot, other.robot)
     if pair is None or not pair.score.played:
-        return tag("td", class_="none")
+        return tag("td", class_="same" if one is other else "none")
     value = share(pair.score)
     link = tag("a", "" if is_dense else f"{100 * value:.0f}", href=places.pair_page(one.robot, other.robot), title=told(lookup, pair))
     return tag("td", link, class_=f"h{colours.step(value)}")

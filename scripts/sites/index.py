@@ -10,7 +10,7 @@ from .markup import Markup, joined, tag
 from .names import named
 from .numbers import count, counted, decimal, interval
 from .scales import Scale
-from .tables import NUMBER, TEXT, Column, table
+from .tables import NAME, NUMBER, TEXT, Column, table
 
 
 def index(lookup: Lookup) -> str:
@@ -18,8 +18,9 @@ def index(lookup: Lookup) -> str:
     facts = lookup.facts
     title = tag("h1", tag("bdi", named(facts.title)))
     if not facts.standings:
-        return page(lookup, places.INDEX, "", title, sentence("Nothing was played yet."))
-    return page(lookup, places.INDEX, "", title, summary(lookup), standings(lookup), reading(lookup), downloads())
+        return page(lookup, places.INDEX, "", title, sentence("Nothing was played yet."), others(lookup), downloads())
+    return page(lookup, places.INDEX, "", title, summary(lookup), standings(lookup), reading(lookup), others(lookup),
+                downloads())
 
 
 def summary(lookup: Lookup) -> Markup:
@@ -42,8 +43,8 @@ def standings(lookup: Lookup) -> Markup:
     facts = lookup.facts
     before = facts.earlier[-1] if facts.earlier else None
     axis = charts.rating_scale([place_of(it) for it in facts.standings])
-    columns: list[Column] = [("Rank", NUMBER), ("Robot", TEXT), (facts.points.capitalize(), NUMBER), ("Rating", NUMBER),
-               ("95 % interval", TEXT), (joined(tag("span", "Rating and interval", class_="unseen"), charts.rating_axis(axis)), TEXT),
+    columns: list[Column] = [("Rank", NUMBER), ("Robot", NAME), (facts.points.capitalize(), NUMBER), ("Rating", NUMBER),
+               (joined(tag("span", "Rating and interval", class_="unseen"), charts.rating_axis(axis)), TEXT), ("95 % interval", TEXT),
                ("Played", NUMBER), ("Won", NUMBER), ("Tied", NUMBER), ("Lost", NUMBER), ("Results", TEXT)]
     if before:
         columns.insert(1, ("Trend", TEXT))
@@ -55,7 +56,7 @@ def row(lookup: Lookup, axis: Scale, it: Standing, before: Table | None) -> list
     """A robot's row."""
     score = it.score
     cells = [str(it.rank), robot(lookup, it), decimal(it.points), joined(charts.whole(it.rating), close(it)),
-             interval(it.low, it.high), charts.rating_row(axis, place_of(it)), count(score.played), count(score.won),
+             charts.rating_row(axis, place_of(it)), interval(it.low, it.high), count(score.played), count(score.won),
              count(score.tied), count(score.lost), charts.parts(score)]
     if before:
         cells.insert(1, trend(it, before))
@@ -98,6 +99,15 @@ def reading(lookup: Lookup) -> Markup:
     if facts.earlier:
         said.append(f" The trend is the change of rank since {facts.earlier[-1].day}.")
     return section("How to read it", sentence(*said), kind="note")
+
+
+def others(lookup: Lookup) -> Markup:
+    """The robots that have no row."""
+    found = [it for it in lookup.facts.robots if lookup.standing(it.id) is None]
+    if not found:
+        return Markup("")
+    items = [tag("li", lookup.robot_link(it.id, ""), f", withdrawn on {it.withdrawn}" if it.withdrawn else "") for it in found]
+    return section("Robots that are not in the table", tag("ul", *items, class_="links"))
 
 
 def downloads() -> Markup:

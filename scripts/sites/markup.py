@@ -19,10 +19,10 @@ class Markup(str):
 
 
 def escaped(text: str) -> str:
-    """A text as HTML, if it isn't already."""
+    """A text as HTML, if it isn't already. One that has nothing to be escaped may be escaped again, and stays as it is."""
     if isinstance(text, Markup) or not SPECIAL.search(text):
         return text
-    return html.escape(shown(text))
+    return Markup(html.escape(shown(text)))
 
 
 def joined(*parts: str) -> Markup:

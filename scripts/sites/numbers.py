@@ -2,7 +2,7 @@
 
 from __future__ import annotations
 
-from decimal import ROUND_HALF_EVEN, Decimal
+from decimal import Decimal
 
 from .charts import whole
 
@@ -19,14 +19,13 @@ def counted(number: int, what: str) -> str:
 
 
 def decimal(number: Decimal) -> str:
-    """A number with at most three digits after its point, and no zero at its end."""
-    text = f"{number.quantize(Decimal('0.001'), ROUND_HALF_EVEN):f}"
-    return text.rstrip("0").rstrip(".") if "." in text else text
+    """A number with three digits after its point."""
+    return f"{number:.3f}"
 
 
 def percent(part: float) -> str:
     """A part as a percentage with one digit after its point."""
-    return f"{100 * part:.1f} %"
+    return f"{100 * part:.1f}\N{NO-BREAK SPACE}%"
 
 
 def interval(low: float, high: float) -> str:

@@ -4,12 +4,12 @@ from __future__ import annotations
 
 from . import charts, places
 from .battles import Replays, card
-from .facts import BySeat, Notable, Pair
+from .facts import BySeat, Notable, Pair, Score
 from .frames import above, page, section, sentence
 from .lookups import Lookup
 from .markup import Markup, joined, name_of, tag
 from .names import named
-from .numbers import count, counted, percent
+from .numbers import count, percent
 from .shares import share
 from .tables import NUMBER, TEXT, Column, listed, table
 
@@ -31,14 +31,21 @@ def score(lookup: Lookup, pair: Pair) -> Markup:
     said = f"{count(it.won)} won, {count(it.tied)} tied, {count(it.lost)} lost"
     both = f", of which both lost {count(it.both)}" if it.both else ""
     one = lookup.robots[pair.one].name
-    bar = charts.parts(it, 360, 22, label=said)
+    bar = tag("div", charts.parts(it, 360, 22, label=said), key(it))
     axis = charts.share_row(pair.low, value, pair.high, f"Share {percent(value)}, from {percent(pair.low)} to {percent(pair.high)}")
     rows = [
         ("Matches", count(it.played)), ("Won, tied, lost", said + both),
         ("Share", f"{percent(value)}, 95 % interval {percent(pair.low)} to {percent(pair.high)}"),
-        ("So", verdict(lookup, pair)),
+        ("Verdict", verdict(lookup, pair)),
     ]
-    return section("Score", sentence("From the side of ", name_of(one), "."), tag("div", bar, axis, class_="bars"), listed(rows))
+    return section("Score", sentence("From the side of ", name_of(one), ":"), tag("div", bar, axis, class_="bars"), listed(rows))
+
+
+def key(it: Score) -> Markup:
+    """What the parts of the bar are."""
+    parts = (("won", it.won), ("tied", it.tied), ("lost", it.lost))
+    return tag("p", *(tag("span", f"{count(many)} {what}", class_=f"key {what}") for what, many in parts), class_="keys",
+               aria_hidden="true")
 
 
 def verdict(lookup: Lookup, pair: Pair) -> Markup:
@@ -71,7 +78,7 @@ def notables(lookup: Lookup, replays: Replays, pair: Pair, up: str) -> Markup:
         return section("Matches", sentence("None of these matches was decided."))
     cards = [card(lookup, replays, tag("h3", said), it.battle, up) for said, it in merged(pair.notable)]
     plays = sentence("A command line plays its match again, in a folder that has the site's folder ", tag("code", "sources"), ".")
-    return section("Matches", sentence(counted(len(cards), "match"), " worth a look."), tag("div", *cards, class_="battles"), plays)
+    return section("Matches", tag("div", *cards, class_="battles"), plays)
 
 
 def merged(notable: tuple[Notable, ...]) -> list[tuple[str, Notable]]:

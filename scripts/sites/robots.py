@@ -16,7 +16,7 @@ from .tables import NUMBER, TEXT, listed, scrolling, table
 # So many opponents are the best and the worst ones.
 FEW = 5
 COLUMNS = [("Opponent", TEXT), ("Share", NUMBER), ("95 % interval", TEXT), ("Won", NUMBER), ("Tied", NUMBER), ("Lost", NUMBER),
-           ("Results", TEXT), ("Matches", TEXT)]
+           ("Results", TEXT), ("Pair", TEXT)]
 
 
 def robot_page(lookup: Lookup, replays: Replays, it: Robot) -> str:
@@ -48,7 +48,7 @@ def tiles(lookup: Lookup, row: Standing) -> list[tuple[str, Markup]]:
         ("Rank", joined(str(row.rank), tag("small", f" of {many}"))),
         ("Rating", joined(charts.whole(row.rating), tag("small", f" {interval(row.low, row.high)}"))),
         (lookup.facts.points.capitalize(), joined(decimal(row.points))),
-        ("Won", joined(count(score.won), tag("small", f" of {counted(score.played, 'match')}"))),
+        ("Won", joined(count(score.won), tag("small", f" of {count(score.played)}"))),
         ("Tied", joined(count(score.tied))), ("Lost", joined(count(score.lost))),
     ]
 
@@ -90,12 +90,13 @@ def opponents(lookup: Lookup, it: Robot, up: str) -> Markup:
 
 def against(lookup: Lookup, caption: str, pairs: list[Pair], up: str) -> Markup:
     """Rows of opponents."""
-    return table(caption, COLUMNS, [opponent(lookup, pair, up) for pair in pairs])
+    return table(caption, COLUMNS, [opponent(lookup, pair, up) for pair in pairs], style="opponents")
 
 
 def opponent(lookup: Lookup, pair: Pair, up: str) -> list[str]:
     score = pair.score
-    matches = tag("a", "the pair", href=up + places.pair_page(pair.one, pair.other))
+    against = tag("span", " against ", name_of(lookup.robots[pair.other].name), class_="unseen")
+    matches = tag("a", "matches", against, href=up + places.pair_page(pair.one, pair.other))
     return [lookup.robot_link(pair.other, up), percent(share(score)), f"{percent(pair.low)} to {percent(pair.high)}",
             count(score.won), count(score.tied), count(score.lost), charts.parts(score), matches]
 
@@ -111,9 +112,10 @@ def summed(it: Robot) -> Markup:
 
 
 def lost(lookup: Lookup, replays: Replays, it: Robot, up: str) -> Markup:
-    """Its last lost matches."""
+    """Matches that it lost: if they have days, its last ones."""
     cards = [card(lookup, replays, tag("h3", beaten_by(lookup, it, battle)), battle, up) for battle in it.lost]
-    return section("Last lost matches", tag("div", *cards, class_="battles")) if cards else Markup("")
+    title = "Last lost matches" if lookup.facts.day else "Lost matches"
+    return section(title, tag("div", *cards, class_="battles")) if cards else Markup("")
 
 
 def beaten_by(lookup: Lookup, it: Robot, battle: Battle) -> Markup:

@@ -4,6 +4,7 @@ from __future__ import annotations
 
 import hashlib
 import os
+import shlex
 
 from . import places
 from .frames import page, section, sentence
@@ -11,7 +12,7 @@ from .lookups import Lookup
 from .markup import Markup, joined, tag
 from .names import shown
 from .numbers import count, counted
-from .tables import listed, scrolling
+from .tables import command_line, listed
 
 SIZES = {2: "pairs", 3: "threes", 4: "fours"}
 
@@ -47,9 +48,9 @@ def archive(lookup: Lookup) -> Markup:
     return section("Archive", sentence("All sources, the settings and all results, in one file."), listed(rows), *verify(facts.verify))
 
 
-def verify(words: str) -> list[Markup]:
+def verify(line: str) -> list[Markup]:
     """How the archive is checked."""
-    if not words:
+    if not line:
         return []
     return [sentence("This command plays some of its matches again, and says what differs:"),
-            scrolling(tag("pre", tag("code", words)), "Command line", "command")]
+            command_line(shlex.split(line))]

@@ -4,24 +4,30 @@ from __future__ import annotations
 
 from typing import Iterable, Sequence
 
-from .markup import Markup, escaped, tag
+from .commands import quoted
+from .markup import Markup, escaped, separated, tag
 
-# What a column has: text on its left side, or numbers on its right one.
-TEXT, NUMBER = None, "number"
+# What a column has: text on its left side, names that stay in sight, or numbers on its right side.
+TEXT, NAME, NUMBER = None, "name", "number"
 Column = tuple[str, str | None]
 
 
-def table(caption: str, columns: Sequence[Column], rows: Iterable[Sequence[str]], names: int = 0) -> Markup:
+def table(caption: str, columns: Sequence[Column], rows: Iterable[Sequence[str]], names: int = 0, style: str = "") -> Markup:
     """A table whose rows are named by the cell of this column."""
     head = tag("tr", *(tag("th", title, scope="col", class_=kind) for title, kind in columns))
     kinds = [kind for _, kind in columns]
     body = [tag("tr", *(cell(text, kind, at == names) for at, (text, kind) in enumerate(zip(row, kinds)))) for row in rows]
     whole = tag("table", tag("caption", caption), tag("thead", head), tag("tbody", *body))
-    return scrolling(whole, caption)
+    return scrolling(whole, caption, f"scroll {style}".rstrip())
 
 
 def cell(text: str, kind: str | None, is_name: bool) -> Markup:
     return tag("th", text, scope="row", class_=kind) if is_name else tag("td", text, class_=kind)
+
+
+def command_line(words: Iterable[str]) -> Markup:
+    """A command line, which a click chooses whole, and whose words aren't broken."""
+    return tag("pre", tag("code", separated(" ", (tag("span", quoted(word)) for word in words))), class_="command")
 
 
 def scrolling(inside: Markup, label: str, kind: str = "scroll") -> Markup:
