@@ -14,7 +14,7 @@ from tournaments.output import show
 
 from . import archives, publications
 from .days import today
-from .facts import Words, site
+from .facts import Words, facts_of_league
 from .results import Results
 from .schedules import Schedule
 from .seasons import field, season
@@ -38,7 +38,8 @@ def publish(given: argparse.Namespace) -> None:
             sources = laid(store, {it.sha256 for it in schedule.field.robots})
             said = sums(schedule, results, sources, given.sums, given.jobs)
             verify = f"crobots-league verify 100 {shlex.quote(os.path.basename(archive))}"
-            facts = site(store, schedule.field, table, Words(given.title or name, day, archive, verify, given.page, said))
+            words = Words(given.title or name, day, archive, verify, given.page, said)
+            facts = facts_of_league(store, schedule.field, table, words)
         with store.change():
             publications.publish(store, it, day, table)
         try:
