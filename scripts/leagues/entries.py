@@ -76,7 +76,7 @@ def read(path: str) -> bytes:
 def add(store: Store, robot: str, author: str, source: bytes, day: str) -> None:
     """A robot joins."""
     if not ID.fullmatch(robot):
-        raise Fault(f"{robot!r} is no id: up to 40 letters, digits, '-', '_' and '.', of which the first is a letter or a digit")
+        raise Fault(f"{robot!r} is no id: a letter or a digit, and up to 39 letters, digits, '-', '_' and '.'")
     if store.one("SELECT 1 FROM robot WHERE id = ?", robot):
         raise Fault(f"there is a robot {robot} already; `change` gives it other bytes")
     store.run("INSERT INTO robot VALUES (?, ?)", robot, named(author))

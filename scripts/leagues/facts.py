@@ -26,7 +26,7 @@ Lost = dict[str, list[tuple[str, Battle]]]
 
 @dataclass(frozen=True)
 class Words:
-    """What the site is told beside the league: its title and day, the archive and how it is checked, and robots' sums."""
+    """What the site is told beside the league: its title and day, the archive, how it is checked, and robots' sums."""
 
     title: str
     day: str
@@ -39,7 +39,8 @@ class Words:
 def facts_of_league(store: Store, field: Field, standings: Sequence[LeagueStanding], words: Words) -> Facts:
     """All that the site shows."""
     rules = field.rules
-    gathering, lost = gathered(Schedule(field), Results(store, rules), {it.robot: row for row, it in enumerate(standings)})
+    ranks = {it.robot: row for row, it in enumerate(standings)}
+    gathering, lost = gathered(Schedule(field), Results(store, rules), ranks)
     settings = Settings(rules.matches, rules.cycles, rules.seed, rules.profile, rules.sizes, tuple(more(field.season)))
     return Facts(
         words.title, settings, Program("", rules.program), tuple(robots(store, field, lost, words.sums)),

@@ -1,4 +1,4 @@
-"""A ladder: each robot enters at the bottom, in the order in which they got their bytes, and climbs as long as it wins."""
+"""A ladder: robots enter at the bottom, in the order in which they got their bytes, and climb as long as they win."""
 
 from __future__ import annotations
 

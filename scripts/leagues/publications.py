@@ -28,7 +28,8 @@ class Publication:
 
 def publish(store: Store, season: Season, day: str, standings: Sequence[Standing], final: bool = False) -> int:
     """Keeps a table. One that was published on the same day, in the same season, is replaced."""
-    for old, in store.rows("SELECT number FROM publication WHERE season = ? AND day = ? AND final = ?", season.number, day, final):
+    same = "SELECT number FROM publication WHERE season = ? AND day = ? AND final = ?"
+    for old, in store.rows(same, season.number, day, final):
         store.run("DELETE FROM standing WHERE publication = ?", old)
         store.run("DELETE FROM publication WHERE number = ?", old)
     number = store.run("INSERT INTO publication (season, day, final) VALUES (?, ?, ?)", season.number, day, final)
@@ -39,8 +40,8 @@ def publish(store: Store, season: Season, day: str, standings: Sequence[Standing
 
 def values(it: Standing) -> tuple[object, ...]:
     score, rating = it.score, it.rating
-    return (it.division, it.rank, it.robot, it.sha256, score.won, score.tied, score.lost, str(it.points), rating.value, rating.low,
-            rating.high)
+    return (it.division, it.rank, it.robot, it.sha256, score.won, score.tied, score.lost, str(it.points),
+            rating.value, rating.low, rating.high)
 
 
 def publications(store: Store) -> list[Publication]:

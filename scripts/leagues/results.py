@@ -84,7 +84,7 @@ class Results:
         """The matches of each seating, by their numbers."""
         rows = self._store.database.execute(f"SELECT {COLUMNS} {JOINED} ORDER BY seating, battle.number", self._by)
         for seating, battles in groupby(rows, itemgetter(0)):
-            yield int(seating), [Played(number, ended(cycles, damage), day) for _, number, cycles, *damage, day in battles]
+            yield int(seating), [Played(at, ended(cycles, damage), day) for _, at, cycles, *damage, day in battles]
 
 
 def ended(cycles: int, damage: Sequence[int | None]) -> Match:
@@ -96,7 +96,8 @@ def keep(store: Store, rules: Rules, where: Seated, first: int, results: str, da
 
     A result that is there otherwise is refused, with the whole series: then either was not played as it says."""
     by = (rules.cycles, rules.profile, rules.program)
-    store.run("INSERT OR IGNORE INTO seating (hashes, seed, cycles, profile, program) VALUES (?, ?, ?, ?, ?)", *where, *by)
+    columns = "hashes, seed, cycles, profile, program"
+    store.run(f"INSERT OR IGNORE INTO seating ({columns}) VALUES (?, ?, ?, ?, ?)", *where, *by)
     number = int(store.one(f"SELECT number FROM seating WHERE hashes = ? AND seed = ? AND {BY}", *where, *by)[0])
     theirs = dict(enumerate(map(match, results.split(",")), first))
     known = ours(store, number, first, first + len(theirs) - 1)
@@ -110,7 +111,8 @@ def keep(store: Store, rules: Rules, where: Seated, first: int, results: str, da
 
 def ours(store: Store, seating: int, first: int, last: int) -> dict[int, Match]:
     """The matches that are there already."""
-    query = "SELECT number, cycles, damage1, damage2, damage3, damage4 FROM battle WHERE seating = ? AND number BETWEEN ? AND ?"
+    query = ("SELECT number, cycles, damage1, damage2, damage3, damage4 FROM battle "
+             "WHERE seating = ? AND number BETWEEN ? AND ?")
     return {number: ended(cycles, damage) for number, cycles, *damage in store.rows(query, seating, first, last)}
 
 

@@ -54,15 +54,16 @@ class Rules:
     def said(self) -> list[tuple[str, str]]:
         """The rules in words, but for what has its default and goes without saying."""
         found = [("mode", self._mode()), ("matches", f"{self.matches} a group"), ("limit", f"{self.cycles} cycles"),
-                 ("seed", str(self.seed)), ("profile", str(self.profile)), ("points", f"{self.win} a win, {self.tie} a tie")]
+                 ("seed", str(self.seed)), ("profile", str(self.profile)),
+                 ("points", f"{self.win} a win, {self.tie} a tie")]
         more = [("sample", f"{self.sample} groups", self.sample), ("until sure", "yes", self.sure),
                 ("anchor", f"{self.anchor} has {self.anchored}", self.anchor),
                 ("divisions", str(self.divisions), self.divisions > 1)]
         return found + [(name, value) for name, value, is_there in more if is_there]
 
     def _mode(self) -> str:
-        return {SIZES: f"sizes, weights {', '.join(self.weights)}", GAUNTLET: f"gauntlet against {self.champion}"}.get(
-            self.mode, self.mode)
+        more = {SIZES: f", weights {', '.join(self.weights)}", GAUNTLET: f" of {self.champion}"}
+        return self.mode + more.get(self.mode, "")
 
 
 def rules(text: str) -> Rules:

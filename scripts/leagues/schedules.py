@@ -22,8 +22,8 @@ class Schedule:
         self.field = field
         self.keys = [it.key for it in field.robots]
         rules = field.rules
-        self.settings = Settings(rules.matches, rules.cycles, rules.seed, rules.profile, rules.program, len(field.robots),
-                                 rules.sizes, rules.sample)
+        self.settings = Settings(rules.matches, rules.cycles, rules.seed, rules.profile, rules.program,
+                                 len(field.robots), rules.sizes, rules.sample)
 
     def groups(self) -> Iterator[Group]:
         """All groups, smaller ones first; of a ladder all that there may be."""

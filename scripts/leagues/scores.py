@@ -46,12 +46,17 @@ def total(parts: Mapping[Group, ByRobot], robots: int) -> list[Score]:
 
 
 def points(parts: Mapping[Group, ByRobot], robots: int, rules: Rules) -> list[Decimal]:
-    """Each robot's points a match. Each of its groups counts alike, however much was played of it; sizes by their weights."""
+    """Each robot's points a match. Its groups count alike, however much was played of each; sizes by their weights."""
     means: list[dict[int, list[Decimal]]] = [{} for _ in range(robots)]
     for group, of_group in parts.items():
         for robot, score in of_group.items():
             means[robot].setdefault(len(group), []).append(mean(score, rules))
-    return [sum((rules.weight(size) * average(of_size) for size, of_size in sorted(sizes.items())), Decimal(0)) for sizes in means]
+    return [weighed(rules, sizes) for sizes in means]
+
+
+def weighed(rules: Rules, sizes: Mapping[int, list[Decimal]]) -> Decimal:
+    """The averages of all sizes, with their weights."""
+    return sum((rules.weight(size) * average(them) for size, them in sorted(sizes.items())), Decimal(0))
 
 
 def mean(score: Score, rules: Rules) -> Decimal:

@@ -29,7 +29,7 @@ class Season:
 
 @dataclass(frozen=True)
 class Field:
-    """A season with the robots that play in it, in the order of their bytes and then of their ids, and their divisions."""
+    """A season with the robots that play in it, in the order of their hashes and then of their ids."""
 
     season: Season
     robots: tuple[Entrant, ...]
@@ -46,7 +46,7 @@ class Field:
         return self.divisions.get(robot, self.rules.divisions)
 
     def places(self, division: int) -> list[int]:
-        """Which robots play in a division: its own, and the one with the fixed rating, by which divisions are compared."""
+        """Who plays in a division: its robots, and the one with the fixed rating, by which divisions are compared."""
         return [at for at, it in enumerate(self.robots)
                 if self.division(it.robot) == division or it.robot == self.rules.anchor]
 
@@ -58,15 +58,18 @@ def begin(store: Store, name: str, day: str, by: Rules, divisions: dict[str, int
     if store.one("SELECT 1 FROM season WHERE name = ?", name):
         raise Fault(f"there was a season {name} already")
     count = store.one("SELECT count(*) FROM entry")[0]
-    number = store.run("INSERT INTO season (name, begun, first_entry, rules) VALUES (?, ?, ?, ?)", name, day, count, by.text())
-    store.database.executemany("INSERT INTO member VALUES (?, ?, ?)", [(number, *it) for it in sorted(divisions.items())])
+    columns = "name, begun, first_entry, rules"
+    number = store.run(f"INSERT INTO season ({columns}) VALUES (?, ?, ?, ?)", name, day, count, by.text())
+    rows = [(number, *it) for it in sorted(divisions.items())]
+    store.database.executemany("INSERT INTO member VALUES (?, ?, ?)", rows)
 
 
 def end(store: Store, season: Season, day: str) -> None:
     """Ends a season."""
     count, last = store.one("SELECT count(*), max(day) FROM entry")
     if day < max(season.begun, last or ""):
-        raise Fault(f"the season {season.name} goes on since {season.begun}, the last entry is of {last}: it can't end on {day}")
+        raise Fault(f"the season {season.name} began on {season.begun}, and the last entry is of {last}: "
+                    f"it can't end on {day}")
     store.run("UPDATE season SET ended = ?, last_entry = ? WHERE number = ?", day, count, season.number)
 
 

@@ -1,33 +1,34 @@
 """A sequential test: after how many matches a pair's result is decided.
 
-A match counts 1 for the first robot if it alone survived, 0 if the second did, and a half otherwise. Let its mean be m, over
-all starts and over both seatings alike. Three things may be decided:
+A match counts x for the first robot: 1 if it alone survived, 0 if the second did, and 1/2 otherwise. Let m be the mean
+of x over all starts, and over both seatings alike. Three things may be decided:
 
     FIRST   the first robot is better: m > 1/2
     SECOND  the second robot is better: m < 1/2
     EVEN    neither is better by much: 1/2 - MARGIN < m < 1/2 + MARGIN
 
-The sides. With w matches for the first and l for the second, and any number of others,
+The sides. With w matches for the first robot and l for the second, and any number of others,
 
     sides = 2**(w + l) * w! * l! / (w + l + 1)!
 
-It is the likelihood ratio of Wald's sequential test of a chance p against 1/2, averaged over all p (Robbins' mixture). For
-one p a match multiplies the ratio by 1 + (2p - 1)(2x - 1), whatever it counts, x. If m is 1/2, the mean of that over both
-seatings, 1/2 + d and 1/2 - d, is at most (1 + a)(1 - a) for some a, so at most 1. So the ratio, looked at after whole rounds of
-both seatings, can't be expected to rise, and neither can its average. By Ville's inequality it ever comes to 1 / SHARE with a chance of
-at most SHARE. If m > 1/2, the part of the average with p < 1/2 can't be expected to rise; it is at least as large as the rest
-when l > w. So SECOND is decided with a chance of at most SHARE, and so is FIRST if m < 1/2.
+is the likelihood ratio of Wald's sequential test of a chance p against 1/2, averaged over all p (Robbins' mixture).
+For one p a match multiplies the ratio by 1 + (2p - 1)(2x - 1). If m = 1/2, the means of both seatings are 1/2 + d and
+1/2 - d, so a match of each is expected to multiply it by (1 + a)(1 - a) <= 1. So after whole rounds of both seatings
+the ratios and their average are supermartingales, and by Ville's inequality `sides` ever comes to 1 / SHARE with a
+chance of at most SHARE. If m > 1/2 that holds of the average over p < 1/2 alone, which is at least as large as `sides`
+when l > w. So SECOND is decided with a chance of at most SHARE then, and so is FIRST if m < 1/2.
 
-Even. For a bet b each match multiplies
+Even. For a bet b let each match multiply by
 
-    above = 1 + b * (1/2 + MARGIN - x)
+    1 + b * (1/2 + MARGIN - x)
 
-which is expected to be at most 1 over a round if m >= 1/2 + MARGIN, and so is the average over several bets. `below` is the
-same for the other robot. EVEN is decided when both have come to 1 / SHARE. If m is outside of the margin, one of the two comes
-there with a chance of at most SHARE.
+If m >= 1/2 + MARGIN, a match of each seating is expected to multiply by at most 1: the product of two numbers is at
+most the square of their mean. So the average over some bets, `below`, comes to 1 / SHARE with a chance of at most
+SHARE. EVEN is decided when it has, and the same of the second robot. If m is outside of the margin, one of the two is
+improbable so.
 
-So with SHARE = ERROR / 2 what is decided of a pair is false with a chance of at most ERROR, however often it is looked at.
-Hence, by the sum over all pairs: of a table's pairs at most the share ERROR is expected to be decided falsely."""
+So with SHARE = ERROR / 2 what is decided of a pair is false with a chance of at most ERROR, however often it is looked
+at. By the sum over all pairs, of a table's pairs at most the share ERROR is expected to be decided falsely."""
 
 from __future__ import annotations
 
@@ -89,7 +90,7 @@ def looked(it: Count) -> str:
 
 
 def decision(parts: Iterable[Count]) -> tuple[str, int]:
-    """What is decided, by the matches from each look to the next, and after how many matches; nothing, and how many there are."""
+    """What is decided, if anything, and after how many matches; these are given from each look to the next."""
     so_far = Count()
     for part in parts:
         so_far = so_far.plus(part)

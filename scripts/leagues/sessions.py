@@ -116,8 +116,8 @@ def play_round(store: Store, given: argparse.Namespace, found: Program, by: Rule
                     progress.count(record.series.count)
         except Stopped as why:
             progress.clear()
-            said = f"stopped: {progress.done} of {progress.series} series were played, {progress.matches} matches, and are kept"
-            raise Stopped(why.number, said) from why
+            said = f"{progress.done} of {progress.series} series were played, {progress.matches} matches"
+            raise Stopped(why.number, f"stopped: {said}, and are kept") from why
     progress.clear()
     return progress.matches
 

@@ -40,7 +40,8 @@ def status(given: argparse.Namespace) -> None:
     with opened(given.league) as store, store.view():
         it = season(store)
         there = field(store, it)
-        show(f"{name}: {value}\n" for name, value in [*of_season(it), *it.rules.said(), *of_robots(store, there), *of_matches(store, there)])
+        said = [*of_season(it), *it.rules.said(), *of_robots(store, there), *of_matches(store, there)]
+        show(f"{name}: {value}\n" for name, value in said)
 
 
 def of_season(it: Season) -> list[tuple[str, str]]:
@@ -58,6 +59,7 @@ def of_matches(store: Store, there: Field) -> list[tuple[str, str]]:
     left = [*missing(Schedule(there), Results(store, there.rules))]
     shown = publications(store)
     played = store.one("SELECT count(*) FROM battle")[0]
-    return [("played", f"{played} matches in all seasons"), ("missing", f"{sum(it.count for it in left)} matches of {len(left)} seatings"),
+    return [("played", f"{played} matches in all seasons"),
+            ("missing", f"{sum(it.count for it in left)} matches of {len(left)} seatings"),
             ("now", "is being played" if is_played(store.folder) else "nobody plays"),
             ("published", shown[-1].day if shown else "never")]

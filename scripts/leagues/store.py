@@ -1,7 +1,7 @@
 """The database of a league: one file of SQLite, which is whole after a kill at any instant.
 
-It is written ahead (WAL) and forced to the disk with each transaction, so what was told as done stays done, also when the power
-fails. Readers never wait for a writer."""
+It is written ahead (WAL) and forced to the disk with each transaction. So what was told as done stays done, also when
+the power fails. Readers never wait for a writer."""
 
 from __future__ import annotations
 
@@ -25,14 +25,15 @@ SCHEMA = """
 CREATE TABLE source (sha256 TEXT PRIMARY KEY, bytes BLOB NOT NULL) WITHOUT ROWID;
 -- each robot that ever joined; its id is never given again
 CREATE TABLE robot (id TEXT PRIMARY KEY, author TEXT NOT NULL) WITHOUT ROWID;
--- what happened, in its order: a robot joined, got other bytes, or left. copy numbers the robots that ever had the same bytes.
-CREATE TABLE entry (number INTEGER PRIMARY KEY, day TEXT NOT NULL, what TEXT NOT NULL CHECK (what IN ('add', 'change', 'withdraw')),
-    robot TEXT NOT NULL REFERENCES robot, sha256 TEXT NOT NULL REFERENCES source, copy INTEGER NOT NULL);
+-- what happened, in its order: a robot joined, got other bytes, or left; copy: how many others had these bytes before
+CREATE TABLE entry (number INTEGER PRIMARY KEY, day TEXT NOT NULL,
+    what TEXT NOT NULL CHECK (what IN ('add', 'change', 'withdraw')), robot TEXT NOT NULL REFERENCES robot,
+    sha256 TEXT NOT NULL REFERENCES source, copy INTEGER NOT NULL);
 -- first_entry and last_entry: how many entries there were when it began and when it ended
 CREATE TABLE season (number INTEGER PRIMARY KEY, name TEXT NOT NULL UNIQUE, begun TEXT NOT NULL, ended TEXT,
     first_entry INTEGER NOT NULL, last_entry INTEGER, rules TEXT NOT NULL);
-CREATE TABLE member (season INTEGER NOT NULL REFERENCES season, robot TEXT NOT NULL REFERENCES robot, division INTEGER NOT NULL,
-    PRIMARY KEY (season, robot)) WITHOUT ROWID;
+CREATE TABLE member (season INTEGER NOT NULL REFERENCES season, robot TEXT NOT NULL REFERENCES robot,
+    division INTEGER NOT NULL, PRIMARY KEY (season, robot)) WITHOUT ROWID;
 -- robots in their seats, by their bytes, and the seed of their matches; program: the hash of what plays the season
 CREATE TABLE seating (number INTEGER PRIMARY KEY, hashes TEXT NOT NULL, seed TEXT NOT NULL, cycles INTEGER NOT NULL,
     profile INTEGER NOT NULL, program TEXT NOT NULL, UNIQUE (seed, hashes, cycles, profile, program));
@@ -44,8 +45,9 @@ CREATE TABLE battle (seating INTEGER NOT NULL REFERENCES seating, number INTEGER
 CREATE TABLE publication (number INTEGER PRIMARY KEY, season INTEGER NOT NULL REFERENCES season, day TEXT NOT NULL,
     final INTEGER NOT NULL);
 CREATE TABLE standing (publication INTEGER NOT NULL REFERENCES publication, robot TEXT NOT NULL REFERENCES robot,
-    sha256 TEXT NOT NULL, division INTEGER NOT NULL, rank INTEGER NOT NULL, played INTEGER NOT NULL, won INTEGER NOT NULL,
-    tied INTEGER NOT NULL, lost INTEGER NOT NULL, points TEXT NOT NULL, rating REAL NOT NULL, low REAL NOT NULL, high REAL NOT NULL,
+    sha256 TEXT NOT NULL, division INTEGER NOT NULL, rank INTEGER NOT NULL, played INTEGER NOT NULL,
+    won INTEGER NOT NULL, tied INTEGER NOT NULL, lost INTEGER NOT NULL, points TEXT NOT NULL,
+    rating REAL NOT NULL, low REAL NOT NULL, high REAL NOT NULL,
     PRIMARY KEY (publication, robot)) WITHOUT ROWID;
 """
 
@@ -118,7 +120,8 @@ def filled(path: str) -> Iterator[sqlite3.Connection]:
     with told(path), contextlib.closing(sqlite3.connect(path, isolation_level=None)) as database:
         database.execute("PRAGMA journal_mode = WAL")
         database.execute("PRAGMA foreign_keys = ON")
-        database.executescript(f"BEGIN; {SCHEMA} PRAGMA application_id = {APPLICATION}; PRAGMA user_version = {VERSION}; COMMIT")
+        marks = f"PRAGMA application_id = {APPLICATION}; PRAGMA user_version = {VERSION};"
+        database.executescript(f"BEGIN; {SCHEMA} {marks} COMMIT")
         yield database
 
 
@@ -141,10 +144,9 @@ def connected(path: str) -> sqlite3.Connection:
     try:
         database.execute("PRAGMA synchronous = FULL")
         database.execute("PRAGMA foreign_keys = ON")
-        application, version = (database.execute(f"PRAGMA {what}").fetchone()[0] for what in ("application_id", "user_version"))
-        if application != APPLICATION:
+        if database.execute("PRAGMA application_id").fetchone()[0] != APPLICATION:
             raise Fault(f"{path} is no database of a league", FILE)
-        if version != VERSION:
+        if database.execute("PRAGMA user_version").fetchone()[0] != VERSION:
             raise Fault(f"{path} is of another version of this script", FILE)
     except BaseException:
         database.close()

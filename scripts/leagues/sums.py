@@ -34,7 +34,8 @@ def sums(schedule: Schedule, results: Results, folder: str, many: int, jobs: int
                     played.setdefault(robot, []).append((seats, seed, seat))
     robots = schedule.field.robots
     with ThreadPoolExecutor(jobs) as pool:
-        said = {at: [pool.submit(summed, trace, schedule, folder, it) for it in spread(seats, many)] for at, seats in played.items()}
+        said = {at: [pool.submit(summed, trace, schedule, folder, it) for it in spread(seats, many)]
+                for at, seats in played.items()}
         return {robots[at].robot: "".join(it.result() for it in texts) for at, texts in said.items()}
 
 
@@ -48,6 +49,7 @@ def summed(trace: str, schedule: Schedule, folder: str, it: Seat) -> str:
     seats, seed, seat = it
     rules = schedule.field.rules
     files = [f"{folder}/{schedule.field.robots[at].sha256}" for at in seats]
-    words = [trace, "--sum", f"--robot={seat + 1}", f"-l{rules.cycles}", f"-s{seed}", f"-p{rules.profile}", "--", *files]
+    options = [f"-l{rules.cycles}", f"-s{seed}", f"-p{rules.profile}"]
+    words = [trace, "--sum", f"--robot={seat + 1}", *options, "--", *files]
     ran = subprocess.run(words, stdin=subprocess.DEVNULL, capture_output=True, text=True, errors="replace", check=False)
     return ran.stdout if not ran.returncode else ""

@@ -17,8 +17,9 @@ HEAD = ["rank", "robot", "played", "won", "tied", "lost", "points", "rating", "l
 def cells(it: Standing) -> list[str]:
     """A row of the table."""
     score, rating = it.score, it.rating
-    return [str(it.rank), it.robot, str(score.played), str(score.won), str(score.tied), str(score.lost), rounded(it.points),
-            str(round(rating.value)), str(round(rating.low)), str(round(rating.high)), CLOSE if it.close else ""]
+    counts = map(str, (score.played, score.won, score.tied, score.lost))
+    rated = (str(round(value)) for value in (rating.value, rating.low, rating.high))
+    return [str(it.rank), it.robot, *counts, rounded(it.points), *rated, CLOSE if it.close else ""]
 
 
 def table(season: Season, standings: Sequence[Standing]) -> str:
@@ -46,5 +47,5 @@ def values(it: Standing) -> dict[str, Any]:
     """A row of the table for JSON."""
     score, rating = it.score, it.rating
     return {"division": it.division, "rank": it.rank, "robot": it.robot, "sha256": it.sha256, "played": score.played,
-            "won": score.won, "tied": score.tied, "lost": score.lost, "points": float(it.points), "rating": rating.value,
-            "low": rating.low, "high": rating.high, CLOSE: it.close}
+            "won": score.won, "tied": score.tied, "lost": score.lost, "points": float(it.points),
+            "rating": rating.value, "low": rating.low, "high": rating.high, CLOSE: it.close}

@@ -61,7 +61,8 @@ def begin(store: Store, given: argparse.Namespace) -> None:
     day = given.day or today()
     if day < last.ended:
         raise Fault(f"the season {last.name} ended on {last.ended}, so none can begin on {day}")
-    by = replace(last.rules, seed=(last.rules.seed + 1) % (SEED_MAX + 1), divisions=given.divisions or last.rules.divisions)
+    seed = (last.rules.seed + 1) % (SEED_MAX + 1)
+    by = replace(last.rules, seed=seed, divisions=given.divisions or last.rules.divisions)
     by = checked(ruled(by, given))
     if given.crobots:
         by = replace(by, program=program(given.crobots).sha256)

@@ -16,7 +16,7 @@ EACH_LOOK = LOOK // 2
 
 @dataclass(frozen=True)
 class Verdict:
-    """Which robot of a pair is better by its matches so far, how many of each seating count, and whether they are enough."""
+    """Which robot of a pair is better so far, how many matches of each seating say so, and whether they are enough."""
 
     better: str
     each: int

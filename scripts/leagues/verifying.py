@@ -46,6 +46,10 @@ class Run:
     first: int
     matches: list[Match]
 
+    def goes_on(self, seating: int, number: int) -> bool:
+        """Reports whether a match is the next one of this run."""
+        return self.seating == seating and self.first + len(self.matches) == number and len(self.matches) < RUN
+
 
 def verify(given: argparse.Namespace) -> None:
     """Compares an archive with what is played now."""
@@ -56,14 +60,16 @@ def verify(given: argparse.Namespace) -> None:
         wrong += replayed(store, found, given, runs)
         total = store.one("SELECT count(*) FROM battle")[0]
     show(f"{why}\n" for why in wrong)
-    show([f"{sum(len(run.matches) for run in runs)} of {total} matches were replayed, {len(wrong) or 'no'} differences\n"])
+    count = sum(len(run.matches) for run in runs)
+    show([f"{count} of {total} matches were replayed, {len(wrong) or 'no'} differences\n"])
     if wrong:
         raise Fault(f"{given.archive} is not what its robots and rules come to", FAULTY)
 
 
 def sources(store: Store) -> Iterator[str]:
     """Robots whose source isn't there."""
-    for robot, sha256 in store.rows("SELECT robot, sha256 FROM entry WHERE sha256 NOT IN (SELECT sha256 FROM source)"):
+    gone = "SELECT robot, sha256 FROM entry WHERE sha256 NOT IN (SELECT sha256 FROM source)"
+    for robot, sha256 in store.rows(gone):
         yield f"the source {sha256} of {robot} is not there"
 
 
@@ -77,7 +83,7 @@ def seeds(store: Store) -> Iterator[str]:
 
 
 def table_of(store: Store, table: str) -> Iterator[str]:
-    """Rows of tables that the results don't come to: of that of the last season, and of those with which others ended."""
+    """Rows of tables that the results don't come to: of the last season's, and of those with which others ended."""
     last = seasons(store)[-1]
     for season in seasons(store):
         ours = tables.comma(standings(Schedule(field(store, season)), Results(store, season.rules)))
@@ -102,10 +108,9 @@ def chosen(store: Store, count: int | None) -> list[Run]:
     rows = store.database.execute(f"SELECT {COLUMNS} ORDER BY seating, battle.number")
     for at, (seating, number, cycles, *damage) in enumerate(rows):
         if places is None or at in places:
-            last = found[-1] if found else None
-            if not last or last.seating != seating or last.first + len(last.matches) != number or len(last.matches) == RUN:
-                found.append(last := Run(seating, number, []))
-            last.matches.append(ended(cycles, damage))
+            if not found or not found[-1].goes_on(seating, number):
+                found.append(Run(seating, number, []))
+            found[-1].matches.append(ended(cycles, damage))
     return found
 
 

@@ -17,6 +17,7 @@ from .rules import FOURS, GAUNTLET, LADDER, PAIRS, SIZES, THREES, Rules
 
 MODE = rf"({PAIRS}|{THREES}|{FOURS}|{LADDER})|({SIZES}):(.*)|({GAUNTLET}):({ID.pattern})"
 ANCHOR = rf"({ID.pattern})=(-?[0-9]{{1,4}})"
+MODES = "pairs, threes, fours, sizes:A,B,C, ladder, gauntlet:ROBOT"
 ALL, SURE = "all", "sure"
 DIVISIONS_MAX = 100
 
@@ -25,7 +26,7 @@ def mode(text: str) -> dict[str, Any]:
     """Reads who plays whom."""
     found = re.fullmatch(MODE, text)
     if not found:
-        raise argparse.ArgumentTypeError(f"{text!r} is none of pairs, threes, fours, sizes:A,B,C, ladder and gauntlet:ROBOT")
+        raise argparse.ArgumentTypeError(f"{text!r} is none of {MODES}")
     if found[2]:
         weights = decimals(3)(found[3])
         if not any(weights):
@@ -54,14 +55,18 @@ def of_rules(it: argparse.ArgumentParser) -> None:
     """The words by which a season's rules are given."""
     rules = it.add_argument_group("rules")
     one = rules.add_argument
-    one("--mode", metavar="MODE", type=mode, help="who plays whom: pairs, threes, fours, sizes:A,B,C, ladder, gauntlet:ROBOT (default pairs)")
-    one("-m", dest="matches", metavar="MATCHES", type=within(1, MATCHES_MAX), help="matches of each group (default 100)")
+    one("--mode", metavar="MODE", type=mode, help=f"who plays whom: {MODES} (default pairs)")
+    one("-m", dest="matches", metavar="MATCHES", type=within(1, MATCHES_MAX),
+        help="matches of each group (default 100)")
     one("-l", dest="cycles", metavar="CYCLES", type=within(1, CYCLES_MAX), help="cycles of a match (default 500000)")
-    one("-s", dest="seed", metavar="SEED", type=within(0, SEED_MAX), help="seed (default 1; each season has the next one)")
+    one("-s", dest="seed", metavar="SEED", type=within(0, SEED_MAX),
+        help="seed (default 1; each season has the next one)")
     one("-p", dest="profile", metavar="PROFILE", type=within(1, 2), help="language profile, 1 or 2 (default 1)")
     one("--points", metavar="WIN,TIE", type=points, help="what a win and a tie count (default 3,1)")
-    one("--sample", metavar="N", type=within(0, 10_000_000), help="play only N groups, drawn by their robots; 0 for all (default 0)")
-    one("--until", metavar="all|sure", choices=(ALL, SURE), help="play all matches of a pair, or until its result is sure (default all)")
+    one("--sample", metavar="N", type=within(0, 10_000_000),
+        help="play only N groups, drawn by their robots; 0 for all (default 0)")
+    one("--until", metavar="all|sure", choices=(ALL, SURE),
+        help="play all matches of a pair, or until its result is sure (default all)")
     one("--anchor", metavar="ROBOT=RATING", type=anchor, help="the robot with a fixed rating, or none (default none)")
     of_program(rules)
 
@@ -113,7 +118,8 @@ class Words:
     """The parser of all commands."""
 
     def __init__(self, name: str) -> None:
-        self.parser = Parser(prog=name, description="Runs a league of robots for years, in a folder.", allow_abbrev=False)
+        does = "Runs a league of robots for years, in a folder."
+        self.parser = Parser(prog=name, description=does, allow_abbrev=False)
         self.parser.set_defaults(script=name)
         self._commands = self.parser.add_subparsers(dest="command", metavar="COMMAND", required=True)
         self._entries()
@@ -121,7 +127,8 @@ class Words:
         self._showing()
 
     def _command(self, name: str, does: str) -> Parser:
-        it = self._commands.add_parser(name, help=does, description=does[0].upper() + does[1:] + ".", allow_abbrev=False)
+        said = does[0].upper() + does[1:] + "."
+        it = self._commands.add_parser(name, help=does, description=said, allow_abbrev=False)
         if name != "verify":
             it.add_argument("league", metavar="LEAGUE", help="the league's folder")
         return it
@@ -152,18 +159,23 @@ class Words:
         """What is played."""
         it = self._command("play", "plays what is missing")
         of_playing(it)
-        it.add_argument("--piece", metavar="MATCHES", type=within(1, MATCHES_MAX), help="most matches of one series (default: so that all processors are busy)")
+        it.add_argument("--piece", metavar="MATCHES", type=within(1, MATCHES_MAX),
+                        help="most matches of one series (default: so that all processors are busy)")
         it.add_argument("--plan", action="store_true", help="print what is missing as command lines, and play nothing")
-        it.add_argument("--chunk", metavar="N", type=within(1, 10_000), default=1, help="with --plan: at most N series a line (default 1)")
+        it.add_argument("--chunk", metavar="N", type=within(1, 10_000), default=1,
+                        help="with --plan: at most N series a line (default 1)")
         of_day(it)
         it = self._command("take", "takes what the command lines of a plan wrote")
         it.add_argument("files", metavar="FILE", nargs="*", help="what they wrote (default: standard input)")
         of_day(it)
         it = self._command("season", "lists the seasons, ends the one that goes on, or begins another")
-        it.add_argument("what", metavar="end|begin", nargs="?", choices=("end", "begin"), help="what to do (default: list them)")
+        it.add_argument("what", metavar="end|begin", nargs="?", choices=("end", "begin"),
+                        help="what to do (default: list them)")
         it.add_argument("name", metavar="NAME", nargs="?", help="the name of the season that begins")
-        it.add_argument("--divisions", metavar="N", type=within(1, DIVISIONS_MAX), help="with begin: how many divisions (default: as before)")
-        it.add_argument("--move", metavar="N", type=within(0, 1000), default=2, help="with begin: how many go up and down between divisions (default 2)")
+        it.add_argument("--divisions", metavar="N", type=within(1, DIVISIONS_MAX),
+                        help="with begin: how many divisions (default: as before)")
+        it.add_argument("--move", metavar="N", type=within(0, 1000), default=2,
+                        help="with begin: how many go up and down between divisions (default 2)")
         it.add_argument("--unfinished", action="store_true", help="with end: though matches are missing")
         of_rules(it)
         of_day(it)
@@ -189,5 +201,6 @@ class Words:
         it = self._command("verify", "replays matches of an archive, and compares")
         it.add_argument("--all", action="store_true", help="replay all of its matches")
         of_playing(it)
-        it.add_argument("number", metavar="N", nargs="?", type=within(1, 10**9), help="how many matches, drawn by chance (default 100)")
+        it.add_argument("number", metavar="N", nargs="?", type=within(1, 10**9),
+                        help="how many matches, drawn by chance (default 100)")
         it.add_argument("archive", metavar="ARCHIVE", help="an archive that `publish` wrote")
