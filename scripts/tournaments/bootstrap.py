@@ -18,6 +18,9 @@ ROUNDS = 200
 VECTORS = 1021
 SEED = "crobots"
 BYTES = 8
+# Half of the range of a round, and that in all rounds.
+HALF = 1 << 8 * BYTES - 1
+HALVES = sum(HALF << 8 * BYTES * at for at in range(ROUNDS))
 POISSON = list(itertools.accumulate(math.exp(-1) / math.factorial(k) for k in range(20)))
 
 
@@ -27,12 +30,14 @@ def drawn(index: int) -> Packed:
     return sum(bisect.bisect(POISSON, chance()) << 8 * BYTES * at for at in range(ROUNDS))
 
 
-def rounds(sums: Iterable[Packed]) -> Iterator[list[int]]:
-    """Of each round its part of each sum."""
+def rounds(sums: Iterable[Packed], signed: bool = False) -> Iterator[list[int]]:
+    """Of each round its part of each sum; parts below zero may be given."""
     packed = bytearray()
     for it in sums:
-        packed += it.to_bytes(BYTES * ROUNDS, sys.byteorder)
+        packed += (it + HALVES if signed else it).to_bytes(BYTES * ROUNDS, sys.byteorder)
     parts = memoryview(packed).cast("Q")
+    if signed:
+        return ([it - HALF for it in parts[at::ROUNDS].tolist()] for at in range(ROUNDS))
     return (parts[at::ROUNDS].tolist() for at in range(ROUNDS))
 
 
@@ -42,9 +47,11 @@ class Weights:
     def __init__(self) -> None:
         self._drawn: dict[int, Packed] = {}
 
-    def of(self, place: int) -> Packed:
-        index = place % VECTORS
-        found = self._drawn.get(index)
-        if found is None:
-            found = self._drawn[index] = drawn(index)
-        return found
+    def of(self, begin: int) -> Iterator[Packed]:
+        """Those of a match and the ones after it."""
+        known = self._drawn
+        for index in itertools.chain(range(begin % VECTORS, VECTORS), itertools.cycle(range(VECTORS))):
+            found = known.get(index)
+            if found is None:
+                found = known[index] = drawn(index)
+            yield found

@@ -83,6 +83,11 @@ class Record:
         text = f"{self.head()} results={self.results}"
         return f"{text} sum={checksum(text)}\n"
 
+    @functools.cached_property
+    def ended(self) -> list[str]:
+        """What the robots of each match did, a letter for each; nothing for damage that can't be."""
+        return [letters(it[it.index(":") + 1:]) for it in self.results.split(",")]
+
     def matches(self) -> Iterator[tuple[int, Match]]:
         """The matches with their numbers."""
         return ((self.series.first + at, match(it)) for at, it in enumerate(self.results.split(",")))
@@ -148,12 +153,11 @@ def check_results(record: Record) -> None:
     each, robots, limit = record.results.split(","), len(record.robots), record.settings.cycles
     if len(each) != record.series.count:
         raise NoRecord(f"has {len(each)} results of {record.series.count} matches")
-    for number, result in enumerate(each, record.series.first):
-        said, _, damage = result.partition(":")
-        cycles, ended = int(said), letters(damage)
+    for at, (result, ended) in enumerate(zip(each, record.ended)):
+        cycles = int(result[: result.index(":")])
         early = 0 < cycles < limit and cycles % UPDATE == 0 and "t" not in ended
         if len(ended) != robots or not (cycles == limit or early):
-            raise NoRecord(f"has a result that can't be: {result} of match {number}")
+            raise NoRecord(f"has a result that can't be: {result} of match {record.series.first + at}")
 
 
 def record(head: re.Match[str], results: str = "") -> Record | None:

@@ -7,7 +7,7 @@ from collections import defaultdict
 from dataclasses import dataclass, field
 
 from .bootstrap import Packed, Weights
-from .records import Record, letters
+from .records import Record
 from .settings import Group
 
 
@@ -55,10 +55,10 @@ class Tally:
         """Adds the matches of a record."""
         cells: defaultdict[str, Cell] = defaultdict(Cell)
         series = record.series
-        for place, result in enumerate(record.results.split(","), series.seed + series.first):
-            cell = cells[letters(result.partition(":")[2])]
+        for ended, rounds in zip(record.ended, self._weights.of(series.seed + series.first)):
+            cell = cells[ended]
             cell.matches += 1
-            cell.rounds += self._weights.of(place)
+            cell.rounds += rounds
         for ended, cell in cells.items():
             self._add_scores(series.seats, ended, cell.matches)
             for one, other in itertools.combinations(sorted(zip(series.seats, ended)), 2):

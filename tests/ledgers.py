@@ -1,0 +1,134 @@
+"""The ledger of further edits: for each crate, of which contracts and edits it is known that the prover refuses each edit.
+
+crates/NAME/must-fail has the edits that each gate tries. crates/NAME/further-edits has all others, which the gate passes
+over. The file further-edits.tried has a line a crate that has such edits:
+
+    NAME DIGEST DAY REFUSED SECONDS
+
+REFUSED is how many edits were refused on that DAY, in a run of so many SECONDS. The digest is of all that decides whether an edit is refused: the edits themselves with their names, the crate's
+definitions, its code without bodies, and what the crates below promise. So if a contract changes, the line is out of
+date, and the edits are to be tried again; if only bodies and proofs do, it isn't. A line `NAME untried` is of a crate
+whose edits were never tried since there is a ledger."""
+
+from __future__ import annotations
+
+import hashlib
+from dataclasses import dataclass
+from functools import cache
+from pathlib import Path
+
+import surfaces
+
+MOST_EDITS, MOST_EDITS_OF_A_CRATE = 120, 12
+TRIED = "further-edits.tried"
+UNTRIED = "untried"
+
+
+@dataclass(frozen=True)
+class Line:
+    """A line of the ledger."""
+
+    crate: str
+    digest: str
+    day: str
+    refused: int
+    seconds: int
+
+    def text(self) -> str:
+        if self.digest == UNTRIED:
+            return f"{self.crate} {UNTRIED}"
+        return f"{self.crate} {self.digest} {self.day} {self.refused} {self.seconds}"
+
+
+class Ledger:
+    """The ledger of a repository, and what it is to be compared with."""
+
+    def __init__(self, top: Path) -> None:
+        self._top = top
+        self._below = listed(top)
+
+    def crates(self) -> list[str]:
+        """The crates that have further edits."""
+        return [name for name in sorted(self._below) if self.edits(name)]
+
+    def edits(self, crate: str) -> list[Path]:
+        """A crate's further edits."""
+        return sorted((self._top / "crates" / crate / "further-edits").glob("*.edit"))
+
+    def needed(self, names: list[str]) -> set[str]:
+        """These crates, and those that they stand on, directly or through others."""
+        found: set[str] = set()
+        waiting = [*names]
+        while waiting:
+            name = waiting.pop()
+            if name in self._below and name not in found:
+                found.add(name)
+                waiting += self._below[name]
+        return found
+
+    def digest(self, crate: str) -> str:
+        """What decides whether a crate's further edits are refused."""
+        found = hashlib.sha256()
+        for edit in self.edits(crate):
+            found.update(f"{edit.name}\n".encode() + edit.read_bytes())
+        found.update(surface(self._top / "crates" / crate, False))
+        for name in sorted(self.needed([crate]) - {crate}):
+            found.update(surface(self._top / "crates" / name, True))
+        return found.hexdigest()[:32]
+
+    def lines(self) -> dict[str, Line]:
+        """The ledger's lines by their crates; a line that is none is passed over."""
+        path = self._top / TRIED
+        rows = [row.split() for row in path.read_text(encoding="utf-8").splitlines()] if path.exists() else []
+        untried = {row[0]: Line(row[0], UNTRIED, "", 0, 0) for row in rows if row[1:] == [UNTRIED]}
+        return untried | {row[0]: Line(row[0], row[1], row[2], int(row[3]), int(row[4]))
+                          for row in rows if len(row) == 5 and row[3].isdigit() and row[4].isdigit()}
+
+    def is_tried(self, crate: str) -> bool:
+        """Reports whether each further edit of a crate was refused under its contracts of today."""
+        line = self.lines().get(crate)
+        return line is not None and line.refused == len(self.edits(crate)) and line.digest == self.digest(crate)
+
+    def is_untried(self, crate: str) -> bool:
+        """Reports whether a crate's further edits were never tried since there is a ledger."""
+        line = self.lines().get(crate)
+        return line is not None and line.digest == UNTRIED
+
+    def write(self, line: Line) -> None:
+        """Puts a line in the place of the one that the crate had; lines of crates without such edits go."""
+        lines = {**self.lines(), line.crate: line}
+        kept = [lines[name].text() for name in self.crates() if name in lines]
+        (self._top / TRIED).write_text("".join(f"{it}\n" for it in kept), encoding="utf-8")
+
+
+@cache
+def surface(folder: Path, only_public: bool) -> bytes:
+    return surfaces.read(folder, only_public).encode()
+
+
+def listed(top: Path) -> dict[str, list[str]]:
+    """The crates of crates.txt, and on which crates of the repository each stands directly."""
+    rows: dict[str, list[str]] = {}
+    for line in (top / "crates.txt").read_text(encoding="utf-8").splitlines():
+        name, colon, rest = line.partition("#")[0].partition(":")
+        if colon:
+            rows[name.split()[0]] = rest.split()
+    return {name: [it for it in below if it in rows] for name, below in rows.items()}
+
+
+def wrong(top: Path, edit: Path) -> str:
+    """What is wrong with an edit: each of its old texts stands once in its file, after the pairs before it; nothing if all is well."""
+    crate, texts, path, old, pairs = edit.parent.parent, {}, "", None, 0
+    for line in edit.read_text(encoding="utf-8").split("\n"):
+        if line.startswith("file: "):
+            path = line.removeprefix("file: ").strip()
+        elif line.startswith("old: "):
+            old = line.removeprefix("old: ")
+        elif line.startswith("new:") and old is not None:
+            if path not in texts:
+                texts[path] = (crate / path).read_text(encoding="utf-8") if (crate / path).is_file() else ""
+            if (found := texts[path].count(old)) != 1:
+                return f"an old text is in {path} {found} times, and not once"
+            texts[path] = texts[path].replace(old, line.removeprefix("new:").removeprefix(" "))
+            old, pairs = None, pairs + 1
+    return "" if pairs else "it has no old and new text"

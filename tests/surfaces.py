@@ -1,0 +1,84 @@
+"""What of a crate decides whether a wrong body is refused: its definitions, and of its code all but the bodies.
+
+`rt fmt` lays the code out, and the gate refuses other layouts: a body begins at the brace that ends a signature, or that
+stands alone under its clauses, and it ends at the first brace that stands alone at the function's own indentation."""
+
+from __future__ import annotations
+
+import re
+from pathlib import Path
+from typing import Iterator
+
+HEAD = re.compile(r"( *)(pub(?:\([a-z]+\))? )?(?:const |unsafe |ghost )*fn \w")
+CLAUSE = re.compile(r" *(?:requires|ensures|decreases|where)\b")
+# what no contract says: imports of code, attributes, comments, statements of a crate's modules
+ASIDE = re.compile(r" *(?://|#!?\[|(?:pub )?use |(?:pub )?mod )")
+
+
+def surface(text: str, only_public: bool = False) -> str:
+    """The text of a file of code without bodies, comments, attributes and imports; of functions of their own only the public ones."""
+    return "\n".join(line for line, is_public in declared(text.split("\n")) if is_public or not only_public)
+
+
+def declared(lines: list[str]) -> Iterator[tuple[str, bool]]:
+    """The lines outside of bodies; those of a function's head and clauses with whether others can call it."""
+    at = 0
+    while at < len(lines):
+        head = HEAD.match(lines[at])
+        if not head:
+            if lines[at].strip() and not ASIDE.match(lines[at]):
+                yield lines[at], True
+            at += 1
+            continue
+        is_public = head[2] is not None or is_of_trait(lines, at, head[1])
+        end, begins = ending(lines, at, head[1])
+        yield from ((line, is_public) for line in lines[at:end])
+        at = after_body(lines, end, head[1]) if begins else end
+
+
+def is_of_trait(lines: list[str], at: int, indent: str) -> bool:
+    """Reports whether a function without `pub` is a trait's, or of an impl of one, so that others can call it."""
+    above = (line for line in reversed(lines[:at]) if line.strip() and not line.startswith(indent)) if indent else iter(())
+    block = next(above, "")
+    return re.match(r"(?:pub )?(?:unsafe )?trait\b|impl\b.* for ", block) is not None
+
+
+def ending(lines: list[str], at: int, indent: str) -> tuple[int, bool]:
+    """Where a function's head with its clauses ends, and whether a body follows there."""
+    has_clauses = False
+    for end in range(at, len(lines)):
+        line = lines[end]
+        has_clauses = has_clauses or CLAUSE.match(line) is not None
+        if line == f"{indent}{{" or not has_clauses and line.endswith(" {"):
+            return end + 1, True
+        if line.endswith((";", " {}", "{ }")) and not has_clauses or line == f"{indent}{{}}":
+            return end + 1, False
+        if has_clauses and end + 1 < len(lines) and is_next(lines[end + 1], indent):
+            return end + 1, False
+    return len(lines), False
+
+
+def is_next(line: str, indent: str) -> bool:
+    """Reports whether a line is no more of a head: one that isn't deeper than the function, and no body's beginning."""
+    return not line.startswith(f"{indent} ") and line != f"{indent}{{" and line != f"{indent}{{}}"
+
+
+def after_body(lines: list[str], begin: int, indent: str) -> int:
+    """The line after the end of a body."""
+    return next((at + 1 for at in range(begin, len(lines)) if lines[at] == f"{indent}}}"), len(lines))
+
+
+def definition(text: str) -> str:
+    """A file of definitions without its comments and blank lines."""
+    return "\n".join(line for line in text.split("\n") if line.strip() and not line.lstrip().startswith("--"))
+
+
+def read(folder: Path, only_public: bool = False) -> str:
+    """All that a crate promises and defines, in the order of its files."""
+    said = []
+    for path in sorted((folder / "specs").rglob("*.antt")):
+        said.append(f"{path.relative_to(folder)}\n{definition(path.read_text(encoding='utf-8'))}")
+    for path in sorted((folder / "src").rglob("*.rt")):
+        if "tests" not in path.relative_to(folder).parts and path.name != "tests.rt":
+            said.append(f"{path.relative_to(folder)}\n{surface(path.read_text(encoding='utf-8'), only_public)}")
+    return "\n".join(said)
