@@ -95,7 +95,8 @@ def play_all(store: Store, given: argparse.Namespace, found: Program) -> None:
             checked(season, found)
             now = wanted(store, season, given.jobs, given.piece)
             if not now.records:
-                tell(f"{given.script}: {'all' if done else 'nothing was missing: all'} matches are there\n")
+                if not given.quiet:
+                    tell(f"{given.script}: {done} matches were played, and none is missing\n")
                 return
             done += play_round(store, given, found, season.rules, now)
 

@@ -38,7 +38,8 @@ def standings(schedule: Schedule, results: Results) -> list[Standing]:
     field = schedule.field
     parts = {group: it for group, it in scores(schedule, results).items() if schedule.is_of_a_division(group)}
     played, worth = total(parts, len(field.robots)), points(parts, len(field.robots), field.rules)
-    rated = rating(schedule, tallied(schedule, results)) if parts else []
+    tally = tallied(schedule, results)
+    rated = rating(schedule, tally) if tally.pairs else [Rating(0, 0, 0)] * len(field.robots)
     rungs = on_ladder(schedule, results) if field.rules.mode == LADDER else {}
     found: list[Standing] = []
     order = sorted(range(len(field.robots)), key=lambda at: (
@@ -46,7 +47,7 @@ def standings(schedule: Schedule, results: Results) -> list[Standing]:
     for at in order:
         it = field.robots[at]
         found.append(placed(found, Standing(field.division(it.robot), rungs.get(at, 0), it.robot, it.sha256, played[at],
-                                            worth[at], rated[at] if rated else Rating(0, 0, 0))))
+                                            worth[at], rated[at])))
     return found
 
 
