@@ -10,15 +10,16 @@ from .facts import Place, Score
 from .markup import Markup, joined, tag
 from .scales import Scale, scale
 
-ROW_WIDTH, ROW_HEIGHT = 280, 26
+ROW_WIDTH, ROW_HEIGHT = 270, 26
 TIME_WIDTH, TIME_HEIGHT, TIME_LEFT, TIME_BOTTOM = 760, 230, 48, 28
 MINUS = "\N{MINUS SIGN}"
 
 
 def svg(width: int, height: int, *children: Markup, label: str | None = None, kind: str = "") -> Markup:
     """A drawing. Without a label it repeats what stands beside it as text."""
-    return tag("svg", *children, viewBox=f"0 0 {width} {height}", width=width, height=height, class_=f"chart {kind}".strip(),
-               role="img" if label else None, aria_label=label, aria_hidden=None if label else "true")
+    role, hidden = ("img", None) if label else (None, "true")
+    return tag("svg", *children, viewBox=f"0 0 {width} {height}", width=width, height=height,
+               class_=f"chart {kind}".strip(), role=role, aria_label=label, aria_hidden=hidden)
 
 
 def whole(value: float) -> str:

@@ -1,4 +1,4 @@
-"""The colours of the heat map: steps from one colour over a pale one to another, each with an ink that can be read on it."""
+"""The colours of the heat map: steps from one colour over a pale one to another, each with an ink to be read on it."""
 
 from __future__ import annotations
 

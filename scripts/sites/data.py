@@ -8,7 +8,7 @@ import json
 from typing import Any, Iterable
 
 from . import commands, places
-from .facts import Battle, Pair, Robot, Score, Standing
+from .facts import Battle, Pair, Robot, Score, Standing, Table, Version
 from .lookups import Lookup
 from .names import shown
 from .numbers import decimal
@@ -54,8 +54,8 @@ def everything(lookup: Lookup) -> str:
     settings = facts.settings
     head = {
         "title": facts.title, "day": facts.day,
-        "settings": {"matches": settings.matches, "cycles": settings.cycles, "seed": settings.seed, "profile": settings.profile,
-                     "sizes": settings.sizes, **dict(settings.more)},
+        "settings": {"matches": settings.matches, "cycles": settings.cycles, "seed": settings.seed,
+                     "profile": settings.profile, "sizes": settings.sizes, **dict(settings.more)},
         "program": {"version": facts.program.version, "sha256": facts.program.sha256},
         "archive": places.archive_file(facts.archive) if facts.archive else None,
     }
@@ -63,7 +63,7 @@ def everything(lookup: Lookup) -> str:
         "robots": [robot(lookup, it) for it in facts.robots],
         "table": [standing(it) for it in facts.standings],
         "pairs": [pair(lookup, it) for it in facts.pairs],
-        "earlier": [{"day": it.day, "table": {name: vars(place) for name, place in it.places.items()}} for it in facts.earlier],
+        "earlier": [earlier(it) for it in facts.earlier],
     }
     parts = [f"{json.dumps(name)}: {json.dumps(it)}" for name, it in head.items()]
     parts += [f"{json.dumps(name)}: [\n{','.join(map(line, rows))}]" for name, rows in lists.items()]
@@ -78,25 +78,38 @@ def score(it: Score) -> dict[str, int]:
     return {"played": it.played, "won": it.won, "tied": it.tied, "lost": it.lost}
 
 
+def both(it: Score) -> dict[str, int]:
+    """The score of a pair."""
+    return {**score(it), "both_lost": it.both}
+
+
 def robot(lookup: Lookup, it: Robot) -> dict[str, Any]:
     return {
         "id": it.id, "name": it.name, "author": it.author, "withdrawn": it.withdrawn, "page": places.robot_page(it.id),
-        "versions": [{"sha256": version.sha256, "day": version.day,
-                      "source": None if version.source is None else places.source_file(it.id, version)} for version in it.versions],
-        "last_lost": [battle(lookup, one) for one in it.lost],
+        "versions": [version(it, one) for one in it.versions],
+        "lost": [battle(lookup, one) for one in it.lost],
     }
 
 
+def version(robot: Robot, it: Version) -> dict[str, Any]:
+    source = None if it.source is None else places.source_file(robot.id, it)
+    return {"sha256": it.sha256, "day": it.day, "source": source}
+
+
 def standing(it: Standing) -> dict[str, Any]:
-    return {"rank": it.rank, "robot": it.robot, **score(it.score), "points": float(it.points), "rating": it.rating, "low": it.low,
-            "high": it.high, "close": it.close}
+    return {"rank": it.rank, "robot": it.robot, **score(it.score), "points": float(it.points), "rating": it.rating,
+            "low": it.low, "high": it.high, "close": it.close}
+
+
+def earlier(it: Table) -> dict[str, Any]:
+    return {"day": it.day, "table": {robot: vars(place) for robot, place in it.places.items()}}
 
 
 def pair(lookup: Lookup, it: Pair) -> dict[str, Any]:
     return {
-        "robot": it.one, "against": it.other, **score(it.score), "both_lost": it.score.both, "share": share(it.score), "low": it.low,
+        "robot": it.one, "against": it.other, **both(it.score), "share": share(it.score), "low": it.low,
         "high": it.high, "page": places.pair_page(it.one, it.other),
-        "seats": [{"seat": one.seat, "against": one.against, **score(one.score), "both_lost": one.score.both} for one in it.seats],
+        "seats": [{"seat": one.seat, "against": one.against, **both(one.score)} for one in it.seats],
         "notable": [{"what": one.what, **battle(lookup, one.battle)} for one in it.notable],
     }
 

@@ -1,7 +1,7 @@
 """What a site shows: plain values, which a league or a tournament fills in.
 
-A tournament is a league of which less is known: no authors, no days, no archive. What isn't known is empty, and then the
-site leaves it out. Texts may have any letters, also the surrogates by which Python keeps names that are no UTF-8."""
+A tournament is a league of which less is known: no authors, no days, no archive. What isn't known is empty, and then
+the site leaves it out. Texts may have any letters, also the surrogates in names that are no UTF-8."""
 
 from __future__ import annotations
 
@@ -51,7 +51,9 @@ class Program:
 
 @dataclass(frozen=True)
 class Version:
-    """A robot's source as it was played from a day on; None if only its hash is known. A day is written as 2026-11-27."""
+    """A robot's source as it was played from a day on; None if only its hash is known.
+
+    A day is written as 2026-11-27."""
 
     sha256: str
     source: bytes | None

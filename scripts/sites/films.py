@@ -1,68 +1,68 @@
-"""Makes the pages that play matches, by the parts of scripts/replay and by `crobots-trace`, if that is there."""
+"""Makes pages that play matches: each by a child that does what scripts/replay does, if `crobots-trace` is there."""
 
 from __future__ import annotations
 
-import contextlib
-import io
 import os
+import subprocess
+import sys
 import tempfile
-from concurrent.futures import ProcessPoolExecutor
+from concurrent.futures import ThreadPoolExecutor
 from dataclasses import dataclass
 from typing import Iterator, Mapping, Sequence
 
 from replays.faults import Fault
-from replays.main import filmed, program
-from replays.pages import page
+from replays.main import program
 
 from .facts import Battle, Settings
 
 # Of a longer match a page has the last cycles alone, so no page is large.
 MOST_CYCLES = 50_000
 MOST_NAME = 255
+# Runs scripts/replay's module from the folder of this package.
+REPLAY = "import sys; sys.path.insert(0, sys.argv.pop(1)); from replays.main import run; sys.exit(run(sys.argv[1:]))"
+LIBRARY = os.path.dirname(os.path.dirname(os.path.abspath(__file__)))
 
 
 @dataclass(frozen=True)
 class Order:
-    """What is needed to film a match: the program, the options, and the names and sources of its robots."""
+    """What is needed to film a match: the options, and the names and sources of its robots."""
 
-    trace: str
     options: tuple[str, ...]
-    number: int
     robots: tuple[tuple[str, bytes], ...]
 
 
-def trace() -> str:
-    """The path of `crobots-trace`; nothing if it isn't there."""
+def can_film() -> bool:
+    """Reports whether `crobots-trace` is there."""
     try:
-        return program()
+        return bool(program())
     except Fault:
-        return ""
+        return False
 
 
-def order(path: str, settings: Settings, battle: Battle, robots: Sequence[tuple[str, bytes]]) -> Order:
+def order(settings: Settings, battle: Battle, robots: Sequence[tuple[str, bytes]]) -> Order:
     """The order for a match."""
     first = battle.cycles - MOST_CYCLES
     late = ("--from", str(first)) if first > 0 else ()
     options = (f"-k{battle.number}", f"-l{settings.cycles}", f"-s{battle.seed}", f"-p{settings.profile}", *late)
-    return Order(path, options, battle.number, tuple(robots))
+    return Order(options, tuple(robots))
 
 
 def made(orders: Mapping[str, Order], jobs: int) -> Iterator[tuple[str, bytes]]:
-    """The pages of these matches by their places. A match that can't be played has none."""
-    with ProcessPoolExecutor(jobs) as pool:
+    """The pages of these matches by their places, so many at a time. A match that can't be played has none."""
+    with ThreadPoolExecutor(jobs) as pool:
         for place, text in zip(orders, pool.map(film, orders.values())):
-            if text is not None:
+            if text:
                 yield place, text
 
 
-def film(it: Order) -> bytes | None:
-    """The page of a match."""
-    with tempfile.TemporaryDirectory() as folder, contextlib.redirect_stderr(io.StringIO()):
+def film(it: Order) -> bytes:
+    """The page of a match; nothing if it can't be played."""
+    with tempfile.TemporaryDirectory(prefix="crobots-") as folder:
         files = [written(folder, seat, name, source) for seat, (name, source) in enumerate(it.robots)]
-        try:
-            return page(filmed(it.trace, [*it.options, "--", *files]), it.number).encode()
-        except (Fault, OSError, SystemExit):
-            return None
+        python = [sys.executable, *(["-B"] if sys.dont_write_bytecode else []), "-c", REPLAY, LIBRARY]
+        ran = subprocess.run([*python, *it.options, *files], stdin=subprocess.DEVNULL, stdout=subprocess.PIPE,
+                             stderr=subprocess.DEVNULL, check=False)
+        return b"" if ran.returncode else ran.stdout
 
 
 def written(folder: str, seat: int, name: str, source: bytes) -> str:

@@ -1,9 +1,9 @@
-"""Writes a site into its folder, of which the site keeps a list: so it removes what it doesn't have any more, and nothing else.
+"""Writes a site into its folder. A list of its files is kept there: those that it doesn't have any more are removed.
 
-Files are replaced one by one, each at once, and only those that changed. First come those that are new, to which no page
-leads yet; then those that were there; and what is gone is removed at the end. So at any instant, also if the writer is
-killed, each page is whole, and each link that a reader meets leads to a page. The list has all names before the first file
-is written."""
+Files are replaced one by one, each at once, and only those that changed. First come those that are new, to which no
+page leads yet; then those that were there; and what is gone is removed at the end. So at any instant, also if the
+writer is killed, each page is whole, and each link that a reader meets leads to a page. The list has all names before
+the first file is written."""
 
 from __future__ import annotations
 
@@ -52,7 +52,7 @@ class Folder:
         return place in self.before and os.path.isfile(self.path(place))
 
     def announce(self, places: Iterable[str]) -> None:
-        """Adds names to the list before their files are written. A file that isn't one of the site is not written over."""
+        """Adds names to the list before their files are written. A file that isn't one of the site stays as it is."""
         new = {*places} - self.before
         for place in sorted(new):
             if os.path.lexists(self.path(place)):

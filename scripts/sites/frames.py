@@ -28,10 +28,12 @@ def above(place: str) -> str:
 def head(lookup: Lookup, title: str, up: str) -> Markup:
     whole = named(lookup.facts.title)
     return tag(
-        "head", tag("meta", charset="utf-8"), tag("meta", name="viewport", content="width=device-width, initial-scale=1"),
+        "head", tag("meta", charset="utf-8"),
+        tag("meta", name="viewport", content="width=device-width, initial-scale=1"),
         tag("meta", name="color-scheme", content="light dark"),
         tag("meta", http_equiv="Content-Security-Policy", content=POLICY), tag("link", rel="icon", href="data:,"),
-        tag("title", f"{shown(title)} · {whole}" if title else whole), tag("link", rel="stylesheet", href=up + places.STYLE))
+        tag("title", f"{shown(title)} · {whole}" if title else whole),
+        tag("link", rel="stylesheet", href=up + places.STYLE))
 
 
 def heading(lookup: Lookup, place: str, up: str) -> Markup:
@@ -43,7 +45,8 @@ def heading(lookup: Lookup, place: str, up: str) -> Markup:
 
 def foot(lookup: Lookup) -> Markup:
     facts = lookup.facts
-    return tag("footer", tag("div", " · ".join(filter(None, (facts.day, facts.program.version))), class_="wide"))
+    program = facts.program.version or f"crobots {facts.program.sha256[:16]}"
+    return tag("footer", tag("div", " · ".join(filter(None, (facts.day, program))), class_="wide"))
 
 
 def section(title: str, *body: str, kind: str | None = None) -> Markup:

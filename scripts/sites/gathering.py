@@ -10,7 +10,7 @@ from dataclasses import dataclass, field
 from typing import Iterable, Iterator, Mapping, Sequence
 
 from .facts import Battle, BySeat, Notable, Pair, RobotId, Score
-from .notables import DEAD, notables
+from .notables import DEAD, notables, shortness
 from .shares import interval
 
 
@@ -36,8 +36,8 @@ class Gathering:
         robots = [seat.robot for seat in battles[0].seats]
         for (seat, one), (against, other) in itertools.permutations(enumerate(robots, 1), 2):
             if self._rows[one] < self._rows[other]:
-                it = self._pairs[one, other]
-                it.seats[seat, against] = added([it.seats.get((seat, against), Score(0, 0, 0)), score(battles, seat, against)])
+                it, at = self._pairs[one, other], (seat, against)
+                it.seats[at] = added([it.seats.get(at, Score(0, 0, 0)), score(battles, *at)])
                 it.notable = notables([*dict.fromkeys(known.battle for known in it.notable), *battles], one, other)
         for battle in battles:
             self._add_lost(battle)
@@ -48,12 +48,12 @@ class Gathering:
         for robot in {seat.robot for seat in battle.seats if seat.damage >= DEAD}:
             for survivor in survivors:
                 known = self._lost[robot].get(survivor)
-                if known is None or battle.cycles < known.cycles:
+                if known is None or shortness(battle) < shortness(known):
                     self._lost[robot][survivor] = battle
 
     def pairs(self) -> Iterator[Pair]:
-        """All pairs."""
-        for (one, other), it in self._pairs.items():
+        """All pairs, in the order of the table."""
+        for (one, other), it in sorted(self._pairs.items(), key=lambda it: [self._rows[robot] for robot in it[0]]):
             total = added(it.seats.values())
             seats = tuple(BySeat(*places, found) for places, found in sorted(it.seats.items()))
             yield Pair(one, other, total, *interval(total), seats, it.notable)

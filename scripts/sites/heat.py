@@ -18,11 +18,12 @@ DENSE = 25
 
 def heat_map(lookup: Lookup) -> str:
     """The page of the heat map."""
-    said = ("Each cell is the share of the robot on its left against the one above: its wins, and half of the matches that "
-            "both survived or lost. Blue is more than a half, orange less. A cell leads to the pair.")
-    after = tag("a", "past the map", href="#after", class_="skip")
-    return page(lookup, places.MAP, "Pairs", tag("h1", "Pairs"), sentence(said, kind="lead"), after,
-                tag("section", legend(), grid(lookup)), tag("p", tag("a", "Download the pairs (CSV)", href=places.PAIRS), id="after"))
+    said = ("Each cell is the share of the robot on its left against the one above: its wins, and half of the matches "
+            "that both survived or lost. Blue is more than a half, orange less. A cell leads to the pair.")
+    past = tag("a", "past the map", href="#after", class_="skip")
+    after = tag("p", tag("a", "Download the pairs (CSV)", href=places.PAIRS), id="after")
+    return page(lookup, places.MAP, "Pairs", tag("h1", "Pairs"), sentence(said, kind="lead"), past,
+                tag("section", legend(), grid(lookup), class_="map"), after)
 
 
 def legend() -> Markup:
@@ -35,7 +36,8 @@ def grid(lookup: Lookup) -> Markup:
     """The map as a table."""
     standings = lookup.facts.standings
     is_dense = len(standings) >= DENSE
-    head = tag("tr", tag("th", "Robot", scope="col", class_="text"), *(column(lookup, at, it) for at, it in enumerate(standings, 1)))
+    columns = (column(lookup, at, it) for at, it in enumerate(standings, 1))
+    head = tag("tr", tag("th", "Robot", scope="col", class_="text"), *columns)
     rows = [tag("tr", row_head(lookup, at, it), *(cell(lookup, it, other, is_dense) for other in standings))
             for at, it in enumerate(standings, 1)]
     caption = "Share of each robot against each other"
@@ -57,8 +59,8 @@ def cell(lookup: Lookup, one: Standing, other: Standing, is_dense: bool) -> Mark
     pair = lookup.pair(one.robot, other.robot)
     if pair is None or not pair.score.played:
         return tag("td", class_="same" if one is other else "none")
-    value = share(pair.score)
-    link = tag("a", "" if is_dense else f"{100 * value:.0f}", href=places.pair_page(one.robot, other.robot), title=told(lookup, pair))
+    value, place = share(pair.score), places.pair_page(one.robot, other.robot)
+    link = tag("a", "" if is_dense else f"{100 * value:.0f}", href=place, title=told(lookup, pair))
     return tag("td", link, class_=f"h{colours.step(value)}")
 
 

@@ -8,9 +8,11 @@ from .frames import page, section, sentence
 from .lookups import Lookup, place_of
 from .markup import Markup, joined, tag
 from .names import named
-from .numbers import count, counted, decimal, interval
+from .numbers import INTERVAL, count, counted, decimal, interval
 from .scales import Scale
 from .tables import NAME, NUMBER, TEXT, Column, table
+
+DATA = ((places.TABLE, "the table (CSV)"), (places.PAIRS, "the pairs (CSV)"), (places.EVERYTHING, "everything (JSON)"))
 
 
 def index(lookup: Lookup) -> str:
@@ -43,9 +45,11 @@ def standings(lookup: Lookup) -> Markup:
     facts = lookup.facts
     before = facts.earlier[-1] if facts.earlier else None
     axis = charts.rating_scale([place_of(it) for it in facts.standings])
-    columns: list[Column] = [("Rank", NUMBER), ("Robot", NAME), (facts.points.capitalize(), NUMBER), ("Rating", NUMBER),
-               (joined(tag("span", "Rating and interval", class_="unseen"), charts.rating_axis(axis)), TEXT), ("95 % interval", TEXT),
-               ("Played", NUMBER), ("Won", NUMBER), ("Tied", NUMBER), ("Lost", NUMBER), ("Results", TEXT)]
+    chart = joined(tag("span", "Rating and interval", class_="unseen"), charts.rating_axis(axis))
+    columns: list[Column] = [
+        ("Rank", NUMBER), ("Robot", NAME), (facts.points.capitalize(), NUMBER), ("Rating", NUMBER), (chart, TEXT),
+        (INTERVAL, TEXT), ("Played", NUMBER), ("Won", NUMBER), ("Tied", NUMBER), ("Lost", NUMBER),
+        ("Results", TEXT)]
     if before:
         columns.insert(1, ("Trend", TEXT))
     rows = [row(lookup, axis, it, before) for it in facts.standings]
@@ -72,7 +76,9 @@ def robot(lookup: Lookup, it: Standing) -> Markup:
 
 def close(it: Standing) -> Markup:
     """The mark of a robot whose interval overlaps that of the one above."""
-    return tag("abbr", "≈", title="close to the robot above: their order may be chance", class_="close") if it.close else Markup("")
+    if not it.close:
+        return tag("span", class_="close")
+    return tag("abbr", "≈", title="close to the robot above: their order may be chance", class_="close")
 
 
 def trend(it: Standing, before: Table) -> Markup:
@@ -81,10 +87,8 @@ def trend(it: Standing, before: Table) -> Markup:
     if was is None:
         return tag("span", "new", class_="trend new")
     rose = was.rank - it.rank
-    if not rose:
-        return tag("span", tag("span", "=", aria_hidden="true"), tag("span", "same", class_="unseen"), class_="trend same")
-    way, sign = ("up", "▲") if rose > 0 else ("down", "▼")
-    return tag("span", tag("span", sign, aria_hidden="true"), tag("span", f"{way} ", class_="unseen"), str(abs(rose)),
+    way, sign, by = ("up", "▲", f"{rose}") if rose > 0 else ("down", "▼", f"{-rose}") if rose < 0 else ("same", "=", "")
+    return tag("span", tag("span", sign, aria_hidden="true"), tag("span", f"{way} ", class_="unseen"), by,
                class_=f"trend {way}")
 
 
@@ -92,8 +96,8 @@ def reading(lookup: Lookup) -> Markup:
     """What the columns mean."""
     facts = lookup.facts
     said = [
-        "A rating says how often a robot beats another one: at a distance of 400 it wins ten times as often as it loses. ",
-        "A dot is a rating, its bar the 95 % interval, and an arrow says that the bar goes on. ",
+        "A rating says how often a robot beats another: at a distance of 400 it wins ten times as often as it loses. ",
+        f"A dot is a rating, its bar the {INTERVAL}, and an arrow says that the bar goes on. ",
         "≈ marks a robot whose interval overlaps that of the robot above: their order may be chance.",
     ]
     if facts.earlier:
@@ -106,11 +110,12 @@ def others(lookup: Lookup) -> Markup:
     found = [it for it in lookup.facts.robots if lookup.standing(it.id) is None]
     if not found:
         return Markup("")
-    items = [tag("li", lookup.robot_link(it.id, ""), f", withdrawn on {it.withdrawn}" if it.withdrawn else "") for it in found]
+    left = [f", withdrawn on {it.withdrawn}" if it.withdrawn else "" for it in found]
+    items = [tag("li", lookup.robot_link(it.id, ""), when) for it, when in zip(found, left)]
     return section("Robots that are not in the table", tag("ul", *items, class_="links"))
 
 
 def downloads() -> Markup:
     """The same as data."""
-    named_files = ((places.TABLE, "the table (CSV)"), (places.PAIRS, "the pairs (CSV)"), (places.EVERYTHING, "everything (JSON)"))
-    return section("Data", tag("ul", *(tag("li", tag("a", said, href=where)) for where, said in named_files), class_="links"))
+    items = [tag("li", tag("a", said, href=place)) for place, said in DATA]
+    return section("Data", tag("ul", *items, class_="links"))

@@ -17,7 +17,7 @@ MARK = "#battle="
 def fragment(settings: Settings, battle: Battle, robots: Sequence[tuple[str, bytes]]) -> str:
     """The fragment that carries a match, by the names and sources of its robots in their order.
 
-    A source is a text there. So bytes that are no UTF-8, which only comments may have, are replaced by a sign for that."""
+    A source is a text there. So bytes that are no UTF-8, which only comments have, are replaced by a sign for that."""
     said = {
         "robots": [{"name": name, "source": source.decode("utf-8", "replace")} for name, source in robots],
         "settings": {

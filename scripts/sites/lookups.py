@@ -17,6 +17,7 @@ class Lookup:
         self.facts = facts
         self.robots = {it.id: it for it in facts.robots}
         self.standings = {it.robot: it for it in facts.standings}
+        self._rows = {it.robot: row for row, it in enumerate(facts.standings)}
         self._pairs = {(it.one, it.other): it for it in facts.pairs}
         self._versions = {(it.id, version.sha256): version for it in facts.robots for version in it.versions}
         self._links: dict[tuple[RobotId, str], Markup] = {}
@@ -24,6 +25,10 @@ class Lookup:
         for it in facts.pairs:
             self._opponents.setdefault(it.one, []).append(it.other)
             self._opponents.setdefault(it.other, []).append(it.one)
+
+    def row(self, robot: RobotId) -> int:
+        """A robot's row in the table; of one without a row that after the last one."""
+        return self._rows.get(robot, len(self._rows))
 
     def standing(self, robot: RobotId) -> Standing | None:
         return self.standings.get(robot)
@@ -37,14 +42,13 @@ class Lookup:
 
     def opponents(self, robot: RobotId) -> list[Pair]:
         """The pairs of a robot from its side, in the order of the table."""
-        rows = {it.robot: row for row, it in enumerate(self.facts.standings)}
-        others = sorted(self._opponents.get(robot, ()), key=lambda it: (rows.get(it, len(rows)), it))
+        others = sorted(self._opponents.get(robot, ()), key=lambda it: (self.row(it), it))
         return [pair for other in others if (pair := self.pair(robot, other))]
 
     def better(self, pair: Pair) -> Pair:
         """A pair from the side of the robot that is higher in the table."""
-        rows = [self.standings[it].rank if it in self.standings else len(self.robots) + 1 for it in (pair.one, pair.other)]
-        return from_other_side(pair) if rows[1] < rows[0] else pair
+        one, other = (self.row(it) for it in (pair.one, pair.other))
+        return from_other_side(pair) if other < one else pair
 
     def versions(self, battle: Battle) -> list[Version]:
         """The versions that played a match."""
@@ -53,7 +57,8 @@ class Lookup:
 
     def sources(self, battle: Battle) -> list[tuple[str, bytes]]:
         """The names and sources of a match's robots; none if one isn't known any more."""
-        found = [(self.robots[seat.robot].name, version.source) for seat, version in zip(battle.seats, self.versions(battle))]
+        seated = zip(battle.seats, self.versions(battle))
+        found = [(self.robots[seat.robot].name, version.source) for seat, version in seated]
         known = [(name, source) for name, source in found if source is not None]
         return known if len(known) == len(found) else []
 
@@ -63,7 +68,7 @@ class Lookup:
 
     def files(self, battle: Battle) -> list[str]:
         """The files of a match's robots on the site."""
-        return [places.source_file(seat.robot, version) for seat, version in zip(battle.seats, self.versions(battle))]
+        return [places.source_file(seat.robot, it) for seat, it in zip(battle.seats, self.versions(battle))]
 
     def browser(self, battle: Battle) -> str:
         """The address that opens a match in the browser's page; nothing if there is none."""

@@ -19,7 +19,7 @@ class Markup(str):
 
 
 def escaped(text: str) -> str:
-    """A text as HTML, if it isn't already. One that has nothing to be escaped may be escaped again, and stays as it is."""
+    """A text as HTML, if it isn't already. One with nothing to be escaped may be escaped again, and stays as it is."""
     if isinstance(text, Markup) or not SPECIAL.search(text):
         return text
     return Markup(html.escape(shown(text)))

@@ -15,12 +15,13 @@ UNSEEN = re.compile("[\x00-\x08\x0a-\x1f\x7f-\x9f\u2028\u2029\ud800-\udfff]")
 
 @functools.cache
 def file_name(robot: str) -> str:
-    """A name for a file that no other robot gets, on no system. All but small letters, digits, '-' and inner dots is coded.
+    """A name for a file that no other robot gets, on no system.
 
-    A code has two digits. So what follows '__' is a hash, which stands for the rest of a long name."""
+    All but small letters, digits, and dots and '-' in between is coded. A code has two digits, so what follows '__' is
+    no code: it is a hash, which stands for the rest of a long name."""
     found = b"".join(map(coded, re.findall(rb"(?s).", robot.encode("utf-8", "surrogatepass")))).decode()
-    found = re.sub(r"^\.|\.$|(?<=\.)\.", "_2e", found) or "_"
-    if TAKEN.match(found):
+    found = re.sub(r"\.$|(?<=\.)\.", "_2e", found) or "_"
+    if found[0] in ".-" or TAKEN.match(found):
         found = f"_{ord(found[0]):02x}{found[1:]}"
     if len(found) <= MOST:
         return found

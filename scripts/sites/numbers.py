@@ -6,6 +6,9 @@ from decimal import Decimal
 
 from .charts import whole
 
+SPACE = "\N{NO-BREAK SPACE}"
+INTERVAL = f"95{SPACE}% interval"
+
 
 def count(number: int) -> str:
     """A whole number with commas between its thousands."""
@@ -25,7 +28,7 @@ def decimal(number: Decimal) -> str:
 
 def percent(part: float) -> str:
     """A part as a percentage with one digit after its point."""
-    return f"{100 * part:.1f}\N{NO-BREAK SPACE}%"
+    return f"{100 * part:.1f}{SPACE}%"
 
 
 def interval(low: float, high: float) -> str:

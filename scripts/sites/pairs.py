@@ -9,7 +9,7 @@ from .frames import above, page, section, sentence
 from .lookups import Lookup
 from .markup import Markup, joined, name_of, tag
 from .names import named
-from .numbers import count, percent
+from .numbers import INTERVAL, count, percent
 from .shares import share
 from .tables import NUMBER, TEXT, Column, listed, table
 
@@ -27,25 +27,27 @@ def pair_page(lookup: Lookup, replays: Replays, pair: Pair) -> str:
 
 def score(lookup: Lookup, pair: Pair) -> Markup:
     """What they did, as a bar and in numbers."""
-    it, value = pair.score, share(pair.score)
+    it, value = pair.score, percent(share(pair.score))
     said = f"{count(it.won)} won, {count(it.tied)} tied, {count(it.lost)} lost"
     both = f", of which both lost {count(it.both)}" if it.both else ""
     one = lookup.robots[pair.one].name
     bar = tag("div", charts.parts(it, 360, 22, label=said), key(it))
-    axis = charts.share_row(pair.low, value, pair.high, f"Share {percent(value)}, from {percent(pair.low)} to {percent(pair.high)}")
+    within = f"{percent(pair.low)} to {percent(pair.high)}"
+    axis = charts.share_row(pair.low, share(it), pair.high, f"Share {value}, from {within}")
     rows = [
         ("Matches", count(it.played)), ("Won, tied, lost", said + both),
-        ("Share", f"{percent(value)}, 95 % interval {percent(pair.low)} to {percent(pair.high)}"),
+        ("Share", f"{value}, {INTERVAL} {within}"),
         ("Verdict", verdict(lookup, pair)),
     ]
-    return section("Score", sentence("From the side of ", name_of(one), ":"), tag("div", bar, axis, class_="bars"), listed(rows))
+    side = sentence("From the side of ", name_of(one), ":")
+    return section("Score", side, tag("div", bar, axis, class_="bars"), listed(rows))
 
 
 def key(it: Score) -> Markup:
     """What the parts of the bar are."""
     parts = (("won", it.won), ("tied", it.tied), ("lost", it.lost))
-    return tag("p", *(tag("span", f"{count(many)} {what}", class_=f"key {what}") for what, many in parts), class_="keys",
-               aria_hidden="true")
+    keys = [tag("span", f"{count(many)} {what}", class_=f"key {what}") for what, many in parts]
+    return tag("p", *keys, class_="keys", aria_hidden="true")
 
 
 def verdict(lookup: Lookup, pair: Pair) -> Markup:
@@ -77,7 +79,8 @@ def notables(lookup: Lookup, replays: Replays, pair: Pair, up: str) -> Markup:
     if not pair.notable:
         return section("Matches", sentence("None of these matches was decided."))
     cards = [card(lookup, replays, tag("h3", said), it.battle, up) for said, it in merged(pair.notable)]
-    plays = sentence("A command line plays its match again, in a folder that has the site's folder ", tag("code", "sources"), ".")
+    folder = tag("code", "sources")
+    plays = sentence("A command line plays its match again, in a folder that has the site's folder ", folder, ".")
     return section("Matches", tag("div", *cards, class_="battles"), plays)
 
 

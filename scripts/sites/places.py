@@ -38,8 +38,9 @@ def replay_page(facts: Facts, battle: Battle, versions: Sequence[Version]) -> st
 
 
 def archive_file(path: str) -> str:
-    """The archive, under its own name."""
-    return f"archive/{file_name(path.rsplit('/', 1)[-1])}"
+    """The archive, under its own name if that is safe."""
+    name = path.rsplit("/", 1)[-1]
+    return f"archive/{name if re.fullmatch('[A-Za-z0-9][A-Za-z0-9._-]*[A-Za-z0-9]', name) else file_name(name)}"
 
 
 def hashed(text: str) -> str:

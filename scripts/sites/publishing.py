@@ -42,23 +42,20 @@ def publish(facts: Facts, folder: str, replays: int = 0, jobs: int = 1) -> None:
 
 
 def battles(lookup: Lookup) -> Iterator[Battle]:
-    """All matches that the site names: lost ones in the order of the table, then those of pairs, the best robots' first."""
+    """All matches that the site names: lost ones in the order of the table, then those of pairs, the best first."""
     facts = lookup.facts
-    rows = {it.robot: row for row, it in enumerate(facts.standings)}
-    last = len(rows)
-    for robot in sorted(facts.robots, key=lambda it: rows.get(it.id, last)):
+    for robot in sorted(facts.robots, key=lambda it: lookup.row(it.id)):
         yield from robot.lost
-    for pair in sorted(facts.pairs, key=lambda it: sorted((rows.get(it.one, last), rows.get(it.other, last)), reverse=True)):
+    for pair in sorted(facts.pairs, key=lambda it: sorted(map(lookup.row, (it.one, it.other)), reverse=True)):
         yield from (it.battle for it in pair.notable)
 
 
 def orders(lookup: Lookup, wanted: dict[str, Battle], most: int) -> dict[str, films.Order]:
     """The orders for the first of the matches that have no page yet."""
-    trace = films.trace() if most else ""
-    if not trace:
+    if not most or not films.can_film():
         return {}
     found = ((place, lookup.sources(it), it) for place, it in wanted.items())
-    known = ((place, films.order(trace, lookup.facts.settings, it, sources)) for place, sources, it in found if sources)
+    known = ((place, films.order(lookup.facts.settings, it, sources)) for place, sources, it in found if sources)
     return dict(it for it, _ in zip(known, range(most)))
 
 

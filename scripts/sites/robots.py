@@ -4,28 +4,28 @@ from __future__ import annotations
 
 from . import charts, places, sources, sums
 from .battles import Replays, card
-from .facts import Battle, Pair, Robot, Standing
+from .facts import Battle, Pair, Place, Robot, Standing
 from .frames import above, page, section, sentence
 from .lookups import Lookup
 from .markup import Markup, block, joined, name_of, separated, tag
 from .names import named
-from .numbers import count, counted, decimal, interval, percent
+from .numbers import INTERVAL, count, counted, decimal, interval, percent
 from .shares import share
-from .tables import NUMBER, TEXT, listed, scrolling, table
+from .tables import NUMBER, TEXT, Column, listed, scrolling, table
 
 # So many opponents are the best and the worst ones.
 FEW = 5
-COLUMNS = [("Opponent", TEXT), ("Share", NUMBER), ("95 % interval", TEXT), ("Won", NUMBER), ("Tied", NUMBER), ("Lost", NUMBER),
-           ("Results", TEXT), ("Pair", TEXT)]
+COLUMNS = [("Opponent", TEXT), ("Share", NUMBER), (INTERVAL, TEXT), ("Won", NUMBER), ("Tied", NUMBER),
+           ("Lost", NUMBER), ("Results", TEXT), ("Pair", TEXT)]
 
 
 def robot_page(lookup: Lookup, replays: Replays, it: Robot) -> str:
     """The page of a robot."""
     place = places.robot_page(it.id)
     up = above(place)
-    return page(lookup, place, named(it.name), tag("h1", tag("bdi", named(it.name))), author(it), standing(lookup, it),
-                history(lookup, it), opponents(lookup, it, up), summed(it), lost(lookup, replays, it, up), versions(it, up),
-                source(it))
+    return page(lookup, place, named(it.name), tag("h1", name_of(it.name)), author(it), standing(lookup, it),
+                history(lookup, it), opponents(lookup, it, up), summed(it), lost(lookup, replays, it, up),
+                versions(it, up), source(it))
 
 
 def author(it: Robot) -> Markup:
@@ -62,16 +62,21 @@ def history(lookup: Lookup, it: Robot) -> Markup:
     found = lookup.history(it.id)
     if len(found) < 2:
         return Markup("")
-    days, places_ = [day for day, _ in found], [place for _, place in found]
-    last = places_[-1]
-    label = f"Rating from {days[0]} to {days[-1]}: from {charts.whole(places_[0].rating)} to {charts.whole(last.rating)}"
+    days, ranked = [day for day, _ in found], [place for _, place in found]
+    first, last = (charts.whole(place.rating) for place in (ranked[0], ranked[-1]))
+    label = f"Rating from {days[0]} to {days[-1]}: from {first} to {last}"
     changes = [version.day for version in it.versions[1:] if version.day]
-    rows = [[day, str(place.rank), charts.whole(place.rating), interval(place.low, place.high)] for day, place in found[::-1]]
-    whole = table("Rating by day", [("Day", TEXT), ("Rank", NUMBER), ("Rating", NUMBER), ("95 % interval", TEXT)], rows)
+    chart = scrolling(charts.over_time(days, ranked, changes, label), label)
     note = " A dotted line is a new version." if charts.during(days, changes) else ""
-    return section("Rating over time", scrolling(charts.over_time(days, places_, changes, label), label, "scroll figure"),
-                   sentence(f"The band is the 95 % interval.{note}", kind="note"),
-                   tag("details", tag("summary", "As a table"), whole))
+    return section("Rating over time", chart, sentence(f"The band is the {INTERVAL}.{note}", kind="note"),
+                   tag("details", tag("summary", "As a table"), by_day(found)))
+
+
+def by_day(found: list[tuple[str, Place]]) -> Markup:
+    """The same as a table, the last day first."""
+    columns: list[Column] = [("Day", TEXT), ("Rank", NUMBER), ("Rating", NUMBER), (INTERVAL, TEXT)]
+    return table("Rating by day", columns, [
+        [day, str(it.rank), charts.whole(it.rating), interval(it.low, it.high)] for day, it in found[::-1]])
 
 
 def opponents(lookup: Lookup, it: Robot, up: str) -> Markup:
@@ -98,17 +103,17 @@ def opponent(lookup: Lookup, pair: Pair, up: str) -> list[str]:
     against = tag("span", " against ", name_of(lookup.robots[pair.other].name), class_="unseen")
     matches = tag("a", "matches", against, href=up + places.pair_page(pair.one, pair.other))
     return [lookup.robot_link(pair.other, up), percent(share(score)), f"{percent(pair.low)} to {percent(pair.high)}",
-            count(score.won), count(score.tied), count(score.lost), charts.parts(score), matches]
+            count(score.won), count(score.tied), count(score.lost), charts.parts(score, 80), matches]
 
 
 def summed(it: Robot) -> Markup:
     """Its shots and what hurt it."""
     if not it.sums:
         return Markup("")
-    many = sums.matches(it.sums)
-    text = tag("pre", block(it.sums.splitlines()))
-    return section("Shots and damage", sentence(f"In {counted(many, 'match')}:") if many else Markup(""), listed(sums.rows(it.sums)),
-                   tag("details", tag("summary", "What crobots-trace says"), scrolling(text, "What crobots-trace says", "listing")))
+    many, said = sums.matches(it.sums), "What crobots-trace says"
+    text = scrolling(tag("pre", block(it.sums.splitlines())), said, "listing")
+    return section("Shots and damage", sentence(f"In {counted(many, 'match')}:") if many else Markup(""),
+                   listed(sums.rows(it.sums)), tag("details", tag("summary", said), text))
 
 
 def lost(lookup: Lookup, replays: Replays, it: Robot, up: str) -> Markup:

@@ -8,8 +8,8 @@ from dataclasses import dataclass
 from typing import Sequence
 
 # How far from the middle half of all values, in its widths, a value may be before it counts as an outlier.
-FENCE = 2
-TICKS = 5
+FENCE = 1.5
+TICKS = 6
 
 
 @dataclass(frozen=True)

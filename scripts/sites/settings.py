@@ -6,6 +6,8 @@ import hashlib
 import os
 import shlex
 
+from tournaments.settings import SIZE_NAMES
+
 from . import places
 from .frames import page, section, sentence
 from .lookups import Lookup
@@ -14,19 +16,20 @@ from .names import shown
 from .numbers import count, counted
 from .tables import command_line, listed
 
-SIZES = {2: "pairs", 3: "threes", 4: "fours"}
 
 
 def settings_page(lookup: Lookup) -> str:
     """The page of settings."""
-    return page(lookup, places.SETTINGS, "Settings", tag("h1", "Settings"), rules(lookup), program(lookup), archive(lookup))
+    title = "Settings"
+    return page(lookup, places.SETTINGS, title, tag("h1", title), rules(lookup), program(lookup), archive(lookup))
 
 
 def rules(lookup: Lookup) -> Markup:
     it = lookup.facts.settings
-    rows = [("Played as", ", ".join(SIZES[size] for size in it.sizes)), ("Matches of a group", count(it.matches)),
-            ("Cycles of a match, at most", count(it.cycles)), ("Seed", str(it.seed)), ("Language profile", str(it.profile)), *it.more]
-    return section("Matches", listed(rows))
+    return section("Matches", listed([
+        ("Played as", ", ".join(SIZE_NAMES[size] for size in it.sizes)), ("Matches of a group", count(it.matches)),
+        ("Cycles of a match, at most", count(it.cycles)), ("Seed", str(it.seed)),
+        ("Language profile", str(it.profile)), *it.more]))
 
 
 def program(lookup: Lookup) -> Markup:
@@ -42,10 +45,11 @@ def archive(lookup: Lookup) -> Markup:
         return Markup("")
     with open(facts.archive, "rb") as file:
         digest = hashlib.file_digest(file, "sha256").hexdigest()
-    place = places.archive_file(facts.archive)
-    rows = [("File", joined(tag("a", place.rpartition("/")[2], href=place), f" ({counted(os.path.getsize(facts.archive), 'byte')})")),
-            ("SHA-256", tag("code", digest))]
-    return section("Archive", sentence("All sources, the settings and all results, in one file."), listed(rows), *verify(facts.verify))
+    name, size = os.path.basename(facts.archive), counted(os.path.getsize(facts.archive), "byte")
+    link = tag("a", name, href=places.archive_file(facts.archive), download=name)
+    rows = [("File", joined(link, f" ({size})")), ("SHA-256", tag("code", digest))]
+    said = sentence("All sources, the settings and all results, in one file.")
+    return section("Archive", said, listed(rows), *verify(facts.verify))
 
 
 def verify(line: str) -> list[Markup]:

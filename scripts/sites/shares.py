@@ -15,7 +15,7 @@ def share(score: Score) -> float:
 
 
 def interval(score: Score) -> tuple[float, float]:
-    """Wilson's interval of the share. It takes each match as won or lost: with ties it is rather too wide than too narrow."""
+    """Wilson's interval of the share. It takes each match as won or lost: with ties it is too wide, not too narrow."""
     if not score.played:
         return 0.0, 1.0
     value, spread = share(score), NORMAL**2 / score.played

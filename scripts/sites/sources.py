@@ -11,8 +11,8 @@ WORDS = {
     "keyword": "if else while return",
     "type": "int long auto register",
     "builtin": "scan cannon drive damage speed loc_x loc_y rand sqrt sin cos tan atan",
-    "error": "for do break continue switch case default goto struct union typedef char float double static extern short "
-             "unsigned sizeof void",
+    "error": "for do break continue switch case default goto struct union typedef char float double static extern "
+             "short unsigned sizeof void",
     "def": "main",
 }
 KINDS = {word: kind for kind, words in WORDS.items() for word in words.split()}

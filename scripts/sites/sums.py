@@ -11,8 +11,9 @@ LINE = re.compile(r"^   (lost|took|shots) +(.+)$", re.MULTILINE)
 ITEM = re.compile(r"([0-9]+)(%?) (fired|refused|burst|hit|from|by its own shots|by shots|by walls|by collisions)\b")
 MATCH = re.compile(r"^Match [0-9]+: cycles = [0-9]+$", re.MULTILINE)
 TITLES = {
-    "fired": "Shots fired", "hit": "Shots that hit", "from": "Damage to others", "by shots": "Damage by shots of others",
-    "by its own shots": "Damage by its own shots", "by walls": "Damage by walls", "by collisions": "Damage by collisions",
+    "fired": "Shots fired", "hit": "Shots that hit", "from": "Damage to others",
+    "by shots": "Damage by shots of others", "by its own shots": "Damage by its own shots",
+    "by walls": "Damage by walls", "by collisions": "Damage by collisions",
 }
 
 

@@ -5,24 +5,22 @@ from __future__ import annotations
 from typing import Iterable, Sequence
 
 from .commands import quoted
-from .markup import Markup, escaped, separated, tag
+from .markup import Markup, separated, tag
 
 # What a column has: text on its left side, names that stay in sight, or numbers on its right side.
 TEXT, NAME, NUMBER = None, "name", "number"
 Column = tuple[str, str | None]
 
 
-def table(caption: str, columns: Sequence[Column], rows: Iterable[Sequence[str]], names: int = 0, style: str = "") -> Markup:
+def table(caption: str, columns: Sequence[Column], rows: Iterable[Sequence[str]], names: int = 0,
+          style: str = "") -> Markup:
     """A table whose rows are named by the cell of this column."""
     head = tag("tr", *(tag("th", title, scope="col", class_=kind) for title, kind in columns))
-    kinds = [kind for _, kind in columns]
-    body = [tag("tr", *(cell(text, kind, at == names) for at, (text, kind) in enumerate(zip(row, kinds)))) for row in rows]
+    kinds = [("th", kind, "row") if at == names else ("td", kind, None) for at, (_, kind) in enumerate(columns)]
+    body = [tag("tr", *(tag(name, text, scope=scope, class_=kind) for text, (name, kind, scope) in zip(row, kinds)))
+            for row in rows]
     whole = tag("table", tag("caption", caption), tag("thead", head), tag("tbody", *body))
     return scrolling(whole, caption, f"scroll {style}".rstrip())
-
-
-def cell(text: str, kind: str | None, is_name: bool) -> Markup:
-    return tag("th", text, scope="row", class_=kind) if is_name else tag("td", text, class_=kind)
 
 
 def command_line(words: Iterable[str]) -> Markup:
@@ -37,4 +35,4 @@ def scrolling(inside: Markup, label: str, kind: str = "scroll") -> Markup:
 
 def listed(rows: Iterable[tuple[str, str]]) -> Markup:
     """Terms with what they are."""
-    return tag("dl", *(tag("div", tag("dt", escaped(term)), tag("dd", said)) for term, said in rows if said), class_="facts")
+    return tag("dl", *(tag("div", tag("dt", term), tag("dd", said)) for term, said in rows if said), class_="facts")

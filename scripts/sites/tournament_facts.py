@@ -22,15 +22,17 @@ LOST = 5
 
 
 def facts_of_tournament(
-        title: str, settings: TournamentSettings, scoring: Scoring, among: Sequence[Robot], sources: Mapping[str, bytes],
-        standings: Sequence[TournamentStanding], records: Iterable[Record], page: str = "") -> Facts:
+        title: str, settings: TournamentSettings, scoring: Scoring, among: Sequence[Robot],
+        sources: Mapping[str, bytes], standings: Sequence[TournamentStanding], records: Iterable[Record],
+        page: str = "") -> Facts:
     """What the site of a tournament shows. The sources of robots are found by their hashes."""
     names = {it.robot: it.name for it in standings}
     gathering = Gathering({it.name: row for row, it in enumerate(standings)})
     for record in records:
         gathering.add([*battles(record, names)])
-    robots = [SiteRobot(names[at], names[at], (Version(it.sha256, sources.get(it.sha256)),), lost=gathering.lost(names[at], LOST))
-              for at, it in enumerate(among)]
+    versions = [Version(it.sha256, sources.get(it.sha256)) for it in among]
+    robots = [SiteRobot(names[at], names[at], (it,), lost=gathering.lost(names[at], LOST))
+              for at, it in enumerate(versions)]
     return Facts(
         title, rules(settings, scoring), Program("", settings.program), tuple(robots), tuple(map(standing, standings)),
         tuple(gathering.pairs()), points="points" if scoring.weights else "points a match", page=page)
@@ -60,7 +62,7 @@ def rules(settings: TournamentSettings, scoring: Scoring) -> Settings:
 
 
 def kept_sources(among: Iterable[Robot], folder: str = "") -> dict[str, bytes]:
-    """The sources by their hashes: from the folder of copies, or from the robots' files if these have still the same bytes."""
+    """The sources by their hashes: from the folder of copies, or from the robots' files that have still these bytes."""
     found: dict[str, bytes] = {}
     for it in among:
         source = read(os.path.join(folder, it.sha256) if folder else it.path)

@@ -1,4 +1,4 @@
-"""Tests of a made site in headless Chromium: at three widths, in the light and in the dark, by keys; and that a replay opens."""
+"""Tests of a made site in headless Chromium: at three widths, in light and dark, by keys; and that a replay opens."""
 
 from __future__ import annotations
 
@@ -14,8 +14,9 @@ from .filming import replays, stand_in
 
 Results = Iterator[tuple[str, bool]]
 WIDTHS = (360, 768, 1366)
-PAGES = ("index.html", "map.html", "settings.html", "robots/hunter.r.html", "robots/_3cscript_3ealert_281_29_3c_2fscript_3e.r.html",
-         "pairs/_2e_2e/hunter.r.html", "pairs/folder_2fhunter.r/index.html")
+PAGES = ("index.html", "map.html", "settings.html", "robots/hunter.r.html",
+         "robots/_3cscript_3ealert_281_29_3c_2fscript_3e.r.html", "pairs/_2e_2e/hunter.r.html",
+         "pairs/folder_2fhunter.r/hunter.r.html")
 # What is wider than the page, though it is in no box that scrolls.
 WIDE = """[...document.querySelectorAll("main *")].filter(it => !it.closest(".scroll, .listing, .unseen, .skip")
     && it.getBoundingClientRect().right > innerWidth + 1).map(it => it.outerHTML.slice(0, 80))"""
@@ -63,7 +64,8 @@ def keys(browser: Browser, site: str) -> Results:
     browser.load(os.path.join(site, "map.html"))
     browser.value("document.querySelector('td a').click()")
     browser.value("new Promise(done => setTimeout(done, 300))")
-    yield "a cell leads to its pair", browser.value("document.querySelector('h1').textContent") == f"hunter.r against {made.SCRIPT}"
+    heading = browser.value("document.querySelector('h1').textContent")
+    yield "a cell leads to its pair", heading == f"hunter.r against {made.SCRIPT}"
 
 
 def tab(browser: Browser) -> None:

@@ -1,4 +1,4 @@
-// Reads what Python made of battles by the page's own links.js, and makes its own links of them; colours sources as its editor.
+// Reads the links that Python made by the page's own links.js, and makes its own; colours sources as the page's editor.
 import {readFileSync} from "node:fs";
 import {pathToFileURL} from "node:url";
 

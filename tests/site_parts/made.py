@@ -5,8 +5,8 @@ from __future__ import annotations
 import hashlib
 from decimal import Decimal
 
-from sites.facts import (Battle, BySeat, Facts, Notable, Pair, Place, Program, Robot, Score, Seat, Settings, Standing, Table,
-                         Version)
+from sites.facts import (Battle, BySeat, Facts, Notable, Pair, Place, Program, Robot, Score, Seat, Settings, Standing,
+                         Table, Version)
 
 SCRIPT = "<script>alert(1)</script>.r"
 NAMES = ["hunter.r", SCRIPT, "a \"quoted\" & 'named' one.r", "  two  blanks .r", "caf\udce9.r", "..", "CON", "index",
@@ -39,8 +39,8 @@ def robot(at: int, name: str) -> Robot:
     last = LATIN if at == 4 else SOURCE + b"/* %d */\n" % at
     older = (version(SOURCE, "2026-10-01"),) if at % 3 == 0 else ()
     lost = (battle(NAMES[at - 1], name, 0, 100, 4000 + at),) if at else ()
-    return Robot(name, name, (*older, version(last, "2026-11-10")), "Ada <Lovelace>" if at % 2 else "", "", SUMS * 2 if at == 0 else "",
-                 lost)
+    return Robot(name, name, (*older, version(last, "2026-11-10")), "Ada <Lovelace>" if at % 2 else "", "",
+                 SUMS * 2 if at == 0 else "", lost)
 
 
 def battle(one: str, other: str, damage: int, against: int, number: int) -> Battle:
@@ -77,8 +77,10 @@ def table(day: str, robots: int) -> Table:
 def league(robots: int = len(NAMES), page: str = PAGE, archive: str = "") -> Facts:
     """A league of the first of these robots."""
     among = range(robots)
+    settings = Settings(MATCHES, 500_000, 7, 1, (2,), (("Sample", "every pair"),))
     return Facts(
-        "A league of <robots>", Settings(MATCHES, 500_000, 7, 1, (2,), (("Sample", "every pair"),)), Program("crobots <1>", "ab" * 32),
+        "A league of <robots>", settings, Program("crobots <1>", "ab" * 32),
         tuple(robot(at, NAMES[at]) for at in among), tuple(standing(at, robots) for at in among),
         tuple(pair(one, other) for one in among for other in among if one < other), "2026-11-22",
-        tuple(table(day, robots) for day in DAYS), "points a match", archive, "crobots-league verify 20 'the archive.tar'", page)
+        tuple(table(day, robots) for day in DAYS), "points a match", archive,
+        "crobots-league verify 20 'the archive.tar'", page)

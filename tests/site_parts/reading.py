@@ -102,7 +102,8 @@ def dangling(folder: str, begin: str = "index.html") -> tuple[set[str], list[str
             to = target(place, href)
             if to is None:
                 continue
-            if not os.path.isfile(os.path.join(folder, to)) or (to == place and "#" in href and href.split("#")[1] not in ids):
+            part = href.partition("#")[2]
+            if not os.path.isfile(os.path.join(folder, to)) or (to == place and part and part not in ids):
                 wrong.append(f"{place}: {href}")
             elif to not in seen:
                 seen.add(to)

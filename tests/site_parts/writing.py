@@ -1,4 +1,4 @@
-"""Tests of how a site is written: nothing of others is touched, what is gone is removed, and it may be killed at any instant."""
+"""Tests of how a site is written: what others have there stays, what is gone is removed, and it may be killed."""
 
 from __future__ import annotations
 
@@ -23,7 +23,7 @@ from .reading import dangling, files
 
 Results = Iterator[tuple[str, bool]]
 HERE = os.path.dirname(os.path.abspath(__file__))
-CUTS, KILLS = 10, 3
+CUTS, KILLS = 8, 2
 # Publishes the site of a league of so many robots into a folder.
 WRITER = """
 import sys
@@ -70,8 +70,9 @@ def others(folder: str) -> Results:
     yield "files of others stay", {".git/config", "robots/theirs.txt"} <= there
     yield "what is gone is removed", not any("quoted" in it for it in there) and "pairs/hunter.r" not in there
     publish(replace(made.league(2), robots=(), standings=(), pairs=()), folder)
-    yield "empty folders are removed", sorted(os.listdir(folder)) == sorted(
-        [".git", "index.html", "map.html", "pairs.csv", "robots", "settings.html", "site.css", "site.json", "site.list", "table.csv"])
+    yield "empty folders are removed", sorted(os.listdir(folder)) == [
+        ".git", "index.html", "map.html", "pairs.csv", "robots", "settings.html", "site.css", "site.json", "site.list",
+        "table.csv"]
     write(folder, "robots/hunter.r.html", "theirs")
     before = state(folder)
     try:
@@ -98,16 +99,21 @@ def lists(folder: str) -> Results:
 def again(folder: str) -> Results:
     """What didn't change isn't written again, and files can be read by all."""
     publish(made.league(), folder)
-    times = {place: os.stat(os.path.join(folder, place)).st_mtime_ns for place in files(folder)}
+    before = stats(folder)
     publish(made.league(), folder)
-    yield "nothing changes", times == {place: os.stat(os.path.join(folder, place)).st_mtime_ns for place in files(folder)}
+    after = stats(folder)
+    yield "nothing changes", [it.st_mtime_ns for it in before] == [it.st_mtime_ns for it in after]
     umask = os.umask(0)
     os.umask(umask)
-    yield "all can read it", all(os.stat(os.path.join(folder, place)).st_mode & 0o777 == 0o666 & ~umask for place in times)
+    yield "all can read it", {it.st_mode & 0o777 for it in after} == {0o666 & ~umask}
+
+
+def stats(folder: str) -> list[os.stat_result]:
+    return [os.stat(os.path.join(folder, place)) for place in sorted(files(folder))]
 
 
 def changed(facts: Facts) -> Facts:
-    """The same league a day later, without the second robot: other pages, files that are gone and files that are new."""
+    """The same league a week later, without the second robot: other pages, files that are gone, files that are new."""
     gone = made.NAMES[1]
     return replace(
         facts, day="2026-11-29", robots=tuple(it for it in facts.robots if it.id != gone),
@@ -165,8 +171,8 @@ def killed(place: str) -> Results:
     for at in range(KILLS):
         folder = os.path.join(place, f"killed {at}")
         publish(made.league(4), folder)
-        words = [sys.executable, "-c", WRITER, str(len(made.NAMES)), folder, os.path.dirname(HERE), os.path.join(HERE, "..", "..", "scripts")]
-        with subprocess.Popen(words) as child:
+        paths = [os.path.dirname(HERE), os.path.join(HERE, "..", "..", "scripts")]
+        with subprocess.Popen([sys.executable, "-c", WRITER, str(len(made.NAMES)), folder, *paths]) as child:
             while child.poll() is None and not os.path.exists(os.path.join(folder, folders.NEW)):
                 time.sleep(0.001)
             time.sleep(source.random() * 0.2)

@@ -4,7 +4,8 @@ use Rattle.std.specs.Int.{abs_diff}
 use Rattle.std.proofs.lemmas.Int.{ints, to_z-of_z, fits_signed_from_abs}
 use Rattle.std.proofs.lemmas.Bool.{cases_lt}
 use Rattle.std.proofs.lemmas.Bool.Decides.{nat_tests}
-use Rattle.arena.specs.Leg.{last_place, clamped, along, is_outside}
+use Rattle.arena.specs.Rules.{last_place}
+use Rattle.arena.specs.Leg.{clamped, along, is_outside}
 use Rattle.arena.specs.Sums.{slack, sum_from, last_sum, IsInField, place_of, is_beyond, place_near}
 
 -- a way goes as the heading does

@@ -5,7 +5,8 @@ use Rattle.std.proofs.lemmas.Bool.Decides.{nat_tests}
 use Rattle.std.proofs.lemmas.Bool.{and_parts, eqb-true, eq-eqb, ne_eqb, le-leb, lt-leb, or_parts}
 use Rattle.arena.specs.Answer.{wanting}
 use Rattle.arith.specs.Circle.{sine_at, cosine_at}
-use Rattle.arena.specs.Leg.{Leg, last_place, clamped, along, way_east, way_north, end_x, end_y, place_x, place_y, approached, leg_anew, steered, sped, grown, hits_wall, walled, tried}
+use Rattle.arena.specs.Rules.{last_place}
+use Rattle.arena.specs.Leg.{Leg, clamped, along, way_east, way_north, end_x, end_y, place_x, place_y, approached, leg_anew, steered, sped, grown, hits_wall, walled, tried}
 use Rattle.arena.specs.Sums.{sum_from, sum_east, sum_north, step_east, step_north, place_of, is_beyond, place_near}
 use Rattle.arena.specs.Start.{standing}
 use Rattle.arena.specs.Ground.{Track, track_of, is_steady}

@@ -7,6 +7,7 @@ use Rattle.arith.specs.Circle.{sine_of, cosine_of}
 use Rattle.arith.specs.Tangent.{tangent_of}
 use Rattle.arith.specs.Arctangent.{arctangent_of}
 use Rattle.arith.specs.Root.{root_of}
+use Rattle.arena.specs.Rules.{most_missiles, most_random_limit, most_range, most_resolution, most_speed}
 use Rattle.arena.specs.Leg.{Leg, clamped}
 use Rattle.arena.specs.Field.{Field, damage_of, robot_at, metres_x, metres_y}
 use Rattle.arena.specs.Shots.{shot, in_air}
@@ -17,10 +18,10 @@ use Rattle.arena.specs.Random.{random_word}
 unfoldable pub argument : List ℤ → ℕ → ℤ
 argument arguments k = slice_index_or arguments k (pos 0)
 
--- a robot fires if fewer than two missiles of its own are in the air
+-- a robot fires if fewer of its own missiles are in the air than may be
 unfoldable pub fired : Field → ℕ → ℕ → ℕ → ℤ × Field
 fired field i degree range =
-    if nat_lt (length (in_air field.updates i field.shots)) 2 then
+    if nat_lt (length (in_air field.updates i field.shots)) most_missiles then
     (pos 1, record field { shots = field.shots ++ shot field.updates i (robot_at field i).leg degree range ∷ [] })
     else (pos 0, field)
 
@@ -33,18 +34,19 @@ directed field i degree speed =
     let robot = robot_at field i in
     record field { robots = slice_set field.robots i (record robot { leg = wanting robot.leg degree speed }) }
 
--- a random number is below its limit, which lies in 1..32767
+-- a random number is below its limit, which is 1 at least
 unfoldable pub random_limit : ℤ → ℕ
-random_limit n = max 1 (clamped 32767 n)
+random_limit n = max 1 (clamped most_random_limit n)
 
 unfoldable pub random_number : Field → ℤ → ℕ
 random_number field n = random_word field.seed field.number field.drawn % random_limit n
 
 -- the reply, and the field afterwards
 unfoldable pub answer : Field → ℕ → Intrinsic → List ℤ → ℤ × Field
-answer field i Scan a = (pos (scanned field i (degree_of (argument a 0)) (clamped 10 (argument a 1))), field)
-answer field i Cannon a = fired field i (degree_of (argument a 0)) (clamped 700 (argument a 1))
-answer field i Drive a = (pos 1, directed field i (degree_of (argument a 0)) (clamped 100 (argument a 1)))
+answer field i Scan a =
+    (pos (scanned field i (degree_of (argument a 0)) (clamped most_resolution (argument a 1))), field)
+answer field i Cannon a = fired field i (degree_of (argument a 0)) (clamped most_range (argument a 1))
+answer field i Drive a = (pos 1, directed field i (degree_of (argument a 0)) (clamped most_speed (argument a 1)))
 answer field i Damage a = (pos (damage_of (robot_at field i)), field)
 answer field i Speed a = (pos (robot_at field i).leg.speed, field)
 answer field i LocX a = (pos (metres_x (robot_at field i)), field)

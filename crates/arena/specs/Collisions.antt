@@ -2,6 +2,7 @@
 use Rattle.std.specs.Prelude.{ℕ, ◌+◌, ◌*◌, Bool, not, ◌&&◌, ◌||◌, ◌==◌, nat_lt, nat_le, if◌then◌else◌, List, ◌++◌, take, drop, count_by, slice_index_or}
 use Rattle.std.specs.Int.{abs_diff}
 pub use Rattle.arena.specs.declared.collisions.Mover.{Mover}
+use Rattle.arena.specs.Rules.{near}
 use Rattle.arena.specs.Leg.{Leg, place_x, place_y, driven}
 use Rattle.arena.specs.Field.{Robot, is_alive, no_robot}
 
@@ -26,7 +27,7 @@ square x y to_x to_y = abs_diff x to_x * abs_diff x to_x + abs_diff y to_y * abs
 
 -- the candidates are less than a metre apart on both axes
 unfoldable pub is_close : Mover → Mover → Bool
-is_close a b = nat_lt (abs_diff a.to.x b.to.x) 10 && nat_lt (abs_diff a.to.y b.to.y) 10
+is_close a b = nat_lt (abs_diff a.to.x b.to.x) near && nat_lt (abs_diff a.to.y b.to.y) near
 
 -- the two don't come further apart
 unfoldable pub is_no_further : Mover → Mover → Bool

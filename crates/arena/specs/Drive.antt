@@ -1,5 +1,6 @@
 -- What the code makes of each robot before it looks for collisions.
 use Rattle.std.specs.Prelude.{◌&&◌, ◌+◌, min, if◌then◌else◌}
+use Rattle.arena.specs.Rules.{deadly, wall_damage}
 use Rattle.arena.specs.Leg.{tried, hits_wall}
 use Rattle.arena.specs.Field.{Robot, damage_of, is_alive}
 use Rattle.arena.specs.Collisions.{candidate}
@@ -9,5 +10,5 @@ use Rattle.arena.specs.Ground.{Body, track_of}
 unfoldable pub ahead : Robot → Body
 ahead robot = record {
   track = track_of (candidate robot);
-  damage = min (damage_of robot + (if is_alive robot && hits_wall (tried robot.leg) then 2 else 0)) 100;
+  damage = min (damage_of robot + (if is_alive robot && hits_wall (tried robot.leg) then wall_damage else 0)) deadly;
 }

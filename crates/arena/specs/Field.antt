@@ -1,5 +1,6 @@
 -- The field: its robots, with every hurt that each of them took, and every shot that was fired.
 use Rattle.std.specs.Prelude.{ℕ, ◌/◌, min, Bool, List, [], ◌∷◌, nat_lt, sum, count_by, slice_index_or}
+use Rattle.arena.specs.Rules.{deadly}
 use Rattle.arena.specs.Leg.{Leg, place_x, place_y}
 
 -- who fired, the update in which it bursts, and the place of the burst in tenths of a metre
@@ -22,12 +23,12 @@ pub record Field : Type 0 where
   pub robots : List Robot
   pub shots : List Shot
 
--- the damage is in percent; a robot at 100 is dead
+-- the damage is in percent, and no more than makes a robot dead
 unfoldable pub damage_of : Robot → ℕ
-damage_of robot = min (sum robot.hurts) 100
+damage_of robot = min (sum robot.hurts) deadly
 
 unfoldable pub is_alive : Robot → Bool
-is_alive robot = nat_lt (damage_of robot) 100
+is_alive robot = nat_lt (damage_of robot) deadly
 
 -- what is read past the last robot: a dead one
 unfoldable pub no_robot : Robot
@@ -41,7 +42,7 @@ no_robot = record {
     wanted_heading = 0;
     wanted_speed = 0;
   };
-  hurts = 100 ∷ [];
+  hurts = deadly ∷ [];
 }
 
 unfoldable pub robot_at : Field → ℕ → Robot

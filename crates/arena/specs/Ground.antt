@@ -2,6 +2,7 @@
 use Rattle.std.specs.Prelude.{ℕ, ◌==◌, ◌&&◌, Bool, List, nat_lt, ℤ, slice_index_or}
 use Rattle.rand_pcg.specs.Lcg.{Lcg}
 pub use Rattle.arena.specs.declared.missile.Missile.{Missile}
+use Rattle.arena.specs.Rules.{deadly}
 use Rattle.arena.specs.Leg.{Leg, place_x, place_y}
 use Rattle.arena.specs.Sums.{sum_east, sum_north, step_east, step_north}
 use Rattle.arena.specs.Field.{Shot, Robot, damage_of, no_robot}
@@ -64,4 +65,4 @@ pub record Ground : Type 0 where
 
 -- a robot lives; there is none past the last
 unfoldable pub lives : Ground → ℕ → Bool
-lives g i = nat_lt (slice_index_or g.robots i (body_of no_robot)).damage 100
+lives g i = nat_lt (slice_index_or g.robots i (body_of no_robot)).damage deadly

@@ -2,6 +2,7 @@
 -- speed, distance, walls.
 use Rattle.std.specs.Prelude.{ℕ, ◌+◌, ◌-◌, min, max, Bool, ◌||◌, ◌==◌, nat_lt, nat_le, if◌then◌else◌, ℤ, pos, negsuc, ◌+ℤ◌, ◌*ℤ◌, int_lt, int_div, unsigned_abs}
 use Rattle.arith.specs.Circle.{sine_at, cosine_at}
+use Rattle.arena.specs.Rules.{last_place, turning_speed, acceleration}
 
 -- places and distances are in tenths of a metre, headings in degrees
 pub record Leg : Type 0 where
@@ -12,10 +13,6 @@ pub record Leg : Type 0 where
   pub speed : ℕ
   pub wanted_heading : ℕ
   pub wanted_speed : ℕ
-
--- both axes of the field go from 0 to here
-abbrev pub last_place : ℕ
-last_place = 9999
 
 -- a number, or the end of 0..most that it lies beyond
 unfoldable pub clamped : ℕ → ℤ → ℕ
@@ -51,16 +48,17 @@ place_y leg = unsigned_abs (end_y leg)
 unfoldable pub leg_anew : Leg → Leg
 leg_anew leg = record leg { origin_x = place_x leg; origin_y = place_y leg; distance = 0 }
 
--- a robot turns at speed 50 or less; when it is faster, it begins to brake
+-- a robot turns at the turning speed or less; when it is faster, it begins to brake
 unfoldable pub steered : Leg → Leg
 steered leg =
     if leg.wanted_heading == leg.heading then leg
-    else if nat_le leg.speed 50 then record (leg_anew leg) { heading = leg.wanted_heading }
+    else if nat_le leg.speed turning_speed then record (leg_anew leg) { heading = leg.wanted_heading }
     else record leg { wanted_speed = 0 }
 
--- the speed goes by at most 10 towards the wanted speed
+-- the speed goes by the acceleration, or less, towards the wanted speed
 unfoldable pub approached : ℕ → ℕ → ℕ
-approached speed wanted = if nat_lt speed wanted then min (speed + 10) wanted else max (speed - 10) wanted
+approached speed wanted =
+    if nat_lt speed wanted then min (speed + acceleration) wanted else max (speed - acceleration) wanted
 
 unfoldable pub sped : Leg → Leg
 sped leg = record leg { speed = approached leg.speed leg.wanted_speed }

@@ -1,4 +1,5 @@
 pub mod Point
+pub mod Rules
 pub mod Leg
 pub mod Field
 pub mod Collisions

@@ -10,6 +10,7 @@
 --  7. Deaths: `damage_of` and `is_alive` (Field), from the sum of all hurts.
 use Rattle.std.specs.Prelude.{ℕ, ◌+◌, nat_lt, if◌then◌else◌, List, [], ◌∷◌, ◌++◌, length, map, replicate}
 use Rattle.std.specs.List.{range_with_len}
+use Rattle.arena.specs.Rules.{wall_damage, knock_damage}
 use Rattle.arena.specs.Leg.{Leg, place_x, place_y, driven, tried, hits_wall}
 use Rattle.arena.specs.Field.{Shot, Robot, Field, is_alive, robot_at}
 use Rattle.arena.specs.Collisions.{mover, touches}
@@ -29,9 +30,9 @@ put_back old leg = record leg {
 unfoldable pub leg_after : Leg → ℕ → Leg
 leg_after leg touched = if nat_lt 0 touched then put_back leg (driven leg) else driven leg
 
--- a wall takes 2, once, and each collision 2
+-- a wall takes something, once, and so does each collision
 unfoldable pub knocks : Leg → ℕ → List ℕ
-knocks leg touched = (if hits_wall (tried leg) then 2 ∷ [] else []) ++ replicate touched 2
+knocks leg touched = (if hits_wall (tried leg) then wall_damage ∷ [] else []) ++ replicate touched knock_damage
 
 -- a live robot after the update, given how many others it collides with and the shots; a dead one stays as it is
 unfoldable pub moved_robot : ℕ → List Shot → ℕ → Robot → Robot

@@ -29,9 +29,13 @@ square_to from to = square (metres_x from) (metres_y from) (metres_x to) (metres
 abbrev pub out_of_sight : ℕ
 out_of_sight = 4294967295
 
+-- no squared distance of two places in whole metres is greater
+abbrev pub most_square : ℕ
+most_square = 2000000
+
 -- a squared distance in the field, or none
 abbrev pub IsSquare : ℕ → Type 0
-IsSquare n = (n ≡ out_of_sight) ⊎ (n ≤ 2000000)
+IsSquare n = (n ≡ out_of_sight) ⊎ (n ≤ most_square)
 
 -- the least of some squares, or none if there are none
 pub record IsLeast (n : ℕ) (squares : List ℕ) : Type 0 where

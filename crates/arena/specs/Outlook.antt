@@ -2,6 +2,7 @@
 use Rattle.std.specs.Prelude.{◌≡◌, ℕ, ◌+◌, ◌*◌, ◌<◌, min, Bool, not, ◌&&◌, ◌==◌, if◌then◌else◌, List, length, map, flat_map, sum, count_by}
 use Rattle.std.specs.List.{range_with_len}
 pub use Rattle.arena.specs.declared.bursts.Burst.{Burst}
+use Rattle.arena.specs.Rules.{deadly, knock_damage, wall_damage}
 use Rattle.arena.specs.Leg.{Leg, place_x, place_y, tried, hits_wall}
 use Rattle.arena.specs.Field.{Shot, Field, damage_of, robot_at, is_live}
 use Rattle.arena.specs.Collisions.{mover, collides, square, touches}
@@ -48,11 +49,11 @@ taken_by field i burst =
 -- all that the update takes from a robot
 unfoldable pub taken : Field → ℕ → ℕ
 taken field i =
-    (if meets_wall field i then 2 else 0)
-    + 2 * count_by (meets field i) (range_with_len 0 (length field.robots))
+    (if meets_wall field i then wall_damage else 0)
+    + knock_damage * count_by (meets field i) (range_with_len 0 (length field.robots))
     + sum (map (taken_by field i) (due field))
 
 -- that is what the update makes of each robot's damage
 abbrev pub AddsUp : Field → Type 0
 AddsUp field = (i : ℕ) → i < length field.robots
-    → damage_of (robot_at (moved field) i) ≡ min (damage_of (robot_at field i) + taken field i) 100
+    → damage_of (robot_at (moved field) i) ≡ min (damage_of (robot_at field i) + taken field i) deadly

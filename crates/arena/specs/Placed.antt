@@ -1,6 +1,7 @@
 -- A field whose robots were put at given places, for tests and drills.
 use Rattle.std.specs.Prelude.{ℕ, List, [], map, ℤ, pos, ◌≤ℤ◌}
-use Rattle.arena.specs.Leg.{last_place, clamped}
+use Rattle.arena.specs.Rules.{last_place}
+use Rattle.arena.specs.Leg.{clamped}
 use Rattle.arena.specs.Field.{Field}
 use Rattle.arena.specs.Start.{standing}
 

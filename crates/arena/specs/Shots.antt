@@ -2,7 +2,8 @@
 use Rattle.std.specs.Prelude.{ℕ, ◌+◌, ◌*◌, max, ◌&&◌, ◌==◌, nat_lt, nat_le, if◌then◌else◌, List, filter, map, pos, ◌*ℤ◌}
 use Rattle.std.specs.Int.{div_ceil}
 use Rattle.arith.specs.Circle.{sine_at, cosine_at}
-use Rattle.arena.specs.Leg.{Leg, last_place, clamped, along, place_x, place_y}
+use Rattle.arena.specs.Rules.{last_place, missile_speed}
+use Rattle.arena.specs.Leg.{Leg, clamped, along, place_x, place_y}
 use Rattle.arena.specs.Field.{Shot}
 use Rattle.arena.specs.Collisions.{square}
 
@@ -13,9 +14,9 @@ aimed_x from degree range = clamped last_place (along from (pos (10 * range) *�
 unfoldable pub aimed_y : ℕ → ℕ → ℕ → ℕ
 aimed_y from degree range = clamped last_place (along from (pos (10 * range) *ℤ sine_at degree))
 
--- a missile flies 50 metres in an update, and at least one update
+-- how many updates a missile flies to this range in metres: at least one
 unfoldable pub flight : ℕ → ℕ
-flight range = max 1 (div_ceil range 50)
+flight range = max 1 (div_ceil range missile_speed)
 
 -- a shot that a robot on this leg fires after so many updates
 unfoldable pub shot : ℕ → ℕ → Leg → ℕ → ℕ → Shot

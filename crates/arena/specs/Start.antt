@@ -1,6 +1,7 @@
 -- The field at the start of a match: each robot in a quadrant of its own.
 use Rattle.std.specs.Prelude.{ℕ, ◌+◌, ◌*◌, ◌/◌, ◌%◌, ◌==◌, if◌then◌else◌, [], map}
 use Rattle.std.specs.List.{range_with_len}
+use Rattle.arena.specs.Rules.{low_half, high_half, half_places}
 use Rattle.arena.specs.Field.{Robot, Field}
 use Rattle.arena.specs.Random.{random_word}
 
@@ -25,7 +26,7 @@ quadrant seed number i = (i + random_word seed number 0 % 4) % 4
 
 -- a word's place in the low half or in the high half of an axis
 unfoldable pub drawn_place : ℕ → ℕ → ℕ
-drawn_place half w = (if half == 0 then 1000 else 6000) + w % 3000
+drawn_place half w = (if half == 0 then low_half else high_half) + w % half_places
 
 -- each robot draws x and then y
 unfoldable pub drawn_robot : ℕ → ℕ → ℕ → Robot

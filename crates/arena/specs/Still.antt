@@ -1,5 +1,6 @@
 -- When a field is still: an update then changes nothing but the number of updates. When the next missile bursts.
 use Rattle.std.specs.Prelude.{◌≡◌, ◌⊎◌, ℕ, zero, suc, ◌≤◌, List, [], All}
+use Rattle.arena.specs.Rules.{deadly, turning_speed}
 use Rattle.arena.specs.Field.{Field}
 use Rattle.arena.specs.Sums.{IsInField}
 use Rattle.arena.specs.Ground.{Track, Body, Missile}
@@ -15,12 +16,12 @@ pub record Rests (track : Track) : Type 0 where
 -- a robot that turns in an update, and keeps the speed that it has
 pub record OnlyTurns (track : Track) : Type 0 where
   pub turns : track.wanted_heading ≡ track.heading → ⊥
-  pub slow : track.speed ≤ 50
+  pub slow : track.speed ≤ turning_speed
   pub keeps : track.speed ≡ track.wanted_speed
 
 -- an update without bursts leaves a robot as it is: it is dead, or at rest
 abbrev pub Stays : Body → Type 0
-Stays body = (body.damage ≡ 100) ⊎ Rests body.track
+Stays body = (body.damage ≡ deadly) ⊎ Rests body.track
 
 -- all robots stay, and no missile is in the air
 pub record IsStill (robots : List Body) (slots : List (List Missile)) : Type 0 where

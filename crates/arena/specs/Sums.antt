@@ -1,6 +1,7 @@
 -- The sums that are kept of a leg, one for each axis: where it leads, in hundred-thousandths of a tenth of a metre.
-use Rattle.std.specs.Prelude.{ℕ, ◌*◌, ◌/◌, Bool, ◌||◌, ℤ, pos, negsuc, ◌+ℤ◌, ◌*ℤ◌, ◌≤ℤ◌, int_lt, unsigned_abs}
+use Rattle.std.specs.Prelude.{ℕ, ◌+◌, ◌*◌, ◌/◌, Bool, ◌||◌, ℤ, pos, negsuc, ◌+ℤ◌, ◌*ℤ◌, ◌≤ℤ◌, int_lt, unsigned_abs}
 use Rattle.arith.specs.Circle.{sine_at, cosine_at}
+use Rattle.arena.specs.Rules.{last_place}
 use Rattle.arena.specs.Leg.{Leg, clamped, way_east, way_north}
 
 -- what is left of a tenth is dropped: so a sum that falls starts at the end of its tenth
@@ -27,7 +28,7 @@ step_north leg = pos leg.speed *ℤ sine_at leg.heading
 
 -- the sums of the field's places go from 0 to here
 abbrev pub last_sum : ℕ
-last_sum = 999999999
+last_sum = 100000 * last_place + 99999
 
 abbrev pub IsInField : ℤ → Type 0
 IsInField sum = (pos 0 ≤ℤ sum) × (sum ≤ℤ pos last_sum)

@@ -1,5 +1,6 @@
 -- What a motion keeps of a track, and within which limits.
 use Rattle.std.specs.Prelude.{◌<◌, ◌≤◌, unsigned_abs}
+use Rattle.arena.specs.Rules.{most_speed}
 use Rattle.arena.specs.Sums.{place_of, IsInField}
 use Rattle.arena.specs.Ground.{Track}
 use Rattle.arena.specs.declared.motion.Motion.TheInside.{Inside}
@@ -34,7 +35,7 @@ tracked track = record {
   steady = track.steady;
 }
 
--- it leads to a place of the field, at a speed of at most 100
+-- it leads to a place of the field, at a speed that a robot may have
 pub record IsTrack (track : Track) : Type 0 where
   pub east : IsInField track.east
   pub north : IsInField track.north
@@ -42,5 +43,5 @@ pub record IsTrack (track : Track) : Type 0 where
   pub step_north : unsigned_abs track.step_north ≤ 10000000
   pub heading : track.heading < 360
   pub wanted_heading : track.wanted_heading < 360
-  pub speed : track.speed ≤ 100
-  pub wanted_speed : track.wanted_speed ≤ 100
+  pub speed : track.speed ≤ most_speed
+  pub wanted_speed : track.wanted_speed ≤ most_speed

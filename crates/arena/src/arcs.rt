@@ -4,7 +4,10 @@ ghost use Rattle.std.specs.Prelude.{◌≡◌, ◌+◌, ◌-◌, ◌%◌, ◌<�
 ghost use Rattle.arith.specs.Circle.{sine_at, cosine_at};
 ghost use Rattle.arith.specs.Bearing.{reach_of};
 ghost use Rattle.arena.specs.Nearer.{leads_into};
+ghost use Rattle.arena.specs.declared.arcs.TheConstants.{SIDE};
+ghost use Rattle.arena.specs.declared.rules.TheConstants.{MOST_RESOLUTION};
 
+use crate::rules::MOST_RESOLUTION;
 use crate::ways::Way;
 use arith::{bears_within, cosine_at, sine_at};
 
@@ -57,16 +60,16 @@ pub struct Arc {
     left: Direction,
     right: Direction,
     ghost round: { degree < 360 },
-    ghost narrow: { resolution ≤ 10 },
-    ghost to_left: { left.degree ≡ (degree + (89 - resolution)) % 360 },
-    ghost to_right: { right.degree ≡ (degree + (271 + resolution)) % 360 },
+    ghost narrow: { resolution ≤ MOST_RESOLUTION },
+    ghost to_left: { left.degree ≡ (degree + (SIDE - resolution)) % 360 },
+    ghost to_right: { right.degree ≡ (degree + (360 - SIDE + resolution)) % 360 },
 }
 
 impl Arc {
     /// Makes the arc around a degree, with this resolution in degrees.
     pub fn around(degree: u16, resolution: u16) -> Arc
         requires degree { degree < 360 }
-        requires resolution { resolution ≤ 10 }
+        requires resolution { resolution ≤ MOST_RESOLUTION }
         ensures degree { result.degree ≡ degree }
         ensures resolution { result.resolution ≡ resolution }
     {
@@ -106,7 +109,7 @@ impl Arc {
 #[inline(never)]
 fn lies_within(way: Way, degree: u16, resolution: u16) -> bool
     requires degree { degree < 360 }
-    requires resolution { resolution ≤ 10 }
+    requires resolution { resolution ≤ MOST_RESOLUTION }
     ensures { result ≡ leads_into way.east way.north degree resolution }
 {
     way.is_none() || bears_within(way.east, way.north, degree, resolution)

@@ -2,7 +2,8 @@
 
 ghost use Rattle.std.specs.Prelude.{◌≡◌, ℕ, ◌+◌, ◌<◌, ◌≤◌, true, nat_lt, [], ◌∷◌, All, count_by, length, slice_index_or};
 ghost use Rattle.grammar.specs.declared.names.Intrinsic.TheVariants.{Scan, Cannon, Drive, Rand};
-ghost use Rattle.arena.specs.Leg.{last_place, clamped, place_x, place_y};
+ghost use Rattle.arena.specs.Rules.{last_place};
+ghost use Rattle.arena.specs.Leg.{clamped, place_x, place_y};
 ghost use Rattle.arena.specs.Field.{Field, no_robot, damage_of, robot_at, is_live, live_count};
 ghost use Rattle.arena.specs.Moved.{moved};
 ghost use Rattle.arena.specs.Still.{IsStill, moved_times};
@@ -12,11 +13,11 @@ ghost use Rattle.arena.specs.Answer.{answer};
 ghost use Rattle.arena.specs.Ground.{most_updates, Body, body_of, lives};
 ghost use Rattle.arena.specs.Standing.{StandsFor, Answers};
 
-use crate::limits::MOST_ROBOTS;
 use crate::missile::Missile;
 use crate::missiles::Missiles;
 use crate::random::{generator, random_number};
 use crate::robots::Robot;
+use crate::rules::{DEADLY, MOST_MISSILES, MOST_RANGE, MOST_RESOLUTION, MOST_ROBOTS, MOST_SPEED};
 use crate::scans::scan;
 use crate::starts::{drawn_robots, placed_robots};
 use crate::updates::{is_still, move_on};
@@ -25,15 +26,6 @@ use arrayvec::ArrayVec;
 use grammar::Intrinsic;
 use rand_pcg::Pcg32;
 use std::marker::Model;
-
-/// The greatest resolution of a scan, in degrees.
-const MOST_RESOLUTION: u16 = 10;
-
-/// The greatest range of a cannon, in metres.
-const MOST_RANGE: u16 = 700;
-
-/// The greatest speed.
-const MOST_SPEED: u16 = 100;
 
 /// A field in play: two to four robots, numbered from 0, their missiles in the air, and the
 /// generator of the match. If it is known to be still, the next update only counts. In the next `calm` updates no two
@@ -53,6 +45,7 @@ impl Model for Arena {
     ghost use Rattle.arena.specs.Ground.{most_updates, Ground};
     ghost use Rattle.arena.specs.Still.{IsStill};
     ghost use Rattle.arena.specs.Calm.{FarFor};
+    ghost use Rattle.arena.specs.declared.rules.TheConstants.{MOST_MISSILES, MOST_ROBOTS};
 
     ghost Value = { Ground };
 
@@ -60,8 +53,8 @@ impl Model for Arena {
         record { updates = a.updates; robots = a.robots.items; slots = a.missiles; random = a.random } };
 
     ghost invariant = { λ a. (a.updates ≤ most_updates) × (length a.missiles ≡ length a.robots.items)
-        × (length a.robots.items ≤ 4)
-        × All (λ s. length s ≤ 2) a.missiles × (a.is_still ≡ true → IsStill a.robots.items a.missiles)
+        × (length a.robots.items ≤ MOST_ROBOTS)
+        × All (λ s. length s ≤ MOST_MISSILES) a.missiles × (a.is_still ≡ true → IsStill a.robots.items a.missiles)
         × FarFor a.calm a.robots.items };
 }
 
@@ -247,7 +240,7 @@ impl Arena {
     /// Returns a robot's damage so far, in percent.
     pub fn damage(&self, robot: usize) -> u8
         requires { robot < length self.now.robots }
-        ensures most { result ≤ 100 }
+        ensures most { result ≤ DEADLY }
         ensures stands { (f : Field) → StandsFor self.now f → result ≡ damage_of (robot_at f robot) }
     {
         self.robot(robot).damage()
@@ -281,8 +274,9 @@ impl Arena {
 
     /// Proves that no robot has more than two missiles in the air.
     pub(crate) fn keeps_two(&self)
-        ensures { All (λ s. length s ≤ 2) self.now.slots }
+        ensures { All (λ s. length s ≤ MOST_MISSILES) self.now.slots }
     {
+        // For the proof alone: a field that is read brings what holds of every arena.
         let _ = &self.updates;
     }
 
@@ -290,6 +284,7 @@ impl Arena {
     pub(crate) fn keeps_slots(&self)
         ensures { length self.now.slots ≡ length self.now.robots }
     {
+        // For the proof alone: a field that is read brings what holds of every arena.
         let _ = &self.updates;
     }
 
@@ -328,14 +323,14 @@ impl Arena {
 
 /// Returns how many of some robots live.
 fn living(robots: &[Robot]) -> usize
-    ensures { result ≡ count_by (λ (b : Body). nat_lt b.damage 100) robots.now }
+    ensures { result ≡ count_by (λ (b : Body). nat_lt b.damage DEADLY) robots.now }
 {
     robots.iter().filter(|robot| robot.is_alive()).count()
 }
 
 /// Reports whether at least two of some robots live.
 fn two_live(robots: &[Robot]) -> bool
-    ensures { result ≡ nat_lt 1 (count_by (λ (b : Body). nat_lt b.damage 100) robots.now) }
+    ensures { result ≡ nat_lt 1 (count_by (λ (b : Body). nat_lt b.damage DEADLY) robots.now) }
 {
     let mut one_lives = false;
     for robot in robots {

@@ -1,14 +1,16 @@
 //! The sums of one axis: where a leg leads, in hundred-thousandths of a tenth of a metre.
 
 ghost use Rattle.std.specs.Prelude.{◌≡◌, ◌≤◌, ◌/◌, pos, ◌*ℤ◌, unsigned_abs, ◌||◌};
-ghost use Rattle.arena.specs.Leg.{last_place};
+ghost use Rattle.arena.specs.Rules.{last_place};
 ghost use Rattle.arena.specs.Sums.{sum_from, is_beyond, place_of, place_near, IsInField};
+
+use crate::rules::{LAST_METRE, LAST_PLACE, MOST_SPEED};
 
 /// How many of them a tenth of a metre has.
 pub const SCALE: i32 = 100_000;
 
 /// The greatest sum of a place of the field.
-pub const LAST_SUM: i32 = 999_999_999;
+pub const LAST_SUM: i32 = (LAST_PLACE as i32 + 1) * SCALE - 1;
 
 /// Returns the sum at the origin of a leg, by the part of the heading that lies on the axis: a sum that falls starts at
 /// the end of its tenth.
@@ -24,7 +26,7 @@ pub fn sum_at(origin: u16, part: i32) -> i32
 
 /// Returns how much a sum grows in an update at this speed.
 pub fn step(speed: u8, part: i32) -> i32
-    requires speed { speed ≤ 100 }
+    requires speed { speed ≤ MOST_SPEED }
     requires part { unsigned_abs part ≤ 100000 }
     ensures value { result ≡ pos speed *ℤ part }
     ensures most { unsigned_abs result ≤ 10000000 }
@@ -45,7 +47,7 @@ pub fn place_of(sum: i32) -> u16
 pub fn metres_of(sum: i32) -> u16
     requires { IsInField sum }
     ensures value { result ≡ place_of sum / 10 }
-    ensures most { result ≤ 999 }
+    ensures most { result ≤ LAST_METRE }
 {
     (sum as u32 / (10 * SCALE as u32)) as u16
 }

@@ -2,15 +2,12 @@
 
 ghost use Rattle.std.specs.Prelude.{◌≡◌, ◌<◌, ◌≤◌, true, false, map, sum, length};
 ghost use Rattle.std.specs.Int.{abs_diff};
-ghost use Rattle.arena.specs.Leg.{last_place};
+ghost use Rattle.arena.specs.Rules.{last_place};
 ghost use Rattle.arena.specs.Shots.{ring};
 ghost use Rattle.arena.specs.Due.{harm};
 
-use crate::limits::{MOST_BURSTS, MOST_ROBOTS};
 use crate::points::Point;
-
-/// The radius of the widest ring of a burst, in tenths of a metre.
-const LAST_RING: i32 = 400;
+use crate::rules::{LAST_RING, MOST_BURSTS, MOST_HARM, MOST_HARM_OF_ALL, MOST_ROBOTS};
 
 /// A missile that bursts in an update: the robot that fired it, and the place of the burst.
 #[derive(Clone, Copy, Default, Drop)]
@@ -58,7 +55,7 @@ impl Burst {
     #[tactic(auto, unfolding(crate::specs::Due::harm))]
     pub(crate) fn harm(&self, place: Point) -> u8
         ensures value { result ≡ harm place.x place.y self.now }
-        ensures most { result ≤ 10 }
+        ensures most { result ≤ MOST_HARM }
     {
         ring(place.square_to(self.at))
     }
@@ -76,7 +73,7 @@ impl Burst {
 pub(crate) fn harm_by(bursts: &[Burst], place: Point) -> u8
     requires { length bursts.now ≤ MOST_BURSTS }
     ensures value { result ≡ sum (map (harm place.x place.y) bursts.now) }
-    ensures most { result ≤ 80 }
+    ensures most { result ≤ MOST_HARM_OF_ALL }
 {
     let mut damage = 0;
     for burst in bursts {
@@ -89,11 +86,11 @@ pub(crate) fn harm_by(bursts: &[Burst], place: Point) -> u8
 
 /// Reports whether two coordinates lie so far apart that no burst at one of them hurts at the other.
 fn is_far(from: u16, to: u16) -> bool
-    ensures far { result ≡ true → 400 < abs_diff from to }
-    ensures near { result ≡ false → abs_diff from to ≤ 400 }
+    ensures far { result ≡ true → LAST_RING < abs_diff from to }
+    ensures near { result ≡ false → abs_diff from to ≤ LAST_RING }
 {
     let difference = i32::from(from) - i32::from(to);
-    difference < -LAST_RING || difference > LAST_RING
+    difference < -i32::from(LAST_RING) || difference > i32::from(LAST_RING)
 }
 
 /// Returns the damage in percent of a burst at a squared distance in tenths of a metre: by the smallest ring of 5, 20
@@ -101,10 +98,10 @@ fn is_far(from: u16, to: u16) -> bool
 #[tactic(auto, unfolding(crate::specs::Shots::ring))]
 fn ring(square: u32) -> u8
     ensures value { result ≡ ring square }
-    ensures most { result ≤ 10 }
+    ensures most { result ≤ MOST_HARM }
 {
     match square {
-        0..=2_500 => 10,
+        0..=2_500 => MOST_HARM,
         2_501..=40_000 => 5,
         40_001..=160_000 => 3,
         _ => 0,

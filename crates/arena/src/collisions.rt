@@ -4,9 +4,7 @@ ghost use Rattle.std.specs.Prelude.{◌≡◌, ℕ, ◌<◌, false, All, count_b
 ghost use Rattle.arena.specs.Collisions.{moves, is_close, is_no_further, collides, touches};
 
 use crate::points::Point;
-
-/// Robots collide when they are nearer than this on both axes, in tenths of a metre.
-const NEAR: u16 = 10;
+use crate::rules::NEAR;
 
 /// A robot, live or not before an update: its place then, and its candidate for the place after the update.
 #[derive(Clone, Copy, Default, Drop)]

@@ -7,6 +7,7 @@ ghost use Rattle.arena.specs.Standing.{StandsFor};
 ghost use Rattle.arena.specs.Outlook.{AddsUp};
 
 use crate::arenas::Arena;
+use crate::rules::MOST_MISSILES;
 
 /// Proves that the damage adds up, in any field that an arena represents: the next update takes from each robot what
 /// `meets_wall`, `meets` and `taken_by` say, up to a damage of 100.
@@ -18,7 +19,7 @@ pub fn damage_adds_up(arena: &Arena)
 
 /// Proves that no robot has more than two missiles in the air, in any field that an arena represents.
 pub fn two_missiles(arena: &Arena)
-    ensures { (f : Field) (i : ℕ) → StandsFor arena.now f → length (in_air f.updates i f.shots) ≤ 2 }
+    ensures { (f : Field) (i : ℕ) → StandsFor arena.now f → length (in_air f.updates i f.shots) ≤ MOST_MISSILES }
 {
     arena.keeps_two();
 }

@@ -9,7 +9,6 @@ mod bursts;
 mod collisions;
 mod known;
 pub mod laws;
-mod limits;
 mod missile;
 mod missiles;
 mod motion;
@@ -18,6 +17,7 @@ mod places;
 mod points;
 mod random;
 mod robots;
+mod rules;
 mod scans;
 mod slots;
 mod starts;
@@ -27,5 +27,8 @@ mod ways;
 pub use arenas::Arena;
 pub use bursts::Burst;
 pub use known::known_fields;
-pub use limits::{DEADLY, LAST_PLACE, MOST_BURSTS, MOST_ROBOTS};
 pub use missile::{aimed, flight};
+pub use rules::{
+    DEADLY, KNOCK_DAMAGE, LAST_METRE, LAST_PLACE, LAST_RING, MOST_BURSTS, MOST_RANGE, MOST_ROBOTS,
+    WALL_DAMAGE,
+};

@@ -11,8 +11,8 @@ ghost use Rattle.arena.specs.Still.{NoneBefore};
 ghost use Rattle.arena.specs.Outlook.{own_bursts};
 
 use crate::bursts::Burst;
-use crate::limits::{MOST_BURSTS, MOST_ROBOTS};
 use crate::missile::Missile;
+use crate::rules::{MOST_BURSTS, MOST_MISSILES, MOST_ROBOTS};
 use crate::slots::{Slots, bursts, fire, land, may_fire, next_burst, no_missiles, none_flies};
 use arrayvec::ArrayVec;
 use std::marker::Model;
@@ -28,12 +28,13 @@ impl Model for Missiles {
     ghost use Rattle.std.specs.Prelude.{◌≤◌, List, length};
     ghost use Rattle.arena.specs.Ground.{Missile};
     ghost use Rattle.arena.specs.Still.{NoneBefore};
+    ghost use Rattle.arena.specs.declared.rules.TheConstants.{MOST_ROBOTS};
 
     ghost Value = { List (List Missile) };
 
     ghost view = { λ m. m.slots.items };
 
-    ghost invariant = { λ m. (length m.slots.items ≤ 4) × NoneBefore m.next m.slots.items };
+    ghost invariant = { λ m. (length m.slots.items ≤ MOST_ROBOTS) × NoneBefore m.next m.slots.items };
 }
 
 impl Missiles {
@@ -42,7 +43,7 @@ impl Missiles {
         requires { robots ≤ MOST_ROBOTS }
         ensures count { length result ≡ robots }
         ensures none { HoldsShots 0 result [] }
-        ensures two { All (λ s. length s ≤ 2) result }
+        ensures two { All (λ s. length s ≤ MOST_MISSILES) result }
     {
         Missiles {
             slots: no_missiles(robots),
@@ -68,9 +69,9 @@ impl Missiles {
     /// Reports whether a robot may fire: it has fewer than two missiles in the air.
     pub fn may_fire(&self, robot: usize) -> bool
         requires { robot < length self.now }
-        ensures own { result ≡ nat_lt (length (slice_index_or self.now robot [])) 2 }
+        ensures own { result ≡ nat_lt (length (slice_index_or self.now robot [])) MOST_MISSILES }
         ensures shots { (updates : ℕ) (shots : List Shot) → HoldsShots updates self.now shots
-            → result ≡ nat_lt (length (in_air updates robot shots)) 2 }
+            → result ≡ nat_lt (length (in_air updates robot shots)) MOST_MISSILES }
     {
         may_fire(self.slots.as_slice(), robot)
     }
@@ -78,10 +79,10 @@ impl Missiles {
     /// Fires a missile of a robot.
     pub fn fire(&mut self, robot: usize, missile: Missile)
         requires inside { robot < length self.old }
-        requires free { nat_lt (length (slice_index_or self.old robot [])) 2 ≡ true }
+        requires free { nat_lt (length (slice_index_or self.old robot [])) MOST_MISSILES ≡ true }
         ensures shots { (updates : ℕ) (shots : List Shot) → updates < missile.burst → HoldsShots updates self.old shots
             → HoldsShots updates self.new (shots ++ shot_of robot missile ∷ []) }
-        ensures two { All (λ s. length s ≤ 2) self.old → All (λ s. length s ≤ 2) self.new }
+        ensures two { All (λ s. length s ≤ MOST_MISSILES) self.old → All (λ s. length s ≤ MOST_MISSILES) self.new }
         ensures count { length self.new ≡ length self.old }
     {
         fire(self.slots.as_mut_slice(), robot, missile);
@@ -110,7 +111,7 @@ impl Missiles {
     pub fn land(&mut self, update: u32)
         ensures shots { (updates : ℕ) (shots : List Shot) → update ≡ updates + 1 → HoldsShots updates self.old shots
             → HoldsShots update self.new shots }
-        ensures two { All (λ s. length s ≤ 2) self.old → All (λ s. length s ≤ 2) self.new }
+        ensures two { All (λ s. length s ≤ MOST_MISSILES) self.old → All (λ s. length s ≤ MOST_MISSILES) self.new }
         ensures count { length self.new ≡ length self.old }
     {
         if update < self.next {
@@ -124,7 +125,7 @@ impl Missiles {
     fn land_due(&mut self, update: u32)
         ensures shots { (updates : ℕ) (shots : List Shot) → update ≡ updates + 1 → HoldsShots updates self.old shots
             → HoldsShots update self.new shots }
-        ensures two { All (λ s. length s ≤ 2) self.old → All (λ s. length s ≤ 2) self.new }
+        ensures two { All (λ s. length s ≤ MOST_MISSILES) self.old → All (λ s. length s ≤ MOST_MISSILES) self.new }
         ensures count { length self.new ≡ length self.old }
     {
         land(self.slots.as_mut_slice(), update);

@@ -13,11 +13,9 @@ ghost use Rattle.arena.specs.Calm.{IsNearby, IsAtPlace, gap, sum_gap};
 
 use crate::axes::{leaves, metres_of, place_near, place_of, step, sum_at};
 use crate::points::Point;
+use crate::rules::{ACCELERATION, LAST_METRE, MOST_SPEED, TURNING_SPEED};
 use arith::{cosine_at, sine_at};
 use std::marker::Model;
-
-/// The greatest speed at which a robot turns.
-const TURNING_SPEED: u8 = 50;
 
 /// A robot's motion: where its leg leads on each axis, as a sum; how much these sums grow in an update; heading, speed,
 /// and what the robot wants. The way is never worked out anew from the leg's origin, and the place only if it is asked. A
@@ -84,7 +82,7 @@ impl Motion {
     /// Returns the place on the axis to the east, in whole metres rounded down.
     pub fn metres_x(&self) -> u16
         ensures value { result ≡ self.now.x / 10 }
-        ensures most { result ≤ 999 }
+        ensures most { result ≤ LAST_METRE }
     {
         metres_of(self.east)
     }
@@ -92,7 +90,7 @@ impl Motion {
     /// Returns the place on the axis to the north, in whole metres rounded down.
     pub fn metres_y(&self) -> u16
         ensures value { result ≡ self.now.y / 10 }
-        ensures most { result ≤ 999 }
+        ensures most { result ≤ LAST_METRE }
     {
         metres_of(self.north)
     }
@@ -119,7 +117,7 @@ impl Motion {
     /// Returns the present speed, in percent.
     pub fn speed(&self) -> u8
         ensures value { result ≡ self.now.speed }
-        ensures most { result ≤ 100 }
+        ensures most { result ≤ MOST_SPEED }
     {
         self.speed
     }
@@ -134,7 +132,7 @@ impl Motion {
     /// Sets the heading and the speed that the robot wants.
     pub fn want(&mut self, degree: u16, speed: u8)
         requires degree { degree < 360 }
-        requires speed { speed ≤ 100 }
+        requires speed { speed ≤ MOST_SPEED }
         ensures leg { (leg : Leg) → self.old ≡ track_of leg → self.new ≡ track_of (wanting leg degree speed) }
         ensures place { IsAtPlace self.old self.new }
     {
@@ -336,16 +334,13 @@ fn is_steady(heading: u16, wanted_heading: u16, speed: u8, wanted_speed: u8) -> 
     wanted_heading == heading && speed == wanted_speed
 }
 
-/// By how much the speed changes in an update.
-const ACCELERATION: u8 = 10;
-
 /// Returns the speed after an update, towards the wanted one.
 #[tactic(auto, using(std::proofs::lemmas::Bool::Decides::nat_tests), unfolding(crate::specs::Leg::approached))]
 fn approached(speed: u8, wanted: u8) -> u8
-    requires speed { speed ≤ 100 }
-    requires wanted { wanted ≤ 100 }
+    requires speed { speed ≤ MOST_SPEED }
+    requires wanted { wanted ≤ MOST_SPEED }
     ensures value { result ≡ approached speed wanted }
-    ensures most { result ≤ 100 }
+    ensures most { result ≤ MOST_SPEED }
 {
     if speed < wanted {
         wanted.min(speed + ACCELERATION)

@@ -11,9 +11,9 @@ ghost use Rattle.arena.specs.Outlook.{due, meets_wall, meets, next_leg, taken_by
 use crate::arenas::Arena;
 use crate::bursts::Burst;
 use crate::collisions::{Mover, touches};
-use crate::limits::{MOST_BURSTS, MOST_ROBOTS};
 use crate::points::Point;
 use crate::robots::Robot;
+use crate::rules::{MOST_BURSTS, MOST_HARM, MOST_ROBOTS, MOST_SPEED};
 use crate::updates::drive_on;
 use arrayvec::ArrayVec;
 
@@ -38,7 +38,7 @@ impl Arena {
     /// Returns the speed at which a robot moves, in percent: not the one that it wants.
     pub fn speed(&self, robot: usize) -> u8
         requires { robot < length self.now.robots }
-        ensures most { result ≤ 100 }
+        ensures most { result ≤ MOST_SPEED }
         ensures stands { (f : Field) → StandsFor self.now f → result ≡ (robot_at f robot).leg.speed }
     {
         self.robot(robot).speed()
@@ -74,7 +74,7 @@ impl Arena {
     /// 3, 5 or 10. It takes nothing from a dead robot.
     pub fn taken_by(&self, robot: usize, burst: &Burst) -> u8
         requires { robot < length self.now.robots }
-        ensures most { result ≤ 10 }
+        ensures most { result ≤ MOST_HARM }
         ensures stands { (f : Field) → StandsFor self.now f → result ≡ taken_by f robot burst.now }
     {
         if !self.alive(robot) {

@@ -1,9 +1,10 @@
 //! Places on an axis: where a way leads.
 
 ghost use Rattle.std.specs.Prelude.{◌≡◌, ◌≤◌};
-ghost use Rattle.arena.specs.Leg.{last_place, clamped, along};
+ghost use Rattle.arena.specs.Rules.{last_place};
+ghost use Rattle.arena.specs.Leg.{clamped, along};
 
-use crate::limits::LAST_PLACE;
+use crate::rules::LAST_PLACE;
 
 /// Ways are in hundred-thousandths of a tenth of a metre.
 const SCALE: i32 = 100_000;

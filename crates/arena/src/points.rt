@@ -2,7 +2,7 @@
 
 ghost use Rattle.std.specs.Prelude.{◌≡◌, ◌*◌, ◌≤◌};
 ghost use Rattle.std.specs.Int.{abs_diff};
-ghost use Rattle.arena.specs.Leg.{last_place};
+ghost use Rattle.arena.specs.Rules.{last_place};
 ghost use Rattle.arena.specs.Collisions.{square};
 
 use std::marker::Model;
@@ -16,7 +16,7 @@ pub struct Point {
 
 impl Model for Point {
     ghost use Rattle.std.specs.Prelude.{◌≤◌};
-    ghost use Rattle.arena.specs.Leg.{last_place};
+    ghost use Rattle.arena.specs.Rules.{last_place};
     ghost use Rattle.arena.specs.Point.{Point};
 
     ghost Value = { Point };

@@ -5,11 +5,9 @@ ghost use Rattle.arena.specs.Field.{Field};
 ghost use Rattle.arena.specs.Random.{generator, random_word};
 ghost use Rattle.arena.specs.Answer.{random_limit, random_number};
 
+use crate::rules::MOST_RANDOM_LIMIT;
 use rand_core::utils::NextWord;
 use rand_pcg::Pcg32;
-
-/// The greatest limit of a random number.
-const GREATEST_LIMIT: i32 = 32767;
 
 /// Begins the generator of a match: the seed and the match's number choose its words.
 #[tactic(auto, unfolding(crate::specs::Random::generator))]
@@ -47,5 +45,5 @@ fn random_limit(limit: i32) -> u32
     ensures least { 1 ≤ result }
     ensures most { result ≤ 32767 }
 {
-    limit.clamp(1, GREATEST_LIMIT) as u32
+    limit.clamp(1, MOST_RANDOM_LIMIT) as u32
 }

@@ -13,15 +13,12 @@ ghost use Rattle.arena.specs.Calm.{IsNearby, IsAtPlace, gap, sum_gap};
 ghost use Rattle.arena.specs.Still.{Stays};
 
 use crate::collisions::Mover;
-use crate::limits::DEADLY;
 use crate::motion::Motion;
 use crate::points::Point;
+use crate::rules::{
+    DEADLY, KNOCK_DAMAGE, LAST_METRE, MOST_HARM_OF_ALL, MOST_ROBOTS, MOST_SPEED, WALL_DAMAGE,
+};
 use std::marker::Model;
-
-/// What a wall takes, and each robot that one collides with.
-const WALL: u8 = 2;
-
-const KNOCK: u8 = 2;
 
 /// A robot: its motion, and its damage in percent.
 #[derive(Clone, Copy, Drop)]
@@ -33,6 +30,7 @@ pub struct Robot {
 impl Model for Robot {
     ghost use Rattle.std.specs.Prelude.{◌≤◌};
     ghost use Rattle.arena.specs.Ground.{Body};
+    ghost use Rattle.arena.specs.declared.rules.TheConstants.{DEADLY};
 
     ghost Value = { Body };
 
@@ -40,7 +38,7 @@ impl Model for Robot {
 
     ghost inverse = { λ r. record { motion = r.track; damage = r.damage } };
 
-    ghost invariant = { λ r. r.damage ≤ 100 };
+    ghost invariant = { λ r. r.damage ≤ DEADLY };
 }
 
 impl Default for Robot {
@@ -63,7 +61,7 @@ impl Robot {
 
     /// Reports whether the robot lives.
     pub fn is_alive(&self) -> bool
-        ensures { result ≡ nat_lt self.now.damage 100 }
+        ensures { result ≡ nat_lt self.now.damage DEADLY }
     {
         self.damage < DEADLY
     }
@@ -78,7 +76,7 @@ impl Robot {
     /// Returns the damage so far, in percent.
     pub fn damage(&self) -> u8
         ensures value { result ≡ self.now.damage }
-        ensures most { result ≤ 100 }
+        ensures most { result ≤ DEADLY }
     {
         self.damage
     }
@@ -87,7 +85,7 @@ impl Robot {
     #[tactic(auto, unfolding(crate::specs::Field::metres_x, crate::specs::Ground::body_of, crate::specs::Ground::track_of))]
     pub fn metres_x(&self) -> u16
         ensures value { (robot : FieldRobot) → self.now ≡ body_of robot → result ≡ metres_x robot }
-        ensures most { result ≤ 999 }
+        ensures most { result ≤ LAST_METRE }
     {
         self.motion.metres_x()
     }
@@ -96,7 +94,7 @@ impl Robot {
     #[tactic(auto, unfolding(crate::specs::Field::metres_y, crate::specs::Ground::body_of, crate::specs::Ground::track_of))]
     pub fn metres_y(&self) -> u16
         ensures value { (robot : FieldRobot) → self.now ≡ body_of robot → result ≡ metres_y robot }
-        ensures most { result ≤ 999 }
+        ensures most { result ≤ LAST_METRE }
     {
         self.motion.metres_y()
     }
@@ -112,7 +110,7 @@ impl Robot {
     /// Returns the present speed, in percent.
     pub fn speed(&self) -> u8
         ensures value { result ≡ self.now.track.speed }
-        ensures most { result ≤ 100 }
+        ensures most { result ≤ MOST_SPEED }
     {
         self.motion.speed()
     }
@@ -121,7 +119,7 @@ impl Robot {
     #[tactic(auto, unfolding(crate::specs::Ground::body_of))]
     pub fn want(&mut self, degree: u16, speed: u8)
         requires degree { degree < 360 }
-        requires speed { speed ≤ 100 }
+        requires speed { speed ≤ MOST_SPEED }
         ensures robot { (robot : FieldRobot) → self.old ≡ body_of robot
             → self.new ≡ body_of (record robot { leg = wanting robot.leg degree speed }) }
         ensures place { IsAtPlace self.old.track self.new.track }
@@ -140,7 +138,7 @@ impl Robot {
             return;
         }
         if self.motion.drive_on() {
-            self.damage = (self.damage + WALL).min(DEADLY);
+            self.damage = (self.damage + WALL_DAMAGE).min(DEADLY);
         }
     }
 
@@ -188,8 +186,8 @@ impl Robot {
 
     /// Takes the damage in percent of bursts.
     pub fn hurt(&mut self, bursts: u8)
-        requires { bursts ≤ 80 }
-        ensures { self.new ≡ record self.old { damage = min (self.old.damage + bursts) 100 } }
+        requires { bursts ≤ MOST_HARM_OF_ALL }
+        ensures { self.new ≡ record self.old { damage = min (self.old.damage + bursts) DEADLY } }
     {
         self.damage = worn(self.damage, 0, bursts);
     }
@@ -207,7 +205,7 @@ impl Robot {
 
     /// Makes a robot with this motion and this damage in percent.
     pub fn new(motion: Motion, damage: u8) -> Robot
-        requires { damage ≤ 100 }
+        requires { damage ≤ DEADLY }
         ensures { result ≡ record { track = motion; damage = damage } }
     {
         Robot { motion, damage }
@@ -223,11 +221,11 @@ impl Robot {
 
 /// Returns the damage in percent after so many other robots and so much damage by bursts hurt a robot.
 pub fn worn(damage: u8, touched: usize, bursts: u8) -> u8
-    requires damage { damage ≤ 100 }
-    requires touched { touched ≤ 4 }
-    requires bursts { bursts ≤ 80 }
-    ensures value { result ≡ min (damage + KNOCK * touched + bursts) 100 }
-    ensures most { result ≤ 100 }
+    requires damage { damage ≤ DEADLY }
+    requires touched { touched ≤ MOST_ROBOTS }
+    requires bursts { bursts ≤ MOST_HARM_OF_ALL }
+    ensures value { result ≡ min (damage + KNOCK_DAMAGE * touched + bursts) DEADLY }
+    ensures most { result ≤ DEADLY }
 {
-    (damage + KNOCK * touched as u8 + bursts).min(DEADLY)
+    (damage + KNOCK_DAMAGE * touched as u8 + bursts).min(DEADLY)
 }

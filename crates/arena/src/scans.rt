@@ -10,7 +10,8 @@ ghost use Rattle.arena.specs.Ground.{body_of};
 
 use crate::arcs::Arc;
 use crate::robots::Robot;
-use crate::ways::{Spot, Way};
+use crate::rules::MOST_RESOLUTION;
+use crate::ways::{MOST_SQUARE, Spot, Way};
 
 /// More than any squared distance: it stands for no robot.
 const OUT_OF_SIGHT: u32 = u32::MAX;
@@ -20,7 +21,7 @@ const OUT_OF_SIGHT: u32 = u32::MAX;
 pub(crate) fn scan(robots: &[Robot], robot: usize, degree: u16, resolution: u16) -> u16
     requires inside { robot < length robots.now }
     requires degree { degree < 360 }
-    requires resolution { resolution ≤ 10 }
+    requires resolution { resolution ≤ MOST_RESOLUTION }
     ensures { (field : Field) → robots.now ≡ map body_of field.robots → result ≡ scanned field robot degree resolution }
 {
     distance(nearest(robots, robot, degree, resolution))
@@ -30,7 +31,7 @@ pub(crate) fn scan(robots: &[Robot], robot: usize, degree: u16, resolution: u16)
 fn nearest(robots: &[Robot], robot: usize, degree: u16, resolution: u16) -> u32
     requires inside { robot < length robots.now }
     requires degree { degree < 360 }
-    requires resolution { resolution ≤ 10 }
+    requires resolution { resolution ≤ MOST_RESOLUTION }
     ensures nearest { (field : Field) → robots.now ≡ map body_of field.robots → IsLeast result
         (map (square_to (robot_at field robot))
         (filter (sees (robot_at field robot) degree resolution) (others field.robots robot))) }
@@ -55,7 +56,7 @@ fn nearer(from: &Spot, arc: &Arc, other: &Robot, so_far: u32) -> u32
         → result ≡ (if sees a arc.now.degree arc.now.resolution b then min so_far (square_to a b) else so_far) }
     ensures square { IsSquare result }
     ensures seen { (a b : FieldRobot) → IsAt from.now.x from.now.y a → other.now ≡ body_of b
-        → sees a arc.now.degree arc.now.resolution b ≡ true → result ≤ 2000000 }
+        → sees a arc.now.degree arc.now.resolution b ≡ true → result ≤ MOST_SQUARE }
 {
     if !other.is_alive() {
         return so_far;
@@ -74,7 +75,8 @@ fn shorter(way: &Way, arc: &Arc, so_far: u32) -> u32
     ensures value { result ≡ (if leads_into way.now.east way.now.north arc.now.degree arc.now.resolution
         then min so_far (square_of way.now.east way.now.north) else so_far) }
     ensures square { IsSquare result }
-    ensures seen { leads_into way.now.east way.now.north arc.now.degree arc.now.resolution ≡ true → result ≤ 2000000 }
+    ensures seen { leads_into way.now.east way.now.north arc.now.degree arc.now.resolution ≡ true
+        → result ≤ MOST_SQUARE }
 {
     let square = way.square();
     if so_far <= square {
@@ -97,7 +99,7 @@ fn distance(square: u32) -> u16
 /// Returns the whole root of a squared distance, by Newton's steps down from a guess that isn't below it.
 fn whole_root(square: u32) -> u16
     requires some { 0 < square }
-    requires most { square ≤ 2000000 }
+    requires most { square ≤ MOST_SQUARE }
     ensures { result ≡ unsigned_abs (root_of (pos square)) }
 {
     let mut guess = near_root(square);
@@ -111,7 +113,7 @@ fn whole_root(square: u32) -> u16
 /// the root.
 fn near_root(square: u32) -> u32
     requires some { 0 < square }
-    requires most { square ≤ 2000000 }
+    requires most { square ≤ MOST_SQUARE }
     ensures above { square < (result + 1) * (result + 1) }
     ensures bound { result ≤ 2000 }
 {
@@ -122,7 +124,7 @@ fn near_root(square: u32) -> u32
 /// Returns the mean of a guess and of how often it goes into a square: that is no less than the root.
 fn closer(square: u32, guess: u32) -> u32
     requires some { 0 < guess }
-    requires square { square ≤ 2000000 }
+    requires square { square ≤ MOST_SQUARE }
     requires guess { guess ≤ 2000 }
     ensures { result ≡ (guess + square / guess) / 2 }
 {

@@ -1,4 +1,4 @@
-//! The missiles of a robot that are in the air, at most two.
+//! The missiles of a robot that are in the air.
 
 ghost use Rattle.std.specs.Prelude.{◌≡◌, ℕ, ◌+◌, ◌<◌, ◌≤◌, ◌++◌, ◌∷◌, [], ◌==◌, List, All, filter, map, flat_map, true, false, nat_lt, length, slice_index_or};
 ghost use Rattle.std.specs.List.{range_with_len};
@@ -11,12 +11,12 @@ ghost use Rattle.arena.specs.Outlook.{burst_by, own_bursts};
 ghost use Rattle.arena.specs.Standing.{HoldsShots};
 
 use crate::bursts::Burst;
-use crate::limits::{MOST_BURSTS, MOST_MISSILES, MOST_ROBOTS};
 use crate::missile::Missile;
+use crate::rules::{MOST_BURSTS, MOST_MISSILES, MOST_ROBOTS};
 use arrayvec::ArrayVec;
 use std::marker::Model;
 
-/// The missiles of one robot that are in the air, at most two.
+/// The missiles of one robot that are in the air.
 #[derive(Drop)]
 pub struct Slots {
     missiles: ArrayVec<Missile, MOST_MISSILES>,
@@ -25,12 +25,13 @@ pub struct Slots {
 impl Model for Slots {
     ghost use Rattle.std.specs.Prelude.{◌≤◌, List, length};
     ghost use Rattle.arena.specs.Ground.{Missile};
+    ghost use Rattle.arena.specs.declared.rules.TheConstants.{MOST_MISSILES};
 
     ghost Value = { List Missile };
 
     ghost view = { λ s. s.missiles.items };
 
-    ghost invariant = { λ s. length s.missiles.items ≤ 2 };
+    ghost invariant = { λ s. length s.missiles.items ≤ MOST_MISSILES };
 }
 
 impl Default for Slots {
@@ -46,7 +47,7 @@ impl Default for Slots {
 impl Slots {
     /// Reports whether one more missile may fly.
     fn has_room(&self) -> bool
-        ensures { result ≡ nat_lt (length self.now) 2 }
+        ensures { result ≡ nat_lt (length self.now) MOST_MISSILES }
     {
         self.missiles.len() < MOST_MISSILES
     }
@@ -60,7 +61,7 @@ impl Slots {
 
     /// Adds a missile.
     fn add(&mut self, missile: Missile)
-        requires { length self.old < 2 }
+        requires { length self.old < MOST_MISSILES }
         ensures { self.new ≡ self.old ++ missile ∷ [] }
     {
         self.missiles.push(missile);
@@ -70,10 +71,10 @@ impl Slots {
     #[tactic(auto, using(crate::proofs::DueBursts::missile_more), unfolding(crate::specs::Outlook::burst_by, crate::specs::Outlook::burst_of, crate::specs::Ground::shot_of))]
     fn add_bursts(&self, robot: usize, update: u32, bursts: &mut ArrayVec<Burst, MOST_BURSTS>)
         requires robot { robot < MOST_ROBOTS }
-        requires room { length bursts.old.items + 2 ≤ MOST_BURSTS }
+        requires room { length bursts.old.items + MOST_MISSILES ≤ MOST_BURSTS }
         ensures bursts { bursts.new.items
             ≡ bursts.old.items ++ map (burst_by robot) (filter (λ m. m.burst == update) self.now) }
-        ensures most { length bursts.new.items ≤ length bursts.old.items + 2 }
+        ensures most { length bursts.new.items ≤ length bursts.old.items + MOST_MISSILES }
     {
         for missile in self.missiles.as_slice() {
             if missile.burst == update {
@@ -128,7 +129,7 @@ pub fn no_missiles(n: usize) -> ArrayVec<Slots, MOST_ROBOTS>
     ensures count { length result.items ≡ n }
     ensures none { HoldsShots 0 result.items [] }
     ensures next { (update : ℕ) → NoneBefore update result.items }
-    ensures two { All (λ s. length s ≤ 2) result.items }
+    ensures two { All (λ s. length s ≤ MOST_MISSILES) result.items }
 {
     let mut slots = ArrayVec::new();
     for _robot in 0..n {
@@ -152,9 +153,9 @@ pub fn none_flies(slots: &[Slots]) -> bool
 /// Reports whether a robot may fire: it has fewer than two missiles in the air.
 pub fn may_fire(slots: &[Slots], robot: usize) -> bool
     requires { robot < length slots.now }
-    ensures own { result ≡ nat_lt (length (slice_index_or slots.now robot [])) 2 }
+    ensures own { result ≡ nat_lt (length (slice_index_or slots.now robot [])) MOST_MISSILES }
     ensures shots { (updates : ℕ) (shots : List Shot) → HoldsShots updates slots.now shots
-        → result ≡ nat_lt (length (in_air updates robot shots)) 2 }
+        → result ≡ nat_lt (length (in_air updates robot shots)) MOST_MISSILES }
 {
     slots[robot].has_room()
 }
@@ -162,10 +163,10 @@ pub fn may_fire(slots: &[Slots], robot: usize) -> bool
 /// Fires a missile of a robot.
 pub fn fire(slots: &mut [Slots], robot: usize, missile: Missile)
     requires inside { robot < length slots.old }
-    requires free { nat_lt (length (slice_index_or slots.old robot [])) 2 ≡ true }
+    requires free { nat_lt (length (slice_index_or slots.old robot [])) MOST_MISSILES ≡ true }
     ensures shots { (updates : ℕ) (shots : List Shot) → updates < missile.burst → HoldsShots updates slots.old shots
         → HoldsShots updates slots.new (shots ++ shot_of robot missile ∷ []) }
-    ensures two { All (λ s. length s ≤ 2) slots.old → All (λ s. length s ≤ 2) slots.new }
+    ensures two { All (λ s. length s ≤ MOST_MISSILES) slots.old → All (λ s. length s ≤ MOST_MISSILES) slots.new }
     ensures next { (update : ℕ) → update ≤ missile.burst → NoneBefore update slots.old → NoneBefore update slots.new }
 {
     slots[robot].add(missile);
@@ -201,7 +202,7 @@ pub fn bursts(slots: &[Slots], update: u32) -> ArrayVec<Burst, MOST_BURSTS>
 pub fn land(slots: &mut [Slots], update: u32)
     ensures shots { (updates : ℕ) (shots : List Shot) → update ≡ updates + 1 → HoldsShots updates slots.old shots
         → HoldsShots update slots.new shots }
-    ensures two { All (λ s. length s ≤ 2) slots.old → All (λ s. length s ≤ 2) slots.new }
+    ensures two { All (λ s. length s ≤ MOST_MISSILES) slots.old → All (λ s. length s ≤ MOST_MISSILES) slots.new }
 {
     for own in slots {
         own.land(update);

@@ -1,26 +1,19 @@
 //! Where robots stand at the start of a match.
 
 ghost use Rattle.std.specs.Prelude.{◌≡◌, ℕ, ◌+◌, ◌*◌, ◌/◌, ◌%◌, ◌<◌, ◌≤◌, ℤ, pos, ◌≤ℤ◌, map, All, length};
-ghost use Rattle.arena.specs.Leg.{last_place, clamped};
+ghost use Rattle.arena.specs.Rules.{last_place};
+ghost use Rattle.arena.specs.Leg.{clamped};
 ghost use Rattle.arena.specs.Random.{generator, random_word};
 ghost use Rattle.arena.specs.Start.{standing, drawn_place, start};
 ghost use Rattle.arena.specs.Placed.{placed, IsPlace};
 ghost use Rattle.arena.specs.Ground.{body_of};
 
-use crate::limits::MOST_ROBOTS;
 use crate::points::Point;
 use crate::random::draw;
 use crate::robots::Robot;
+use crate::rules::{HALF_PLACES, HIGH_HALF, LOW_HALF, MOST_ROBOTS};
 use arrayvec::ArrayVec;
 use rand_pcg::Pcg32;
-
-/// The first place of the low and of the high half of an axis in which robots start, and how many
-/// places each has, in tenths of a metre.
-const LOW_HALF: u32 = 1000;
-
-const HIGH_HALF: u32 = 6000;
-
-const PLACES: u32 = 3000;
 
 /// Makes robots at drawn places: the first word chooses the quadrant of robot 0, the others follow in the
 /// next ones, and each draws x and then y.
@@ -62,7 +55,7 @@ fn drawn_place(half: u32, word: u32) -> u16
     ensures most { result ≤ last_place }
 {
     let from = if half == 0 { LOW_HALF } else { HIGH_HALF };
-    (from + word % PLACES) as u16
+    (from + word % HALF_PLACES) as u16
 }
 
 /// Makes robots at given places, in tenths of a metre.

@@ -14,16 +14,16 @@ ghost use Rattle.arena.specs.Standing.{HoldsShots};
 use crate::axes::{LAST_SUM, SCALE};
 use crate::bursts::{Burst, harm_by};
 use crate::collisions::{Mover, any_near, touches};
-use crate::limits::{MOST_BURSTS, MOST_ROBOTS};
 use crate::missiles::Missiles;
 use crate::robots::{Robot, worn};
+use crate::rules::{MOST_BURSTS, MOST_ROBOTS, MOST_SPEED, NEAR};
 use arrayvec::ArrayVec;
 
 /// Robots are close if their sums are less than this from each other on both axes: a metre.
-const CLOSE: u32 = 10 * SCALE as u32;
+const CLOSE: u32 = NEAR as u32 * SCALE as u32;
 
 /// By how much the sums of two robots come nearer to each other in an update, at most: each moves ten metres.
-const APPROACH: u32 = 200 * SCALE as u32;
+const APPROACH: u32 = 2 * MOST_SPEED as u32 * SCALE as u32;
 
 /// Reports whether an update changes nothing but the number of updates: each robot is dead or at rest, and no missile
 /// is in the air.
@@ -65,7 +65,7 @@ pub fn drive_on(robots: &mut [Robot]) -> ArrayVec<Mover, MOST_ROBOTS>
 /// Returns one robot after the update, from where it has moved on, given how many others it collides with and the bursts
 /// of the update.
 fn finished(robot: &Robot, seen: &Mover, touched: usize, bursts: &[Burst]) -> Robot
-    requires touched { touched ≤ 4 }
+    requires touched { touched ≤ MOST_ROBOTS }
     requires few { length bursts.now ≤ MOST_BURSTS }
     ensures { (r : FieldRobot) (update : ℕ) (shots : List Shot) → HarmLikeShots update shots bursts.now
         → robot.now ≡ ahead r → seen.now ≡ mover r → result ≡ body_of (moved_robot update shots touched r) }

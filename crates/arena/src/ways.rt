@@ -5,16 +5,21 @@ ghost use Rattle.arena.specs.Field.{Robot as FieldRobot};
 ghost use Rattle.arena.specs.Scan.{east_to, north_to};
 ghost use Rattle.arena.specs.Nearer.{IsAt, square_of};
 ghost use Rattle.arena.specs.Ground.{body_of};
+ghost use Rattle.arena.specs.declared.rules.TheConstants.{LAST_METRE};
 
 use crate::robots::Robot;
+use crate::rules::LAST_METRE;
+
+/// No squared length of a way is greater.
+pub const MOST_SQUARE: u32 = 2_000_000;
 
 /// A robot's place, in whole metres rounded down.
 #[derive(Clone, Copy, Drop)]
 pub struct Spot {
     x: u16,
     y: u16,
-    ghost x_in_field: { x ≤ 999 },
-    ghost y_in_field: { y ≤ 999 },
+    ghost x_in_field: { x ≤ LAST_METRE },
+    ghost y_in_field: { y ≤ LAST_METRE },
 }
 
 impl Spot {
@@ -47,8 +52,8 @@ impl Spot {
 pub struct Way {
     pub east: i32,
     pub north: i32,
-    pub ghost east_in_field: { unsigned_abs east ≤ 999 },
-    pub ghost north_in_field: { unsigned_abs north ≤ 999 },
+    pub ghost east_in_field: { unsigned_abs east ≤ LAST_METRE },
+    pub ghost north_in_field: { unsigned_abs north ≤ LAST_METRE },
 }
 
 impl Way {
@@ -63,7 +68,7 @@ impl Way {
     /// Returns the squared length.
     pub fn square(&self) -> u32
         ensures value { result ≡ square_of self.now.east self.now.north }
-        ensures most { result ≤ 2000000 }
+        ensures most { result ≤ MOST_SQUARE }
     {
         (self.east * self.east + self.north * self.north) as u32
     }

@@ -11,14 +11,17 @@ use crate::circle::{cosine_at, sine_at};
 use crate::tables::{LANES, round_entries};
 use std::simd::prelude::*;
 
+/// The greatest difference of two places on an axis that a bearing is worked out of, in whole metres.
+pub const MOST_DIFFERENCE: u16 = 999;
+
 /// How often the lanes fill the round of 360 degrees.
 const CHUNKS: u16 = 45;
 
-/// Returns the bearing of a point `dx` metres east and `dy` metres north, both from -999 to 999: the least degree, 0 to
-/// 359, at which it reaches furthest (docs/numbers.md, "Bearing").
+/// Returns the bearing of a point `dx` metres east and `dy` metres north, both at most `MOST_DIFFERENCE` in size: the
+/// least degree, 0 to 359, at which it reaches furthest (docs/numbers.md, "Bearing").
 pub fn bearing(dx: i32, dy: i32) -> u16
-    requires dx_in_field { unsigned_abs dx ≤ 999 }
-    requires dy_in_field { unsigned_abs dy ≤ 999 }
+    requires dx_in_field { unsigned_abs dx ≤ MOST_DIFFERENCE }
+    requires dy_in_field { unsigned_abs dy ≤ MOST_DIFFERENCE }
     ensures furthest { IsBearing dx dy result }
     ensures value { result ≡ bearing_of dx dy }
 {
@@ -31,12 +34,12 @@ pub fn bearing(dx: i32, dy: i32) -> u16
     0
 }
 
-/// Reports whether the bearing of a point `dx` metres east and `dy` metres north, both from -999 to 999 and not both 0,
-/// differs from a degree from 0 to 359 by at most `spread` degrees, fewer than 90, round the circle. It compares the
-/// reaches at the ends of this arc with those just beyond them, and works out no bearing.
+/// Reports whether the bearing of a point `dx` metres east and `dy` metres north, both at most `MOST_DIFFERENCE` in
+/// size and not both 0, differs from a degree from 0 to 359 by at most `spread` degrees, fewer than 90, round the
+/// circle. It compares the reaches at the ends of this arc with those just beyond them, and works out no bearing.
 pub fn bears_within(dx: i32, dy: i32, degree: u16, spread: u16) -> bool
-    requires dx_in_field { unsigned_abs dx ≤ 999 }
-    requires dy_in_field { unsigned_abs dy ≤ 999 }
+    requires dx_in_field { unsigned_abs dx ≤ MOST_DIFFERENCE }
+    requires dy_in_field { unsigned_abs dy ≤ MOST_DIFFERENCE }
     requires elsewhere { dx ≡ pos 0 → dy ≡ pos 0 → ⊥ }
     requires degree { degree < 360 }
     requires spread { spread < 90 }
@@ -50,8 +53,8 @@ pub fn bears_within(dx: i32, dy: i32, degree: u16, spread: u16) -> bool
 /// Reports whether a point reaches further at one degree than at another; of equals the lesser degree comes first.
 #[tactic(auto, unfolding(crate::specs::Furthest::leads))]
 fn leads(dx: i32, dy: i32, degree: u16, other: u16) -> bool
-    requires dx_in_field { unsigned_abs dx ≤ 999 }
-    requires dy_in_field { unsigned_abs dy ≤ 999 }
+    requires dx_in_field { unsigned_abs dx ≤ MOST_DIFFERENCE }
+    requires dy_in_field { unsigned_abs dy ≤ MOST_DIFFERENCE }
     requires degree { degree < 360 }
     requires other { other < 360 }
     ensures { result ≡ leads dx dy degree other }
@@ -68,8 +71,8 @@ fn leads(dx: i32, dy: i32, degree: u16, other: u16) -> bool
 /// Returns how far a point reaches in the direction of a degree, scaled by 100,000.
 #[tactic(auto, using(crate::proofs::BearingLemmas::reach_steps), unfolding(crate::specs::Bearing::reach_of))]
 fn reach(dx: i32, dy: i32, degree: u16) -> i32
-    requires dx_in_field { unsigned_abs dx ≤ 999 }
-    requires dy_in_field { unsigned_abs dy ≤ 999 }
+    requires dx_in_field { unsigned_abs dx ≤ MOST_DIFFERENCE }
+    requires dy_in_field { unsigned_abs dy ≤ MOST_DIFFERENCE }
     requires degree { degree < 360 }
     ensures { result ≡ reach_of dx dy degree }
 {
@@ -78,8 +81,8 @@ fn reach(dx: i32, dy: i32, degree: u16) -> i32
 
 /// Returns the greatest reach of a point over the round, scaled by 100,000.
 fn furthest_reach(dx: i32, dy: i32) -> i32
-    requires dx_in_field { unsigned_abs dx ≤ 999 }
-    requires dy_in_field { unsigned_abs dy ≤ 999 }
+    requires dx_in_field { unsigned_abs dx ≤ MOST_DIFFERENCE }
+    requires dy_in_field { unsigned_abs dy ≤ MOST_DIFFERENCE }
     ensures { IsGreatest (reaches dx dy) result }
 {
     let mut most = chunk_reaches(dx, dy, 0);
@@ -92,8 +95,8 @@ fn furthest_reach(dx: i32, dy: i32) -> i32
 /// Returns how far a point reaches in the direction of each degree of a chunk, scaled by 100,000.
 #[inline(always)]
 fn chunk_reaches(dx: i32, dy: i32, chunk: u16) -> i32x8
-    requires dx_in_field { unsigned_abs dx ≤ 999 }
-    requires dy_in_field { unsigned_abs dy ≤ 999 }
+    requires dx_in_field { unsigned_abs dx ≤ MOST_DIFFERENCE }
+    requires dy_in_field { unsigned_abs dy ≤ MOST_DIFFERENCE }
     requires on_the_round { chunk < CHUNKS }
     ensures { result ≡ map (reach_of dx dy) (range_with_len (LANES * chunk) LANES) }
 {
@@ -118,8 +121,8 @@ fn greatest(numbers: [i32; 8]) -> i32
 /// Returns the first lane of a chunk at whose degree a point reaches this far, if any does.
 #[inline(always)]
 fn lane_of_reach(dx: i32, dy: i32, chunk: u16, reach: i32) -> Option<u16>
-    requires dx_in_field { unsigned_abs dx ≤ 999 }
-    requires dy_in_field { unsigned_abs dy ≤ 999 }
+    requires dx_in_field { unsigned_abs dx ≤ MOST_DIFFERENCE }
+    requires dy_in_field { unsigned_abs dy ≤ MOST_DIFFERENCE }
     requires on_the_round { chunk < CHUNKS }
     ensures { result ≡ position (int_eq reach) (map (reach_of dx dy) (range_with_len (LANES * chunk) LANES)) }
 {

@@ -2,6 +2,7 @@
 use Rattle.std.specs.Prelude.{◌≡◌, ℕ, ◌<◌, ◌≤◌, ◌*◌, List, Bool, length, slice_index_or, nat_le}
 use Rattle.arena.specs.Field.{live_count}
 use Rattle.arena.specs.Ground.{Ground}
+use Rattle.arena.specs.declared.rules.TheConstants.{MOST_ROBOTS}
 use Rattle.engine.specs.Executables.{Executable}
 use Rattle.engine.specs.declared.engines.Engine.{Engine}
 use Rattle.engine.specs.Engines.{FitsProgram}
@@ -9,20 +10,20 @@ use Rattle.battles.specs.Battle.{Behaviour, Stage}
 use Rattle.battles.specs.Carrying.{Runner, EachFits, HasReached}
 use Rattle.battles.specs.Windows.{AreTurnNumbers, AreWaiting, Waits, segments}
 
--- at most four machines, and a robot of the field for each
+-- a robot of the field for each machine
 pub record HavePlaces (runners : List Runner) (arena : Ground) : Type 0 where
-  pub few : length runners ≤ 4
+  pub few : length runners ≤ MOST_ROBOTS
   pub robots : length arena.robots ≡ length runners
 
--- each of at most four programs has a machine that can go on with it, and a robot of the field
+-- each program has a machine that can go on with it, and a robot of the field
 pub record AreManned (exes : List Executable) (runners : List Runner) (arena : Ground) : Type 0 where
-  pub few : length exes ≤ 4
+  pub few : length exes ≤ MOST_ROBOTS
   pub fits : EachFits runners exes
   pub robots : length arena.robots ≡ length exes
 
 -- a robot of the field, whose machine can go on with its program
 pub record CanRun (i : ℕ) (exe : Executable) (machine : Engine) (arena : Ground) : Type 0 where
-  pub turn_number : i < 4
+  pub turn_number : i < MOST_ROBOTS
   pub inside : i < length arena.robots
   pub fits : FitsProgram machine exe
 
@@ -42,7 +43,7 @@ pub record IsWindow (exes : List Executable) (next : List ℕ) (w : ℕ) (runner
     (arena : Ground) : Type 0 where
   pub manned : AreManned exes runners arena
   pub turn_numbers : AreTurnNumbers next
-  pub past : (i : ℕ) → length exes ≤ i → i < 4 → 4 * w ≤ slice_index_or next i 0
+  pub past : (i : ℕ) → length exes ≤ i → i < MOST_ROBOTS → MOST_ROBOTS * w ≤ slice_index_or next i 0
 
 -- at its begin each robot has all its turns before it
 pub record Opens (exes : List Executable) (next : List ℕ) (w : ℕ) (runners : List Runner)

@@ -3,16 +3,16 @@
 ghost use Rattle.std.specs.Prelude.{◌≡◌, ℕ, ◌+◌, ◌*◌, ◌%◌, ◌<◌, ◌≤◌, ◌^◌, true, slice_index_or, slice_set};
 ghost use Rattle.battles.specs.Windows.{AreTurnNumbers, OthersArePast};
 
-use settings::FILES_MAX;
+use arena::MOST_ROBOTS;
 use std::marker::Model;
 
 /// How many numbers the turns of one cycle have. Robots that aren't there have one each too.
-pub(crate) const CYCLE_TURNS: u32 = FILES_MAX as u32;
+pub(crate) const CYCLE_TURNS: u32 = MOST_ROBOTS as u32;
 
 /// The number of each robot's next turn. That of robot `r` in cycle `c` has the number `CYCLE_TURNS * c + r`.
 #[derive(Drop)]
 pub(crate) struct NextTurns {
-    next: [u32; FILES_MAX],
+    next: [u32; MOST_ROBOTS],
 }
 
 impl Model for NextTurns {
@@ -33,8 +33,8 @@ impl NextTurns {
     pub(crate) fn new(robots: usize, cycles: u32) -> NextTurns
         requires { cycles ≤ 1000 }
         ensures turn_numbers { AreTurnNumbers result }
-        ensures first { (i : ℕ) → i < robots → i < 4 → slice_index_or result i 0 ≡ i }
-        ensures past { (i : ℕ) → robots ≤ i → i < 4 → CYCLE_TURNS * cycles ≤ slice_index_or result i 0 }
+        ensures first { (i : ℕ) → i < robots → i < MOST_ROBOTS → slice_index_or result i 0 ≡ i }
+        ensures past { (i : ℕ) → robots ≤ i → i < MOST_ROBOTS → CYCLE_TURNS * cycles ≤ slice_index_or result i 0 }
     {
         NextTurns {
             next: [
@@ -49,7 +49,7 @@ impl NextTurns {
     /// Returns the least of the numbers: that of the turn that is next.
     #[inline(always)]
     pub(crate) fn first(&self) -> u32
-        ensures least { (i : ℕ) → i < 4 → result ≤ slice_index_or self.now i 0 }
+        ensures least { (i : ℕ) → i < MOST_ROBOTS → result ≤ slice_index_or self.now i 0 }
         ensures turn_numbers { AreTurnNumbers self.now }
         ensures own { slice_index_or self.now (result % CYCLE_TURNS) 0 ≡ result }
     {
@@ -62,7 +62,7 @@ impl NextTurns {
     /// into the loop over turns, it is worked out before each loop.
     #[inline(never)]
     pub(crate) fn others_are_past(&self, robot: usize, end: u32) -> bool
-        requires { robot < 4 }
+        requires { robot < MOST_ROBOTS }
         ensures { result ≡ true → OthersArePast end robot self.now }
     {
         (robot == 0 || end <= self.next[0])
@@ -74,7 +74,7 @@ impl NextTurns {
     /// Lets a robot go on by so many cycles.
     #[inline(always)]
     pub(crate) fn pass(&mut self, robot: usize, cycles: u32)
-        requires inside { robot < 4 }
+        requires inside { robot < MOST_ROBOTS }
         requires small { slice_index_or self.old robot 0 + CYCLE_TURNS * cycles < 2 ^ 32 }
         ensures { self.new ≡ slice_set self.old robot (slice_index_or self.old robot 0 + CYCLE_TURNS * cycles) }
     {
@@ -86,7 +86,7 @@ impl NextTurns {
 #[inline(always)]
 fn first_of(robot: u8, robots: usize, cycles: u32) -> u32
     requires small { cycles ≤ 1000 }
-    requires inside { robot < 4 }
+    requires inside { robot < MOST_ROBOTS }
     ensures own { result % CYCLE_TURNS ≡ robot }
     ensures first { robot < robots → result ≡ robot }
     ensures past { robots ≤ robot → CYCLE_TURNS * cycles ≤ result }

@@ -57,6 +57,7 @@ pub(crate) fn turn(
             Want::Ask(intrinsic, words) => {
                 machine.reply(exe, question, ask_plainly(arena, robot, intrinsic, words));
             }
+            // no quiet want is asked (`some`), so it wants a restart
             _ => machine.restart(exe),
         },
     }

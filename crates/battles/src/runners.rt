@@ -4,26 +4,21 @@ ghost use Rattle.std.specs.Prelude.{[]};
 ghost use Rattle.engine.specs.Engines.{FitsProgram};
 ghost use Rattle.battles.specs.Carrying.{IsAt};
 
+use arena::MOST_ROBOTS;
 use engine::{Engine, Executable};
-use settings::FILES_MAX;
 use std::marker::Model;
 
-/// The machines of up to four robots. A series makes them once; each battle starts them anew.
+/// The machines of the robots of a battle. A series makes them once; each battle starts them anew.
 #[derive(Drop)]
 pub struct Machines {
-    pub(crate) runners: [Runner; FILES_MAX],
+    pub(crate) runners: [Runner; MOST_ROBOTS],
 }
 
 impl Default for Machines {
     /// Makes blank machines, which are at the start of no program.
     fn default() -> Machines {
         Machines {
-            runners: [
-                Runner::default(),
-                Runner::default(),
-                Runner::default(),
-                Runner::default(),
-            ],
+            runners: Default::default(),
         }
     }
 }

@@ -76,6 +76,7 @@ impl Cells {
             → IsReached (state_at result self.new) program.now (trace ++ reply ∷ []) }
         ensures fits { FitsProgram (state_at result self.new) program.now }
     {
+        // For the proof alone: the next instruction is one of the program.
         let _instr = self.instr(program, place);
         self.answer(place, reply)
     }

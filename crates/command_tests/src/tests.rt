@@ -1,7 +1,7 @@
 //! What the words ask for, and the program over files that the tests write, and sinks in memory: each status that it
 //! can give, with its line.
 
-ghost use Rattle.std.specs.Prelude.{Some, ⊤};
+ghost use Rattle.std.specs.Prelude.{None, Some, ⊤};
 
 use arguments::read_words;
 use command::{Disk, FileFeed, KnownFeed, OpenFault, Opener, StreamSink, program_of, program_over};
@@ -405,6 +405,60 @@ fn an_interrupted_read_is_not_tried_again(rt: HostRuntime) {
     let mut buf = [0; 4];
     assert_eq!(rt; feed.fill(&mut buf), Err(DeviceFault));
     assert_eq!(rt; feed.fill(&mut buf), Ok(1));
+}
+
+/// Files behind readers that give a source, or fail at their first read: those of the word `b.r`.
+#[derive(Drop)]
+struct Failing;
+
+/// What gives a source, or fails at its first read and then gives it.
+#[derive(Drop)]
+struct Script {
+    source: &'static [u8],
+    fails: bool,
+}
+
+impl Read for Script {
+    fn read(&mut self, buf: &mut [u8]) -> io::Result<usize> {
+        if self.fails {
+            self.fails = false;
+            return Err(io::Error::from(ErrorKind::InvalidData));
+        }
+        self.source.read(buf)
+    }
+}
+
+impl Opener for Failing {
+    type File = FileFeed<Script>;
+
+    ghost files = { λ _. record { holds = λ _. None; opens = λ _. ⊤; refuses = λ _. ⊥; fails = λ _. ⊤ } };
+
+    fn open(&self, word: &str) -> Result<FileFeed<Script>, OpenFault> {
+        Ok(FileFeed::new(Script {
+            source: b"main(){}",
+            fails: word == "b.r",
+        }))
+    }
+}
+
+#[test]
+fn a_file_whose_first_read_fails_ends_the_run(rt: HostRuntime) -> Result<(), Fail> {
+    let listing = format!(in rt.alloc(); "File a.r\n{EMPTY}")?;
+    for (words, text) in [
+        (["-c", "a.r", "b.r", "c.r"], listing.as_bytes()),
+        (["-m1", "a.r", "b.r", "c.r"], b"".as_slice()),
+    ] {
+        let mut out = Recorder::new(rt.alloc());
+        let mut err = Recorder::new(rt.alloc());
+        assert_eq!(rt;
+            program_over(rt.alloc(), &Failing, &words, &mut out, &mut err),
+            3
+        );
+        assert_eq!(rt; taken(&rt, &out)?.as_slice(), text);
+        let line = b"crobots: cannot read b.r\n".as_slice();
+        assert_eq!(rt; taken(&rt, &err)?.as_slice(), line);
+    }
+    Ok(())
 }
 
 /// Files in memory behind readers: each word's file holds this source.

@@ -48,7 +48,18 @@ fn making(action: SemanticAction, behind: [Option<Item>; 2]) -> Emission {
         SemanticAction::Evaluate => Emission::of(on_rule(action), Origin::Passed),
         SemanticAction::Define => Emission::of(on_rule(action), Origin::Next),
         SemanticAction::Operate(op) => Emission::of(&[Action::ApplyBinop(op)], Origin::Chosen),
-        _ => Emission::of(on_rule(action), Origin::Chosen),
+        SemanticAction::Negate
+        | SemanticAction::Not
+        | SemanticAction::Complement
+        | SemanticAction::Fetch
+        | SemanticAction::StepBefore(_)
+        | SemanticAction::Pass
+        | SemanticAction::Invoke
+        | SemanticAction::Decide
+        | SemanticAction::DecideElse
+        | SemanticAction::Repeat
+        | SemanticAction::Zero
+        | SemanticAction::GiveBack => Emission::of(on_rule(action), Origin::Chosen),
     }
 }
 
@@ -75,6 +86,7 @@ fn on_choice(symbol: Symbol, next: &Token) -> &'static [Action] {
         (Symbol::Tail(level), _) => match operator_at(level, next) {
             Some(Op::And) => &[Action::LogicMiddle(Op::And)],
             Some(Op::Or) => &[Action::LogicMiddle(Op::Or)],
+            // the right side of any other operator is always worked out
             _ => &[],
         },
         _ => &[],

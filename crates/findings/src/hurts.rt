@@ -2,14 +2,11 @@
 
 ghost use Rattle.std.specs.Prelude.{◌≡◌, ◌-◌, ◌<◌, length};
 
-use arena::{Arena, MOST_BURSTS, MOST_ROBOTS};
+use arena::{Arena, DEADLY, KNOCK_DAMAGE, MOST_BURSTS, MOST_ROBOTS, WALL_DAMAGE};
 use arrayvec::ArrayVec;
 
 /// The most losses of a robot in an update: by the wall, by each robot, by each burst.
 pub const MOST_LOSSES: usize = 1 + MOST_ROBOTS + MOST_BURSTS;
-
-/// What a wall and a collision take, in percent.
-const KNOCK: u8 = 2;
 
 /// What takes damage from a robot.
 #[derive(Clone, Copy, Debug, PartialEq, Eq, Drop)]
@@ -45,13 +42,13 @@ impl Default for Loss {
 pub fn losses(arena: &Arena, robot: usize) -> ArrayVec<Loss, MOST_LOSSES>
     requires { robot < length arena.now.robots }
 {
-    let mut found = Collector::new(100 - arena.damage(robot));
+    let mut found = Collector::new(DEADLY - arena.damage(robot));
     if arena.meets_wall(robot) {
-        found.add(Source::Wall, KNOCK);
+        found.add(Source::Wall, WALL_DAMAGE);
     }
     for other in 0..arena.robot_count() {
         if arena.meets(robot, other) {
-            found.add(Source::Collision(other), KNOCK);
+            found.add(Source::Collision(other), KNOCK_DAMAGE);
         }
     }
     for burst in &arena.due() {

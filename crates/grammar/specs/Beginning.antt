@@ -1,20 +1,19 @@
 -- Which lists of actions may be reported to a builder: the beginnings of those of some functions.
 use Rattle.std.specs.Prelude.{◌≡◌, ◌<◌, ◌≤◌, List, [], ◌∷◌, ◌++◌, length}
 use Rattle.grammar.specs.declared.actions.Action.{Action}
-use Rattle.grammar.specs.declared.limits.TheConstants.{MOST_NAMES}
 use Rattle.grammar.specs.Derivation.{Definition}
 use Rattle.grammar.specs.Faults.{definitions_actions}
-use Rattle.grammar.specs.Limits.{most_open}
+use Rattle.grammar.specs.Limits.{most_names, most_open}
 use Rattle.grammar.specs.Nesting.{body_nesting}
 use Rattle.grammar.specs.Resolved.{InBody}
 
 -- a function whose numbers are within the limits, its own among them, and in which no more calls, ifs, whiles and right
 -- sides of && and || are open at once than may be
 pub record IsTellable (d : Definition) : Type 0 where
-  pub number : d.number < MOST_NAMES
+  pub number : d.number < most_names
   pub parameters : d.function.parameters ≤ length d.function.variables
-  pub variables : length d.function.variables ≤ MOST_NAMES
-  pub names : InBody MOST_NAMES MOST_NAMES MOST_NAMES d.function.body
+  pub variables : length d.function.variables ≤ most_names
+  pub names : InBody most_names most_names most_names d.function.body
   pub few : body_nesting d.function.body ≤ most_open
 
 abbrev pub AreTellable : List Definition → Type 0

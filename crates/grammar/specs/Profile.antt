@@ -1,5 +1,5 @@
 -- A language profile: what && and || evaluate, and how much a program may use.
-use Rattle.std.specs.Prelude.{◌≡◌, ◌⊎◌, ℕ, Bool, false, true}
+use Rattle.std.specs.Prelude.{◌≡◌, ◌⊎◌, ℕ, Bool, false, true, if◌then◌else◌, ◌==◌}
 
 pub record Profile : Type 0 where
   pub instructions : ℕ  -- the most instructions of a file's code, with the last NOP
@@ -21,3 +21,11 @@ second_profile = record { instructions = 4000; words = 1000; frames = 128; short
 -- one of the two that a program can have
 abbrev pub IsProfile : Profile → Type 0
 IsProfile p = (p ≡ first_profile) ⊎ (p ≡ second_profile)
+
+-- the greatest number of a profile; the least is 1
+abbrev pub most_profile : ℕ
+most_profile = 2
+
+-- the profile of a number
+abbrev pub profile_numbered : ℕ → Profile
+profile_numbered number = if number == 1 then first_profile else second_profile

@@ -64,7 +64,16 @@ impl Action {
             Action::ElsePart | Action::EndWhile => 2,
             Action::EndIf | Action::BeginWhile => 0,
             Action::BeginFunction(_, _) | Action::EndFunction(_) => 0,
-            _ => 1,
+            Action::PushConstant(_)
+            | Action::FetchVariable(_)
+            | Action::StoreVariable(_, _)
+            | Action::ApplyBinop(_)
+            | Action::BeginCall
+            | Action::EndCall(_)
+            | Action::IfTest
+            | Action::WhileTest
+            | Action::GiveBack
+            | Action::Chop => 1,
         }
     }
 }

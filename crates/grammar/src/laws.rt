@@ -1,11 +1,14 @@
 //! Laws on the definitions of the language.
 
+ghost use Rattle.std.specs.Prelude.{◌≡◌};
+ghost use Rattle.grammar.specs.Intrinsics.{all_intrinsics};
 ghost use Rattle.grammar.specs.Laws.Finished.{Finished, Undefined, WithoutMain};
 ghost use Rattle.grammar.specs.Laws.{BeginningsAreInOrder, BlocksKeepTheFunction, CompiledIsResolved};
 ghost use Rattle.grammar.specs.Laws.{EachDerivationEnds, EachFileFollows, FaultlessIsResolved, FirstFaultDecides};
 ghost use Rattle.grammar.specs.Laws.{MayBeTold, WhatIsInOrderBegins, WhatWasReadIsNeeded};
 
 use crate::build::Build;
+use crate::names::Intrinsic;
 
 /// Proves that the derivation of each list of tokens ends, and leads to what the source is: a file, or its first fault.
 pub fn derivations()
@@ -52,4 +55,9 @@ pub fn resolved_files()
 /// Proves that any action may be reported to a builder that may follow those that it represents.
 pub fn building<B: Build>()
     ensures { (builder : B) → MayBeTold (B.stands builder) }
+{}
+
+/// Proves that the list of all intrinsic functions has those that a name is looked up among.
+pub fn intrinsics()
+    ensures { Intrinsic.ALL ≡ all_intrinsics }
 {}

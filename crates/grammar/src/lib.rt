@@ -25,7 +25,7 @@ pub use operators::{
     Binary, StoreOp, operator_from, operator_punctuator, store_operator, store_punctuator,
 };
 pub use pools::{Function, Pools};
-pub use profiles::Profile;
+pub use profiles::{MOST_PROFILE, Profile};
 pub use scope::{Scope, intrinsic, number_of};
 pub use tokens::{DeviceFault, Feed, Name};
 pub use watching::{Watch, Watched};

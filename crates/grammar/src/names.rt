@@ -53,6 +53,23 @@ pub enum Callee {
 }
 
 impl Intrinsic {
+    /// All of them, in the order of the variants.
+    pub const ALL: [Intrinsic; 13] = [
+        Intrinsic::Scan,
+        Intrinsic::Cannon,
+        Intrinsic::Drive,
+        Intrinsic::Damage,
+        Intrinsic::Speed,
+        Intrinsic::LocX,
+        Intrinsic::LocY,
+        Intrinsic::Rand,
+        Intrinsic::Sqrt,
+        Intrinsic::Sin,
+        Intrinsic::Cos,
+        Intrinsic::Tan,
+        Intrinsic::Atan,
+    ];
+
     /// Returns how many arguments the function uses: 0 to 2. Further ones are evaluated and dropped.
     pub fn arguments(self) -> u8
         ensures value { result ≡ arguments_of self }

@@ -1,9 +1,12 @@
 //! The language profiles.
 
 ghost use Rattle.std.specs.Prelude.{◌≡◌, ◌≤◌};
-ghost use Rattle.grammar.specs.Profile.{first_profile, second_profile, IsProfile};
+ghost use Rattle.grammar.specs.Profile.{first_profile, second_profile, profile_numbered, IsProfile};
 
 use std::marker::Model;
+
+/// The greatest number of a profile; the least is 1.
+pub const MOST_PROFILE: u32 = 2;
 
 /// A language profile: what `&&` and `||` evaluate, and how much a program may use. There are two.
 #[derive(Clone, Copy, Debug, PartialEq, Eq)]
@@ -32,6 +35,19 @@ impl Model for Profile {
 }
 
 impl Profile {
+    /// Makes the profile of a number.
+    pub fn numbered(number: u32) -> Profile
+        requires least { 1 ≤ number }
+        requires most { number ≤ MOST_PROFILE }
+        ensures { result ≡ profile_numbered number }
+    {
+        if number == 1 {
+            Profile::first()
+        } else {
+            Profile::second()
+        }
+    }
+
     /// Makes the first profile: `&&` and `||` evaluate both sides. A program has at most 2,000 instructions, 500 words
     /// of stack and 64 frames.
     #[tactic(auto, unfolding(crate::specs::Profile::first_profile))]

@@ -1,10 +1,11 @@
-//! The tests, by what they try: builders, devices, large files, refused memory, pieces and trees; tokens; and the places
-//! of instructions.
+//! The tests, by what they try: builders, devices, large files, limits, refused memory, pieces and trees; tokens; and
+//! the places of instructions.
 
 mod builder_tests;
 mod checks;
 mod device_tests;
 mod large_tests;
+mod limit_tests;
 mod memory_tests;
 mod piece_tests;
 mod place_tests;

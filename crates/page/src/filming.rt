@@ -64,6 +64,7 @@ pub fn film_robots(
     let shown = match settings.mode() {
         Mode::Listing => Some(list_places(places, film)),
         Mode::Matches => {
+            // For the proof alone: a file that compiles is resolved.
             resolved_files();
             let film = Film::new(film, functions, places, stretch, order.skipped);
             film_match(&settings, &programs, film, stretch)

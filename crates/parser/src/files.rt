@@ -84,6 +84,7 @@ pub fn parse_into<F: Feed, B: Build>(
     let checked = check_functions(&reader.parser);
     let Reader { parser, build, .. } = reader;
     let (names, device) = parser.into_parts();
+    // For the proof alone: what the names, the device and the builder are when their loans end.
     let _known = &*names;
     let _held = &*device;
     let _told = &*build;

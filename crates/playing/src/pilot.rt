@@ -9,7 +9,7 @@ ghost use Rattle.playing.specs.Pilot.{IsOfSameUpdate, TakesTurn};
 ghost use Rattle.playing.specs.Played.{codes_of};
 
 use crate::watcher::{Question, Turn, Watcher};
-use arena::Arena;
+use arena::{Arena, MOST_ROBOTS};
 use code::{Machine, Program, Want};
 use settings::CYCLES_MAX;
 use std::alloc::{AllocError, Global};
@@ -111,10 +111,10 @@ impl<'a> Pilot<'a> {
     }
 }
 
-/// Makes the pilots of one to four programs: one of each, or two of a single one.
+/// Makes the pilots of programs: one of each, or two of a single one.
 pub fn pilots(alloc: Global, programs: &[Program]) -> Result<Vec<Pilot<'_>>, AllocError>
     requires some { 0 < length programs.now }
-    requires most { length programs.now ≤ 4 }
+    requires most { length programs.now ≤ MOST_ROBOTS }
     ensures codes { IfOk result (λ pilots. codes_of pilots.items ≡ paired programs.now) }
     ensures count { IfOk result (λ pilots. length pilots.items
         ≡ (if length programs.now == 1 then 2 else length programs.now)) }

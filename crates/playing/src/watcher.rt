@@ -53,7 +53,17 @@ pub trait Watcher {
         match question.intrinsic {
             Intrinsic::Cannon => self.shot(turn, question, arena),
             Intrinsic::Scan => self.scanned(turn, question),
-            _ => {}
+            Intrinsic::Drive
+            | Intrinsic::Damage
+            | Intrinsic::Speed
+            | Intrinsic::LocX
+            | Intrinsic::LocY
+            | Intrinsic::Rand
+            | Intrinsic::Sqrt
+            | Intrinsic::Sin
+            | Intrinsic::Cos
+            | Intrinsic::Tan
+            | Intrinsic::Atan => {}
         }
     }
 

@@ -3,11 +3,11 @@ use Rattle.std.proofs.Common.{◌≡◌, ◌≢◌, ℕ, ◌+◌, ◌<◌, zero,
 use Rattle.std.specs.Prelude.{max}
 use Rattle.std.proofs.lemmas.List.FromFn.{get_or-map-range_with_len, length-map-range_with_len}
 use Rattle.std.proofs.lemmas.List.{get_or-map, length-map}
-use Rattle.series.specs.Lines.{ended_line}
+use Rattle.series.specs.Lines.{ended_line, lines_text}
 use Rattle.battles.specs.Battle.{Outcome, alive}
 use Rattle.battles.specs.Pairing.{paired}
 use Rattle.series.specs.declared.tallies.Score.{Score}
-use Rattle.series.specs.Reports.{robot_line, robot_lines, state_text}
+use Rattle.series.specs.Reports.{report, robot_line, robot_lines, state_text}
 use Rattle.series.specs.Names.{robot_names}
 use Rattle.sinks.specs.Texts.{column, file_name}
 use Rattle.series.specs.Totals.{score_line, score_lines}
@@ -59,6 +59,22 @@ score_line_added text name i score =
     (sym
     (added_eight text (codes "  ") (decimal (i + 1)) (codes ") won ") (decimal score.won) (codes " tied ")
     (decimal score.tied) (codes " lost ") (decimal score.lost)))))
+
+-- six fragments after a text
+added_six : (text a b c d e f : List ℕ)
+    → text ++ (((((a ++ b) ++ c) ++ d) ++ e) ++ f) ≡ (((((text ++ a) ++ b) ++ c) ++ d) ++ e) ++ f
+added_six text a b c d e f = simp append_assoc
+
+-- the fragments of a report
+pub report_added : (text : List ℕ) (k : ℕ) (names : List (List ℕ)) (outcome : Outcome)
+    → text ++ report k names outcome
+    ≡
+    (((((text ++ codes "Match ") ++ decimal k) ++ codes ": cycles = ") ++ decimal outcome.cycles) ++ codes "\n")
+    ++ lines_text (robot_lines names outcome)
+unfolding report
+report_added text k names outcome =
+    added_six text (codes "Match ") (decimal k) (codes ": cycles = ") (decimal outcome.cycles) (codes "\n")
+    (lines_text (robot_lines names outcome))
 
 -- the line of one robot
 pub robot_line_at : (names : List (List ℕ)) (outcome : Outcome) (i : ℕ) (name : List ℕ) → i < length outcome.damages →

@@ -28,13 +28,24 @@ pub(crate) fn put_report<S: Sink>(
         (report number (robot_names (map (λ word. word.now) words.now)) outcome.now) }
 {
     let mut pen = Pen::new();
+    add_report(&mut pen, sink, number, outcome, words);
+    pen.done(sink)
+}
+
+/// Adds the report of the match of this number.
+fn add_report<S: Sink>(pen: &mut Pen, sink: &mut S, number: u32, outcome: &Outcome, words: &[&str])
+    requires named { length outcome.now.damages ≡ length (paired words.now) }
+    requires countable { MayFail pen.old (S.written sink.old) }
+    ensures countable { MayFail pen.new (S.written sink.new) }
+    ensures text { Adds (S.written sink.old) pen.old (S.written sink.new) pen.new
+        (report number (robot_names (map (λ word. word.now) words.now)) outcome.now) }
+{
     pen.add(sink, b"Match ");
     pen.number(sink, number);
     pen.add(sink, b": cycles = ");
     pen.number(sink, outcome.cycles());
     pen.add(sink, b"\n");
-    add_robots(&mut pen, sink, outcome, words);
-    pen.done(sink)
+    add_robots(pen, sink, outcome, words);
 }
 
 /// Adds the line of each robot.

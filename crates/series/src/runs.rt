@@ -81,6 +81,7 @@ fn play_files<F: Feed, O: Sink, E: Sink>(
     let mut keeper = Keeper::new(settings.mode());
     match compile_into(&mut keeper, settings, feeds, out, err) {
         Ok(Status::Done) => {
+            // For the proof alone: a file that compiles is resolved.
             resolved_files();
             play_all(&keeper.programs, settings, out)
         }

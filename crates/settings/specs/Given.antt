@@ -1,12 +1,12 @@
 -- The settings that follow from what the command line gave.
-use Rattle.std.specs.Prelude.{ℕ, ◌≤◌, List, Bool, Option, Some, None, Result, Err, length, nat_lt, option_map, ok_or, if◌then◌else◌, ◌==◌}
-use Rattle.grammar.specs.Profile.{Profile, IsProfile, first_profile, second_profile}
+use Rattle.std.specs.Prelude.{ℕ, ◌≤◌, List, Bool, Option, Some, None, Result, Err, length, nat_lt, option_map, ok_or, if◌then◌else◌}
+use Rattle.grammar.specs.Profile.{IsProfile, most_profile, profile_numbered}
 use Rattle.settings.specs.declared.faults.UseFault.{UseFault}
 use Rattle.settings.specs.declared.faults.UseFault.TheVariants.{Number, TooMany, NoMode}
 use Rattle.settings.specs.declared.settings.Mode.{Mode}
 use Rattle.settings.specs.declared.settings.Numbers.{Numbers}
 use Rattle.settings.specs.declared.settings.Mode.TheVariants.{Listing, Matches}
-use Rattle.settings.specs.Limits.{matches_max, matches_default, cycles_max, cycles_default, seed_max, seed_default, first_max, first_default, files_max}
+use Rattle.settings.specs.Limits.{matches_max, matches_default, cycles_max, cycles_default, seed_max, seed_default, profile_default, first_max, first_default, files_max}
 use Rattle.settings.specs.Numbers.{number_of}
 use Rattle.settings.specs.Setup.{Setup, setup_of}
 
@@ -24,10 +24,6 @@ pub record Given : Type 0 where
 abbrev pub value_of : ℕ → ℕ → ℕ → Option (List ℕ) → Option ℕ
 value_of least most default None = Some default
 value_of least most default (Some text) = number_of least most text
-
--- the profile of a number, 1 or 2
-abbrev pub profile_by : ℕ → Profile
-profile_by n = if n == 1 then first_profile else second_profile
 
 -- `-c` asks for listings, and else `-m` for matches
 abbrev pub mode_of : Given → Option Mode
@@ -52,9 +48,15 @@ numbers_of given =
     with_number (value_of 1 matches_max matches_default given.matches) (λ matches.
     with_number (value_of 1 cycles_max cycles_default given.limit) (λ limit.
     with_number (value_of 0 seed_max seed_default given.seed) (λ seed.
-    with_number (value_of 1 2 1 given.profile) (λ profile.
+    with_number (value_of 1 most_profile profile_default given.profile) (λ profile.
     with_number (value_of 1 first_max first_default given.first) (λ first.
-    Some (record { matches = matches; limit = limit; seed = seed; profile = profile_by profile; first = first }))))))
+    Some (record {
+      matches = matches;
+      limit = limit;
+      seed = seed;
+      profile = profile_numbered profile;
+      first = first;
+    }))))))
 
 -- the settings, with these numbers and this mode, or the first fault: a value, then how many files there are, then the
 -- mode

@@ -20,6 +20,9 @@ seed_max = 18446744073709551615
 abbrev pub seed_default : ℕ
 seed_default = 1
 
+abbrev pub profile_default : ℕ
+profile_default = 1
+
 abbrev pub first_max : ℕ
 first_max = 1000000
 

@@ -1,14 +1,17 @@
 //! What the command line gave, and the settings that follow from it.
 
 ghost use Rattle.std.specs.Prelude.{◌≡◌, ◌<◌, ◌≤◌, length, map, option_map, IfSome};
-ghost use Rattle.settings.specs.Given.{AreWithin, mode_of, numbers_of, profile_by, asked_by, value_of};
+ghost use Rattle.settings.specs.Given.{AreWithin, mode_of, numbers_of, asked_by, value_of};
 
 use crate::faults::UseFault;
-use crate::limits::{CYCLES_DEFAULT, CYCLES_MAX, FILES_MAX, FIRST_MAX, MATCHES_MAX, SEED_DEFAULT};
+use crate::limits::{
+    CYCLES_DEFAULT, CYCLES_MAX, FIRST_DEFAULT, FIRST_MAX, MATCHES_DEFAULT, MATCHES_MAX,
+    PROFILE_DEFAULT, SEED_DEFAULT,
+};
 use crate::numbers::number;
 use crate::settings::{Mode, Numbers, Settings};
 use arrayvec::ArrayVec;
-use grammar::Profile;
+use grammar::{MOST_PROFILE, Profile};
 use std::marker::Model;
 
 /// What the command line gave: a flag, the text of each option, and the words that name files.
@@ -76,17 +79,23 @@ fn read_numbers(given: &Given<'_, '_>) -> Option<Numbers>
     ensures within { IfSome result AreWithin }
 {
     Some(Numbers {
-        matches: value(given.matches, 1, u64::from(MATCHES_MAX), 1)? as u32,
-        limit: value(
-            given.limit,
-            1,
-            u64::from(CYCLES_MAX),
-            u64::from(CYCLES_DEFAULT),
-        )? as u32,
+        matches: count(given.matches, MATCHES_MAX, MATCHES_DEFAULT)?,
+        limit: count(given.limit, CYCLES_MAX, CYCLES_DEFAULT)?,
         seed: value(given.seed, 0, u64::MAX, SEED_DEFAULT)?,
-        profile: profile_of(value(given.profile, 1, 2, 1)?),
-        first: value(given.first, 1, u64::from(FIRST_MAX), 1)? as u32,
+        profile: Profile::numbered(count(given.profile, MOST_PROFILE, PROFILE_DEFAULT)?),
+        first: count(given.first, FIRST_MAX, FIRST_DEFAULT)?,
     })
+}
+
+/// Reads the value of an option that is 1 at least, and which has a default.
+fn count(given: Option<&str>, most: u32, default: u32) -> Option<u32>
+    requires least { 1 ≤ default }
+    requires most { default ≤ most }
+    ensures value { result ≡ value_of 1 most default (option_map (λ text. text.now) given.entry) }
+    ensures within { IfSome result (λ n. (1 ≤ n) × (n ≤ most)) }
+{
+    let number = value(given, 1, u64::from(most), u64::from(default))?;
+    Some(number as u32)
 }
 
 /// Reads the value of an option, which has a default.
@@ -97,17 +106,6 @@ fn value(given: Option<&str>, least: u64, most: u64, default: u64) -> Option<u64
     match given {
         Some(text) => number(text, least, most),
         None => Some(default),
-    }
-}
-
-/// Returns the profile of a number, 1 or 2.
-fn profile_of(number: u64) -> Profile
-    ensures { result ≡ profile_by number }
-{
-    if number == 1 {
-        Profile::first()
-    } else {
-        Profile::second()
     }
 }
 

@@ -11,6 +11,9 @@ mod settings;
 pub use faults::UseFault;
 pub use given::{Given, settle};
 pub use known::known_settings;
-pub use limits::{CYCLES_DEFAULT, CYCLES_MAX, FILES_MAX, FIRST_MAX, MATCHES_MAX, SEED_DEFAULT};
+pub use limits::{
+    CYCLES_DEFAULT, CYCLES_MAX, FILES_MAX, FIRST_DEFAULT, FIRST_MAX, MATCHES_DEFAULT, MATCHES_MAX,
+    PROFILE_DEFAULT, SEED_DEFAULT,
+};
 pub use numbers::number;
 pub use settings::{Mode, Numbers, Settings};

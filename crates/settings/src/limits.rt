@@ -3,6 +3,9 @@
 /// The most matches of a series; there is at least one.
 pub const MATCHES_MAX: u32 = 1_000_000;
 
+/// The number of matches if none is asked for.
+pub const MATCHES_DEFAULT: u32 = 1;
+
 /// The most cycles of a match; there is at least one.
 pub const CYCLES_MAX: u32 = 1_000_000_000;
 
@@ -12,8 +15,14 @@ pub const CYCLES_DEFAULT: u32 = 500_000;
 /// The seed if none is asked for.
 pub const SEED_DEFAULT: u64 = 1;
 
+/// The number of the language profile if none is asked for.
+pub const PROFILE_DEFAULT: u32 = 1;
+
 /// The greatest number that a series' first match may have; the least is 1.
 pub const FIRST_MAX: u32 = 1_000_000;
+
+/// The number of the first match if none is asked for.
+pub const FIRST_DEFAULT: u32 = 1;
 
 /// The most files of a run; there is at least one.
 pub const FILES_MAX: usize = 4;

@@ -2,7 +2,8 @@
 
 ghost use Rattle.std.specs.Prelude.{◌≡◌, ◌≤◌, ◌<◌, length};
 ghost use Rattle.arena.specs.Field.{Field, robot_at};
-ghost use Rattle.arena.specs.Leg.{last_place, place_x, place_y};
+ghost use Rattle.arena.specs.Leg.{place_x, place_y};
+ghost use Rattle.arena.specs.Rules.{last_place};
 ghost use Rattle.arena.specs.Standing.{StandsFor};
 
 use arena::Arena;

@@ -3,12 +3,13 @@
 ghost use Rattle.std.specs.Prelude.{◌≡◌, ◌+◌, ◌-◌, ◌*◌, ◌/◌, ◌≤◌, IfSome, min, max};
 
 use crate::places::Place;
+use arena::LAST_METRE;
 
 /// The space on each side of the field, in units of the picture: a unit is a metre.
 pub const MARGIN: u32 = 50;
 
 /// The side of the field in the picture.
-pub const SIDE: u32 = 1000;
+pub const SIDE: u32 = LAST_METRE as u32 + 1;
 
 /// The opacity of what happened at the start, in percent; what happened at the end has 100.
 pub const FAINTEST: u32 = 25;

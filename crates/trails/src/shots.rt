@@ -2,25 +2,23 @@
 
 ghost use Rattle.std.specs.Prelude.{◌≡◌, ◌+◌, ◌-◌, ◌*◌, ◌%◌, ◌^◌, ◌≤◌, ◌<◌, ◌++◌, ◌∷◌, [], false, nat_lt, length, map, slice_set, ℤ, pos, ◌*ℤ◌, unsigned_abs};
 ghost use Rattle.arith.specs.Degree.{degree_of};
-ghost use Rattle.arena.specs.Leg.{along, clamped, last_place};
+ghost use Rattle.arena.specs.Leg.{along, clamped};
+ghost use Rattle.arena.specs.Rules.{last_place};
 ghost use Rattle.arena.specs.Collisions.{square};
 ghost use Rattle.arena.specs.Shots.{aimed_x, aimed_y, flight, ring};
 ghost use Rattle.arena.specs.Ground.{most_updates};
 ghost use Rattle.trails.specs.Shots.{IsShotOf, marked};
 
 use crate::places::Place;
-use arena::{aimed, flight};
+use arena::{LAST_RING, MOST_RANGE, aimed, flight};
 use arith::{cosine_at, norm_degree, sine_at};
 use arrayvec::ArrayVec;
 
 /// The most shots that are kept: the last ones.
 pub const MOST_SHOTS: usize = 2000;
 
-/// The greatest range of a shot, in metres.
-const MOST_RANGE: i32 = 700;
-
 /// The greatest distance at which a burst hurts, in tenths of a metre.
-const REACH: u32 = 400;
+const REACH: u32 = LAST_RING as u32;
 
 /// A shot: who fired it, after how many updates and where, the update and the place of its burst, and whether that hurt
 /// a robot.
@@ -85,10 +83,10 @@ impl Shot {
 /// Returns the range of a shot in metres that is asked for.
 #[tactic(auto, unfolding(arena::specs::Leg::clamped))]
 fn range(asked: i32) -> u16
-    ensures value { result ≡ clamped 700 asked }
-    ensures most { result ≤ 700 }
+    ensures value { result ≡ clamped MOST_RANGE asked }
+    ensures most { result ≤ MOST_RANGE }
 {
-    asked.clamp(0, MOST_RANGE) as u16
+    asked.clamp(0, i32::from(MOST_RANGE)) as u16
 }
 
 /// The last shots of a match, at most 2,000, and how many were fired: when they are full, a new one replaces the

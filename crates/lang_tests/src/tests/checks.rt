@@ -36,11 +36,19 @@ impl Observed {
 }
 
 /// Parses what a device gives into a new builder of the first profile.
-pub fn parsed(alloc: Global, mut feed: Pieces) -> Observed
+pub fn parsed(alloc: Global, feed: Pieces) -> Observed
     requires count { feed.failures < 2 ^ 64 - 1 }
     requires not_ended { feed.ended ≡ false }
 {
-    let mut trees = TreeMaker::new(alloc, Profile::first());
+    parsed_by(alloc, Profile::first(), feed)
+}
+
+/// Parses what a device gives into a new builder of this profile.
+fn parsed_by(alloc: Global, profile: Profile, mut feed: Pieces) -> Observed
+    requires count { feed.failures < 2 ^ 64 - 1 }
+    requires not_ended { feed.ended ≡ false }
+{
+    let mut trees = TreeMaker::new(alloc, profile);
     let answer = parse(&mut feed, &mut trees);
     Observed {
         answer,
@@ -55,16 +63,27 @@ pub fn source_fault(line: u32, code: Code) -> ParseFault {
     ParseFault::Source(Diagnostic { line, code })
 }
 
-/// Compares what is wrong with a source, for pieces of each size.
+/// Compares what is wrong with a source of the first profile, for pieces of each size.
 pub fn check_fault(
     rt: &(impl Abort + AllocGlobal),
     source: &[u8],
     wanted: Option<(u32, Code)>,
 ) -> Result<(), Fail> {
+    check_fault_in(rt, &SIZES, Profile::first(), source, wanted)
+}
+
+/// Compares what is wrong with a source of this profile, for pieces of these sizes.
+pub fn check_fault_in(
+    rt: &(impl Abort + AllocGlobal),
+    sizes: &[usize],
+    profile: Profile,
+    source: &[u8],
+    wanted: Option<(u32, Code)>,
+) -> Result<(), Fail> {
     let wanted = wanted.map(|(line, code)| source_fault(line, code));
     let front = String::from_utf8_lossy(rt.alloc(), &source[..source.len().min(70)])?;
-    for most in SIZES {
-        let outcome = parsed(rt.alloc(), Pieces::new(source, most));
+    for most in sizes {
+        let outcome = parsed_by(rt.alloc(), profile, Pieces::new(source, *most));
         assert_eq!(rt; outcome.fault(), wanted, "{most} bytes at once of {front}");
     }
     Ok(())

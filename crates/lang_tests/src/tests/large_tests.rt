@@ -2,9 +2,8 @@
 
 use crate::tests::recorder::Recorder;
 use crate::tests::sources::Part::{Once, Times};
-use crate::tests::sources::{Part, source_of};
+use crate::tests::sources::{Part, numbered, source_of};
 use lang::{BuildFault, ParseFault, Profile, TreeMaker, parse};
-use std::alloc::{AllocError, Global};
 use std::process::Abort;
 use std::test::Fail;
 use tokens::Pieces;
@@ -84,23 +83,9 @@ fn large_files_are_kept_and_replayed(rt: HostRuntime) -> Result<(), Fail> {
     Ok(())
 }
 
-/// Makes a source of the most functions, each with so many statements: `main` is the last of 64.
-fn functions(alloc: Global, statements: usize) -> Result<Vec<u8>, AllocError> {
-    let mut source = Vec::new(alloc);
-    for number in 0..63_u8 {
-        source.extend_from_slice(&[b'f', b'0' + number / 10, b'0' + number % 10])?;
-        source.extend_from_slice(b"(){")?;
-        for _ in 0..statements {
-            source.extend_from_slice(b"1;")?;
-        }
-        source.extend_from_slice(b"}")?;
-    }
-    source.extend_from_slice(b"main(){}")?;
-    Ok(source)
-}
-
 #[test]
 fn the_most_functions_are_kept_and_replayed(rt: HostRuntime) -> Result<(), Fail> {
-    let source = functions(rt.alloc(), 25)?;
+    let block = source_of(rt.alloc(), &[Once(b"(){"), Times(b"1;", 25), Once(b"}")])?;
+    let source = numbered(rt.alloc(), b"", b"f", &block, 63, b"main(){}")?;
     check_actions(&rt, &source, OF_A_FUNCTION + 63 * (OF_A_FUNCTION + 2 * 25))
 }

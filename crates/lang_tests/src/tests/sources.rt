@@ -23,6 +23,25 @@ pub fn source_of(alloc: Global, parts: &[Part]) -> Result<Vec<u8>, AllocError> {
     Ok(source)
 }
 
+/// Makes a source of so many names of a letter and two digits, each before a text, and of what stands before and after.
+pub fn numbered(
+    alloc: Global,
+    before: &[u8],
+    name: &[u8],
+    text: &[u8],
+    count: u8,
+    after: &[u8],
+) -> Result<Vec<u8>, AllocError> {
+    let mut source = Vec::from_slice(alloc, before)?;
+    for number in 0..count {
+        source.extend_from_slice(name)?;
+        source.extend_from_slice(&[b'0' + number % 100 / 10, b'0' + number % 10])?;
+        source.extend_from_slice(text)?;
+    }
+    source.extend_from_slice(after)?;
+    Ok(source)
+}
+
 /// Adds a text so many times.
 fn add_times(source: &mut Vec<u8>, text: &[u8], times: usize) -> Result<(), AllocError> {
     for _ in 0..times {

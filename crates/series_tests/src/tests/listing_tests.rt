@@ -288,7 +288,7 @@ fn constants_and_names_have_limits(rt: HostRuntime) -> Result<(), Fail> {
 }
 
 /// A file of 64 externals.
-const EXTERNALS: &[&str] = &[
+pub const EXTERNALS: &[&str] = &[
     "int a0, a1, a2, a3, a4, a5, a6, a7,",
     "    b0, b1, b2, b3, b4, b5, b6, b7,",
     "    c0, c1, c2, c3, c4, c5, c6, c7,",
@@ -321,7 +321,7 @@ fn source_of(alloc: Global, parts: &[(&[u8], usize)]) -> Result<Vec<u8>, AllocEr
 }
 
 /// Makes `main(){((..1..));}` with so many pairs of brackets.
-fn in_brackets(alloc: Global, pairs: usize) -> Result<Vec<u8>, AllocError> {
+pub fn in_brackets(alloc: Global, pairs: usize) -> Result<Vec<u8>, AllocError> {
     let (opening, closing) = ((b"(".as_slice(), pairs), (b")".as_slice(), pairs));
     source_of(
         alloc,
@@ -337,7 +337,7 @@ fn levels_have_a_limit(rt: HostRuntime) -> Result<(), Fail> {
 }
 
 /// Makes `main(){1;1;..}` with so many statements.
-fn ones(alloc: Global, statements: usize) -> Result<Vec<u8>, AllocError> {
+pub fn ones(alloc: Global, statements: usize) -> Result<Vec<u8>, AllocError> {
     source_of(alloc, &[(b"main(){", 1), (b"1;", statements), (b"}", 1)])
 }
 
@@ -354,7 +354,7 @@ fn code_has_a_limit(rt: HostRuntime) -> Result<(), Fail> {
 }
 
 /// Makes `main(){}` and spaces, of so many bytes in all.
-fn spaced(alloc: Global, len: usize) -> Result<Vec<u8>, AllocError> {
+pub fn spaced(alloc: Global, len: usize) -> Result<Vec<u8>, AllocError> {
     source_of(alloc, &[(b"main(){}", 1), (b" ", len.saturating_sub(8))])
 }
 

@@ -1,6 +1,7 @@
 //! The listing of a program whose trees were made first is the listing of the program made in one pass.
 
-use crate::tests::listing_tests::LISTINGS;
+use crate::tests::checks::text_of;
+use crate::tests::listing_tests::{EXTERNALS, LISTINGS, in_brackets, ones, spaced};
 use code::{Maker, Program};
 use grammar::{Pools, Profile};
 use lang::{TreeMaker, parse};
@@ -18,8 +19,8 @@ fn listed(alloc: Global, names: &Pools, program: &Program) -> Result<Vec<u8>, Fa
 }
 
 /// Lists a good source.
-fn direct(alloc: Global, source: &[u8]) -> Result<Vec<u8>, Fail> {
-    let mut maker = Maker::new(Profile::first());
+fn direct(alloc: Global, profile: Profile, source: &[u8]) -> Result<Vec<u8>, Fail> {
+    let mut maker = Maker::new(profile);
     match parse(&mut Pieces::new(source, 4096), &mut maker) {
         Ok(names) => listed(alloc, &names, &maker.finish(&names)),
         Err(_) => Err("the source has a fault".into()),
@@ -27,8 +28,7 @@ fn direct(alloc: Global, source: &[u8]) -> Result<Vec<u8>, Fail> {
 }
 
 /// Lists a good source, whose trees are made first and then replayed to the maker.
-fn replayed(alloc: Global, source: &[u8]) -> Result<Vec<u8>, Fail> {
-    let profile = Profile::first();
+fn replayed(alloc: Global, profile: Profile, source: &[u8]) -> Result<Vec<u8>, Fail> {
     let mut trees = TreeMaker::new(alloc, profile);
     let Ok(names) = parse(&mut Pieces::new(source, 4096), &mut trees) else {
         return Err("the source has a fault".into());
@@ -49,11 +49,22 @@ const OTHERS: &[&[u8]] = &[
     b"f(){f();} main(){f();}",
 ];
 
-/// Compares the listing of a good source with that of its replayed trees.
-fn check_replayed(rt: &(impl Abort + AllocGlobal), source: &[u8]) -> Result<(), Fail> {
-    let wanted = direct(rt.alloc(), source)?;
-    assert_eq!(rt; replayed(rt.alloc(), source)?.as_slice(), wanted.as_slice());
+/// Compares the listing of a good source of a profile with that of its replayed trees.
+fn check_replayed_by(
+    rt: &(impl Abort + AllocGlobal),
+    profile: Profile,
+    source: &[u8],
+) -> Result<(), Fail> {
+    let wanted = direct(rt.alloc(), profile, source)?;
+    let made = replayed(rt.alloc(), profile, source)?;
+    assert_eq!(rt; made.as_slice(), wanted.as_slice());
     Ok(())
+}
+
+/// Compares them under both profiles.
+fn check_replayed(rt: &(impl Abort + AllocGlobal), source: &[u8]) -> Result<(), Fail> {
+    check_replayed_by(rt, Profile::first(), source)?;
+    check_replayed_by(rt, Profile::second(), source)
 }
 
 #[test]
@@ -65,4 +76,15 @@ fn replayed_trees_have_the_same_listing(rt: HostRuntime) -> Result<(), Fail> {
         check_replayed(&rt, source)?;
     }
     Ok(())
+}
+
+#[test]
+fn replayed_trees_at_the_limits_have_the_same_listing(rt: HostRuntime) -> Result<(), Fail> {
+    check_replayed(&rt, b"main(){2147483647;}")?;
+    check_replayed(&rt, b"main(){abcdefghijklmnopqrstuvwxyz_1234;}")?;
+    check_replayed(&rt, &text_of(rt.alloc(), EXTERNALS)?)?;
+    check_replayed(&rt, &in_brackets(rt.alloc(), 63)?)?;
+    check_replayed(&rt, &ones(rt.alloc(), 998)?)?;
+    check_replayed_by(&rt, Profile::second(), &ones(rt.alloc(), 1_998)?)?;
+    check_replayed(&rt, &spaced(rt.alloc(), 1_048_576)?)
 }

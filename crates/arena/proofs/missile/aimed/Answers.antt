@@ -1,6 +1,7 @@
 use Rattle.std.proofs.Common.{◌≤◌, ℤ, unsigned_abs, ◌*ℤ◌, w32, ap, ◌∙◌, arith}
 use Rattle.std.proofs.lemmas.Int.{to_z-of_z}
-use Rattle.arena.specs.Leg.{last_place, clamped, along}
+use Rattle.arena.specs.Rules.{last_place}
+use Rattle.arena.specs.Leg.{clamped, along}
 use Rattle.arena.proofs.Products.{product_fits, product_back}
 use Rattle.arena.proofs.missile.aimed.Goals as goal
 

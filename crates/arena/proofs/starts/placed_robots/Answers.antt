@@ -3,7 +3,8 @@ use Rattle.std.specs.List.{All}
 use Rattle.std.proofs.lemmas.Int.{to_z-of_z}
 use Rattle.std.proofs.lemmas.List.{take_all, map_more}
 use Rattle.std.proofs.lemmas.Simd.{map-map}
-use Rattle.arena.specs.Leg.{last_place, clamped}
+use Rattle.arena.specs.Rules.{last_place}
+use Rattle.arena.specs.Leg.{clamped}
 use Rattle.arena.specs.Field.{Robot}
 use Rattle.arena.specs.Start.{standing}
 use Rattle.arena.specs.Placed.{placed, IsPlace}

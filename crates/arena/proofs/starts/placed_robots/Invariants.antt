@@ -1,5 +1,6 @@
 use Rattle.std.proofs.Common.{◌≡◌, length, take, map}
-use Rattle.arena.specs.Leg.{last_place, clamped}
+use Rattle.arena.specs.Rules.{last_place}
+use Rattle.arena.specs.Leg.{clamped}
 use Rattle.arena.specs.Start.{standing}
 use Rattle.arena.specs.Ground.{body_of}
 use Rattle.arena.proofs.starts.placed_robots.Given as goal
