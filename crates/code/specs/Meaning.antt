@@ -214,8 +214,7 @@ want_within p file n trace =
     and_then (effect_within p file n main.body vars depth 1 trace) (λ flow vars rest.
     closed p depth 1 flow vars rest (λ x vars rest. Awaits Restart)))
 
--- What a file wants along the replies. Each turn and each call uses up a reply, so a greater bound changes nothing:
--- that
--- is the law `MoreTurnsChangeNothing` (`Laws.antt`).
+-- What a file wants along the replies. Each turn and each call uses up a reply, so a greater bound changes nothing
+-- (the law `MoreTurnsChangeNothing` in `Laws.antt`).
 abbrev pub want : Profile → File → List ℤ → Want
 want p file trace = want_within p file (suc (length trace)) trace

@@ -83,7 +83,21 @@ impl Watch for Folder {
         match action {
             Action::PushConstant(value) => self.remember(Fold { begin, end, value }),
             Action::ApplyBinop(op) => self.combine(op),
-            _ => self.settle(),
+            Action::FetchVariable(_)
+            | Action::StoreVariable(_, _)
+            | Action::LogicMiddle(_)
+            | Action::BeginCall
+            | Action::EndCall(_)
+            | Action::IfTest
+            | Action::ElsePart
+            | Action::EndIf
+            | Action::BeginWhile
+            | Action::WhileTest
+            | Action::EndWhile
+            | Action::GiveBack
+            | Action::Chop
+            | Action::BeginFunction(_, _)
+            | Action::EndFunction(_) => self.settle(),
         }
     }
 }

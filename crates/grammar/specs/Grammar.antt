@@ -1,5 +1,5 @@
 -- The grammar as a table: what each symbol is replaced by, chosen by the next token and the one after it.
--- Laws/Productions.antt is the same as a plain grammar, without semantic actions and roles (a law says so).
+-- `Productions` of the crate `grammar_laws` is the same as a plain grammar, without semantic actions and roles.
 use Rattle.std.specs.Prelude.{ℕ, ◌+◌, List, [], ◌∷◌, Bool, true, false, Option, Some, None, nat_lt, is_some}
 use Rattle.std.specs.Prelude.{if◌then◌else◌}
 use denote.Enum.Bare.{sameb}

@@ -6,23 +6,21 @@ pub mod Index
 pub mod Parsing
 pub mod Origins
 pub mod Finished
-use Rattle.std.specs.Prelude.{◌≡◌, ◌≤◌, ℕ, List, [], ◌∷◌, ◌++◌, length, Bool, Some, None, Ok, Err, if◌then◌else◌}
+use Rattle.std.specs.Prelude.{◌≡◌, ◌≤◌, ℕ, List, [], ◌∷◌, ◌++◌, length, Some, None, Ok, Err}
 use Rattle.std.specs.Prelude.{slice_get}
 use Rattle.tokens.specs.Reading.{reach_of}
 use Rattle.tokens.specs.Tokens.{tokens}
 use Rattle.tokens.specs.declared.located_tokens.LocatedToken.{LocatedToken}
-use Rattle.tokens.specs.declared.located_tokens.Token.{Token}
 use Rattle.grammar.specs.declared.diagnostics.Diagnostic.{Diagnostic}
 use Rattle.grammar.specs.Compiled.{compiled_tokens, last_state, resolved}
 use Rattle.grammar.specs.Derivation.{State, state, Value, Definition, start, step, run}
-use Rattle.grammar.specs.Faults.{Fault, faults_at, levels}
+use Rattle.grammar.specs.Faults.{Fault, faults_at}
 use Rattle.grammar.specs.declared.actions.Action.{Action}
 use Rattle.grammar.specs.Actions.{actions}
 use Rattle.grammar.specs.Building.{Meaning, MayFollow, StandsOpen}
 use Rattle.grammar.specs.Beginning.{IsBeginning}
 use Rattle.grammar.specs.Following.{AreInOrder, Opened, follow, follow_all, open_count}
-use Rattle.grammar.specs.Grammar.{Symbol, Declarations, Statements, Item, Part, Make, Define, Production, choice}
-use Rattle.grammar.specs.Grammar.{enters}
+use Rattle.grammar.specs.Grammar.{Declarations, Statements, Item, Part, Make, Define}
 use Rattle.grammar.specs.Limits.{most_open}
 use Rattle.grammar.specs.Need.{need}
 use Rattle.grammar.specs.Nesting.{body_nesting}

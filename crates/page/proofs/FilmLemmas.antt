@@ -26,7 +26,7 @@ use Rattle.page.specs.Running.{IsOfRun, blank}
 use Rattle.page.specs.Sheets.{contents_of}
 use Rattle.page.proofs.RunningLemmas.{lines_held}
 use Rattle.series.specs.Compiling.{compiling}
-use Rattle.settings.specs.Given.{profile_by}
+use Rattle.grammar.specs.Profile.{profile_numbered}
 
 -- no codes: a source is faulty
 no_codes : (profile : Profile) (files : Option (List File))
@@ -60,11 +60,13 @@ pub films_faulty : (order : Order) (robots : List RobotFile) (stretch : Option S
 films_faulty order robots stretch (Err stopped) film faults is compiles = absurd (cc is)
 films_faulty order robots stretch (Ok (Some codes)) film faults is compiles = absurd (cc is)
 films_faulty order robots stretch (Ok None) film faults is (writes, codes) = (
-  no_codes (profile_by order.profile) (files_of (profile_by order.profile) (map source_of robots)) codes,
-  lines_held (compiling (mode_by order.mode) (profile_by order.profile) (map source_of robots)) film faults writes,
+  no_codes (profile_numbered order.profile) (files_of (profile_numbered order.profile) (map source_of robots)) codes,
+  lines_held (compiling (mode_by order.mode) (profile_numbered order.profile) (map source_of robots)) film faults
+      writes,
   λ some. absurd (some refl),
   λ matches files good.
-      no_files (profile_by order.profile) (files_of (profile_by order.profile) (map source_of robots)) files codes good,
+      no_files (profile_numbered order.profile) (files_of (profile_numbered order.profile) (map source_of robots)) files
+      codes good,
 )
 
 -- what is shown of good sources is said by what shows something
@@ -84,8 +86,10 @@ films_good order robots stretch (Err stopped) kept compiled film faults shown so
 films_good order robots stretch (Ok None) kept compiled film faults shown some is compiles whole shows = absurd (cc is)
 films_good order robots stretch (Ok (Some codes)) kept compiled film faults shown some is (writes, given) room shows = (
   rw (shown_good shown some)
-      (some_codes (profile_by order.profile) codes (files_of (profile_by order.profile) (map source_of robots)) given),
-  lines_held (compiling (mode_by order.mode) (profile_by order.profile) (map source_of robots)) compiled faults writes,
+      (some_codes (profile_numbered order.profile) codes
+      (files_of (profile_numbered order.profile) (map source_of robots)) given),
+  lines_held (compiling (mode_by order.mode) (profile_numbered order.profile) (map source_of robots)) compiled faults
+      writes,
   λ _. room,
   shows,
 )
@@ -94,12 +98,12 @@ films_good order robots stretch (Ok (Some codes)) kept compiled film faults show
 pub codes_good : CompiledIsResolved → (order : Order) (robots : List RobotFile)
     (result : Result (Option (List ObjectCode)) RunFault) (codes : List ObjectCode) (compiled faults : Sheet)
     (files : List File) → result ≡ Ok (Some codes) → CompilesRobots order robots result compiled faults
-    → files_of (profile_by order.profile) (map source_of robots) ≡ Some files
-    → AreCodesOf codes (profile_by order.profile) files
+    → files_of (profile_numbered order.profile) (map source_of robots) ≡ Some files
+    → AreCodesOf codes (profile_numbered order.profile) files
 codes_good law order robots (Err stopped) codes compiled faults files is compiles good = absurd (cc is)
 codes_good law order robots (Ok None) codes compiled faults files is compiles good = absurd (cc is)
 codes_good law order robots (Ok (Some kept)) codes compiled faults files is (writes, given) good =
-    let found = kept_codes law (profile_by order.profile) (map source_of robots) kept given in
+    let found = kept_codes law (profile_numbered order.profile) (map source_of robots) kept given in
     let same : found.0 ≡ files = cc (found.1, good) in
     let here : kept ≡ codes = cc is in
     rw (same, here) at found.2

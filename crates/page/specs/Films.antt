@@ -10,7 +10,7 @@ use Rattle.series.specs.declared.endings.RunFault.{RunFault}
 use Rattle.series.specs.declared.endings.RunFault.TheVariants as fault
 use Rattle.series.specs.declared.endings.Status.{Status}
 use Rattle.series.specs.declared.endings.Status.TheVariants as status
-use Rattle.settings.specs.Given.{profile_by}
+use Rattle.grammar.specs.Profile.{profile_numbered}
 use Rattle.settings.specs.declared.settings.Mode.TheVariants.{Matches}
 use Rattle.page.specs.declared.films.Shown.{Shown}
 use Rattle.page.specs.declared.films.Shown.TheVariants.{Over, GoesOn, Faulty}
@@ -46,7 +46,7 @@ status_shown Faulty = status.Faulty
 
 -- the diagnostics of an order's faulty robots
 abbrev pub diagnostics : Order → List RobotFile → List ℕ
-diagnostics order robots = bytes_on Faults (compiling (mode_by order.mode) (profile_by order.profile)
+diagnostics order robots = bytes_on Faults (compiling (mode_by order.mode) (profile_numbered order.profile)
     (map source_of robots))
 
 -- the last cycle of a stretch
@@ -65,12 +65,12 @@ Shows (Some stretch) cycles GoesOn = last_of stretch < cycles
 -- how many cycles the first match has that an order asks for of these files
 abbrev pub cycles_of : Order → List File → ℕ
 cycles_of order files =
-    (battle (robots_of (profile_by order.profile) files) order.seed order.first order.limit).cycles
+    (battle (robots_of (profile_numbered order.profile) files) order.seed order.first order.limit).cycles
 
 -- if matches are asked for, and no source is faulty
 abbrev pub OfMatch : Order → List RobotFile → (ℕ → Type 0) → Type 0
 OfMatch order robots P = mode_by order.mode ≡ Matches → (files : List File)
-    → files_of (profile_by order.profile) (map source_of robots) ≡ Some files → P (cycles_of order files)
+    → files_of (profile_numbered order.profile) (map source_of robots) ≡ Some files → P (cycles_of order files)
 
 -- A film of an order's robots: nothing is shown exactly if a run of them finds a faulty source, and the sheet of faults
 -- has the diagnostics that a run writes. Else its sheet took all of it. Whether the match goes on is told of the match

@@ -3,7 +3,7 @@ use Rattle.std.specs.Prelude.{ℕ, ◌≤◌, ◌==◌, List, if◌then◌else�
 use Rattle.settings.specs.declared.settings.Mode.{Mode}
 use Rattle.settings.specs.declared.settings.Mode.TheVariants.{Listing, Matches}
 use Rattle.settings.specs.declared.settings.Numbers.{Numbers}
-use Rattle.settings.specs.Given.{profile_by}
+use Rattle.grammar.specs.Profile.{most_profile, profile_numbered}
 use Rattle.settings.specs.Limits.{matches_max, cycles_max, first_max}
 use Rattle.settings.specs.Setup.{Setup}
 use Rattle.settings.specs.Setup as setup
@@ -18,7 +18,7 @@ pub record AreWithin (order : Order) : Type 0 where
   pub some_cycle : 1 ≤ order.limit
   pub most_cycles : order.limit ≤ cycles_max
   pub least_profile : 1 ≤ order.profile
-  pub most_profile : order.profile ≤ 2
+  pub greatest_profile : order.profile ≤ most_profile
   pub least_first : 1 ≤ order.first
   pub most_first : order.first ≤ first_max
 
@@ -34,7 +34,7 @@ numbers_of order = record {
   matches = order.matches;
   limit = order.limit;
   seed = order.seed;
-  profile = profile_by order.profile;
+  profile = profile_numbered order.profile;
   first = order.first;
 }
 

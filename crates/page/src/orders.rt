@@ -1,12 +1,12 @@
 //! Orders: what a run is asked to do, as numbers.
 
 ghost use Rattle.std.specs.Prelude.{◌≡◌, ◌<◌, ◌≤◌, true, length, map, IfSome, IsSome};
-ghost use Rattle.settings.specs.Given.{profile_by};
+ghost use Rattle.grammar.specs.Profile.{profile_numbered};
 ghost use Rattle.page.specs.Orders.{AreWithin, mode_by, numbers_of, setup_of, stretch_of};
 
 use crate::stretches::Stretch;
 use arrayvec::ArrayVec;
-use grammar::Profile;
+use grammar::{MOST_PROFILE, Profile};
 use series::{CYCLES_MAX, FILES_MAX, FIRST_MAX, MATCHES_MAX, Mode, Numbers, Settings};
 
 /// What a run is asked to do.
@@ -66,7 +66,7 @@ impl Order {
     {
         let matches = 1 <= self.matches && self.matches <= MATCHES_MAX;
         let cycles = 1 <= self.limit && self.limit <= CYCLES_MAX;
-        let profile = 1 <= self.profile && self.profile <= 2;
+        let profile = 1 <= self.profile && self.profile <= MOST_PROFILE;
         let first = 1 <= self.first && self.first <= FIRST_MAX;
         self.mode <= 1 && matches && cycles && profile && first
     }
@@ -97,7 +97,7 @@ impl Order {
 
     /// Returns the language profile.
     fn profile(&self) -> Profile
-        ensures { result ≡ profile_by self.now.profile }
+        ensures { result ≡ profile_numbered self.now.profile }
     {
         if self.profile == 1 {
             Profile::first()

@@ -98,6 +98,7 @@ pub fn variable_label(
 fn step_punctuator(operator: StoreOp) -> &'static str {
     match operator {
         StoreOp::Add => "++",
+        // a step adds 1, or else it subtracts 1
         _ => "--",
     }
 }

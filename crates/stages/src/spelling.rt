@@ -39,7 +39,15 @@ pub fn name_at(made: &Compiled, address: usize) -> Option<&str> {
             let function = made.names.functions().get(usize::from(number))?;
             Some(text_of(function.name()))
         }
-        _ => None,
+        Instr::Const(_)
+        | Instr::Binop(_)
+        | Instr::Fcall(Callee::Intrinsic(_))
+        | Instr::Retsub
+        | Instr::Branch(_)
+        | Instr::Chop
+        | Instr::Frame
+        | Instr::Truth
+        | Instr::Nop => None,
     }
 }
 

@@ -9,7 +9,7 @@ use crate::files::opened;
 use code::{Maker, Profile, Program};
 use grammar::{Diagnostic, ParseFault, Pools};
 use parser::parse;
-use settings::Settings;
+use settings::{FILES_MAX, Settings};
 use tokens::{DeviceFault, Feed, FileFeed};
 
 /// Compiles the files of a wish, and writes the diagnostic of each faulty one, or a line about the first that can't be
@@ -17,7 +17,7 @@ use tokens::{DeviceFault, Feed, FileFeed};
 pub fn programs(rt: &HostRuntime, program: &str, wish: &Settings<'_>) -> Result<Vec<Program>, Fault>
     ensures each { IfOk result (λ programs. length programs.items ≡ length wish.now.words) }
     ensures some { IfOk result (λ programs. 0 < length programs.items) }
-    ensures most { IfOk result (λ programs. length programs.items ≤ 4) }
+    ensures most { IfOk result (λ programs. length programs.items ≤ FILES_MAX) }
 {
     let mut programs = Vec::new(rt.alloc());
     let mut is_faulty = false;

@@ -4,8 +4,8 @@ ghost use Rattle.std.specs.Prelude.{◌≤◌, IfOk};
 
 use crate::faults::Fault;
 use crate::options::{Known, Options};
-use grammar::Profile;
-use settings::{Given, Settings, number, settle};
+use grammar::{MOST_PROFILE, Profile};
+use settings::{Given, PROFILE_DEFAULT, Settings, number, settle};
 
 /// The options that a match is asked for by: its number, its most cycles, its seed, the profile.
 pub const MATCH_OPTIONS: [Known; 4] = [
@@ -61,10 +61,9 @@ pub fn number_of(
     }
 }
 
-/// Reads the language profile that options ask for: `-p1`, `-p2`, by default the first.
+/// Reads the language profile that options ask for by its number, by default the first.
 pub fn profile(options: &Options<'_>) -> Result<Profile, Fault> {
-    match number_of(options, "p", 1, 2, 1)? {
-        1 => Ok(Profile::first()),
-        _ => Ok(Profile::second()),
-    }
+    let (most, default) = (u64::from(MOST_PROFILE), u64::from(PROFILE_DEFAULT));
+    let number = number_of(options, "p", 1, most, default)?;
+    Ok(Profile::numbered(number as u32))
 }
