@@ -6,8 +6,10 @@ import contextlib
 import csv
 import io
 import os
+import sqlite3
 import tempfile
 import zipfile
+import zlib
 from typing import Iterable, Iterator
 
 from tournaments.faults import FAULTY, FILE, Fault, unreadable, unwritable
@@ -17,6 +19,9 @@ from .entries import SOURCE_MAX, hashed
 from .standings import Standing
 from .store import Store, filled, told
 
+# What reading an archive may come to that isn't one, or that somebody changed.
+WRONG = (zipfile.BadZipFile, zlib.error, csv.Error, sqlite3.Error, LookupError, ValueError, TypeError, ArithmeticError,
+         NotImplementedError, RuntimeError)
 SOURCES = "sources/"
 TABLE = "table.csv"
 # The tables of the database, in an order in which rows name only rows before them.
@@ -110,8 +115,13 @@ def read(path: str) -> Iterator[tuple[Store, str]]:
                 yield store, archive.read(TABLE).decode()
     except OSError as why:
         unreadable(path, why)
-    except (zipfile.BadZipFile, KeyError, ValueError) as why:
-        raise Fault(f"{path} is no archive of a league: {why}", FILE) from why
+    except WRONG as why:
+        raise Fault(f"{path} is no archive of a league: {shown(str(why))}", FILE) from why
+
+
+def shown(text: str) -> str:
+    """A text of an archive as it may be shown: in one line, and with no sign that a terminal obeys."""
+    return "".join(it if it.isprintable() else "?" for it in text)
 
 
 def load(store: Store, archive: zipfile.ZipFile) -> None:

@@ -59,7 +59,7 @@ def verify(given: argparse.Namespace) -> None:
         runs = chosen(store, None if given.all else given.number or MATCHES)
         wrong += replayed(store, found, given, runs)
         total = store.one("SELECT count(*) FROM battle")[0]
-    show(f"{why}\n" for why in wrong)
+    show(f"{archives.shown(why)}\n" for why in wrong)
     count = sum(len(run.matches) for run in runs)
     show([f"{count} of {total} matches were replayed, {len(wrong) or 'no'} differences\n"])
     if wrong:

@@ -2,7 +2,10 @@
 
 from __future__ import annotations
 
+import csv
+import io
 import os
+import random
 import re
 import zipfile
 from typing import Callable
@@ -65,6 +68,34 @@ class Sites(Base):
         ran = self.ran("verify", "--all", "-j1", "tampered.zip")
         if ran.returncode != 1 or "has other bytes than its name says" not in ran.stderr:
             wrong.append(f"another source: status {ran.returncode}, {ran.stdout}{ran.stderr}")
+        return wrong
+
+    def hostile_archives(self) -> list[str]:
+        """Whatever a cell of an archive is, what is wrong is told, and nothing of it reaches the terminal as it is."""
+        it = League(self, "hostile", "-m2", robots=("a.r", "b.r"))
+        it.run("play", "-j1")
+        it.run("publish", "hostile-site", "--day=2026-03-02", "--replays=0", "--sums=0")
+        archive = self.at("hostile-site/archive/hostile-2026-03-02.zip")
+        source, wrong = random.Random(9), []
+        members = [f"{name}.csv" for name in ("robot", "entry", "season", "seating", "battle")]
+
+        def change(old: bytes) -> bytes:
+            lines = old.decode().splitlines()
+            at = source.randrange(len(lines))
+            cells = next(csv.reader([lines[at]]))
+            cells[source.randrange(len(cells))] = source.choice(
+                ["", "x", "-1", "9" * 30, "\x1b[31m", "{}", "1e9", "a,b"]
+            )
+            text = io.StringIO()
+            csv.writer(text, lineterminator="\n").writerow(cells)
+            lines[at] = text.getvalue().rstrip("\n")
+            return "".join(f"{line}\n" for line in lines).encode()
+
+        for member in members * 3:
+            self._rewritten(archive, self.at("changed.zip"), member, change)
+            ran = self.ran("verify", "-j1", "--quiet", "changed.zip")
+            if ran.returncode not in (0, 1, 3, 4) or "Traceback" in ran.stderr or "\x1b" in ran.stdout + ran.stderr:
+                wrong.append(f"{member}: status {ran.returncode}, {ran.stdout}{ran.stderr}")
         return wrong
 
     def _rewritten(self, archive: str, path: str, member: str, change: Callable[[bytes], bytes]) -> None:
