@@ -199,6 +199,11 @@ WINDOWS = {
 }
 
 
+def rows_of(film: bytes) -> list[tuple[str, ...]]:
+    """The cycles, robots and kinds of a film's rows."""
+    return [tuple(line.split("\t")[:3]) for line in film.decode().splitlines()[1:]]
+
+
 def single_windows(folder: str) -> list[str]:
     """What windows have at their borders, beyond the match's end, and by any numbers. A match of 15 cycles has one window,
     and one of 16 cycles two."""
@@ -206,10 +211,46 @@ def single_windows(folder: str) -> list[str]:
     asked = [Battle([GUNNER, IDLE], Settings(limit=limit), "windows", windows) for limit, windows, _ in wanted]
     wrong = []
     for (limit, windows, (code, rows)), (got, film, _) in zip(wanted, answers(folder, asked), strict=True):
-        told = [tuple(line.split("\t")[:3]) for line in film.decode().splitlines()[1:]]
+        told = rows_of(film)
         if got != code or rows not in (None, told):
             wrong.append(f"{windows} of {limit} cycles: {got} {told}, not {code} {rows}")
     return wrong
+
+
+# its speed, and so its row, changes in each of the first ten updates
+DRIVER = ("driver.r", b"main(){ drive(0, 100); while (1); }")
+# two missiles are in the air: the second bursts in the first update. CONST and CHOP thrice, and the third is fired
+SALVO = ("salvo.r", b"main(){ cannon(0, 700); cannon(0, 30); 0; 0; 0; cannon(0, 650); while (1); }")
+RETURNER = ("returner.r", b"main(){\n}\n")
+
+
+def updates_of_windows(folder: str) -> list[str]:
+    """What an update does belongs to the window that ends with it."""
+    wanted = {(0, 1): [("0", "1", "stands"), ("0", "2", "stands"), ("0", "1", "at"), ("0", "2", "at"), ("15", "1", "at"),
+                       ("15", "1", "stands"), ("15", "2", "stands")],
+              (1, 1): [("15", "1", "stands"), ("15", "2", "stands"), ("30", "1", "at"), ("30", "1", "stands"), ("30", "2", "stands")]}
+    asked = [Battle([DRIVER, IDLE], Settings(limit=300), "windows", windows) for windows in wanted]
+    found = zip(wanted.items(), answers(folder, asked), strict=True)
+    return [f"{windows}: {rows_of(film)}" for (windows, rows), (code, film, _) in found if (code, rows_of(film)) != (GOES_ON, rows)]
+
+
+def missiles_in_the_air(folder: str) -> list[str]:
+    """All that fly as windows begin: two of each of four robots, one of them fired in the place of one that has burst."""
+    robots = [str(robot) for robot in range(1, 5)]
+    wrong = []
+    for update, cycles in ((0, ()), (1, ("4",)), (2, ("4", "20"))):
+        code, film, _ = answers(folder, [Battle([SALVO] * 4, Settings(limit=300), "windows", (update, 0))])[0]
+        rows = [(f"{15 * update}", robot, "stands") for robot in robots] + [(cycle, robot, "flies") for cycle in cycles for robot in robots]
+        wrong += [] if (code, rows_of(film)) == (GOES_ON, rows) else [f"after update {update}: {code} {rows_of(film)}"]
+    return wrong
+
+
+def lines_of_restarts(folder: str) -> list[str]:
+    """A restart has its function and its line, for both robots of a single file: `main` returns at its closing brace."""
+    film = answers(folder, [Battle([RETURNER], Settings(limit=5), "film")])[0][1]
+    rows = [line for line in film.decode().splitlines() if "\trestart\t" in line]
+    wanted = [f"{cycle}\t{robot}\trestart\treturned\tmain\t2" for cycle in (2, 4) for robot in (1, 2)]
+    return [] if rows == wanted else [f"{rows}"]
 
 
 def placed(answer: tuple[int, bytes, bytes]) -> list[tuple[int, int]]:
@@ -315,4 +356,7 @@ def results(crobots: str, stages: str, folder: str) -> Iterator[tuple[str, list[
     yield "long films", long_films(folder)
     yield "films by windows", joined(folder)
     yield "single windows", single_windows(folder)
+    yield "updates of windows", updates_of_windows(folder)
+    yield "missiles in the air", missiles_in_the_air(folder)
+    yield "lines of restarts", lines_of_restarts(folder)
     yield "places", places(crobots, stages, folder)

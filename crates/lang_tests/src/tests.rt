@@ -3,6 +3,7 @@
 
 mod builder_tests;
 mod checks;
+mod derivation_tests;
 mod device_tests;
 mod large_tests;
 mod limit_tests;
