@@ -96,9 +96,9 @@ class Challenge:
 
     def _said(self, worth: dict[int, Worth], whole: Worth) -> str:
         """The same in words."""
-        changes = {self._names[opponent]: it.change() for opponent, it in worth.items()}
-        gained = [name for name, it in changes.items() if it.is_sure and it.value > 0]
-        lost = [name for name, it in changes.items() if it.is_sure and it.value < 0]
+        changes = sorted((it.change().value, self._names[opponent]) for opponent, it in worth.items() if it.change().is_sure)
+        gained = [name for change, name in reversed(changes) if change > 0]
+        lost = [name for change, name in changes if change < 0]
         _, _, change, low, high = whole.cells()
         matches = len(whole.of_each[0][NEW])
         return (

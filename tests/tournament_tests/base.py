@@ -29,6 +29,8 @@ rank  robot  played  won  tied  lost  points
    3  a.r        20    0     0    20   0.000
 """
 FORMS: tuple[list[str], ...] = ([], ["--csv"], ["--matrix"], ["--long"], ["--json"])
+# Tests run side by side, on a machine that may have other work.
+PATIENCE = 600
 Ran = subprocess.CompletedProcess[str]
 
 
@@ -87,7 +89,7 @@ class Base:
         return [os.path.join(SCRIPTS, script), "--crobots", self._program, *words]
 
     def _run(self, *words: str, script: str = "tournament", **how: Any) -> Ran:
-        given: dict[str, Any] = {"capture_output": True, "text": True, "timeout": 100} | how
+        given: dict[str, Any] = {"capture_output": True, "text": True, "timeout": PATIENCE} | how
         return subprocess.run(self._words(*words, script=script), cwd=self._folder, check=False, **given)
 
     def _started(self, *words: str, **how: Any) -> subprocess.Popen[str]:
@@ -97,7 +99,7 @@ class Base:
     def _sh(self, command: str) -> Ran:
         path = os.environ | {"PATH": f"{SCRIPTS}:{os.environ['PATH']}", "PROGRAM": self._program}
         return subprocess.run(["bash", "-c", command], cwd=self._folder, env=path, capture_output=True, text=True,
-                              check=False, timeout=100)
+                              check=False, timeout=PATIENCE)
 
     def _program_of(self, name: str, does: str) -> None:
         write(self._at(name), f"#!/bin/sh\n{does}\n")

@@ -37,7 +37,7 @@ x.r      0.00  3.00   -3.00  -3.00  -3.00
 all      0.00  2.00   -2.00  -2.00  -2.00
 a.r in place of b.r: -2.00 points a match, 95 % interval -2.00 to -2.00, by 2 matches against each of 2
 gained on: none
-lost on: c.r, x.r
+lost on: x.r, c.r
 a.r against b.r: won 0, tied 0, lost 2 of 2 matches
 """
         worst = "worst lost match: 1 against x.r in seat 1, in 90 cycles; b.r won it\n"
@@ -52,13 +52,13 @@ a.r against b.r: won 0, tied 0, lost 2 of 2 matches
 
     def all_that_was_lost(self) -> list[str]:
         """With --all each match that the new version lost and the old one won is named, and its command plays that match."""
-        words = ("-m20", "-l20000", "0/runner.r", "--old", "0/sweeper.r", "0/hunter.r", "0/sniper.r")
+        words = ("-m20", "-l20000", "0/centre.r", "--old", "0/sweeper.r", "0/hunter.r", "0/sniper.r")
         told = self._run(*words, "--all", script="challenge").stdout
         pattern = r"lost match: (\d+) against \S+ in seat ([12]), in (\d+) cycles; sweeper.r won it\ncrobots-tracks -k(\d+) (-l\d+ -s\d+ -p1) (.*) > "
         rows = re.findall(pattern, told)
         wrong = [] if len(rows) == told.count("lost match:") == told.count("crobots-tracks") > 3 else [told]
         for number, seat, cycles, again, options, files in rows:
-            for file, did in ((files, "lost"), (files.replace("0/runner.r", "0/sweeper.r"), "won")):
+            for file, did in ((files, "lost"), (files.replace("0/centre.r", "0/sweeper.r"), "won")):
                 report = self._sh(f"$PROGRAM -m1 -f{number} {options} {file}").stdout
                 right = number == again and f"  {seat}) won {int(did == 'won')} tied 0 lost {int(did == 'lost')} " in report
                 fine = right and (did == "won" or f"Match {number}: cycles = {cycles}\n" in report)

@@ -13,7 +13,7 @@ from tournaments import robots
 from tournaments.records import Record, Series
 from tournaments.settings import Settings
 
-from .base import FILES, FORMS, TABLE, Base, read, seed_of, sha256, write
+from .base import FILES, FORMS, PATIENCE, TABLE, Base, read, seed_of, sha256, write
 
 CSV = """\
 rank,robot,played,won,tied,lost,points
@@ -157,7 +157,7 @@ class Forms(Base):
     def _in_ascii(self, *words: str) -> subprocess.CompletedProcess[bytes]:
         """Runs a tournament whose output has the letters of ASCII only."""
         return subprocess.run(self._words(*words), cwd=self._folder, env=os.environ | {"PYTHONIOENCODING": "ascii"},
-                              capture_output=True, check=False, timeout=100)
+                              capture_output=True, check=False, timeout=PATIENCE)
 
     def several_forms_at_once(self) -> list[str]:
         """Beside that on standard output, each the same as alone."""

@@ -61,7 +61,7 @@ class Journals(Base):
         write(self._at("spoiled"), kept.replace(" results=90", " results=x") + kept)
         write(self._at("changed"), kept.replace(" results=90", " results=75") + kept)
         write(self._at("impossible"), summed(first.replace(results, "90:101:0")) + "\n" + kept)
-        write(self._at("two"), kept + summed(first.replace(results, "75:100:0")) + "\n")
+        write(self._at("twice"), kept + summed(first.replace(results, "75:100:0")) + "\n")
         write(self._at("older"), "series m=2 l=100 s=1 p=1 robots=2 sizes=2 sample=0 group=1,2 first=1 count=1 sha256=0,1 files=a,b results=90:0:0\n")
         cases = {
             ("-s2", "-l100", "--journal", "kept"): ("kept is a journal of other settings: seed 1, not 2", 2),
@@ -71,7 +71,7 @@ class Journals(Base):
             ("-l100", "--journal", "spoiled"): ("line 1 of spoiled is cut short, or is no record of a series", 3),
             ("-l100", "--journal", "changed"): ("line 1 of changed was changed: its checksum is another", 3),
             ("-l100", "--journal", "impossible"): ("line 1 of impossible has a result that can't be: 90:101:0 of match 1", 3),
-            ("-l100", "--journal", "two"): ("two has two results of one match", 3),
+            ("-l100", "--journal", "twice"): ("twice has two results of one match", 3),
             ("-l100", "--journal", "older"): ("older is a journal of an older format, whose robots had one seating only", 3),
             ("-l100", "--journal", "c.r"): ("c.r is no journal", 3),
             ("-l100", "--journal", "gone/j"): ("cannot write gone/j: No such file or directory", 3),

@@ -8,6 +8,8 @@ import re
 import shutil
 import subprocess
 
+from tournaments import records
+
 from .base import COUNTER, FORMS, ROBOTS, TABLE, Base, read, write
 
 
@@ -113,10 +115,14 @@ class Merges(Base):
             cases[summed(body.replace(old, new))] = unfit
         wrong = []
         for text, why in cases.items():
-            write(self._at("strange"), f"{text}\n")
-            ran = self._sh("tournament --merge strange out.[2-6]")
-            good = ran.returncode == 0 if not why else ran.stderr == f"tournament: line 1 of strange {why}\n" and ran.returncode == 2
-            wrong += [] if good else [f"{text} {why} {ran}"]
+            try:
+                said = "" if records.played(f"{text}\n") else "nothing"
+            except records.NoRecord as no:
+                said = f"{no}"
+            wrong += [] if said == why else [f"{text} {why!r} {said!r}"]
+        write(self._at("strange"), f"{summed(body.replace(shown, '90:101:0', 1))}\n")
+        told = self._sh("tournament --merge strange out.[2-6]")
+        wrong += self._answers(told, "", f"tournament: line 1 of strange {impossible.format('90:101:0')}\n", 2)
         return wrong if len(cases) == 21 else [f"{len(cases)}"]
 
     def a_record_with_the_seed_of_another_group(self) -> list[str]:

@@ -65,20 +65,21 @@ class Signals(Base):
     def a_signal_after_all_was_played(self) -> list[str]:
         """While the table is made, and while records are merged: here modules wait there until the signal comes."""
         wait = "import time\ndef ratings(*_: object) -> None:\n    print(end='rating', flush=True)\n    time.sleep(9)\n"
-        shutil.copytree(SCRIPTS, self._at("late"), ignore=lambda _, names: [it for it in names if not it.startswith("tourn")])
-        with open(self._at("late/tournaments/ratings.py"), "a", encoding="ascii") as module:
+        shutil.copytree(os.path.join(SCRIPTS, "tournaments"), self._at("waiting/tournaments"))
+        shutil.copy(os.path.join(SCRIPTS, "tournament"), self._at("waiting/tournament"))
+        with open(self._at("waiting/tournaments/ratings.py"), "a", encoding="ascii") as module:
             module.write(wait)
-        self._plan("two", "-m2", "-l100", "a.r", "b.r")
-        self._sh("sh two > two.records")
+        self._plan("late.plan", "-m2", "-l100", "a.r", "b.r")
+        self._sh("sh late.plan > late.records")
         played = "tournament: stopped while the table was made: 2 of 2 series were played, 2 matches"
         cases = {
             ("-m2", "-l100", "--crobots", self._program, "a.r", "b.r"): f"{played}\n",
             ("-m2", "-l100", "--crobots", self._program, "--journal", "late.j", "a.r", "b.r"): f"{played}; late.j has what was played\n",
-            ("--merge", "two.records"): "tournament: stopped while records were merged\n",
+            ("--merge", "late.records"): "tournament: stopped while records were merged\n",
         }
         wrong = []
         for words, said in cases.items():
-            child = subprocess.Popen([self._at("late/tournament"), *words], cwd=self._folder, stdout=subprocess.PIPE,
+            child = subprocess.Popen([self._at("waiting/tournament"), *words], cwd=self._folder, stdout=subprocess.PIPE,
                                      stderr=subprocess.PIPE, text=True)
             assert child.stdout
             begun = child.stdout.read(6)
