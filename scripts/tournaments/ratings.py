@@ -39,8 +39,10 @@ class Rating:
         return round(self.low) <= round(other.high) and round(other.low) <= round(self.high)
 
 
-def ratings(tally: Tally, robots: int) -> list[Rating]:
-    """The ratings of the robots by their positions, with intervals from the bootstrap."""
+def ratings(tally: Tally, robots: int, anchor: int | None = None) -> list[Rating]:
+    """The ratings of the robots by their positions, with intervals from the bootstrap.
+
+    With an anchor they say how far a robot is above the one with this position, whose own rating is 0 in all rounds."""
     places = sorted(tally.pairs)
     pairs = Pairs(robots, places)
     played = [tally.pairs[place].played for place in places]
@@ -50,6 +52,8 @@ def ratings(tally: Tally, robots: int) -> list[Rating]:
     slopes = pairs.slopes(of_pairs, of_robots, whole)
     fits = (Fit(pairs, drawn, [twice / 2 for twice in score]) for drawn, score in zip(rounds(of_pairs), rounds(of_robots)))
     found = [fit.fitted(whole, CLOSE, factors, slope) for fit, slope in zip(fits, slopes)]
+    if anchor is not None:
+        whole, *found = ([it - strengths[anchor] for it in strengths] for strengths in (whole, *found))
     return [interval(value, sorted(it)) for value, it in zip(whole, zip(*found))]
 
 

@@ -1,0 +1,145 @@
+"""Archives: a league as a file that anybody can read and check, with its sources, rules and results."""
+
+from __future__ import annotations
+
+import contextlib
+import csv
+import io
+import os
+import sqlite3
+import tempfile
+import zipfile
+import zlib
+from typing import Iterable, Iterator
+
+from tournaments.faults import FAULTY, FILE, Fault, unreadable, unwritable
+
+from . import tables
+from .entries import SOURCE_MAX, hashed
+from .standings import Standing
+from .store import Store, filled, told
+
+# What reading an archive may come to that isn't one, or that somebody changed.
+WRONG = (zipfile.BadZipFile, zlib.error, csv.Error, sqlite3.Error, LookupError, ValueError, TypeError, ArithmeticError,
+         NotImplementedError, RuntimeError)
+SOURCES = "sources/"
+TABLE = "table.csv"
+# The tables of the database, in an order in which rows name only rows before them.
+KEPT = ("robot", "entry", "season", "member", "seating", "battle", "publication", "standing")
+README = """\
+This is an archive of a league of CROBOTS robots, as it was on {day}.
+
+sources/HASH.r   the robots' sources, each named by the SHA-256 of its bytes
+robot.csv        the robots that ever joined, by their ids
+entry.csv        who joined, got other bytes, or left, on which day; copy numbers robots with the same bytes
+season.csv       the seasons with their rules (JSON); the last one goes on if it has no end
+member.csv       in which division a robot began a season
+seating.csv      robots in the order of their seats, by their bytes, and the seed of their matches
+battle.csv       the matches: in how many cycles each ended, and with which damage the robot of each seat
+publication.csv  the tables that were published, and standing.csv has their rows
+table.csv        the table of the last season
+
+A match is played again by
+
+    crobots -m1 -lCYCLES -sSEED -pPROFILE -fNUMBER sources/HASH.r sources/HASH.r
+
+where limit and profile are those of the rules. 100 matches, drawn by chance, are replayed and compared by
+
+    crobots-league verify 100 {name}
+
+and all by --all in place of 100. It compares the table, too.
+"""
+
+
+def write(store: Store, standings: Iterable[Standing], path: str, day: str) -> None:
+    """Writes an archive in one piece. The same league, on the same day, has the same bytes."""
+    folder = os.path.dirname(path) or "."
+    try:
+        with tempfile.NamedTemporaryFile(dir=folder, prefix=".archive-", delete=False) as file:
+            try:
+                with zipfile.ZipFile(file, "w", zipfile.ZIP_DEFLATED) as archive:
+                    fill(store, standings, archive, os.path.basename(path), day)
+                os.chmod(file.name, 0o644)
+                os.replace(file.name, path)
+            except BaseException:
+                os.unlink(file.name)
+                raise
+    except OSError as why:
+        unwritable(path, why)
+
+
+def fill(store: Store, standings: Iterable[Standing], archive: zipfile.ZipFile, name: str, day: str) -> None:
+    """Writes all members of an archive."""
+    with member(archive, "README.txt", day) as file:
+        file.write(README.format(day=day, name=name))
+    with member(archive, TABLE, day) as file:
+        file.write(tables.comma([*standings]))
+    for kept in KEPT:
+        rows = store.database.execute(f"SELECT * FROM {kept} ORDER BY 1, 2")
+        with member(archive, f"{kept}.csv", day) as file:
+            writer = csv.writer(file, lineterminator="\n")
+            writer.writerow([column[0] for column in rows.description])
+            writer.writerows(rows)
+    for sha256, source in store.database.execute("SELECT sha256, bytes FROM source ORDER BY sha256"):
+        archive.writestr(dated(f"{SOURCES}{sha256}.r", day), source)
+
+
+@contextlib.contextmanager
+def member(archive: zipfile.ZipFile, name: str, day: str) -> Iterator[io.TextIOWrapper]:
+    """A member that is written as text."""
+    with archive.open(dated(name, day), "w", force_zip64=True) as file:
+        text = io.TextIOWrapper(file, encoding="utf-8", newline="")
+        yield text
+        text.flush()
+        text.detach()
+
+
+def dated(name: str, day: str) -> zipfile.ZipInfo:
+    """A member's head, of a day and not of now."""
+    year, month, of_month = map(int, day.split("-"))
+    it = zipfile.ZipInfo(name, (max(year, 1980), month, of_month, 0, 0, 0))
+    it.compress_type = zipfile.ZIP_DEFLATED
+    it.external_attr = 0o644 << 16
+    return it
+
+
+@contextlib.contextmanager
+def read(path: str) -> Iterator[tuple[Store, str]]:
+    """An archive as a league, in a folder that is removed in the end; and its table."""
+    try:
+        with tempfile.TemporaryDirectory(prefix="crobots-") as folder, zipfile.ZipFile(path) as archive:
+            with filled(os.path.join(folder, "archive.db")) as database:
+                store = Store(folder, database)
+                with told(path), store.change():
+                    load(store, archive)
+                yield store, archive.read(TABLE).decode()
+    except OSError as why:
+        unreadable(path, why)
+    except WRONG as why:
+        raise Fault(f"{path} is no archive of a league: {shown(str(why))}", FILE) from why
+
+
+def shown(text: str) -> str:
+    """A text of an archive as it may be shown: in one line, and with no sign that a terminal obeys."""
+    return "".join(it if it.isprintable() else "?" for it in text)
+
+
+def load(store: Store, archive: zipfile.ZipFile) -> None:
+    """Reads all members of an archive."""
+    for it in archive.infolist():
+        if it.filename.startswith(SOURCES):
+            source = archive.read(it) if it.file_size <= SOURCE_MAX else b""
+            if it.filename != f"{SOURCES}{hashed(source)}.r":
+                raise Fault(f"{it.filename} has other bytes than its name says", FAULTY)
+            store.run("INSERT INTO source VALUES (?, ?)", hashed(source), source)
+    for kept in KEPT:
+        may_lack = [not column[3] for column in store.rows(f"PRAGMA table_info({kept})")]
+        with archive.open(f"{kept}.csv") as file:
+            rows = csv.reader(io.TextIOWrapper(file, encoding="utf-8", newline=""))
+            query = f"INSERT INTO {kept} VALUES ({', '.join('?' * len(next(rows, [])))})"
+            store.database.executemany(query, (valued(row, may_lack) for row in rows))
+
+
+def valued(row: list[str], may_lack: list[bool]) -> list[str | None]:
+    """The values of a row: a cell is empty if there is no value, unless there has to be one."""
+    return [cell if cell or not lacks else None for cell, lacks in zip(row, may_lack)]

@@ -1,0 +1,149 @@
+"""Who plays: robots join, get other bytes, and leave, each on a day. Nothing of that is ever forgotten."""
+
+from __future__ import annotations
+
+import hashlib
+import re
+from dataclasses import dataclass
+
+from tournaments import seats
+from tournaments.faults import FILE, Fault
+
+from .store import Store
+
+ID = re.compile(r"[A-Za-z0-9][A-Za-z0-9_.-]{0,39}")
+AUTHOR_MAX = 80
+SOURCE_MAX = 1 << 20
+ADD, CHANGE, WITHDRAW = "add", "change", "withdraw"
+
+
+@dataclass(frozen=True)
+class Entry:
+    """What happened to a robot on a day. The copy says how many robots had these bytes before it."""
+
+    number: int
+    day: str
+    what: str
+    robot: str
+    sha256: str
+    copy: int
+
+
+@dataclass(frozen=True)
+class Entrant:
+    """A robot with the bytes with which it plays now."""
+
+    robot: str
+    sha256: str
+    copy: int
+
+    @property
+    def key(self) -> str:
+        """All that its matches may depend on, as a tournament names it."""
+        return seats.keys([self.sha256] * (self.copy + 1))[-1]
+
+
+def entries(store: Store, until: int | None = None) -> list[Entry]:
+    """What happened, in its order; until such an entry."""
+    most = -1 if until is None else until
+    rows = store.rows("SELECT number, day, what, robot, sha256, copy FROM entry ORDER BY number LIMIT ?", most)
+    return [Entry(*row) for row in rows]
+
+
+def playing(happened: list[Entry]) -> dict[str, Entrant]:
+    """Who plays after all this, by ids in the order in which they joined."""
+    found: dict[str, Entrant] = {}
+    for it in happened:
+        if it.what == WITHDRAW:
+            del found[it.robot]
+        else:
+            found[it.robot] = Entrant(it.robot, it.sha256, it.copy)
+    return found
+
+
+def read(path: str) -> bytes:
+    """A robot's bytes, read once."""
+    try:
+        with open(path, "rb") as file:
+            found = file.read(SOURCE_MAX + 1)
+    except OSError as why:
+        raise Fault(f"cannot read {path}: {why.strerror}", FILE) from why
+    if len(found) > SOURCE_MAX:
+        raise Fault(f"{path} has more than {SOURCE_MAX} bytes")
+    return found
+
+
+def add(store: Store, robot: str, author: str, source: bytes, day: str) -> None:
+    """A robot joins."""
+    if not ID.fullmatch(robot):
+        raise Fault(f"{robot!r} is no id: a letter or a digit, and up to 39 letters, digits, '-', '_' and '.'")
+    if store.one("SELECT 1 FROM robot WHERE id = ?", robot):
+        raise Fault(f"there is a robot {robot} already; `change` gives it other bytes")
+    store.run("INSERT INTO robot VALUES (?, ?)", robot, named(author))
+    enter(store, ADD, robot, kept(store, source), day)
+
+
+def change(store: Store, robot: str, source: bytes, day: str) -> None:
+    """A robot gets other bytes. One that left plays again."""
+    known(store, robot)
+    sha256 = kept(store, source)
+    now = playing(entries(store)).get(robot)
+    if now and now.sha256 == sha256:
+        raise Fault(f"the robot {robot} has these bytes already")
+    enter(store, CHANGE, robot, sha256, day)
+
+
+def withdraw(store: Store, robot: str, day: str) -> None:
+    """A robot leaves. Its matches stay."""
+    known(store, robot)
+    now = playing(entries(store)).get(robot)
+    if now is None:
+        raise Fault(f"the robot {robot} has left already")
+    enter(store, WITHDRAW, robot, now.sha256, day)
+
+
+def known(store: Store, robot: str) -> None:
+    """Refuses an id that nobody has."""
+    if not store.one("SELECT 1 FROM robot WHERE id = ?", robot):
+        raise Fault(f"there is no robot {robot}")
+
+
+def named(author: str) -> str:
+    """An author's name, if it can be shown."""
+    if not author.isprintable() or len(author) > AUTHOR_MAX or any("\ud800" <= it <= "\udfff" for it in author):
+        raise Fault(f"an author's name has at most {AUTHOR_MAX} letters, all of which can be shown")
+    return author
+
+
+def hashed(source: bytes) -> str:
+    """The SHA-256 of a source."""
+    return hashlib.sha256(source).hexdigest()
+
+
+def kept(store: Store, source: bytes) -> str:
+    """Keeps a source; answers its hash."""
+    sha256 = hashed(source)
+    store.run("INSERT OR IGNORE INTO source VALUES (?, ?)", sha256, source)
+    return sha256
+
+
+def enter(store: Store, what: str, robot: str, sha256: str, day: str) -> None:
+    """Writes down what happened. A robot that has the same bytes once more has its old number with them."""
+    last = store.one("SELECT max(day) FROM entry")[0]
+    if last and day < last:
+        raise Fault(f"the last entry is of {last}, so none can be of {day}")
+    store.run("INSERT INTO entry (day, what, robot, sha256, copy) VALUES (?, ?, ?, ?, ?)", day, what, robot, sha256,
+              copy_of(store, robot, sha256))
+
+
+def copy_of(store: Store, robot: str, sha256: str) -> int:
+    """The number of a robot among those that ever had these bytes: it is given once."""
+    had = store.one("SELECT copy FROM entry WHERE robot = ? AND sha256 = ? LIMIT 1", robot, sha256)
+    if had:
+        return int(had[0])
+    return int(store.one("SELECT count(DISTINCT robot) FROM entry WHERE sha256 = ?", sha256)[0])
+
+
+def source(store: Store, sha256: str) -> bytes:
+    """The bytes with this hash."""
+    return bytes(store.one("SELECT bytes FROM source WHERE sha256 = ?", sha256)[0])

@@ -1,0 +1,49 @@
+"""One `play` at a time: a lock on a file of the league, which ends with the process that has it."""
+
+from __future__ import annotations
+
+import contextlib
+import fcntl
+import os
+from typing import Iterator
+
+from tournaments.faults import FILE, Fault, unwritable
+
+NAME = "lock"
+
+
+@contextlib.contextmanager
+def alone(folder: str) -> Iterator[None]:
+    """Keeps others from playing the league."""
+    path = os.path.join(folder, NAME)
+    try:
+        file = os.open(path, os.O_RDWR | os.O_CREAT | os.O_CLOEXEC, 0o666)
+    except OSError as why:
+        unwritable(path, why)
+    try:
+        if not locked(file):
+            raise Fault(f"{folder} is being played already", FILE)
+        yield
+    finally:
+        os.close(file)
+
+
+def locked(file: int) -> bool:
+    """Takes the lock, if nobody has it."""
+    try:
+        fcntl.flock(file, fcntl.LOCK_EX | fcntl.LOCK_NB)
+    except BlockingIOError:
+        return False
+    return True
+
+
+def is_played(folder: str) -> bool:
+    """Reports whether somebody plays the league now."""
+    try:
+        file = os.open(os.path.join(folder, NAME), os.O_RDONLY | os.O_CLOEXEC)
+    except OSError:
+        return False
+    try:
+        return not locked(file)
+    finally:
+        os.close(file)

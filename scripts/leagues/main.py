@@ -1,0 +1,23 @@
+"""The script `league`: does what a command asks for."""
+
+from __future__ import annotations
+
+import importlib
+from typing import Callable
+
+from .words import Words
+
+# The module of each command, which has a function of its name. It is read when it is needed.
+MODULES = {
+    "init": "entering", "rules": "entering", "add": "entering", "change": "entering", "withdraw": "entering",
+    "play": "sessions", "take": "taking", "season": "turning", "status": "showing", "table": "showing",
+    "publish": "publishing", "verify": "verifying",
+}
+
+
+def league(name: str, arguments: list[str]) -> None:
+    """Does what the words ask for."""
+    given = Words(name).parser.parse_args(arguments)
+    module = importlib.import_module(f".{MODULES[given.command]}", __package__)
+    does: Callable[[object], None] = getattr(module, given.command)
+    does(given)

@@ -1,0 +1,121 @@
+"""What was played: each match by its robots' bytes in the order of their seats, its seed and its number."""
+
+from __future__ import annotations
+
+from itertools import groupby
+from operator import itemgetter
+from typing import Iterator, NamedTuple, Sequence
+
+from tournaments.faults import FILE, Fault
+from tournaments.records import Match, match
+
+from .rules import Rules
+from .sequential import Count
+from .store import Store
+
+# Hashes in the order of seats, with commas between them, and the seed of the matches.
+Seated = tuple[str, str]
+DEAD = 100
+BY = "seating.cycles = ? AND profile = ? AND program = ?"
+COLUMNS = "seating, battle.number, battle.cycles, damage1, damage2, damage3, damage4, battle.day"
+JOINED = f"FROM battle JOIN seating ON seating.number = seating WHERE {BY}"
+INSERT = "INSERT INTO battle VALUES (?, ?, ?, ?, ?, ?, ?, ?)"
+
+
+def seated(hashes: Sequence[str], seed: int) -> Seated:
+    return ",".join(hashes), str(seed)
+
+
+class Played(NamedTuple):
+    """A match with its number and the day on which it was played."""
+
+    number: int
+    match: Match
+    day: str
+
+
+class Results:
+    """The results that count by some rules."""
+
+    def __init__(self, store: Store, rules: Rules) -> None:
+        self._store = store
+        self._by = (rules.cycles, rules.profile, rules.program)
+        self._numbers: dict[Seated, int] = {}
+        self.reread()
+
+    def reread(self) -> None:
+        """Learns which seatings there are now."""
+        rows = self._store.rows(f"SELECT hashes, seed, number FROM seating WHERE {BY}", *self._by)
+        self._numbers = {(hashes, seed): number for hashes, seed, number in rows}
+
+    def number(self, where: Seated) -> int | None:
+        """The number that the database has for a seating, if anything of it was played."""
+        return self._numbers.get(where)
+
+    def ends(self) -> dict[int, tuple[int, int]]:
+        """Of each seating how many matches there are, and the highest of their numbers."""
+        rows = self._store.rows(f"SELECT seating, count(*), max(battle.number) {JOINED} GROUP BY seating", *self._by)
+        return {seating: (count, last) for seating, count, last in rows}
+
+    def played(self, seating: int) -> list[int]:
+        """The numbers of a seating's matches."""
+        return [number for number, in self._store.rows("SELECT number FROM battle WHERE seating = ?", seating)]
+
+    def counts(self, look: int) -> dict[int, dict[int, Count]]:
+        """Of each seating of two robots what the first one did, in each part of so many matches."""
+        query = (f"SELECT seating, (battle.number - 1) / {look}, count(*), sum(damage1 < {DEAD} AND damage2 = {DEAD}), "
+                 f"sum(damage1 = {DEAD} AND damage2 < {DEAD}) {JOINED} AND damage3 IS NULL GROUP BY 1, 2")
+        found: dict[int, dict[int, Count]] = {}
+        for seating, part, played, won, lost in self._store.database.execute(query, self._by):
+            found.setdefault(seating, {})[part] = Count(won, played - won - lost, lost)
+        return found
+
+    def endings(self) -> dict[int, dict[str, int]]:
+        """Of each seating how many matches ended so: a letter w, t or l for the robot of each seat."""
+        died = ", ".join(f"damage{seat} = {DEAD}" for seat in range(1, 5))
+        found: dict[int, dict[str, int]] = {}
+        query = f"SELECT seating, count(*), {died} {JOINED} GROUP BY 1, 3, 4, 5, 6"
+        for seating, count, *dead in self._store.database.execute(query, self._by):
+            damage = [DEAD if it else 0 for it in dead if it is not None]
+            found.setdefault(seating, {})[Match(0, tuple(damage)).results] = count
+        return found
+
+    def each(self) -> Iterator[tuple[int, list[Played]]]:
+        """The matches of each seating, by their numbers."""
+        rows = self._store.database.execute(f"SELECT {COLUMNS} {JOINED} ORDER BY seating, battle.number", self._by)
+        for seating, battles in groupby(rows, itemgetter(0)):
+            yield int(seating), [Played(at, ended(cycles, damage), day) for _, at, cycles, *damage, day in battles]
+
+
+def ended(cycles: int, damage: Sequence[int | None]) -> Match:
+    return Match(cycles, tuple(it for it in damage if it is not None))
+
+
+def keep(store: Store, rules: Rules, where: Seated, first: int, results: str, day: str) -> tuple[int, int]:
+    """Keeps the results of a series; answers how many are new, and how many were there.
+
+    A result that is there otherwise is refused, with the whole series: then either was not played as it says."""
+    by = (rules.cycles, rules.profile, rules.program)
+    columns = "hashes, seed, cycles, profile, program"
+    store.run(f"INSERT OR IGNORE INTO seating ({columns}) VALUES (?, ?, ?, ?, ?)", *where, *by)
+    number = int(store.one(f"SELECT number FROM seating WHERE hashes = ? AND seed = ? AND {BY}", *where, *by)[0])
+    theirs = dict(enumerate(map(match, results.split(",")), first))
+    known = ours(store, number, first, first + len(theirs) - 1)
+    for it, result in known.items():
+        if theirs[it] != result:
+            raise Fault(f"has match {it} of these robots with another result than the league", FILE)
+    new = [row(number, it, result, day) for it, result in theirs.items() if it not in known]
+    store.database.executemany(INSERT, new)
+    return len(new), len(known)
+
+
+def ours(store: Store, seating: int, first: int, last: int) -> dict[int, Match]:
+    """The matches that are there already."""
+    query = ("SELECT number, cycles, damage1, damage2, damage3, damage4 FROM battle "
+             "WHERE seating = ? AND number BETWEEN ? AND ?")
+    return {number: ended(cycles, damage) for number, cycles, *damage in store.rows(query, seating, first, last)}
+
+
+def row(seating: int, number: int, it: Match, day: str) -> tuple[int | str | None, ...]:
+    damage: list[int | None] = [*it.damage, None, None]
+    return seating, number, it.cycles, *damage[:4], day

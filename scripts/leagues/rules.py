@@ -1,0 +1,74 @@
+"""The rules of a season: what its matches depend on beside the robots, who plays whom, and what counts."""
+
+from __future__ import annotations
+
+import json
+from dataclasses import asdict, dataclass, fields
+from decimal import Decimal
+from typing import Any
+
+PAIRS, THREES, FOURS, SIZES, LADDER, GAUNTLET = "pairs", "threes", "fours", "sizes", "ladder", "gauntlet"
+SIZE_OF = {PAIRS: 2, THREES: 3, FOURS: 4, LADDER: 2, GAUNTLET: 2}
+
+
+@dataclass(frozen=True)
+class Rules:
+    """All that is settled of a season. Numbers with a point are texts, so that they are written as they were given."""
+
+    mode: str = PAIRS
+    matches: int = 100
+    cycles: int = 500_000
+    seed: int = 1
+    profile: int = 1
+    program: str = ""
+    win: str = "3"
+    tie: str = "1"
+    # the weights of pairs, threes and fours, if all sizes are played
+    weights: tuple[str, ...] = ()
+    # of one size only so many groups, if any
+    sample: int = 0
+    # whom all others play in a gauntlet
+    champion: str = ""
+    # a pair is played until a sequential test decides it
+    sure: bool = False
+    # the robot with a fixed rating, if any, and the rating
+    anchor: str = ""
+    anchored: int = 0
+    divisions: int = 1
+
+    @property
+    def sizes(self) -> tuple[int, ...]:
+        """The sizes that are played."""
+        if self.mode != SIZES:
+            return (SIZE_OF[self.mode],)
+        return tuple(size for size, weight in enumerate(self.weights, 2) if Decimal(weight) > 0)
+
+    def weight(self, size: int) -> Decimal:
+        """With which weight points a match of a size count."""
+        return Decimal(self.weights[size - 2]) if self.mode == SIZES else Decimal(1)
+
+    def text(self) -> str:
+        """The rules as the database has them."""
+        return json.dumps(asdict(self), sort_keys=True)
+
+    def said(self) -> list[tuple[str, str]]:
+        """The rules in words, but for what has its default and goes without saying."""
+        found = [("mode", self._mode()), ("matches", f"{self.matches} a group"), ("limit", f"{self.cycles} cycles"),
+                 ("seed", str(self.seed)), ("profile", str(self.profile)),
+                 ("points", f"{self.win} a win, {self.tie} a tie")]
+        more = [("sample", f"{self.sample} groups", self.sample), ("until sure", "yes", self.sure),
+                ("anchor", f"{self.anchor} has {self.anchored}", self.anchor),
+                ("divisions", str(self.divisions), self.divisions > 1)]
+        return found + [(name, value) for name, value, is_there in more if is_there]
+
+    def _mode(self) -> str:
+        more = {SIZES: f", weights {', '.join(self.weights)}", GAUNTLET: f" of {self.champion}"}
+        return self.mode + more.get(self.mode, "")
+
+
+def rules(text: str) -> Rules:
+    """The rules of a text that `Rules.text` made."""
+    said: dict[str, Any] = json.loads(text)
+    known = {it.name for it in fields(Rules)}
+    values = {name: tuple(value) if isinstance(value, list) else value for name, value in said.items() if name in known}
+    return Rules(**values)

@@ -1,0 +1,138 @@
+"""Seasons: from a day on a table is that of the season, by its rules and its robots. Robots may play in divisions."""
+
+from __future__ import annotations
+
+from dataclasses import dataclass
+from typing import Sequence
+
+from tournaments.faults import Fault
+
+from .entries import Entrant, Entry, entries, playing
+from .rules import Rules, rules
+from .store import Store
+
+COLUMNS = "number, name, begun, ended, first_entry, last_entry, rules"
+
+
+@dataclass(frozen=True)
+class Season:
+    """A season; one that goes on has no end."""
+
+    number: int
+    name: str
+    begun: str
+    ended: str
+    first_entry: int
+    last_entry: int | None
+    rules: Rules
+
+
+@dataclass(frozen=True)
+class Field:
+    """A season with the robots that play in it, in the order of their hashes and then of their ids."""
+
+    season: Season
+    robots: tuple[Entrant, ...]
+    divisions: dict[str, int]
+    # the number of the entry since which each robot has its bytes
+    since: dict[str, int]
+
+    @property
+    def rules(self) -> Rules:
+        return self.season.rules
+
+    def division(self, robot: str) -> int:
+        """A robot that has come since the season began plays in the lowest division."""
+        return self.divisions.get(robot, self.rules.divisions)
+
+    def places(self, division: int) -> list[int]:
+        """Who plays in a division: its robots, and the one with the fixed rating, by which divisions are compared."""
+        return [at for at, it in enumerate(self.robots)
+                if self.division(it.robot) == division or it.robot == self.rules.anchor]
+
+
+def begin(store: Store, name: str, day: str, by: Rules, divisions: dict[str, int]) -> None:
+    """Begins a season."""
+    if not name.isprintable() or not 1 <= len(name) <= 40:
+        raise Fault("a season's name has 1 to 40 letters, all of which can be shown")
+    if store.one("SELECT 1 FROM season WHERE name = ?", name):
+        raise Fault(f"there was a season {name} already")
+    count = store.one("SELECT count(*) FROM entry")[0]
+    columns = "name, begun, first_entry, rules"
+    number = store.run(f"INSERT INTO season ({columns}) VALUES (?, ?, ?, ?)", name, day, count, by.text())
+    rows = [(number, *it) for it in sorted(divisions.items())]
+    store.database.executemany("INSERT INTO member VALUES (?, ?, ?)", rows)
+
+
+def end(store: Store, season: Season, day: str) -> None:
+    """Ends a season."""
+    count, last = store.one("SELECT count(*), max(day) FROM entry")
+    if day < max(season.begun, last or ""):
+        raise Fault(f"the season {season.name} began on {season.begun}, and the last entry is of {last}: "
+                    f"it can't end on {day}")
+    store.run("UPDATE season SET ended = ?, last_entry = ? WHERE number = ?", day, count, season.number)
+
+
+def settle(store: Store, season: Season, by: Rules) -> None:
+    """Gives a season other rules."""
+    store.run("UPDATE season SET rules = ? WHERE number = ?", by.text(), season.number)
+
+
+def seasons(store: Store) -> list[Season]:
+    """All seasons in their order."""
+    rows = store.rows(f"SELECT {COLUMNS} FROM season ORDER BY number")
+    return [Season(number, name, begun, ended or "", first, last, rules(text))
+            for number, name, begun, ended, first, last, text in rows]
+
+
+def season(store: Store, name: str | None = None) -> Season:
+    """The season with this name, or the last one."""
+    found = [it for it in seasons(store) if name in (None, it.name)]
+    if not found:
+        raise Fault(f"there is no season {name}")
+    return found[-1]
+
+
+def running(store: Store) -> Season:
+    """The season that goes on."""
+    it = season(store)
+    if it.ended:
+        raise Fault(f"the season {it.name} ended on {it.ended}; `season begin` begins another")
+    return it
+
+
+def field(store: Store, it: Season) -> Field:
+    """The robots of a season, as they are now or were at its end."""
+    happened = entries(store, it.last_entry)
+    now = playing(happened)
+    robots = sorted(now.values(), key=lambda one: (one.sha256, one.robot))
+    members = dict(store.rows("SELECT robot, division FROM member WHERE season = ?", it.number))
+    return Field(it, tuple(robots), members, since(happened))
+
+
+def since(happened: Sequence[Entry]) -> dict[str, int]:
+    """By which entry each robot got its last bytes."""
+    return {it.robot: it.number for it in happened}
+
+
+def promoted(tables: Sequence[Sequence[str]], moves: int) -> list[list[str]]:
+    """The divisions after a season, from the tables of its divisions, the highest first.
+
+    From each division the last ones go down, and from the one below as many of the first ones go up."""
+    found = [[*table] for table in tables]
+    for above, below in zip(range(len(found)), range(1, len(found))):
+        many = min(moves, len(tables[above]) // 2, len(tables[below]) // 2)
+        if many:
+            down, up = [*tables[above]][-many:], [*tables[below]][:many]
+            found[above] = [it for it in found[above] if it not in down] + up
+            found[below] = down + [it for it in found[below] if it not in up]
+    return found
+
+
+def split(table: Sequence[str], divisions: int) -> list[list[str]]:
+    """A table cut into divisions, of which the first ones have one robot more if it doesn't divide."""
+    size, more = divmod(len(table), divisions)
+    ends = [0]
+    for at in range(divisions):
+        ends.append(ends[-1] + size + (at < more))
+    return [[*table[begin:end]] for begin, end in zip(ends, ends[1:])]

@@ -1,0 +1,99 @@
+"""A sequential test: after how many matches a pair's result is decided.
+
+A match counts x for the first robot: 1 if it alone survived, 0 if the second did, and 1/2 otherwise. Let m be the mean
+of x over all starts, and over both seatings alike. Three things may be decided:
+
+    FIRST   the first robot is better: m > 1/2
+    SECOND  the second robot is better: m < 1/2
+    EVEN    neither is better by much: 1/2 - MARGIN < m < 1/2 + MARGIN
+
+The sides. With w matches for the first robot and l for the second, and any number of others,
+
+    sides = 2**(w + l) * w! * l! / (w + l + 1)!
+
+is the likelihood ratio of Wald's sequential test of a chance p against 1/2, averaged over all p (Robbins' mixture).
+For one p a match multiplies the ratio by 1 + (2p - 1)(2x - 1). If m = 1/2, the means of both seatings are 1/2 + d and
+1/2 - d, so a match of each is expected to multiply it by (1 + a)(1 - a) <= 1. So after whole rounds of both seatings
+the ratios and their average are supermartingales, and by Ville's inequality `sides` ever comes to 1 / SHARE with a
+chance of at most SHARE. If m > 1/2 that holds of the average over p < 1/2 alone, which is at least as large as `sides`
+when l > w. So SECOND is decided with a chance of at most SHARE then, and so is FIRST if m < 1/2.
+
+Even. For a bet b let each match multiply by
+
+    1 + b * (1/2 + MARGIN - x)
+
+If m >= 1/2 + MARGIN, a match of each seating is expected to multiply by at most 1: the product of two numbers is at
+most the square of their mean. So the average over some bets, `below`, comes to 1 / SHARE with a chance of at most
+SHARE. EVEN is decided when it has, and the same of the second robot. If m is outside of the margin, one of the two is
+improbable so.
+
+So with SHARE = ERROR / 2 what is decided of a pair is false with a chance of at most ERROR, however often it is looked
+at. By the sum over all pairs, of a table's pairs at most the share ERROR is expected to be decided falsely."""
+
+from __future__ import annotations
+
+import math
+from dataclasses import dataclass
+from typing import Iterable
+
+ERROR = 0.05
+SHARE = ERROR / 2
+MARGIN = 0.1
+# Bets against a difference: small ones if nearly all matches are won or lost, large ones if nearly all are ties.
+BETS = (0.4, 1.0, 2.2)
+# A pair is looked at after so many matches, in both seatings alike, and after as many again.
+LOOK = 10
+FIRST, SECOND, EVEN = "first", "second", "even"
+
+
+@dataclass(frozen=True)
+class Count:
+    """How many matches of a pair the first robot won, how many counted a half, and how many it lost."""
+
+    won: int = 0
+    even: int = 0
+    lost: int = 0
+
+    def plus(self, other: Count) -> Count:
+        return Count(self.won + other.won, self.even + other.even, self.lost + other.lost)
+
+    @property
+    def turned(self) -> Count:
+        return Count(self.lost, self.even, self.won)
+
+    @property
+    def played(self) -> int:
+        return self.won + self.even + self.lost
+
+
+def sides(it: Count) -> float:
+    """The logarithm of how much more likely the matches are if one robot is better, by the average over all chances."""
+    both = it.won + it.lost
+    return both * math.log(2) + math.lgamma(it.won + 1) + math.lgamma(it.lost + 1) - math.lgamma(both + 2)
+
+
+def below(it: Count) -> float:
+    """The logarithm of how much the matches speak against a first robot that is better by the margin or more."""
+    middle = 0.5 + MARGIN
+    logs = [sum(times * math.log1p(bet * (middle - x)) for times, x in ((it.won, 1.0), (it.even, 0.5), (it.lost, 0.0)))
+            for bet in BETS]
+    most = max(logs)
+    return most + math.log(sum(math.exp(one - most) for one in logs) / len(logs))
+
+
+def looked(it: Count) -> str:
+    """What is decided if these are all matches; nothing if more are needed."""
+    enough = -math.log(SHARE)
+    if sides(it) >= enough:
+        return FIRST if it.won > it.lost else SECOND
+    return EVEN if min(below(it), below(it.turned)) >= enough else ""
+
+
+def decision(parts: Iterable[Count]) -> tuple[str, int]:
+    """What is decided, if anything, and after how many matches; these are given from each look to the next."""
+    so_far = Count()
+    for part in parts:
+        so_far = so_far.plus(part)
+        if found := looked(so_far):
+            return found, so_far.played
+    return "", so_far.played

@@ -1,0 +1,130 @@
+"""A session: plays what a league wants, keeps each series when it ends, and looks again what is wanted."""
+
+from __future__ import annotations
+
+import argparse
+import math
+from contextlib import closing
+from dataclasses import dataclass
+
+from tournaments.faults import Fault
+from tournaments.output import show, tell
+from tournaments.plans import Plan
+from tournaments.playing import Player
+from tournaments.programs import Program, program
+from tournaments.progress import Progress
+from tournaments.records import Record, Series
+from tournaments.robots import Robot
+from tournaments.settings import Group
+from tournaments.signals import Stopped, watch
+
+from .days import today
+from .farm import planned
+from .locks import alone
+from .missing import missing, nearest
+from .results import Results, keep, seated
+from .rules import Rules
+from .schedules import Schedule
+from .scores import points, scores
+from .seasons import Season, field, running
+from .sources import laid
+from .store import Store, opened
+
+
+@dataclass(frozen=True)
+class Wanted:
+    """What is to be played now: a plan of it, and the folder with the robots."""
+
+    plan: Plan
+    folder: str
+
+    @property
+    def records(self) -> list[Record]:
+        """The series; of an empty plan none."""
+        return [*self.plan.planned()] if self.plan.only else []
+
+
+def by_gap(schedule: Schedule, results: Results, series: list[Series]) -> list[Series]:
+    """The series of robots that are close in the table first; a robot that hasn't played is close to all."""
+    parts = scores(schedule, results)
+    worth = points(parts, len(schedule.keys), schedule.field.rules)
+    known = {at for group in parts for at in group}
+
+    def gap(group: Group) -> float:
+        there = [worth[at] for at in group]
+        return float(max(there) - min(there)) if known.issuperset(group) else 0.0
+
+    return nearest(series, gap)
+
+
+def wanted(store: Store, season: Season, jobs: int, piece: int | None) -> Wanted:
+    """What a season wants now, cut into series."""
+    schedule, results = Schedule(field(store, season)), Results(store, season.rules)
+    series = by_gap(schedule, results, [*missing(schedule, results)])
+    folder = laid(store, {it.sha256 for it in schedule.field.robots})
+    robots = [Robot(f"{folder}/{it.sha256}", it.sha256) for it in schedule.field.robots]
+    most = piece or max(1, math.ceil(sum(it.count for it in series) / (8 * jobs)))
+    return Wanted(Plan(schedule.settings, robots, most, tuple(series)), folder)
+
+
+def checked(season: Season, found: Program) -> None:
+    """Refuses a program that isn't the season's."""
+    if found.sha256 != season.rules.program:
+        raise Fault(f"{found.path} is not the program of this season: its hash is {found.sha256[:16]}, "
+                    f"that of the season's is {season.rules.program[:16]}")
+
+
+def play(given: argparse.Namespace) -> None:
+    """Plays what is missing, or prints it."""
+    found = program(given.crobots)
+    with opened(given.league) as store:
+        if not given.plan:
+            play_all(store, given, found)
+            return
+        season = running(store)
+        checked(season, found)
+        show(planned(wanted(store, season, given.jobs, given.piece).plan, found.path, given.piece, given.chunk))
+
+
+def play_all(store: Store, given: argparse.Namespace, found: Program) -> None:
+    """Plays until nothing is wanted any more, or a signal asks for the end."""
+    with alone(store.folder):
+        done = 0
+        while True:
+            season = running(store)
+            checked(season, found)
+            now = wanted(store, season, given.jobs, given.piece)
+            if not now.records:
+                if not given.quiet:
+                    tell(f"{given.script}: {done} matches were played, and none is missing\n")
+                return
+            done += play_round(store, given, found, season.rules, now)
+
+
+def play_round(store: Store, given: argparse.Namespace, found: Program, by: Rules, now: Wanted) -> int:
+    """Plays what is wanted now; answers how many matches that were."""
+    progress = Progress(len(now.records), given.quiet, given.script)
+    with watch() as stop:
+
+        def glance() -> None:
+            stop.check()
+            progress.glance()
+
+        try:
+            with closing(Player(found, given.jobs, now.folder).play(now.records, glance)) as ended:
+                for record in ended:
+                    keep_record(store, by, record, given.day or today())
+                    progress.count(record.series.count)
+        except Stopped as why:
+            progress.clear()
+            said = f"{progress.done} of {progress.series} series were played, {progress.matches} matches"
+            raise Stopped(why.number, f"stopped: {said}, and are kept") from why
+    progress.clear()
+    return progress.matches
+
+
+def keep_record(store: Store, by: Rules, record: Record, day: str) -> tuple[int, int]:
+    """Keeps what a series came to; answers how many matches are new, and how many were there."""
+    where = seated([robot.sha256 for robot in record.robots], record.series.seed)
+    with store.change():
+        return keep(store, by, where, record.series.first, record.results, day)

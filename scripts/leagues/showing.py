@@ -1,0 +1,65 @@
+"""The commands that show something: status and table."""
+
+from __future__ import annotations
+
+import argparse
+
+from tournaments.output import show
+
+from . import tables
+from .locks import is_played
+from .missing import missing
+from .publications import final, publications
+from .results import Results
+from .schedules import Schedule
+from .seasons import Field, Season, field, season
+from .standings import Standing, standings
+from .store import Store, opened
+
+
+def table(given: argparse.Namespace) -> None:
+    """Prints a season's table. That of one that ended is as it was then."""
+    with opened(given.league) as store, store.view():
+        it = season(store, given.season)
+        rows = rated(store, it)
+    if given.csv:
+        show([tables.comma(rows)])
+    elif given.json:
+        show([tables.everything(it, rows)])
+    else:
+        show([tables.table(it, rows)])
+
+
+def rated(store: Store, it: Season) -> list[Standing]:
+    """The standings of a season, as they are now or were at its end."""
+    return final(store, it) or standings(Schedule(field(store, it)), Results(store, it.rules))
+
+
+def status(given: argparse.Namespace) -> None:
+    """Says how things are."""
+    with opened(given.league) as store, store.view():
+        it = season(store)
+        there = field(store, it)
+        said = [*of_season(it), *it.rules.said(), *of_robots(store, there), *of_matches(store, there)]
+        show(f"{name}: {value}\n" for name, value in said)
+
+
+def of_season(it: Season) -> list[tuple[str, str]]:
+    return [("season", f"{it.name}, since {it.begun}" + (f" until {it.ended}" if it.ended else ""))]
+
+
+def of_robots(store: Store, there: Field) -> list[tuple[str, str]]:
+    """How many robots play, and how many left."""
+    ever = store.one("SELECT count(*) FROM robot")[0]
+    return [("robots", f"{len(there.robots)} play, {ever - len(there.robots)} left")]
+
+
+def of_matches(store: Store, there: Field) -> list[tuple[str, str]]:
+    """How many matches were played and are missing, and whether somebody plays."""
+    left = [*missing(Schedule(there), Results(store, there.rules))]
+    shown = publications(store)
+    played = store.one("SELECT count(*) FROM battle")[0]
+    return [("played", f"{played} matches in all seasons"),
+            ("missing", f"{sum(it.count for it in left)} matches of {len(left)} seatings"),
+            ("now", "is being played" if is_played(store.folder) else "nobody plays"),
+            ("published", shown[-1].day if shown else "never")]

@@ -1,0 +1,51 @@
+"""The robots' sources as files, from which they are played: in a folder of the league, named by their hashes."""
+
+from __future__ import annotations
+
+import contextlib
+import hashlib
+import os
+import tempfile
+from typing import Iterable
+
+from tournaments.faults import unwritable
+
+from .entries import source
+from .store import Store
+
+NAME = "sources"
+
+
+def laid(store: Store, hashes: Iterable[str]) -> str:
+    """Sees to it that the folder has these sources as they are in the database; answers its path."""
+    folder = os.path.abspath(os.path.join(store.folder, NAME))
+    try:
+        os.makedirs(folder, exist_ok=True)
+        for sha256 in sorted({*hashes}):
+            path = os.path.join(folder, sha256)
+            if not is_whole(path, sha256):
+                replaced(path, source(store, sha256))
+    except OSError as why:
+        unwritable(folder, why)
+    return folder
+
+
+def is_whole(path: str, sha256: str) -> bool:
+    """Reports whether a file has the bytes with this hash."""
+    with contextlib.suppress(OSError), open(path, "rb") as file:
+        return hashlib.file_digest(file, "sha256").hexdigest() == sha256
+    return False
+
+
+def replaced(path: str, text: bytes) -> None:
+    """Writes a file in one piece: whoever opens it has all of it, or what was there before."""
+    file, begun = tempfile.mkstemp(dir=os.path.dirname(path), prefix=".")
+    try:
+        with open(file, "wb") as writing:
+            writing.write(text)
+        os.chmod(begun, 0o644)
+        os.replace(begun, path)
+    except BaseException:
+        with contextlib.suppress(OSError):
+            os.unlink(begun)
+        raise

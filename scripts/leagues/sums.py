@@ -1,0 +1,55 @@
+"""What robots did in some of their matches, as `crobots-trace` sums it up."""
+
+from __future__ import annotations
+
+import subprocess
+from concurrent.futures import ThreadPoolExecutor
+from typing import Sequence
+
+from replays import faults
+from replays.main import program
+from tournaments.settings import Group
+
+from .results import Results
+from .schedules import Schedule
+
+# A seating, and in which seat the robot is.
+Seat = tuple[Group, int, int]
+
+
+def sums(schedule: Schedule, results: Results, folder: str, many: int, jobs: int) -> dict[str, str]:
+    """Of each robot what the program says of so many of its matches; nothing if the program isn't there."""
+    try:
+        trace = program() if many else ""
+    except faults.Fault:
+        trace = ""
+    if not trace:
+        return {}
+    ends = results.ends()
+    played: dict[int, list[Seat]] = {}
+    for group in schedule.groups():
+        for seats, seed in schedule.seatings(group):
+            if ends.get(results.number(schedule.seated(seats, seed)) or 0):
+                for seat, robot in enumerate(seats):
+                    played.setdefault(robot, []).append((seats, seed, seat))
+    robots = schedule.field.robots
+    with ThreadPoolExecutor(jobs) as pool:
+        said = {at: [pool.submit(summed, trace, schedule, folder, it) for it in spread(seats, many)]
+                for at, seats in played.items()}
+        return {robots[at].robot: "".join(it.result() for it in texts) for at, texts in said.items()}
+
+
+def spread(them: Sequence[Seat], many: int) -> list[Seat]:
+    """So many of them, in equal distances."""
+    return [them[at * len(them) // many] for at in range(many)] if len(them) > many else [*them]
+
+
+def summed(trace: str, schedule: Schedule, folder: str, it: Seat) -> str:
+    """What the program says of a robot in the first match of a seating; nothing if it fails."""
+    seats, seed, seat = it
+    rules = schedule.field.rules
+    files = [f"{folder}/{schedule.field.robots[at].sha256}" for at in seats]
+    options = [f"-l{rules.cycles}", f"-s{seed}", f"-p{rules.profile}"]
+    words = [trace, "--sum", f"--robot={seat + 1}", *options, "--", *files]
+    ran = subprocess.run(words, stdin=subprocess.DEVNULL, capture_output=True, text=True, errors="replace", check=False)
+    return ran.stdout if not ran.returncode else ""

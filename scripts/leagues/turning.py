@@ -1,0 +1,86 @@
+"""The command season: lists the seasons, ends one, begins one."""
+
+from __future__ import annotations
+
+import argparse
+from dataclasses import replace
+
+from tournaments.faults import Fault
+from tournaments.output import show
+from tournaments.programs import program
+from tournaments.tables import aligned
+from tournaments.words import SEED_MAX
+
+from . import publications, seasons
+from .days import today
+from .entries import entries, playing
+from .missing import missing
+from .results import Results
+from .rules import Rules
+from .schedules import Schedule
+from .seasons import Season
+from .standings import Standing, standings
+from .store import Store, opened
+from .words import checked, ruled
+
+
+def season(given: argparse.Namespace) -> None:
+    """Does what is asked of the seasons."""
+    if (given.what == "begin") != bool(given.name):
+        raise Fault("`begin` takes a season's name, and nothing else does")
+    with opened(given.league) as store:
+        if given.what:
+            with store.change():
+                (end if given.what == "end" else begin)(store, given)
+        show([listed(seasons.seasons(store))])
+
+
+def listed(them: list[Season]) -> str:
+    """The seasons with their days and rules."""
+    rows = [[it.name, it.begun, it.ended or "goes on", f"{it.rules.mode}, {it.rules.matches} a group"] for it in them]
+    return aligned([["season", "begun", "ended", "rules"], *rows], range(4))
+
+
+def end(store: Store, given: argparse.Namespace) -> None:
+    """Ends the season that goes on, with its table."""
+    season = seasons.running(store)
+    schedule, results = Schedule(seasons.field(store, season)), Results(store, season.rules)
+    left = sum(it.count for it in missing(schedule, results))
+    if left and not given.unfinished:
+        raise Fault(f"{left} matches are missing; `play` plays them, and --unfinished ends the season without them")
+    day = given.day or today()
+    seasons.end(store, season, day)
+    publications.publish(store, season, day, standings(schedule, results), final=True)
+
+
+def begin(store: Store, given: argparse.Namespace) -> None:
+    """Begins a season after the last one ended. Robots change their divisions by its table."""
+    last = seasons.season(store)
+    if not last.ended:
+        raise Fault(f"the season {last.name} goes on; `season end` ends it")
+    day = given.day or today()
+    if day < last.ended:
+        raise Fault(f"the season {last.name} ended on {last.ended}, so none can begin on {day}")
+    seed = (last.rules.seed + 1) % (SEED_MAX + 1)
+    by = replace(last.rules, seed=seed, divisions=given.divisions or last.rules.divisions)
+    by = checked(ruled(by, given))
+    if given.crobots:
+        by = replace(by, program=program(given.crobots).sha256)
+    seasons.begin(store, given.name, day, by, divided(store, last, by, given.move))
+
+
+def divided(store: Store, last: Season, by: Rules, move: int) -> dict[str, int]:
+    """The division of each robot in the next season."""
+    if by.divisions == 1:
+        return {}
+    now = playing(entries(store))
+    table = [it for it in publications.final(store, last) if it.robot in now]
+    if by.divisions == last.rules.divisions:
+        parts = seasons.promoted([in_division(table, division) for division in range(1, by.divisions + 1)], move)
+    else:
+        parts = seasons.split([it.robot for it in table], by.divisions)
+    return {robot: division for division, part in enumerate(parts, 1) for robot in part}
+
+
+def in_division(table: list[Standing], division: int) -> list[str]:
+    return [it.robot for it in table if it.division == division]

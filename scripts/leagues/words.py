@@ -1,0 +1,206 @@
+"""The words of the command lines."""
+
+from __future__ import annotations
+
+import argparse
+import os
+import re
+from dataclasses import replace
+from typing import Any
+
+from tournaments.faults import Fault
+from tournaments.words import CYCLES_MAX, MATCHES_MAX, SEED_MAX, Parser, decimals, within
+
+from .days import day
+from .entries import ID
+from .rules import FOURS, GAUNTLET, LADDER, PAIRS, SIZES, THREES, Rules
+
+MODE = rf"({PAIRS}|{THREES}|{FOURS}|{LADDER})|({SIZES}):(.*)|({GAUNTLET}):({ID.pattern})"
+ANCHOR = rf"({ID.pattern})=(-?[0-9]{{1,4}})"
+MODES = "pairs, threes, fours, sizes:A,B,C, ladder, gauntlet:ROBOT"
+ALL, SURE = "all", "sure"
+DIVISIONS_MAX = 100
+
+
+def mode(text: str) -> dict[str, Any]:
+    """Reads who plays whom."""
+    found = re.fullmatch(MODE, text)
+    if not found:
+        raise argparse.ArgumentTypeError(f"{text!r} is none of {MODES}")
+    if found[2]:
+        weights = decimals(3)(found[3])
+        if not any(weights):
+            raise argparse.ArgumentTypeError("of sizes one at least has a weight")
+        return {"mode": SIZES, "weights": tuple(map(str, weights)), "champion": ""}
+    return {"mode": found[1] or found[4], "weights": (), "champion": found[5] or ""}
+
+
+def anchor(text: str) -> dict[str, Any]:
+    """Reads which robot has which rating for ever."""
+    found = re.fullmatch(ANCHOR, text)
+    if text == "none":
+        return {"anchor": "", "anchored": 0}
+    if not found:
+        raise argparse.ArgumentTypeError(f"{text!r} is no ROBOT=RATING")
+    return {"anchor": found[1], "anchored": int(found[2])}
+
+
+def points(text: str) -> dict[str, Any]:
+    """Reads what counts."""
+    win, tie = decimals(2)(text)
+    return {"win": str(win), "tie": str(tie)}
+
+
+def of_rules(it: argparse.ArgumentParser) -> None:
+    """The words by which a season's rules are given."""
+    rules = it.add_argument_group("rules")
+    one = rules.add_argument
+    one("--mode", metavar="MODE", type=mode, help=f"who plays whom: {MODES} (default pairs)")
+    one("-m", dest="matches", metavar="MATCHES", type=within(1, MATCHES_MAX),
+        help="matches of each group (default 100)")
+    one("-l", dest="cycles", metavar="CYCLES", type=within(1, CYCLES_MAX), help="cycles of a match (default 500000)")
+    one("-s", dest="seed", metavar="SEED", type=within(0, SEED_MAX),
+        help="seed (default 1; each season has the next one)")
+    one("-p", dest="profile", metavar="PROFILE", type=within(1, 2), help="language profile, 1 or 2 (default 1)")
+    one("--points", metavar="WIN,TIE", type=points, help="what a win and a tie count (default 3,1)")
+    one("--sample", metavar="N", type=within(0, 10_000_000),
+        help="play only N groups, drawn by their robots; 0 for all (default 0)")
+    one("--until", metavar="all|sure", choices=(ALL, SURE),
+        help="play all matches of a pair, or until its result is sure (default all)")
+    one("--anchor", metavar="ROBOT=RATING", type=anchor, help="the robot with a fixed rating, or none (default none)")
+    of_program(rules)
+
+
+def ruled(before: Rules, given: argparse.Namespace) -> Rules:
+    """The rules with what was given changed."""
+    changes: dict[str, Any] = {name: value for name in ("matches", "cycles", "seed", "profile", "sample")
+                               if (value := getattr(given, name)) is not None}
+    for name in ("mode", "points", "anchor"):
+        changes |= getattr(given, name) or {}
+    if given.until is not None:
+        changes["sure"] = given.until == SURE
+    return checked(replace(before, **changes))
+
+
+def checked(it: Rules) -> Rules:
+    """Refuses rules that don't go with each other."""
+    if it.sample and (it.mode not in (PAIRS, THREES, FOURS)):
+        raise Fault("a sample is one of pairs, threes or fours")
+    if it.sure and it.sizes != (2,):
+        raise Fault("only pairs are played until they are sure")
+    if it.divisions > 1 and it.mode in (LADDER, GAUNTLET):
+        raise Fault(f"a {it.mode} has no divisions")
+    return it
+
+
+def of_day(it: argparse.ArgumentParser) -> None:
+    it.add_argument("--day", metavar="YYYY-MM-DD", type=day, help="the day that is written down (default: today)")
+
+
+def of_playing(it: argparse.ArgumentParser) -> None:
+    """The words of what plays."""
+    of_jobs(it)
+    it.add_argument("--quiet", action="store_true", help="don't say how far it is")
+    of_program(it)
+
+
+def of_jobs(it: argparse.ArgumentParser) -> None:
+    it.add_argument("-j", dest="jobs", metavar="JOBS", type=within(1, 1024), default=os.cpu_count() or 1,
+                    help="programs at a time (default: the processors)")
+
+
+def of_program(it: argparse._ActionsContainer) -> None:
+    it.add_argument("--crobots", metavar="PROGRAM",
+                    help="the program (default: crobots on the path, or the one installed or built with this script)")
+
+
+class Words:
+    """The parser of all commands."""
+
+    def __init__(self, name: str) -> None:
+        does = "Runs a league of robots for years, in a folder."
+        self.parser = Parser(prog=name, description=does, allow_abbrev=False)
+        self.parser.set_defaults(script=name)
+        self._commands = self.parser.add_subparsers(dest="command", metavar="COMMAND", required=True)
+        self._entries()
+        self._playing()
+        self._showing()
+
+    def _command(self, name: str, does: str) -> Parser:
+        said = does[0].upper() + does[1:] + "."
+        it = self._commands.add_parser(name, help=does, description=said, allow_abbrev=False)
+        if name != "verify":
+            it.add_argument("league", metavar="LEAGUE", help="the league's folder")
+        return it
+
+    def _entries(self) -> None:
+        """Who plays, and by which rules."""
+        it = self._command("init", "makes a league")
+        it.add_argument("--season", metavar="NAME", default="1", help="the name of its first season (default 1)")
+        of_rules(it)
+        of_day(it)
+        of_rules(self._command("rules", "says the rules of the season, and changes those that are given"))
+        it = self._command("add", "lets robots join")
+        it.add_argument("--id", metavar="ID", help="the robot's id (default: the file's name without .r)")
+        it.add_argument("--author", metavar="NAME", default="", help="who wrote them")
+        of_program(it)
+        of_day(it)
+        it.add_argument("robots", metavar="ROBOT", nargs="+", help="source files")
+        it = self._command("change", "gives a robot other bytes")
+        it.add_argument("id", metavar="ID", help="the robot's id")
+        it.add_argument("robot", metavar="ROBOT", help="its source file")
+        of_program(it)
+        of_day(it)
+        it = self._command("withdraw", "lets robots leave; their matches are kept")
+        it.add_argument("ids", metavar="ID", nargs="+", help="robots' ids")
+        of_day(it)
+
+    def _playing(self) -> None:
+        """What is played."""
+        it = self._command("play", "plays what is missing")
+        of_playing(it)
+        it.add_argument("--piece", metavar="MATCHES", type=within(1, MATCHES_MAX),
+                        help="most matches of one series (default: so that all processors are busy)")
+        it.add_argument("--plan", action="store_true", help="print what is missing as command lines, and play nothing")
+        it.add_argument("--chunk", metavar="N", type=within(1, 10_000), default=1,
+                        help="with --plan: at most N series a line (default 1)")
+        of_day(it)
+        it = self._command("take", "takes what the command lines of a plan wrote")
+        it.add_argument("files", metavar="FILE", nargs="*", help="what they wrote (default: standard input)")
+        of_day(it)
+        it = self._command("season", "lists the seasons, ends the one that goes on, or begins another")
+        it.add_argument("what", metavar="end|begin", nargs="?", choices=("end", "begin"),
+                        help="what to do (default: list them)")
+        it.add_argument("name", metavar="NAME", nargs="?", help="the name of the season that begins")
+        it.add_argument("--divisions", metavar="N", type=within(1, DIVISIONS_MAX),
+                        help="with begin: how many divisions (default: as before)")
+        it.add_argument("--move", metavar="N", type=within(0, 1000), default=2,
+                        help="with begin: how many go up and down between divisions (default 2)")
+        it.add_argument("--unfinished", action="store_true", help="with end: though matches are missing")
+        of_rules(it)
+        of_day(it)
+
+    def _showing(self) -> None:
+        """What is shown."""
+        self._command("status", "says how many robots there are and what is missing")
+        it = self._command("table", "prints the table")
+        it.add_argument("--season", metavar="NAME", help="the season (default: the last one)")
+        forms = it.add_mutually_exclusive_group()
+        forms.add_argument("--csv", action="store_true", help="print it as comma-separated values")
+        forms.add_argument("--json", action="store_true", help="print it as JSON")
+        it = self._command("publish", "writes the league's site into a folder, and keeps the table of this day")
+        it.add_argument("site", metavar="DIR", help="the folder of the site")
+        it.add_argument("--title", metavar="TEXT", help="the site's title (default: the league's folder)")
+        it.add_argument("--page", metavar="URL", default="", help="the page that plays battles in a browser")
+        it.add_argument("--replays", metavar="N", type=within(0, 100_000), default=100,
+                        help="make so many new pages of matches, if crobots-trace is there (default 100)")
+        it.add_argument("--sums", metavar="N", type=within(0, 1000), default=10,
+                        help="sum up so many matches of each robot, if crobots-trace is there (default 10)")
+        of_jobs(it)
+        of_day(it)
+        it = self._command("verify", "replays matches of an archive, and compares")
+        it.add_argument("--all", action="store_true", help="replay all of its matches")
+        of_playing(it)
+        it.add_argument("number", metavar="N", nargs="?", type=within(1, 10**9),
+                        help="how many matches, drawn by chance (default 100)")
+        it.add_argument("archive", metavar="ARCHIVE", help="an archive that `publish` wrote")
