@@ -3,12 +3,15 @@
 ghost use Rattle.std.specs.Prelude.{◌≡◌, ◌<◌, length};
 
 use arena::{Arena, MOST_ROBOTS};
-use arith::bearing;
+use arith::{MOST_DIFFERENCE, bearing};
 use arrayvec::ArrayVec;
 use grammar::Intrinsic;
 
 /// The most updates of a drill.
 const MOST_UPDATES: u32 = 10_000_000;
+
+/// How many differences two places of an axis may have, in whole metres.
+const DIFFERENCES: u32 = 2 * MOST_DIFFERENCE as u32 + 1;
 
 /// After so many updates the robots turn, and shoot again as far as they can: a missile flies so long.
 const ROUND: u32 = 14;
@@ -56,8 +59,8 @@ pub fn scans(times: u32) -> i32 {
 pub fn bearings(times: u32) -> u16 {
     let mut degree = 0;
     for n in 0..times {
-        let dx = (n % 1999 * 37 % 1999) as i32 - 999;
-        let dy = (n % 1999 * 53 % 1999) as i32 - 999;
+        let dx = (n % DIFFERENCES * 37 % DIFFERENCES) as i32 - i32::from(MOST_DIFFERENCE);
+        let dy = (n % DIFFERENCES * 53 % DIFFERENCES) as i32 - i32::from(MOST_DIFFERENCE);
         degree = bearing(dx, dy);
     }
     degree

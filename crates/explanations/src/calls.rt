@@ -104,6 +104,7 @@ fn logic_above(nodes: &Nodes, index: usize) -> Option<&'static str> {
     let first = logic.find(|node| node.middle <= index)?;
     match first.kind {
         Kind::Binary(Op::And) => Some("&&"),
+        // (the filter passes these two alone)
         _ => Some("||"),
     }
 }

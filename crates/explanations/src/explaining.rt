@@ -61,7 +61,14 @@ pub fn add_explanation(
         | Code::BadParameterDeclaration
         | Code::FunctionNotDefined
         | Code::NoMainFunction => add_misnamed(text, &found, search.defined()),
-        _ => add_limit(text, &found),
+        Code::CommentNotClosed
+        | Code::NameTooLong
+        | Code::ConstantTooLarge
+        | Code::SourceTooLong
+        | Code::NestedTooDeeply
+        | Code::TooManyVariables
+        | Code::TooManyFunctions
+        | Code::TooMuchCode => add_limit(text, &found),
     }
 }
 
@@ -122,6 +129,7 @@ fn hint_for(found: &Found<'_>, scene: &Scene<'_>) -> Option<Hint> {
             let words = on_character(found.source, found.tokens, found.index)?;
             Some(Hint::Text(words))
         }
+        // of any other fault that has a hint here, the token doesn't fit where it stands
         _ => hint_on(scene),
     }
 }
@@ -141,13 +149,7 @@ fn add_limit(text: &mut String, found: &Found<'_>) -> Result<(), AllocError> {
     text.push_str("  hint: ")?;
     match found.code {
         Code::CommentNotClosed => text.push_str("the comment that begins here has no `*/`")?,
-        Code::NameTooLong => {
-            let length = length_of(found);
-            write!(
-                text,
-                "a name has at most {NAME_BYTES} letters, and this one has {length}"
-            )?;
-        }
+        Code::NameTooLong => add_name_limit(text, length_of(found))?,
         Code::ConstantTooLarge => write!(text, "the greatest number is {CONSTANT_MAX}")?,
         Code::SourceTooLong => write!(text, "a source has at most {SOURCE_BYTES} bytes")?,
         Code::NestedTooDeeply => write!(
@@ -159,15 +161,32 @@ fn add_limit(text: &mut String, found: &Found<'_>) -> Result<(), AllocError> {
             "a function has at most {MOST_NAMES} variables, and a file at most {MOST_NAMES} outside its functions"
         )?,
         Code::TooManyFunctions => write!(text, "a file has at most {MOST_NAMES} functions")?,
-        _ => {
+        Code::TooMuchCode => {
             let most = found.profile.instructions();
             write!(
                 text,
                 "the code has at most {most} instructions in this profile; crobots -c lists it"
             )?;
         }
+        // no limit is passed: `add_explanation` asks others for these
+        Code::SyntaxError
+        | Code::ReservedWord
+        | Code::BadCharacter
+        | Code::FunctionDefinedTwice
+        | Code::IntrinsicRedefined
+        | Code::BadParameterDeclaration
+        | Code::FunctionNotDefined
+        | Code::NoMainFunction => {}
     }
     text.push_str("\n")
+}
+
+/// Adds how long a name may be, and how long this one is.
+fn add_name_limit(text: &mut String, length: usize) -> Result<(), AllocError> {
+    write!(
+        text,
+        "a name has at most {NAME_BYTES} letters, and this one has {length}"
+    )
 }
 
 /// Returns where the fault's token begins.

@@ -14,21 +14,7 @@ use std::alloc::AllocError;
 use tokens::{Name, Punctuator, Token};
 
 /// All intrinsic functions.
-static INTRINSICS: [Intrinsic; 13] = [
-    Intrinsic::Scan,
-    Intrinsic::Cannon,
-    Intrinsic::Drive,
-    Intrinsic::Damage,
-    Intrinsic::Speed,
-    Intrinsic::LocX,
-    Intrinsic::LocY,
-    Intrinsic::Rand,
-    Intrinsic::Sqrt,
-    Intrinsic::Sin,
-    Intrinsic::Cos,
-    Intrinsic::Tan,
-    Intrinsic::Atan,
-];
+static INTRINSICS: [Intrinsic; Intrinsic::ALL.len()] = Intrinsic::ALL;
 
 /// Names that beginners call, with a hint on each.
 static CALLED: [(&str, &str); 14] = [
@@ -68,7 +54,19 @@ pub fn add_misnamed(
         }
         Code::BadParameterDeclaration => add_parameter(text, found)?,
         Code::FunctionNotDefined => add_meant(text, found, defined, &name)?,
-        _ => add_main(text, found, defined)?,
+        Code::NoMainFunction => add_main(text, found, defined)?,
+        // these are no faults of names: `add_explanation` asks others for them
+        Code::SyntaxError
+        | Code::ReservedWord
+        | Code::BadCharacter
+        | Code::CommentNotClosed
+        | Code::NameTooLong
+        | Code::ConstantTooLarge
+        | Code::SourceTooLong
+        | Code::NestedTooDeeply
+        | Code::TooManyVariables
+        | Code::TooManyFunctions
+        | Code::TooMuchCode => {}
     }
     text.push_str("\n")
 }

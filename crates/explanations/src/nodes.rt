@@ -311,6 +311,7 @@ impl Nodes {
         let value = match action {
             SemanticAction::Negate => operated(Op::Subtract, Some(0), operand),
             SemanticAction::Not => operated(Op::Equal, operand, Some(0)),
+            // (it is called of the three signs alone: this is `~`)
             _ => operated(Op::BitXor, operand, Some(-1)),
         };
         self.above(Kind::Sign, token, true)?;
@@ -323,6 +324,7 @@ impl Nodes {
         let var = self.variable();
         let value = match op {
             StoreOp::Set => self.last_value(),
+            // (what the variable had isn't known)
             _ => None,
         };
         self.above(Kind::Store(var, op), token, true)?;

@@ -40,6 +40,7 @@ impl<'a> Search<'a> {
         let last = self.walk.last();
         match wanted.code {
             Code::FunctionNotDefined => Ok(self.undefined().unwrap_or(last)),
+            // the token of any other fault is refused in the walk, but for one at the end
             _ => Ok(last),
         }
     }

@@ -51,6 +51,7 @@ impl Watch for Depths {
             Action::IfTest | Action::BeginWhile => self.open(),
             Action::EndIf | Action::EndWhile => self.close(),
             Action::BeginFunction(number, _) => self.enter(number),
+            // (no others open or close a level)
             _ => {}
         }
     }

@@ -1,7 +1,6 @@
 //! Orders: what a run is asked to do, as numbers.
 
 ghost use Rattle.std.specs.Prelude.{◌≡◌, ◌<◌, ◌≤◌, true, length, map, IfSome, IsSome};
-ghost use Rattle.grammar.specs.Profile.{profile_numbered};
 ghost use Rattle.page.specs.Orders.{AreWithin, mode_by, numbers_of, setup_of, stretch_of};
 
 use crate::stretches::Stretch;
@@ -21,7 +20,7 @@ pub struct Order {
     pub matches: u32,
     /// The most cycles of a match, 1 to 1,000,000,000.
     pub limit: u32,
-    /// The number of the language profile, 1 or 2.
+    /// The number of the language profile, from 1.
     pub profile: u32,
     /// The number of the first match, 1 to 1,000,000.
     pub first: u32,
@@ -73,13 +72,14 @@ impl Order {
 
     /// Returns the numbers of a run.
     fn numbers(&self) -> Numbers
+        requires { AreWithin self.now }
         ensures { result ≡ numbers_of self.now }
     {
         Numbers {
             matches: self.matches,
             limit: self.limit,
             seed: self.seed,
-            profile: self.profile(),
+            profile: Profile::numbered(self.profile),
             first: self.first,
         }
     }
@@ -92,17 +92,6 @@ impl Order {
             Mode::Listing
         } else {
             Mode::Matches
-        }
-    }
-
-    /// Returns the language profile.
-    fn profile(&self) -> Profile
-        ensures { result ≡ profile_numbered self.now.profile }
-    {
-        if self.profile == 1 {
-            Profile::first()
-        } else {
-            Profile::second()
         }
     }
 }

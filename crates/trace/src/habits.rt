@@ -67,7 +67,16 @@ fn add_answers(text: &mut String, intrinsic: Intrinsic, calls: &Calls) -> Result
             write!(text, " ({} saw nobody", calls.zero)?;
             add_replies(text, ", else ", calls.replies)?;
         }
-        _ => add_replies(text, " (", calls.replies)?,
+        Intrinsic::Damage
+        | Intrinsic::Speed
+        | Intrinsic::LocX
+        | Intrinsic::LocY
+        | Intrinsic::Rand
+        | Intrinsic::Sqrt
+        | Intrinsic::Sin
+        | Intrinsic::Cos
+        | Intrinsic::Tan
+        | Intrinsic::Atan => add_replies(text, " (", calls.replies)?,
     }
     text.push(')')
 }

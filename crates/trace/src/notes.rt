@@ -6,7 +6,7 @@ use code::{Profile, Program};
 use derivations::{Places, lines};
 use findings::function_at;
 use grammar::Pools;
-use settings::Settings;
+use settings::{FILES_MAX, Settings};
 use std::alloc::{AllocError, Global};
 use std::str;
 use tokens::{Pieces, WINDOW};
@@ -93,7 +93,7 @@ pub struct Sources {
 /// opened or read, with the name of the program that asks.
 pub fn compiled(rt: &HostRuntime, program: &str, wish: &Settings<'_>) -> Result<Sources, Fault>
     ensures some { IfOk result (λ sources. 0 < length sources.programs.items) }
-    ensures most { IfOk result (λ sources. length sources.programs.items ≤ 4) }
+    ensures most { IfOk result (λ sources. length sources.programs.items ≤ FILES_MAX) }
 {
     let mut programs = Vec::new(rt.alloc());
     let mut notes = Vec::new(rt.alloc());

@@ -9,7 +9,7 @@ use std::alloc::{AllocError, Global};
 use std::mem;
 
 /// How many intrinsic functions there are.
-const INTRINSICS: usize = 13;
+const INTRINSICS: usize = Intrinsic::ALL.len();
 
 /// What is counted of an address.
 #[derive(Clone, Copy, Debug, Default, Drop)]
@@ -70,7 +70,17 @@ fn deed_of(question: &Question) -> Option<Deed> {
         Intrinsic::Scan if question.reply > 0 => Some(Deed::Sees),
         Intrinsic::Cannon if question.reply > 0 => Some(Deed::Shoots),
         Intrinsic::Drive if question.arguments[1] > 0 => Some(Deed::Drives),
-        _ => None,
+        Intrinsic::Scan | Intrinsic::Cannon | Intrinsic::Drive => None,
+        Intrinsic::Damage
+        | Intrinsic::Speed
+        | Intrinsic::LocX
+        | Intrinsic::LocY
+        | Intrinsic::Rand
+        | Intrinsic::Sqrt
+        | Intrinsic::Sin
+        | Intrinsic::Cos
+        | Intrinsic::Tan
+        | Intrinsic::Atan => None,
     }
 }
 

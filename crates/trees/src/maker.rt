@@ -84,6 +84,7 @@ impl Build for TreeMaker {
                 put(&mut self.functions, function)
             }
             _ if passes => Ok(()),
+            // (the stack lists them)
             _ => self.stack.act(action),
         }
     }

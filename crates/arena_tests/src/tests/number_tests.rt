@@ -2,7 +2,7 @@
 
 ghost use Rattle.std.specs.Prelude.{◌≤◌, ◌↔◌, unsigned_abs, IsTrue};
 
-use arith::{Op, atan, bearing, binop, cos, norm_degree, root, sin, tan};
+use arith::{MOST_DIFFERENCE, Op, atan, bearing, binop, cos, norm_degree, root, sin, tan};
 
 const LEAST: i32 = i32::MIN;
 
@@ -146,7 +146,7 @@ fn plain_bearing(dx: i32, dy: i32) -> u16 {
 
 /// Reports whether a difference is as `bearing` asks of its caller.
 fn in_field(difference: i32) -> bool
-    ensures { IsTrue result ↔ (unsigned_abs difference ≤ 999) }
+    ensures { IsTrue result ↔ (unsigned_abs difference ≤ MOST_DIFFERENCE) }
 {
-    difference.unsigned_abs() <= 999
+    difference.unsigned_abs() <= u32::from(MOST_DIFFERENCE)
 }
