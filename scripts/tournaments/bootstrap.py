@@ -1,8 +1,8 @@
 """The bootstrap: in each of 200 rounds each match counts as often as chance has it, by a Poisson number of mean 1.
 
 The numbers of a match in all rounds are one large integer with 64 bits a round, so a sum adds up all rounds at once. There
-are 1,021 such integers, drawn with a fixed seed. A match takes the one that its group and number point at: so what the
-bootstrap says depends on the matches alone, and not on the order in which they come."""
+are 1,021 such integers, drawn with a fixed seed. A match takes the one that its seating's seed and its number point at: so
+what the bootstrap says depends on the matches alone, and not on the order in which they come."""
 
 from __future__ import annotations
 
@@ -10,28 +10,35 @@ import bisect
 import itertools
 import math
 import random
-import struct
-import zlib
-
-from .settings import Group
+import sys
+from typing import Iterable, Iterator
 
 Packed = int
 ROUNDS = 200
 VECTORS = 1021
 SEED = "crobots"
-LAYOUT = struct.Struct(f"<{ROUNDS}Q")
+BYTES = 8
+# Half of the range of a round, and that in all rounds.
+HALF = 1 << 8 * BYTES - 1
+HALVES = sum(HALF << 8 * BYTES * at for at in range(ROUNDS))
 POISSON = list(itertools.accumulate(math.exp(-1) / math.factorial(k) for k in range(20)))
 
 
 def drawn(index: int) -> Packed:
     """Draws how often a match counts in each round."""
     chance = random.Random(f"{SEED} {index}").random
-    return int.from_bytes(LAYOUT.pack(*[bisect.bisect(POISSON, chance()) for _ in range(ROUNDS)]), "little")
+    return sum(bisect.bisect(POISSON, chance()) << 8 * BYTES * at for at in range(ROUNDS))
 
 
-def unpacked(sums: Packed) -> tuple[int, ...]:
-    """The sum of each round."""
-    return LAYOUT.unpack(sums.to_bytes(LAYOUT.size, "little"))
+def rounds(sums: Iterable[Packed], signed: bool = False) -> Iterator[list[int]]:
+    """Of each round its part of each sum; parts below zero may be given."""
+    packed = bytearray()
+    for it in sums:
+        packed += (it + HALVES if signed else it).to_bytes(BYTES * ROUNDS, sys.byteorder)
+    parts = memoryview(packed).cast("Q")
+    if signed:
+        return ([it - HALF for it in parts[at::ROUNDS].tolist()] for at in range(ROUNDS))
+    return (parts[at::ROUNDS].tolist() for at in range(ROUNDS))
 
 
 class Weights:
@@ -40,13 +47,11 @@ class Weights:
     def __init__(self) -> None:
         self._drawn: dict[int, Packed] = {}
 
-    def begin(self, group: Group) -> int:
-        """Where the matches of a group begin."""
-        return zlib.crc32(repr(group).encode())
-
-    def of(self, place: int) -> Packed:
-        index = place % VECTORS
-        found = self._drawn.get(index)
-        if found is None:
-            found = self._drawn[index] = drawn(index)
-        return found
+    def of(self, begin: int) -> Iterator[Packed]:
+        """Those of a match and the ones after it."""
+        known = self._drawn
+        for index in itertools.chain(range(begin % VECTORS, VECTORS), itertools.cycle(range(VECTORS))):
+            found = known.get(index)
+            if found is None:
+                found = known[index] = drawn(index)
+            yield found

@@ -1,86 +1,82 @@
-"""The groups of a tournament: every pair, three or four of its robots, or some that are drawn evenly."""
+"""The groups of a tournament: every pair, three or four of its robots, or a sample of them; and the series of each group."""
 
 from __future__ import annotations
 
+import hashlib
+import heapq
 import itertools
 import math
-import random
-from typing import Iterator
+from functools import lru_cache
+from typing import Iterable, Iterator, Sequence
 
 from .faults import Fault
+from .records import Series
+from .seats import seatings
 from .settings import Group, Settings
 
+MOST_NUMBERED = 5_000_000
 
-def groups(settings: Settings) -> Iterator[Group]:
+
+def groups(settings: Settings, keys: Sequence[str]) -> Iterable[Group]:
     """All groups in their order: smaller ones first, then by the robots' positions."""
-    for size in settings.sizes:
-        if settings.sample:
-            yield from drawn(settings.robots, size, settings.sample, settings.seed)
-        else:
-            yield from itertools.combinations(range(settings.robots), size)
+    if settings.sample:
+        return sample(settings.seed, tuple(keys), settings.sizes[0], settings.sample)
+    return itertools.chain.from_iterable(itertools.combinations(range(settings.robots), size) for size in settings.sizes)
 
 
-def count(settings: Settings) -> int:
-    """How many groups there are."""
-    return sum(settings.sample or math.comb(settings.robots, size) for size in settings.sizes)
+def count(settings: Settings, size: int) -> int:
+    """How many groups of a size there are."""
+    return settings.sample or math.comb(settings.robots, size)
 
 
-def least(robots: int, size: int) -> int:
-    """How few groups have each robot in one."""
-    return -(-robots // size)
+def whole_series(settings: Settings, keys: Sequence[str]) -> Iterator[Series]:
+    """All matches of each seating of each group."""
+    for group in groups(settings, keys):
+        yield from series_of(settings, keys, group)
 
 
-def drawn(robots: int, size: int, many: int, seed: int) -> list[Group]:
-    """Draws so many different groups, in which each robot is equally often, but for one time.
-
-    As long as a robot is in two groups more than another, one of its groups can be handed to the other: of the groups that
-    have one of the two alone, the first has at least two more, so one of them isn't there with the other in its place."""
-    if many > math.comb(robots, size):
-        raise Fault(f"there are only {math.comb(robots, size)} groups of {size}")
-    source = random.Random(f"{seed} {robots} {size} {many}")
-    chosen = draw(robots, size, many, source)
-    times = [sum(robot in group for group in chosen) for robot in range(robots)]
-    while max(times) - min(times) > 1:
-        most, least = times.index(max(times)), times.index(min(times))
-        hand_over(chosen, most, least, below(source, len(chosen)))
-        times[most] -= 1
-        times[least] += 1
-    return sorted(chosen)
+def series_of(settings: Settings, keys: Sequence[str], group: Group) -> Iterator[Series]:
+    """All matches of each seating of a group."""
+    matches = settings.each(len(group))
+    for it in seatings(settings.seed, [keys[at] for at in group]):
+        yield Series(tuple(group[at] for at in it.order), it.seed, 1, matches)
 
 
-def draw(robots: int, size: int, many: int, source: random.Random) -> list[Group]:
-    """Draws different groups; of more than half of all, those that are left out."""
-    every = math.comb(robots, size)
-    chosen: dict[Group, None] = {}
-    while len(chosen) < min(many, every - many):
-        chosen[tuple(sorted(distinct(robots, size, source)))] = None
-    if 2 * many <= every:
-        return list(chosen)
-    return [group for group in itertools.combinations(range(robots), size) if group not in chosen]
+@lru_cache(1)
+def sample(seed: int, keys: tuple[str, ...], size: int, many: int) -> list[Group]:
+    """So many groups, those with the least numbers. A group's number depends on its robots and the seed alone."""
+    return sorted(group for _, group in heapq.nsmallest(many, numbered(seed, keys, size)))
 
 
-def distinct(robots: int, size: int, source: random.Random) -> set[int]:
-    """Draws so many robots."""
-    found: set[int] = set()
-    while len(found) < size:
-        found.add(below(source, robots))
-    return found
+def numbered(seed: int, keys: Sequence[str], size: int) -> Iterator[tuple[bytes, Group]]:
+    """Each group with its number: a hash of the seed and its robots."""
+    every = math.comb(len(keys), size)
+    if every > MOST_NUMBERED:
+        raise Fault(f"a sample is drawn of at most {MOST_NUMBERED:,} groups, and {len(keys)} robots have {every:,} of {size}")
+    begin = hashlib.sha256(f"crobots sample\n{seed}".encode())
+    parts = [f"\n{key}".encode() for key in keys]
+    for group in itertools.combinations(range(len(keys)), size):
+        it = begin.copy()
+        it.update(b"".join([parts[at] for at in group]))
+        yield it.digest()[:8], group
 
 
-def below(source: random.Random, limit: int) -> int:
-    """Draws a number below a limit, by the one call whose numbers are the same in all versions of Python."""
-    return int(source.random() * limit)
+def check_sample(settings: Settings, keys: Sequence[str]) -> None:
+    """Refuses a sample that there isn't, or that leaves a robot out."""
+    size, every = settings.sizes[0], math.comb(len(keys), settings.sizes[0])
+    if settings.sample > every:
+        raise Fault(f"there are only {every} groups of {size}")
+    there = {at for group in groups(settings, keys) for at in group}
+    if len(there) < len(keys):
+        raise Fault(f"--sample {settings.sample} leaves {len(keys) - len(there)} of {len(keys)} robots out; "
+                    f"{least(settings.seed, keys, size)} groups have all")
 
 
-def hand_over(chosen: list[Group], most: int, least: int, begin: int) -> None:
-    """Puts one robot in the place of another in the first group from here on that allows it."""
-    there = set(chosen)
-    for step in range(len(chosen)):
-        at = (begin + step) % len(chosen)
-        group = chosen[at]
-        if most in group and least not in group:
-            other = tuple(sorted({*group, least} - {most}))
-            if other not in there:
-                chosen[at] = other
-                return
-    raise AssertionError("one of the groups can be handed over")
+def least(seed: int, keys: Sequence[str], size: int) -> int:
+    """How few groups of a sample have each robot in one: as many as it takes up to the last robot's first group."""
+    missing = {*range(len(keys))}
+    for many, (_, group) in enumerate(sorted(numbered(seed, keys, size)), 1):
+        missing -= {*group}
+        if not missing:
+            return many
+    raise AssertionError("all groups have all robots")

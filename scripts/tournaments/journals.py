@@ -1,7 +1,8 @@
 """The journal: a file with a record of each series that was played, from which a tournament goes on.
 
-A match is found again by the bytes of its robots, in their order, and by its number: so a robot whose bytes changed plays
-anew, and one that came or went leaves the matches of the others as they were."""
+A match is found again by what decides it: the bytes of its robots in the order of their seats, the seed of the seating
+and its number. So a robot whose bytes changed plays anew, and one that came or went leaves the matches of the others as
+they were. Limit, profile and program are one for the whole journal."""
 
 from __future__ import annotations
 
@@ -13,33 +14,33 @@ import sys
 from typing import Callable, Iterator
 
 from .faults import FILE, Fault, unreadable, unwritable
-from .records import Record, played
-from .settings import Settings
+from .output import write_all
+from .records import BEGIN, OLDER, NoRecord, Record, played
+from .settings import NAMES, Settings, shown
 
-Hashes = tuple[str, ...]
+Seated = tuple[int, tuple[str, ...]]
 
 
 class Journal:
-    """The matches that were played, by the robots' hashes; adds to the file, if there is one."""
+    """The matches that were played, by the seating's seed and the robots' hashes; adds to the file, if there is one."""
 
     def __init__(self, path: str | None = None, file: int = -1) -> None:
         self._path = path
         self._file = file
-        self._kept: dict[Hashes, list[tuple[int, str]]] = {}
+        self._kept: dict[Seated, list[tuple[int, str]]] = {}
 
-    def matches(self, hashes: Hashes, most: int) -> dict[int, str]:
-        """The results of the matches of these robots, by their numbers, as far as a tournament goes."""
+    def matches(self, record: Record) -> dict[int, str]:
+        """The results of a record's matches, by their numbers, as far as they are there."""
         found: dict[int, str] = {}
-        for first, results in self._kept.get(hashes, ()):
+        for first, results in self._kept.get(seated(record), ()):
             for number, result in enumerate(results.split(","), first):
                 if found.setdefault(number, result) != result:
                     raise Fault(f"{self._path} has two results of one match", FILE)
-        return {number: found[number] for number in sorted(found) if number <= most}
+        return {number: found[number] for number in sorted(found) if number <= record.series.last}
 
     def keep(self, record: Record) -> None:
         """Remembers a record that the file has."""
-        hashes = tuple(sys.intern(robot.sha256) for robot in record.robots)
-        self._kept.setdefault(hashes, []).append((record.series.first, record.results))
+        self._kept.setdefault(seated(record), []).append((record.series.first, record.results))
 
     def add(self, record: Record) -> None:
         """Adds a record to the file, by one write unless the disk is full. If it can't be written whole, nothing of it stays."""
@@ -48,12 +49,16 @@ class Journal:
         line = record.line().encode()
         end = os.fstat(self._file).st_size
         try:
-            while line:
-                line = line[os.write(self._file, line):]
+            write_all(self._file, line)
         except OSError as why:
             with contextlib.suppress(OSError):
                 os.ftruncate(self._file, end)
             unwritable(self._path, why)
+
+
+def seated(record: Record) -> Seated:
+    """By what the matches of a record are found again."""
+    return record.series.seed, tuple(sys.intern(robot.sha256) for robot in record.robots)
 
 
 @contextlib.contextmanager
@@ -93,10 +98,12 @@ def load(journal: Journal, path: str, file: int, settings: Settings, tell: Calla
     try:
         with open(file, "rb", closefd=False) as lines:
             for number, line in enumerate(lines, 1):
+                if line.startswith(OLDER.encode()):
+                    raise Fault(f"{path} is a journal of an older format, whose robots had one seating only", FILE)
                 if line.endswith(b"\n"):
                     journal.keep(checked(line, f"line {number} of {path}", path, settings))
                     whole += len(line)
-                elif number == 1 and not b"series m=".startswith(line[:9]):
+                elif number == 1 and not BEGIN.encode().startswith(line[: len(BEGIN)]):
                     raise Fault(f"{path} is no journal", FILE)
                 else:
                     tell(f"the last line of {path} was cut, and is dropped")
@@ -107,12 +114,13 @@ def load(journal: Journal, path: str, file: int, settings: Settings, tell: Calla
 
 def checked(line: bytes, place: str, path: str, settings: Settings) -> Record:
     """The record of a line, if it was played with these settings."""
-    record = played(line.decode("ascii", errors="replace"))
-    if record is None:
-        raise Fault(f"{place} is no record of a series", FILE)
-    ours = (settings.cycles, settings.seed, settings.profile)
-    theirs = (record.settings.cycles, record.settings.seed, record.settings.profile)
-    for name, one, other in zip(("limit", "seed", "profile"), ours, theirs):
-        if one != other:
-            raise Fault(f"{path} is a journal of other settings: {name} {other}, not {one}")
+    try:
+        record = played(line.decode("ascii", errors="replace"))
+    except NoRecord as why:
+        raise Fault(f"{place} {why}", FILE) from why
+    for name in ("cycles", "seed", "profile", "program"):
+        ours, theirs = getattr(settings, name), getattr(record.settings, name)
+        if ours != theirs:
+            said = f"{NAMES[name]} {shown(theirs)}, not {shown(ours)}"
+            raise Fault(f"{path} is a journal of other settings: {said}")
     return record

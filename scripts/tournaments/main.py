@@ -3,55 +3,25 @@
 from __future__ import annotations
 
 import argparse
-import io
 import os
 import signal
-import sys
 from decimal import Decimal
 from typing import Callable
 
-from . import plans, robots, tables, words
+from . import plans, programs, robots, words
 from .faults import FILE, Fault
-from .groups import drawn, least
+from .groups import check_sample
 from .merging import Merger, against, records
-from .playing import Stopped, heeded, stop
-from .records import Record
-from .robots import Robot
+from .output import open_standard_files, show, tell
+from .playing import Player
+from .programs import Program
+from .results import Results, check_files
+from .seats import keys, rounded
 from .sessions import session
-from .settings import Settings
-from .standings import SIZE_NAMES, Scoring, faced, standings
-from .tallies import Tally
+from .settings import SIZE_NAMES, Settings
+from .signals import Stopped, heeded, stop, stopping
 
-
-class Results:
-    """What is printed in the end: the matches added up, and the records themselves if the form has each match."""
-
-    def __init__(self, given: argparse.Namespace) -> None:
-        self._given = given
-        self._tally = Tally()
-        self._records: list[Record] = []
-
-    def add(self, record: Record) -> None:
-        self._tally.add(record)
-        if self._given.long or self._given.json:
-            self._records.append(record)
-
-    def text(self, settings: Settings, among: list[Robot]) -> str:
-        """The form that was asked for."""
-        given = self._given
-        names = robots.names([it.path for it in among])
-        if given.long:
-            return tables.long(self._records, names, settings.seed)
-        weights = dict(zip(SIZE_NAMES, given.by_size)) if given.by_size else None
-        scoring = Scoring(given.points[0], given.points[1], weights)
-        table = standings(self._tally, names, scoring)
-        if given.matrix:
-            return tables.matrix(table, faced(self._tally, len(names)))
-        if given.json:
-            return tables.everything(settings, scoring, among, table, faced(self._tally, len(names)), self._records)
-        if given.csv:
-            return tables.comma_separated(tables.rows(table, bool(weights)))
-        return tables.table(table, bool(weights))
+NOTHING = "stopped while no series was played"
 
 
 def sizes(given: argparse.Namespace) -> tuple[int, ...]:
@@ -69,10 +39,13 @@ def check(given: argparse.Namespace) -> None:
         raise Fault("--merge reads what was played, so it takes no --plan and no --journal")
     if given.merge and words.settings_given(given):
         raise Fault(f"--merge reads the settings from the records, so it takes no {', '.join(words.settings_given(given))}")
-    if given.plan and given.journal:
-        raise Fault("--plan plays nothing, so it takes no --journal")
+    if given.plan and (given.journal or given.write or given.html):
+        raise Fault("--plan plays nothing, so it takes no --journal, no --write and no --html")
+    if not given.html and (given.title or given.page or given.replays is not None):
+        raise Fault("--title, --page and --replays go with --html")
     if given.against and not given.merge:
         raise Fault("--against goes with --merge")
+    check_files(given.write)
 
 
 def enough(given: argparse.Namespace) -> None:
@@ -86,13 +59,15 @@ def weighed(given: argparse.Namespace, settings: Settings) -> None:
     """Refuses weights that aren't those of the sizes that were played, and points of several sizes without weights."""
     theirs = ",".join(map(str, settings.sizes))
     if given.by_size and sizes(given) != settings.sizes:
-        raise Fault(f"the records are of size {theirs}, but --by-size has weights for size {','.join(map(str, sizes(given)))}")
-    if len(settings.sizes) > 1 and not (given.by_size or given.matrix or given.long):
+        ours = ",".join(map(str, sizes(given)))
+        raise Fault(f"the records are of size {theirs}, but --by-size has weights for size {ours}")
+    forms = {given.form, *(form for form, _ in given.write)}
+    if len(settings.sizes) > 1 and not given.by_size and not forms <= {"matrix", "long"}:
         raise Fault(f"the records are of size {theirs}, so their points need --by-size")
 
 
-def merged(given: argparse.Namespace) -> str:
-    """What the records of a plan come to."""
+def merge(given: argparse.Namespace) -> None:
+    """Writes what the records of a plan come to."""
     merger, results = Merger(), Results(given)
     for record, place in records(given.robots):
         merger.take(record, place)
@@ -103,28 +78,31 @@ def merged(given: argparse.Namespace) -> str:
     if wrong:
         raise Fault(wrong)
     weighed(given, merger.settings)
-    return results.text(merger.settings, merger.robots())
+    results.keep_sources(merger.robots())
+    results.write(merger.settings, merger.robots())
 
 
-def sampled(settings: Settings) -> None:
-    """Refuses a sample that can't be drawn, or that leaves a robot out."""
-    size = settings.sizes[0]
-    if settings.sample < least(settings.robots, size):
-        raise Fault(f"{settings.robots} robots need at least {least(settings.robots, size)} groups of {size}")
-    drawn(settings.robots, size, settings.sample, settings.seed)
-
-
-def planned(given: argparse.Namespace, program: str) -> plans.Plan:
+def planned(given: argparse.Namespace, program: Program, folder: str) -> plans.Plan:
     """The plan of the words; the robots compile."""
-    among = robots.read(given.robots)
-    settings = Settings(given.matches, given.cycles, given.seed, given.profile, len(among), sizes(given), given.sample)
+    copies = robots.copied(given.robots, folder)
+    robots.compiled(program, given.profile, copies, folder)
+    among = robots.in_order(copies)
+    settings = Settings(given.matches, given.cycles, given.seed, given.profile, program.sha256, len(among), sizes(given), given.sample)
     if given.sample:
-        sampled(settings)
-    robots.compiled(program, given.profile, among)
+        check_sample(settings, keys([it.sha256 for it in among]))
     most = given.piece or plans.busy(settings, given.jobs)
     if given.plan:
         most = min(most, plans.one_write(settings, among))
+    tell_rounded(given, settings.sizes)
     return plans.Plan(settings, among, most)
+
+
+def tell_rounded(given: argparse.Namespace, sizes: tuple[int, ...]) -> None:
+    """Says which matches of a group are more than were asked for."""
+    more = {size: rounded(given.matches, size) for size in sizes if given.matches % size}
+    if more:
+        said = ", ".join(f"{many} of {SIZE_NAMES[size]}" for size, many in more.items())
+        tell(f"{given.script}: -m{given.matches} is rounded up to {said}: each seating is played equally often\n")
 
 
 def tournament(name: str, arguments: list[str]) -> None:
@@ -132,40 +110,50 @@ def tournament(name: str, arguments: list[str]) -> None:
     given = words.tournament(name).parse_intermixed_args(arguments)
     check(given)
     if given.merge:
-        sys.stdout.write(merged(given))
+        with stopping("stopped while records were merged"):
+            merge(given)
         return
     words.settle(given)
     enough(given)
-    program = robots.program(given.crobots)
-    plan = planned(given, program)
-    if given.plan:
-        sys.stdout.writelines(plans.lines(plan, program))
-        return
-    results = Results(given)
-    session(given, program, plan, results.add)
-    sys.stdout.write(results.text(plan.settings, plan.robots))
+    program = programs.program(given.crobots)
+    with robots.private() as folder:
+        plan = planned(given, program, folder)
+        if given.plan:
+            show(plans.lines(plan, program.path))
+            return
+        results = Results(given)
+        done = session(given, Player(program, given.jobs, folder), plan, results.add)
+        results.keep_sources(plan.robots, folder)
+    with stopping(f"stopped while the table was made: {done}"):
+        results.write(plan.settings, plan.robots)
 
 
 def run(does: Callable[[str, list[str]], None], command: list[str]) -> int:
     """Runs a script with its command line, the script's own path first; answers its status."""
     name = os.path.basename(command[0])
-    signal.signal(signal.SIGPIPE, signal.SIG_DFL)
+    try:
+        return status_of(does, name, command[1:])
+    except BrokenPipeError:
+        signal.signal(signal.SIGPIPE, signal.SIG_DFL)
+        os.kill(os.getpid(), signal.SIGPIPE)
+        return FILE
+
+
+def status_of(does: Callable[[str, list[str]], None], name: str, words: list[str]) -> int:
+    """Does what is asked for, and says what is wrong; answers the status."""
+    is_open = open_standard_files()
+    # a pipe for standard error that is closed ends nothing
+    signal.signal(signal.SIGPIPE, signal.SIG_IGN)
     for number in heeded():
         signal.signal(number, stop)
-    for stream in (sys.stdout, sys.stderr):
-        if isinstance(stream, io.TextIOWrapper):
-            stream.reconfigure(errors="surrogateescape")
     try:
-        does(name, command[1:])
-        sys.stdout.flush()
+        if not is_open:
+            raise Fault("cannot write: standard output is closed", FILE)
+        does(name, words)
     except Fault as why:
-        print(f"{name}: {why}", file=sys.stderr)
+        tell(f"{name}: {why}\n")
         return why.status
     except Stopped as why:
-        print(f"{name}: {why}", file=sys.stderr)
+        tell(f"{name}: {why.args[0] or NOTHING}\n")
         return 128 + why.number
-    except OSError as why:
-        print(f"{name}: cannot write: {why.strerror}", file=sys.stderr)
-        os.dup2(os.open(os.devnull, os.O_WRONLY), 1)
-        return FILE
     return 0

@@ -3,14 +3,15 @@
 from __future__ import annotations
 
 import contextlib
-import sys
 from collections import Counter
 from typing import IO, Iterable, Iterator
 
 from .faults import FILE, Fault, unreadable
-from .groups import groups
-from .records import Record, Series, planned, played
+from .groups import whole_series
+from .output import INPUT
+from .records import NoRecord, Record, Series, planned, played
 from .robots import Robot
+from .seats import keys
 from .settings import Group, Settings, difference
 
 Runs = list[tuple[int, int]]
@@ -23,12 +24,13 @@ class Merger:
         self.settings: Settings | None = None
         self._robots: dict[int, Robot] = {}
         self._runs: dict[Group, Runs] = {}
+        self._seeds: dict[Group, int] = {}
         self.series: Counter[Series] = Counter()
 
     def take(self, record: Record, place: str) -> None:
         """Takes a record of the same tournament."""
         self.check(record, place)
-        self._runs.setdefault(record.series.group, []).append((record.series.first, record.series.last))
+        self._runs.setdefault(record.series.seats, []).append((record.series.first, record.series.last))
         self.series[record.series] += 1
 
     def check(self, record: Record, place: str) -> None:
@@ -37,7 +39,9 @@ class Merger:
             self.settings = record.settings
         elif self.settings != record.settings:
             raise Fault(f"{place} is of another tournament: {difference(self.settings, record.settings)}")
-        for at, robot in zip(record.series.group, record.robots):
+        if self._seeds.setdefault(record.series.seats, record.series.seed) != record.series.seed:
+            raise Fault(f"{place} has another seed than others of its seating")
+        for at, robot in zip(record.series.seats, record.robots):
             known = self._robots.setdefault(at, robot)
             if known != robot:
                 said = "other bytes" if known.path == robot.path else f"the name {robot.path}"
@@ -50,17 +54,25 @@ class Merger:
     def wrong(self) -> str:
         """What is missing or more than once, in a few words; nothing if each match is there once."""
         assert self.settings
-        missing, twice = Found("missing"), Found("there twice or more")
-        for group in groups(self.settings):
-            free, more = gaps(self._runs.pop(group, []), self.settings.matches)
-            missing.add(group, free)
-            twice.add(group, more)
+        few = len(self._robots) < self.settings.robots
+        lacking = f"only {len(self._robots)} of {self.settings.robots} robots are in its groups"
+        if few and self.settings.sample:
+            return lacking
+        missing, twice, strange = Found("missing"), Found("there twice or more"), 0
+        for series in whole_series(self.settings, self._keys()):
+            free, more = gaps(self._runs.pop(series.seats, []), series.count)
+            missing.add(series.seats, free)
+            twice.add(series.seats, more)
+            strange += not few and self._seeds.get(series.seats, series.seed) != series.seed
         said = [it.text(self._robots) for it in (missing, twice) if it.count]
-        if self._runs:
-            said.append(f"{len(self._runs)} groups are not of this tournament")
-        if not said and len(self._robots) < self.settings.robots:
-            said.append(f"only {len(self._robots)} of {self.settings.robots} robots are in its groups")
-        return "; ".join(said)
+        if self._runs or strange:
+            said.append(f"{len(self._runs) + strange} seatings are not of this tournament")
+        return "; ".join(said) or (lacking if few else "")
+
+    def _keys(self) -> list[str]:
+        """The keys of the robots. One that is in no record has no matches, whatever its key is."""
+        known = self._robots
+        return keys([known[at].sha256 if at in known else f"{at}" for at in range(self.settings.robots if self.settings else 0)])
 
 
 class Found:
@@ -71,15 +83,15 @@ class Found:
         self._first: tuple[Group, int] | None = None
         self.count = 0
 
-    def add(self, group: Group, runs: Runs) -> None:
+    def add(self, seats: Group, runs: Runs) -> None:
         if runs and self._first is None:
-            self._first = group, runs[0][0]
+            self._first = seats, runs[0][0]
         self.count += sum(last - first + 1 for first, last in runs)
 
     def text(self, robots: dict[int, Robot]) -> str:
         assert self._first
-        group, number = self._first
-        among = ", ".join(robots[at].path if at in robots else f"robot {at + 1}" for at in group)
+        seats, number = self._first
+        among = ", ".join(robots[at].path if at in robots else f"robot {at + 1}" for at in seats)
         if self.count == 1:
             return f"1 match is {self._what}: match {number} of {among}"
         return f"{self.count} matches are {self._what}, the first is match {number} of {among}"
@@ -104,10 +116,7 @@ def gaps(runs: Runs, most: int) -> tuple[Runs, Runs]:
 def opened(path: str | None) -> Iterator[IO[str]]:
     """Opens a file, or standard input."""
     try:
-        if path is None:
-            yield sys.stdin
-            return
-        with open(path, encoding="utf-8", errors="replace", newline="\n") as file:
+        with open(path or INPUT, encoding="utf-8", errors="replace", newline="\n", closefd=bool(path)) as file:
             yield file
     except OSError as why:
         unreadable(path or "standard input", why)
@@ -120,9 +129,10 @@ def records(files: list[str]) -> Iterator[tuple[Record, str]]:
         with opened(path) as lines:
             for number, line in enumerate(lines, 1):
                 place = f"line {number} of {path or 'standard input'}"
-                record = played(line)
-                if record is None:
-                    raise Fault(f"{place} is cut short, or is no record of a series")
+                try:
+                    record = played(line)
+                except NoRecord as why:
+                    raise Fault(f"{place} {why}") from why
                 yield record, place
 
 
@@ -145,7 +155,8 @@ def against(path: str, merger: Merger) -> str:
     missing = [number for it, numbers in plan.items() for number in numbers if it not in series]
     twice = [numbers[0] for it, numbers in plan.items() if series[it] > len(numbers)]
     strange = sum(it not in plan for it in series)
-    said = [f"{lines_of(numbers)} of {path} {'is' if len(numbers) == 1 else 'are'} {what}" for what, numbers in (("missing", missing), ("there twice or more", twice)) if numbers]
+    said = [f"{lines_of(numbers)} of {path} {'is' if len(numbers) == 1 else 'are'} {what}"
+            for what, numbers in (("missing", missing), ("there twice or more", twice)) if numbers]
     return "; ".join(said + ([f"{strange} series are in no line of {path}"] if strange else []))
 
 

@@ -1,67 +1,79 @@
-"""Plans: the series of a tournament, and their command lines."""
+"""Plans: the series of a tournament, cut from the matches of its seatings, and their command lines."""
 
 from __future__ import annotations
 
 import math
 import os
 import shlex
-from dataclasses import dataclass
+from dataclasses import dataclass, replace
 from itertools import groupby
-from typing import Iterator
+from typing import Iterable, Iterator
 
 from .faults import Fault
-from .groups import count, groups
+from .groups import count, whole_series
 from .journals import Journal
 from .records import Record, Series, encoded
 from .robots import Robot
-from .settings import Group, Settings
+from .seats import keys, rounded
+from .settings import Settings
 
 SERIES = os.path.join(os.path.dirname(os.path.realpath(__file__)), "series")
 ONE_WRITE = 4096
+SEED_MAX = 2**64 - 1
 
 
 @dataclass(frozen=True)
 class Plan:
-    """What is played: the settings, the robots, the most matches of a series, and the groups, if it isn't all of them."""
+    """What is played: the settings, the robots, the most matches of a series, and what is cut into series, if it isn't
+    all of the tournament's matches."""
 
     settings: Settings
     robots: list[Robot]
     most: int
-    only: tuple[Group, ...] = ()
+    only: tuple[Series, ...] = ()
 
-    def record(self, group: Group, first: int, matches: int, results: str = "") -> Record:
-        return Record(self.settings, Series(group, first, matches), tuple(self.robots[at] for at in group), results)
+    def record(self, series: Series, results: str = "") -> Record:
+        return Record(self.settings, series, tuple(self.robots[at] for at in series.seats), results)
+
+    def _whole(self) -> Iterable[Series]:
+        """All matches of each seating."""
+        return self.only or whole_series(self.settings, keys([robot.sha256 for robot in self.robots]))
 
     def planned(self) -> Iterator[Record]:
         """All series, of which none was played."""
-        for group in self.only or groups(self.settings):
-            yield from self._cut(group, 1, self.settings.matches)
+        for series in self._whole():
+            yield from map(self.record, cut(series, self.most))
 
     def count(self) -> int:
         """How many series that are."""
-        return (len(self.only) or count(self.settings)) * math.ceil(self.settings.matches / self.most)
+        if self.only:
+            return sum(math.ceil(series.count / self.most) for series in self.only)
+        of_size = {size: size * math.ceil(self.settings.each(size) / self.most) for size in self.settings.sizes}
+        return sum(count(self.settings, size) * series for size, series in of_size.items())
 
     def resumed(self, journal: Journal) -> Iterator[tuple[bool, Record]]:
         """All series: those that the journal has with their results, and those that are to be played."""
-        for group in self.only or groups(self.settings):
-            hashes = tuple(self.robots[at].sha256 for at in group)
-            kept = journal.matches(hashes, self.settings.matches)
-            for there, numbers in groupby(range(1, self.settings.matches + 1), kept.__contains__):
+        for series in self._whole():
+            kept = journal.matches(self.record(series))
+            for there, numbers in groupby(range(series.first, series.last + 1), kept.__contains__):
                 run = list(numbers)
+                part = replace(series, first=run[0], count=len(run))
                 if there:
-                    yield True, self.record(group, run[0], len(run), ",".join(kept[number] for number in run))
+                    yield True, self.record(part, ",".join(kept[number] for number in run))
                 else:
-                    yield from ((False, record) for record in self._cut(group, run[0], run[-1]))
+                    yield from ((False, self.record(it)) for it in cut(part, self.most))
 
-    def _cut(self, group: Group, first: int, last: int) -> Iterator[Record]:
-        """Cuts matches of a group into series of at most so many."""
-        for begin in range(first, last + 1, self.most):
-            yield self.record(group, begin, min(self.most, last + 1 - begin))
+
+def cut(series: Series, most: int) -> Iterator[Series]:
+    """Cuts a series into some of at most so many matches."""
+    for begin in range(series.first, series.last + 1, most):
+        yield replace(series, first=begin, count=min(most, series.last + 1 - begin))
 
 
 def busy(settings: Settings, jobs: int) -> int:
     """The most matches of a series by which all jobs are busy to the end."""
-    return max(1, math.ceil(count(settings) * settings.matches / (8 * jobs)))
+    matches = sum(count(settings, size) * rounded(settings.matches, size) for size in settings.sizes)
+    return max(1, math.ceil(matches / (8 * jobs)))
 
 
 def one_write(settings: Settings, robots: list[Robot]) -> int:
@@ -69,8 +81,9 @@ def one_write(settings: Settings, robots: list[Robot]) -> int:
     size = max(settings.sizes)
     longest = sorted(robots, key=lambda it: -len(encoded(it.path)))[:size]
     group = tuple(range(settings.robots - size, settings.robots))
-    head = len(Record(settings, Series(group, settings.matches, settings.matches), tuple(longest)).head())
-    most = (ONE_WRITE - head - len(" results=")) // (len(str(settings.cycles)) + len(":100") * size + 1)
+    series = Series(group, SEED_MAX, settings.matches, settings.matches)
+    begin = len(Record(settings, series, tuple(longest)).line())
+    most = (ONE_WRITE - begin) // (len(str(settings.cycles)) + len(":100") * size + 1)
     if most < 1:
         raise Fault("the robots' names are too long for a plan")
     return most
@@ -82,5 +95,5 @@ def lines(plan: Plan, program: str) -> Iterator[str]:
     words = [shlex.quote(robot.path) for robot in plan.robots]
     for record in plan.planned():
         series = record.series
-        options = " ".join(plan.settings.options(series.first, series.count))
-        yield f"{begin} '{record.head()}' {ours} {options} {' '.join(words[at] for at in series.group)}\n"
+        options = " ".join(plan.settings.options(series.seed, series.first, series.count))
+        yield f"{begin} '{record.head()}' {ours} {options} {' '.join(words[at] for at in series.seats)}\n"

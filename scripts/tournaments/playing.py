@@ -2,65 +2,21 @@
 
 from __future__ import annotations
 
-import contextlib
 import os
 import selectors
 import shlex
 import signal
 from dataclasses import dataclass, field
-from types import FrameType
-from typing import Callable, Generator, Iterable, Iterator, NoReturn
+from typing import Callable, Generator, Iterable, Iterator
 
 from .faults import FAULTY, PROGRAM, Fault
-from .records import Record
+from .programs import Program
+from .records import NoRecord, Record, check_results
 from .reports import results
+from .signals import ENDING, Stopped
 
-ENDING = (signal.SIGHUP, signal.SIGINT, signal.SIGTERM)
 GLANCE = 0.2
 CHUNK = 1 << 16
-
-
-class Stopped(Exception):
-    """A signal asked the tournament to end."""
-
-    def __init__(self, number: int, said: str = "stopped while no series was played") -> None:
-        super().__init__(said)
-        self.number = number
-
-
-def stop(number: int, _: FrameType | None) -> NoReturn:
-    raise Stopped(number)
-
-
-def heeded() -> list[int]:
-    """The signals that ask for the end, but for those that are ignored."""
-    return [number for number in ENDING if signal.getsignal(number) != signal.SIG_IGN]
-
-
-class Watch:
-    """Remembers a signal that asks for the end."""
-
-    def __init__(self) -> None:
-        self._number = 0
-
-    def take(self, number: int, _: FrameType | None) -> None:
-        self._number = number
-
-    def check(self) -> None:
-        if self._number:
-            raise Stopped(self._number)
-
-
-@contextlib.contextmanager
-def watch() -> Iterator[Watch]:
-    """Takes the signals that aren't ignored, until what is done inside has ended."""
-    it = Watch()
-    before = {number: signal.signal(number, it.take) for number in heeded()}
-    try:
-        yield it
-    finally:
-        for number, action in before.items():
-            signal.signal(number, action)
 
 
 @dataclass
@@ -68,17 +24,17 @@ class Child:
     """A series that is being played, and what it has written so far."""
 
     record: Record
-    words: list[str]
     process: int
     output: bytearray = field(default_factory=bytearray)
 
 
 class Player:
-    """Plays series by children of one program, so many at a time."""
+    """Plays series by children of one program, so many at a time, with the robots' copies in a folder."""
 
-    def __init__(self, program: str, jobs: int) -> None:
+    def __init__(self, program: Program, jobs: int, folder: str) -> None:
         self._program = program
         self._jobs = jobs
+        self._folder = folder
         self._environment = dict(os.environb)
         self._selector = selectors.DefaultSelector()
         self._running: dict[int, Child] = {}
@@ -94,7 +50,7 @@ class Player:
                     if ended:
                         # the next series plays while this one is looked at
                         self._start(left)
-                        yield finished(*ended)
+                        yield self._finished(*ended)
                         glance()
                 glance()
         finally:
@@ -112,21 +68,20 @@ class Player:
         return begun
 
     def _spawn(self, record: Record) -> None:
-        series = record.series
-        words = [self._program, *record.settings.options(series.first, series.count), *(robot.path for robot in record.robots)]
+        words = line(self._program, record, [os.path.join(self._folder, robot.sha256) for robot in record.robots])
         try:
             output, writing = os.pipe()
         except OSError as why:
             raise Fault(f"{len(self._running) + 1} series at a time can't be run: {why.strerror}", PROGRAM) from why
-        actions = [(os.POSIX_SPAWN_OPEN, 0, os.devnull, os.O_RDONLY, 0), (os.POSIX_SPAWN_DUP2, writing, 1), (os.POSIX_SPAWN_DUP2, writing, 2)]
+        actions = [(os.POSIX_SPAWN_OPEN, 0, os.devnull, os.O_RDONLY, 0), *((os.POSIX_SPAWN_DUP2, writing, to) for to in (1, 2))]
         try:
-            process = os.posix_spawn(self._program, words, self._environment, file_actions=actions, setsigdef=[signal.SIGPIPE])
+            process = os.posix_spawn(words[0], words, self._environment, file_actions=actions, setsigdef=[signal.SIGPIPE])
         except OSError as why:
             os.close(output)
-            raise Fault(f"{self._program} can't be run: {why.strerror}", PROGRAM) from why
+            raise Fault(f"{words[0]} can't be run: {why.strerror}", PROGRAM) from why
         finally:
             os.close(writing)
-        self._running[output] = Child(record, words, process)
+        self._running[output] = Child(record, process)
         self._selector.register(output, selectors.EVENT_READ)
 
     def _read(self, output: int) -> tuple[Child, int] | None:
@@ -141,6 +96,27 @@ class Player:
         if -status in ENDING:
             raise Stopped(-status)
         return child, status
+
+    def _finished(self, child: Child, status: int) -> Record:
+        """The record of a series that ended with this status, with its results."""
+        self._program.check()
+        record, series = child.record, child.record.series
+        found = None if status else results(bytes(child.output), len(series.seats), series.first, series.count)
+        if found is None:
+            raise Fault(self._failure(child, status), FAULTY if status == 1 else PROGRAM)
+        done = Record(record.settings, series, record.robots, found)
+        try:
+            check_results(done)
+        except NoRecord as why:
+            raise Fault(f"a series of {self._program.path} {why}", PROGRAM) from why
+        return done
+
+    def _failure(self, child: Child, status: int) -> str:
+        """What the user is told of a series that failed."""
+        words = line(self._program, child.record, [robot.path for robot in child.record.robots])
+        said = os.fsdecode(bytes(child.output[-2000:])).strip().splitlines()
+        end = f"ended with status {status}: {said[-1] if said else 'it said nothing'}"
+        return f"{shlex.join(words)} {end if status else 'wrote no reports and totals of that series'}"
 
     def _forget(self, output: int) -> None:
         self._selector.unregister(output)
@@ -157,17 +133,7 @@ class Player:
         self._selector.close()
 
 
-def finished(child: Child, status: int) -> Record:
-    """The record of a series that ended with this status, with its results."""
-    series = child.record.series
-    found = None if status else results(bytes(child.output), len(series.group), series.first, series.count)
-    if found is None:
-        raise Fault(failure(child, status), FAULTY if status == 1 else PROGRAM)
-    return Record(child.record.settings, series, child.record.robots, found)
-
-
-def failure(child: Child, status: int) -> str:
-    """What the user is told of a series that failed."""
-    said = bytes(child.output[-2000:]).decode(errors="surrogateescape").strip().splitlines()
-    what = f"ended with status {status}: {said[-1] if said else 'it said nothing'}" if status else "wrote no reports and totals of that series"
-    return f"{shlex.join(child.words)} {what}"
+def line(program: Program, record: Record, files: list[str]) -> list[str]:
+    """The words that play a record's series with these files."""
+    series = record.series
+    return [program.path, *record.settings.options(series.seed, series.first, series.count), *files]

@@ -2,23 +2,37 @@
 
 from __future__ import annotations
 
-import sys
+import os
 import time
-from typing import Callable, TextIO
+from typing import Callable
+
+from .output import ERRORS, tell
 
 EACH_TERMINAL, EACH_LOG = 0.2, 60.0
+
+
+def columns() -> int | None:
+    """The width of the terminal that is standard error; nothing if it is none."""
+    try:
+        return os.get_terminal_size(ERRORS).columns or None
+    except OSError:
+        return None
 
 
 class Progress:
     """Counts the series and matches that were played, and says so from time to time."""
 
-    def __init__(self, series: int, quiet: bool, script: str = "tournament", stream: TextIO = sys.stderr, clock: Callable[[], float] = time.monotonic) -> None:
+    def __init__(
+        self, series: int, quiet: bool, script: str = "tournament", say: Callable[[str], None] = tell,
+        columns: Callable[[], int | None] = columns, clock: Callable[[], float] = time.monotonic,
+    ) -> None:
         self.series = series
         self._quiet = quiet
         self._script = script
-        self._stream = stream
+        self._tell = say
+        self._columns = columns
         self._clock = clock
-        self._terminal = stream.isatty()
+        self._each = EACH_LOG if columns() is None else EACH_TERMINAL
         self._begun = self._said = clock()
         self._width = 0
         self.done = 0
@@ -33,7 +47,7 @@ class Progress:
     def glance(self) -> None:
         """Says how far it is, if it is time."""
         now = self._clock()
-        if not self._quiet and now - self._said >= (EACH_TERMINAL if self._terminal else EACH_LOG):
+        if not self._quiet and now - self._said >= self._each:
             self._said = now
             self._say(self.line(now))
 
@@ -47,15 +61,18 @@ class Progress:
         return f"{counted}, {self.matches / taken:.1f} matches a second, {duration(left)} to go"
 
     def _say(self, line: str) -> None:
-        self._stream.write(f"\r{line.ljust(self._width)}" if self._terminal else f"{self._script}: {line}\n")
-        self._stream.flush()
-        self._width = len(line)
+        width = self._columns()
+        if width is None:
+            self._tell(f"{self._script}: {line}\n")
+            return
+        # what reaches the last column may go on in the next line
+        self._tell("\r" + line.ljust(self._width)[: width - 1])
+        self._width = min(len(line), width - 1)
 
     def clear(self) -> None:
         """Clears the terminal's line."""
-        if self._terminal and self._width:
-            self._stream.write("\r" + " " * self._width + "\r")
-            self._stream.flush()
+        if self._width:
+            self._tell("\r" + " " * self._width + "\r")
             self._width = 0
 
 

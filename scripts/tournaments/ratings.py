@@ -5,20 +5,25 @@ all or lost all has a rating too. The robots' mean chance against that one is ex
 
 from __future__ import annotations
 
+import itertools
 import math
 from dataclasses import dataclass
-from operator import mul
-from typing import Sequence
+from operator import add, itemgetter, truediv
+from typing import Callable, Iterator, Sequence
 
-from .bootstrap import ROUNDS, unpacked
+from . import matrices
+from .bootstrap import ROUNDS, Packed, rounds
+from .matrices import Factors, Matrix
 from .tallies import Tally
 
 SCALE = 400 / math.log(10)
 STEP_MAX, STEPS_MAX = 1.5, 200
-# A slope below FLAT needs no step. After a step shorter than CLOSE what is left is about its square: 0.01 of a rating.
-FLAT, CLOSE = 1e-9, 5e-3
+# The curvature is worked out anew if a step isn't shorter than so much of the last one. Steps get shorter by a factor, so
+# that it is known what is left after one: less than CLOSE is 0.2 of a rating, in a round whose ratings are chance by more.
+SHORTER, CLOSE, EXACT = 0.4, 1.2e-3, 1e-10
+# A chance as a whole number.
+ONE = 1 << 20
 OUTSIDE = ROUNDS // 40
-Matrix = list[list[float]]
 
 
 @dataclass(frozen=True)
@@ -37,12 +42,24 @@ class Rating:
 def ratings(tally: Tally, robots: int) -> list[Rating]:
     """The ratings of the robots by their positions, with intervals from the bootstrap."""
     places = sorted(tally.pairs)
-    pairs = [tally.pairs[place] for place in places]
-    whole = fitted(robots, places, [it.played for it in pairs], [it.beaten[0] for it in pairs], [it.beaten[1] for it in pairs], [0.0] * robots)
-    played = zip(*(unpacked(it.rounds_played) for it in pairs))
-    ones, others = zip(*(unpacked(it.rounds_beaten[0]) for it in pairs)), zip(*(unpacked(it.rounds_beaten[1]) for it in pairs))
-    rounds = [fitted(robots, places, *drawn, whole) for drawn in zip(played, ones, others)]
-    return [interval(value, sorted(it)) for value, it in zip(whole, zip(*rounds))]
+    pairs = Pairs(robots, places)
+    played = [tally.pairs[place].played for place in places]
+    whole = Fit(pairs, played, scores(tally, robots)).fitted([0.0] * robots, EXACT)
+    factors = matrices.factored(pairs.curvature(played, whole))
+    of_pairs, of_robots = [tally.pairs[place].rounds for place in places], [tally.rounds[at] for at in range(robots)]
+    slopes = pairs.slopes(of_pairs, of_robots, whole)
+    fits = (Fit(pairs, drawn, [twice / 2 for twice in score]) for drawn, score in zip(rounds(of_pairs), rounds(of_robots)))
+    found = [fit.fitted(whole, CLOSE, factors, slope) for fit, slope in zip(fits, slopes)]
+    return [interval(value, sorted(it)) for value, it in zip(whole, zip(*found))]
+
+
+def scores(tally: Tally, robots: int) -> list[float]:
+    """How many others each robot has beaten, each tie counted as a half."""
+    found = [0.0] * robots
+    for place, pair in tally.pairs.items():
+        for robot, mine, theirs in zip(place, pair.beaten, reversed(pair.beaten)):
+            found[robot] += (pair.played + mine - theirs) / 2
+    return found
 
 
 def interval(value: float, rounds: list[float]) -> Rating:
@@ -50,63 +67,104 @@ def interval(value: float, rounds: list[float]) -> Rating:
     return Rating(SCALE * value, SCALE * rounds[OUTSIDE], SCALE * rounds[-1 - OUTSIDE])
 
 
-def fitted(robots: int, places: list[tuple[int, int]], played: Sequence[int], ones: Sequence[int], others: Sequence[int], begin: list[float]) -> list[float]:
-    """The strengths of the greatest likelihood, by Newton's method with steps of limited length.
+class Pairs:
+    """The pairs that have played, sorted; sums over the pairs of each robot."""
 
-    Of each pair, the lower position first, it takes how many matches it played, and how many each of both has won."""
-    scores = [(matches + one - other) / 2 for matches, one, other in zip(played, ones, others)]
-    strengths = begin[:]
-    for _ in range(STEPS_MAX):
-        curvature, slope = newton(robots, places, played, scores, strengths)
-        if max(map(abs, slope)) < FLAT:
-            break
-        steps = solved(curvature, slope)
-        longest = max(map(abs, steps))
-        scale = min(1.0, STEP_MAX / longest)
-        strengths = [it + scale * step for it, step in zip(strengths, steps)]
-        if longest < CLOSE:
-            break
-    return strengths
+    def __init__(self, robots: int, places: list[tuple[int, int]]) -> None:
+        ones, others = [one for one, _ in places], [other for _, other in places]
+        self._robots = robots
+        self._places = places
+        self._ones, self._others = picker(ones), picker(others)
+        self._by_other = picker(sorted(range(len(places)), key=others.__getitem__))
+        self._ends_of_ones, self._ends_of_others = ends(robots, ones), ends(robots, others)
+
+    def slope(self, played: Sequence[int], scores: list[float], strengths: list[float]) -> list[float]:
+        """The slope of the likelihood: what each robot's score is more than expected."""
+        powers = [*map(math.exp, strengths)]
+        shares = self._shares(played, powers)
+        sums = map(add, sliced(shares, self._ends_of_ones), sliced(self._by_other(shares), self._ends_of_others))
+        return [score + 0.5 - power * (it + 1 / (1 + power)) for score, power, it in zip(scores, powers, sums)]
+
+    def slopes(self, played: list[Packed], scores: list[Packed], strengths: list[float]) -> Iterator[list[float]]:
+        """The slopes of all rounds at the same strengths, in whole numbers. The scores are those of the tally, twice."""
+        powers = [*map(math.exp, strengths)]
+        more = [score * (ONE // 2) for score in scores]
+        for (one, other), matches in zip(self._places, played):
+            expected = round(ONE * powers[one] / (powers[one] + powers[other])) * matches
+            more[one] -= expected
+            more[other] += expected - matches * ONE
+        own = [0.5 - power / (1 + power) for power in powers]
+        return ([it / ONE + tie for it, tie in zip(slope, own)] for slope in rounds(more, signed=True))
+
+    def curvature(self, played: Sequence[int], strengths: list[float]) -> Matrix:
+        """The curvature of the likelihood, below the diagonal and on it."""
+        powers = [*map(math.exp, strengths)]
+        diagonal = [power / (1 + power) ** 2 for power in powers]
+        found = [[0.0] * row for row in range(self._robots)]
+        for (one, other), share in zip(self._places, self._shares(played, powers)):
+            bend = share * powers[one] * powers[other] / (powers[one] + powers[other])
+            diagonal[one] += bend
+            diagonal[other] += bend
+            found[other][one] = -bend
+        for row, bend in zip(found, diagonal):
+            row.append(bend)
+        return found
+
+    def _shares(self, played: Sequence[int], powers: list[float]) -> list[float]:
+        """Of each pair its matches divided by both powers: times one's power that is what this one is expected to win."""
+        return [*map(truediv, played, map(add, self._ones(powers), self._others(powers)))]
 
 
-def newton(robots: int, places: list[tuple[int, int]], played: Sequence[int], scores: list[float], strengths: list[float]) -> tuple[Matrix, list[float]]:
-    """The curvature of the likelihood, below the diagonal and on it, and its slope. A score is that of a pair's first robot."""
-    powers = [math.exp(it) for it in strengths]
-    chances = [it / (1 + it) for it in powers]
-    slope = [0.5 - chance for chance in chances]
-    diagonal = [chance * (1 - chance) for chance in chances]
-    curvature = [[0.0] * row for row in range(robots)]
-    for (one, other), matches, score in zip(places, played, scores):
-        chance = powers[one] / (powers[one] + powers[other])
-        expected = matches * chance
-        more, bend = score - expected, expected * (1 - chance)
-        slope[one] += more
-        slope[other] -= more
-        diagonal[one] += bend
-        diagonal[other] += bend
-        curvature[other][one] = -bend
-    for row, bend in zip(curvature, diagonal):
-        row.append(bend)
-    return curvature, slope
+def picker(places: list[int]) -> Callable[[list[float]], Sequence[float]]:
+    """What picks the values at these places, in this order."""
+    if len(places) > 1:
+        return itemgetter(*places)
+    return lambda values: [values[place] for place in places]
 
 
-def solved(matrix: Matrix, right: list[float]) -> list[float]:
-    """Solves a system with a symmetric positive matrix, of which the lower half is given.
+def ends(robots: int, members: list[int]) -> list[int]:
+    """Where the entries of each robot end, once they are sorted by it."""
+    count = [0] * robots
+    for robot in members:
+        count[robot] += 1
+    return [*itertools.accumulate(count)]
 
-    The matrix is taken apart into a lower one with ones on its diagonal, a diagonal one, and the first one turned over."""
-    lower: Matrix = []
-    inverse: list[float] = []
-    found: list[float] = []
-    for given, wanted in zip(matrix, right):
-        made: list[float] = []
-        for row, value in zip(lower, given):
-            made.append(value - sum(map(mul, made, row)))
-        unit = [*map(mul, made, inverse)]
-        inverse.append(1 / (given[-1] - sum(map(mul, made, unit))))
-        found.append(wanted - sum(map(mul, unit, found)))
-        lower.append(unit)
-    found = [*map(mul, found, inverse)]
-    for row in reversed(range(len(found))):
-        for column, factor in enumerate(lower[row]):
-            found[column] -= factor * found[row]
-    return found
+
+def sliced(values: Sequence[float], ends: list[int]) -> Iterator[float]:
+    """The sums of the slices that end there."""
+    return (sum(values[begin:end]) for begin, end in zip([0, *ends], ends))
+
+
+def left(step: float, before: float) -> float:
+    """How much is left after a step, if each is shorter than the one before by the same factor."""
+    return step if before == math.inf else step * step / (before - step)
+
+
+@dataclass
+class Fit:
+    """Matches to which strengths are fitted: how many each pair played, and the score of each robot."""
+
+    pairs: Pairs
+    played: Sequence[int]
+    scores: list[float]
+
+    def fitted(
+        self, begin: list[float], close: float, factors: Factors | None = None, slope: list[float] | None = None
+    ) -> list[float]:
+        """The strengths of the greatest likelihood, by Newton's method with steps of limited length.
+
+        A curvature that is given, factored, is used as long as steps get shorter fast. The first slope may be given, too."""
+        strengths, before = begin, math.inf
+        for _ in range(STEPS_MAX):
+            if factors is None:
+                factors = matrices.factored(self.pairs.curvature(self.played, strengths))
+            steps = matrices.solved(factors, slope or self.pairs.slope(self.played, self.scores, strengths))
+            longest = max(abs(it) for it in steps)
+            scale = min(1.0, STEP_MAX / longest) if longest else 1.0
+            strengths = [it + scale * step for it, step in zip(strengths, steps)]
+            if scale < 1 or longest > SHORTER * before:
+                factors = None
+            elif left(longest, before) < close:
+                break
+            before, slope = longest, None
+        return strengths

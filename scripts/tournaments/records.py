@@ -1,8 +1,9 @@
-"""Records: what a series played, as one line. A journal has one a series, and a plan's command line writes one."""
+"""Records: what a series played, as one line with a checksum. A journal has one a series, and a plan's command line writes one."""
 
 from __future__ import annotations
 
 import functools
+import hashlib
 import os
 import re
 from dataclasses import dataclass
@@ -11,24 +12,39 @@ from urllib.parse import quote, unquote_to_bytes
 
 from . import settings as setting
 from .robots import Robot
-from .settings import Group, Settings
+from .settings import NUMBER, Group, Settings
 
-HEAD = re.compile(rf"series {setting.PATTERN} group=(\d+(?:,\d+)+) first=(\d+) count=(\d+) sha256=([0-9a-f,]+) files=([^\s']+)")
-RESULT = r"\d+(?::\d{1,3})+"
+# The number is that of the format.
+BEGIN, OLDER = "series 2 ", "series m="
+HEAD = re.compile(rf"{BEGIN}{setting.PATTERN} seats=(\d{{1,9}}(?:,\d{{1,9}}){{1,3}}) seed={NUMBER} "
+                  rf"first={NUMBER} count={NUMBER} sha256=([0-9a-f,]+) files=([^\s']+)")
+SETTINGS = 8
+RESULT = r"\d{1,10}(?::\d{1,3})+"
 RESULTS = re.compile(rf" results=({RESULT}(?:,{RESULT})*)")
+SUM = re.compile(r" sum=([0-9a-f]{16})\n")
+DEAD, UPDATE = 100, 15
+
+
+class NoRecord(Exception):
+    """Why a line is no record."""
 
 
 @dataclass(frozen=True)
 class Series:
-    """Some matches of a group, one after another."""
+    """Some matches of a seating, one after another: the robots' positions in the order of their seats, and the seed."""
 
-    group: Group
+    seats: Group
+    seed: int
     first: int
     count: int
 
     @property
     def last(self) -> int:
         return self.first + self.count - 1
+
+    @property
+    def group(self) -> Group:
+        return tuple(sorted(self.seats))
 
 
 @dataclass(frozen=True)
@@ -41,13 +57,13 @@ class Match:
     @property
     def results(self) -> str:
         """What each robot did, as the totals of `crobots` count it: a letter w, t or l for each."""
-        alive = sum(it < 100 for it in self.damage)
-        return "".join("l" if it >= 100 else "w" if alive == 1 else "t" for it in self.damage)
+        alive = sum(it < DEAD for it in self.damage)
+        return "".join("l" if it >= DEAD else "w" if alive == 1 else "t" for it in self.damage)
 
 
 @dataclass(frozen=True)
 class Record:
-    """A series that was played, or is to be played (then without results)."""
+    """A series that was played, or is to be played (then without results). Robots and results are in the order of seats."""
 
     settings: Settings
     series: Series
@@ -56,17 +72,30 @@ class Record:
 
     def head(self) -> str:
         """The record's line as far as it is known before the series is played. It has no quote and no line break."""
-        group = ",".join(str(at + 1) for at in self.series.group)
+        it = self.series
+        seats = ",".join(str(at + 1) for at in it.seats)
         hashes = ",".join(robot.sha256 for robot in self.robots)
         files = ",".join(encoded(robot.path) for robot in self.robots)
-        return f"series {self.settings.text} group={group} first={self.series.first} count={self.series.count} sha256={hashes} files={files}"
+        return (f"{BEGIN}{self.settings.text} seats={seats} seed={it.seed} first={it.first} count={it.count} "
+                f"sha256={hashes} files={files}")
 
     def line(self) -> str:
-        return f"{self.head()} results={self.results}\n"
+        text = f"{self.head()} results={self.results}"
+        return f"{text} sum={checksum(text)}\n"
+
+    @functools.cached_property
+    def ended(self) -> list[str]:
+        """What the robots of each match did, a letter for each; nothing for damage that can't be."""
+        return [letters(it[it.index(":") + 1:]) for it in self.results.split(",")]
 
     def matches(self) -> Iterator[tuple[int, Match]]:
         """The matches with their numbers."""
         return ((self.series.first + at, match(it)) for at, it in enumerate(self.results.split(",")))
+
+
+def checksum(text: str) -> str:
+    """What stands at a record's end: the beginning of the hash of all before it."""
+    return hashlib.sha256(text.encode()).hexdigest()[:16]
 
 
 @functools.cache
@@ -75,10 +104,23 @@ def encoded(path: str) -> str:
     return quote(os.fsencode(path))
 
 
+@functools.cache
+def robot(file: str, sha256: str) -> Robot:
+    """The robot of a path without blanks, commas and quotes."""
+    return Robot(os.fsdecode(unquote_to_bytes(file)), sha256)
+
+
 def match(result: str) -> Match:
     """Reads a result, as 22275:0:100."""
     cycles, *damage = map(int, result.split(":"))
     return Match(cycles, tuple(damage))
+
+
+@functools.lru_cache(1 << 16)
+def letters(damage: str) -> str:
+    """What each robot did, of damage as 0:100; nothing if that can't be."""
+    it = match(f"0:{damage}")
+    return it.results if max(it.damage) <= DEAD else ""
 
 
 def planned(text: str) -> Record | None:
@@ -87,30 +129,53 @@ def planned(text: str) -> Record | None:
     return record(found) if found else None
 
 
-def played(line: str) -> Record | None:
+def played(line: str) -> Record:
     """The record that is a whole line, with its line feed."""
     head = HEAD.match(line)
     results = RESULTS.match(line, head.end()) if head else None
-    if not head or not results or line[results.end():] != "\n":
-        return None
+    end = SUM.fullmatch(line, results.end()) if results else None
+    if not head or not results or not end:
+        older = line.startswith(OLDER)
+        raise NoRecord("is a record of an older format" if older else "is cut short, or is no record of a series")
+    if checksum(line[: results.end()]) != end[1]:
+        raise NoRecord("was changed: its checksum is another")
     it = record(head, results[1])
-    each = results[1].split(",")
-    return it if it and len(each) == it.series.count and {result.count(":") for result in each} == {len(it.robots)} else None
+    if it is None:
+        raise NoRecord("is no record of a series: its fields don't fit each other")
+    check_results(it)
+    return it
+
+
+def check_results(record: Record) -> None:
+    """Refuses results that no matches of these robots and this limit can have.
+
+    A match ends early only in an update after which at most one robot lives."""
+    each, robots, limit = record.results.split(","), len(record.robots), record.settings.cycles
+    if len(each) != record.series.count:
+        raise NoRecord(f"has {len(each)} results of {record.series.count} matches")
+    for at, (result, ended) in enumerate(zip(each, record.ended)):
+        cycles = int(result[: result.index(":")])
+        early = 0 < cycles < limit and cycles % UPDATE == 0 and "t" not in ended
+        if len(ended) != robots or not (cycles == limit or early):
+            raise NoRecord(f"has a result that can't be: {result} of match {record.series.first + at}")
 
 
 def record(head: re.Match[str], results: str = "") -> Record | None:
     """The record of the fields of a head, if they fit each other."""
-    settings = setting.parsed(*head.groups()[:7])
-    group = tuple(int(it) - 1 for it in head[8].split(","))
-    hashes, files = head[11].split(","), head[12].split(",")
-    series = Series(group, int(head[9]), int(head[10]))
-    is_sound = len(group) == len(hashes) == len(files) and len(group) in settings.sizes and is_group(group, settings.robots)
-    if not is_sound or not 1 <= series.first <= series.last <= settings.matches:
+    settings = setting.parsed(*head.groups()[:SETTINGS])
+    seats_given, seed, first, count, hashes_given, files_given = head.groups()[SETTINGS:]
+    series = Series(tuple(int(it) - 1 for it in seats_given.split(",")), int(seed), int(first), int(count))
+    hashes, files = hashes_given.split(","), files_given.split(",")
+    size = len(series.seats)
+    if not size == len(hashes) == len(files) or size not in settings.sizes or not is_seating(series.seats, settings.robots):
         return None
-    robots = (Robot(os.fsdecode(unquote_to_bytes(file)), sha256) for file, sha256 in zip(files, hashes))
-    return Record(settings, series, tuple(robots), results)
+    if not 1 <= series.first <= series.last <= settings.each(size):
+        return None
+    return Record(settings, series, tuple(map(robot, files, hashes)), results)
 
 
-def is_group(group: Group, robots: int) -> bool:
-    """Reports whether these are positions of different robots in their order."""
-    return 0 <= group[0] and group[-1] < robots and all(one < other for one, other in zip(group, group[1:]))
+def is_seating(seats: Group, robots: int) -> bool:
+    """Reports whether these are positions of different robots, in their order if they begin with the first of them."""
+    begin = seats.index(min(seats))
+    turned = seats[begin:] + seats[:begin]
+    return 0 <= turned[0] and turned[-1] < robots and all(one < other for one, other in zip(turned, turned[1:]))

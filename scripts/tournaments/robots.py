@@ -1,16 +1,25 @@
-"""The robots of a tournament: their files, hashes and names, and whether they compile."""
+"""The robots of a tournament: their files, hashes and names, and whether they compile.
+
+A file is read once, and what is compiled and played is a copy in a private folder, named by its hash: so a robot that is
+edited meanwhile changes nothing."""
 
 from __future__ import annotations
 
+import contextlib
 import hashlib
 import os
 import shutil
 import subprocess
 import sys
+import tempfile
 from collections import Counter
 from dataclasses import dataclass
+from typing import Iterable, Iterator
 
-from .faults import FAULTY, FILE, PROGRAM, Fault, unreadable
+from .faults import FAULTY, FILE, PROGRAM, Fault, unreadable, unwritable
+from .output import tell
+from .programs import Program
+from .signals import watch
 
 
 @dataclass(frozen=True)
@@ -21,8 +30,25 @@ class Robot:
     sha256: str
 
 
-def read(paths: list[str]) -> list[Robot]:
-    """Reads the robots' files."""
+@contextlib.contextmanager
+def private() -> Iterator[str]:
+    """Makes a folder that nobody else can read, and removes it in the end."""
+    with watch() as stop:
+        try:
+            folder = tempfile.mkdtemp(prefix="crobots-")
+        except OSError as why:
+            unwritable(tempfile.gettempdir(), why)
+    try:
+        stop.check()
+        yield folder
+    finally:
+        with watch() as stop:
+            shutil.rmtree(folder, ignore_errors=True)
+    stop.check()
+
+
+def copied(paths: list[str], folder: str) -> list[Robot]:
+    """Reads the robots' files, and copies them into a folder."""
     seen: set[str] = set()
     for path in paths:
         if "\n" in path:
@@ -30,16 +56,29 @@ def read(paths: list[str]) -> list[Robot]:
         if os.path.abspath(path) in seen:
             raise Fault(f"the robot {path} is given twice")
         seen.add(os.path.abspath(path))
-    return [Robot(path, hashed(path)) for path in paths]
+    return [copy(path, folder) for path in paths]
 
 
-def hashed(path: str) -> str:
-    """The SHA-256 of a file."""
+def copy(path: str, folder: str) -> Robot:
+    """Reads a file, and copies it."""
     try:
         with open(path, "rb") as file:
-            return hashlib.file_digest(file, "sha256").hexdigest()
+            source = file.read()
     except OSError as why:
         unreadable(path, why)
+    it = Robot(path, hashlib.sha256(source).hexdigest())
+    place = os.path.join(folder, it.sha256)
+    try:
+        with open(place, "wb") as file:
+            file.write(source)
+    except OSError as why:
+        unwritable(place, why)
+    return it
+
+
+def in_order(robots: Iterable[Robot]) -> list[Robot]:
+    """The order of a tournament, which doesn't depend on that of the words."""
+    return sorted(robots, key=lambda it: (it.sha256, os.fsencode(it.path)))
 
 
 def names(paths: list[str]) -> list[str]:
@@ -55,34 +94,24 @@ def names(paths: list[str]) -> list[str]:
     return found
 
 
-def program(given: str | None) -> str:
-    """Finds the program: the one given, the one on the path, or the one built or installed with this script."""
-    here = os.path.dirname(os.path.realpath(__file__))
-    built = os.path.normpath(os.path.join(here, "..", "..", "crates", "crobots", "out", "crobots"))
-    installed = os.path.normpath(os.path.join(here, "..", "..", "..", "..", "bin", "crobots"))
-    places = [given] if given else ["crobots", built, installed]
-    found = next((path for place in places if (path := shutil.which(place))), None)
-    if not found:
-        raise Fault(f"{given or 'crobots'} is not there, or is no program; README.md says how it is built")
-    return found
-
-
-def compiled(crobots: str, profile: int, robots: list[Robot]) -> None:
+def compiled(crobots: Program, profile: int, robots: list[Robot], folder: str) -> None:
     """Stops, with the program's own diagnostics, if a robot has a fault."""
-    statuses = {diagnosed(crobots, profile, robot.path) for robot in robots} - {0}
+    statuses = {diagnosed(crobots.path, profile, robot, folder) for robot in robots} - {0}
     if statuses == {1}:
         sys.exit(FAULTY)
     if statuses:
         sys.exit(FILE if statuses <= {1, 3} else PROGRAM)
 
 
-def diagnosed(crobots: str, profile: int, path: str) -> int:
-    """Compiles a robot, and passes the program's diagnostic on; answers the program's status."""
+def diagnosed(crobots: str, profile: int, robot: Robot, folder: str) -> int:
+    """Compiles a robot's copy, and passes the program's diagnostic on under the robot's name; answers the program's status."""
+    words = [crobots, "-c", f"-p{profile}", "--", os.path.join(folder, robot.sha256)]
     try:
-        ran = subprocess.run([crobots, "-c", f"-p{profile}", "--", path], stdin=subprocess.DEVNULL, stdout=subprocess.DEVNULL, stderr=subprocess.PIPE, check=False)
+        ran = subprocess.run(words, stdin=subprocess.DEVNULL, stdout=subprocess.DEVNULL, stderr=subprocess.PIPE, check=False)
     except OSError as why:
         raise Fault(f"{crobots} can't be run: {why.strerror}", PROGRAM) from why
     if ran.returncode and not ran.stderr:
-        raise Fault(f"{crobots} -c -p{profile} -- {path} ended with status {ran.returncode} and said nothing", PROGRAM)
-    sys.stderr.write(ran.stderr.decode(errors="surrogateescape"))
+        said = f"{crobots} -c -p{profile} -- {robot.path} ended with status {ran.returncode} and said nothing"
+        raise Fault(said, PROGRAM)
+    tell(os.fsdecode(ran.stderr).replace(robot.sha256, os.path.basename(robot.path)))
     return ran.returncode

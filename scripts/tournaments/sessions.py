@@ -3,35 +3,41 @@
 from __future__ import annotations
 
 import argparse
-import sys
 from contextlib import closing
 from typing import Callable, Iterator
 
 from .journals import Journal, journal
+from .output import tell
 from .plans import Plan
-from .playing import Player, Stopped, watch
+from .playing import Player
 from .progress import Progress
 from .records import Record
+from .signals import Stopped, stopping, watch
 
 Adds = Callable[[Record], None]
 
 
-def session(given: argparse.Namespace, program: str, plan: Plan, add: Adds) -> None:
-    """Adds all series of a plan, those that the journal has and those that it plays."""
+def session(given: argparse.Namespace, player: Player, plan: Plan, add: Adds) -> str:
+    """Adds all series of a plan, those that the journal has and those that it plays; answers what it has done, in words."""
 
-    def tell(what: str) -> None:
-        print(f"{given.script}: {what}", file=sys.stderr, flush=True)
+    def say(what: str) -> None:
+        tell(f"{given.script}: {what}\n")
 
-    with journal(given.journal, plan.settings, tell) as kept:
+    kept_there = f"; {given.journal} has what was played" if given.journal else ""
+    with stopping(f"stopped while no series was played{kept_there}"), journal(given.journal, plan.settings, say) as kept:
         series = sum(not there for there, _ in plan.resumed(kept)) if given.journal else plan.count()
         progress = Progress(series, given.quiet, given.script)
         try:
-            play(Player(program, given.jobs), missing(plan, kept, add), kept, add, progress)
+            play(player, missing(plan, kept, add), kept, add, progress)
         except Stopped as why:
+            raise Stopped(why.number, f"stopped: {done(progress)}{kept_there}") from why
+        finally:
             progress.clear()
-            where = f"; {given.journal} has what was played" if given.journal else ""
-            raise Stopped(why.number, f"stopped: {progress.done} of {series} series were played, {progress.matches} matches{where}") from why
-        progress.clear()
+    return f"{done(progress)}{kept_there}"
+
+
+def done(progress: Progress) -> str:
+    return f"{progress.done} of {progress.series} series were played, {progress.matches} matches"
 
 
 def missing(plan: Plan, kept: Journal, add: Adds) -> Iterator[Record]:

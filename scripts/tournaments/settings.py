@@ -3,19 +3,23 @@
 from __future__ import annotations
 
 from dataclasses import dataclass
-from functools import cached_property
+from functools import cache, cached_property
+
+from .seats import rounded
 
 Group = tuple[int, ...]
+SIZE_NAMES = {2: "pairs", 3: "threes", 4: "fours"}
 
 
 @dataclass(frozen=True)
 class Settings:
-    """All that decides a tournament, but for the robots' bytes."""
+    """All that decides a tournament, but for the robots' bytes. The program is the hash of its bytes."""
 
     matches: int
     cycles: int
     seed: int
     profile: int
+    program: str
     robots: int
     sizes: tuple[int, ...]
     sample: int = 0
@@ -23,23 +27,32 @@ class Settings:
     @cached_property
     def text(self) -> str:
         """The settings as a record has them."""
-        sizes = ",".join(map(str, self.sizes))
-        return f"m={self.matches} l={self.cycles} s={self.seed} p={self.profile} robots={self.robots} sizes={sizes} sample={self.sample}"
+        return (f"m={self.matches} l={self.cycles} s={self.seed} p={self.profile} program={self.program} "
+                f"robots={self.robots} sizes={','.join(map(str, self.sizes))} sample={self.sample}")
 
-    def options(self, first: int, count: int) -> list[str]:
-        """The words by which `crobots` plays these matches."""
-        return [f"-m{count}", f"-l{self.cycles}", f"-s{self.seed}", f"-p{self.profile}", f"-f{first}", "--"]
+    def each(self, size: int) -> int:
+        """The matches of each seating of a group of this size."""
+        return rounded(self.matches, size) // size
+
+    def options(self, seed: int, first: int, count: int) -> list[str]:
+        """The words by which `crobots` plays these matches of a seating."""
+        return [f"-m{count}", f"-l{self.cycles}", f"-s{seed}", f"-p{self.profile}", f"-f{first}", "--"]
 
 
-PATTERN = r"m=(\d+) l=(\d+) s=(\d+) p=(\d+) robots=(\d+) sizes=([2-4](?:,[2-4])*) sample=(\d+)"
+NUMBER = r"(\d{1,20})"
+PATTERN = (rf"m={NUMBER} l={NUMBER} s={NUMBER} p={NUMBER} program=([0-9a-f]{{64}}) "
+           rf"robots={NUMBER} sizes=([2-4](?:,[2-4]){{0,2}}) sample={NUMBER}")
 
 
-def parsed(m: str, l: str, s: str, p: str, robots: str, sizes: str, sample: str) -> Settings:
+@cache
+def parsed(m: str, l: str, s: str, p: str, program: str, robots: str, sizes: str, sample: str) -> Settings:
     """The settings of the fields that PATTERN finds."""
-    return Settings(int(m), int(l), int(s), int(p), int(robots), tuple(map(int, sizes.split(","))), int(sample))
+    several = tuple(map(int, sizes.split(",")))
+    return Settings(int(m), int(l), int(s), int(p), program, int(robots), several, int(sample))
 
 
-NAMES = {"matches": "matches", "cycles": "limit", "seed": "seed", "profile": "profile", "robots": "number of robots", "sizes": "size", "sample": "sample"}
+NAMES = {"matches": "matches", "cycles": "limit", "seed": "seed", "profile": "profile", "program": "program",
+         "robots": "number of robots", "sizes": "size", "sample": "sample"}
 
 
 def difference(one: Settings, other: Settings) -> str:
@@ -50,5 +63,8 @@ def difference(one: Settings, other: Settings) -> str:
     return ""
 
 
-def shown(value: int | tuple[int, ...]) -> str:
+def shown(value: int | str | tuple[int, ...]) -> str:
+    """A setting as a fault names it: of a hash the first digits."""
+    if isinstance(value, str):
+        return value[:16]
     return ",".join(map(str, value)) if isinstance(value, tuple) else str(value)

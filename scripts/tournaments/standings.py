@@ -9,8 +9,6 @@ from decimal import Decimal
 from .ratings import Rating, ratings
 from .tallies import Score, Tally
 
-SIZE_NAMES = {2: "pairs", 3: "threes", 4: "fours"}
-
 
 @dataclass(frozen=True)
 class Scoring:
@@ -30,7 +28,7 @@ class Scoring:
 
 @dataclass(frozen=True)
 class Standing:
-    """A robot's place in the table."""
+    """A robot's place in the table, which goes by points a match."""
 
     rank: int
     robot: int
@@ -61,7 +59,7 @@ def unplaced(tally: Tally, robot: int, name: str, scoring: Scoring, rating: Rati
     total = Score(*(sum(getattr(it, what) for it in scores.values()) for what in ("won", "tied", "lost")))
     by_size = {size: scoring.mean(it) for size, it in sorted(scores.items())}
     if scoring.weights is None:
-        return Standing(0, robot, name, total, by_size, scoring.points(total), rating, False)
+        return Standing(0, robot, name, total, by_size, scoring.mean(total), rating, False)
     points = sum((scoring.weights.get(size, Decimal(0)) * mean for size, mean in by_size.items()), Decimal(0))
     return Standing(0, robot, name, total, by_size, points, rating, False)
 

@@ -1,4 +1,6 @@
-"""The forms of what a tournament says: a table, comma-separated values, a matrix, a row a match and robot, JSON."""
+"""The forms of what a tournament says: a table, comma-separated values, a matrix, a row a match and robot, JSON.
+
+The last two are made piece by piece, since they have all matches."""
 
 from __future__ import annotations
 
@@ -6,17 +8,17 @@ import csv
 import io
 import json
 import unicodedata
-from decimal import ROUND_HALF_EVEN, Decimal
+from decimal import Decimal
 from typing import Any, Iterable, Iterator
 
-from .records import Match, Record
+from .records import Record
 from .robots import Robot
-from .settings import Group, Settings
-from .standings import SIZE_NAMES, Faced, Scoring, Standing
+from .settings import SIZE_NAMES, Settings
+from .standings import Faced, Scoring, Standing
 
 RESULTS = {"w": "won", "t": "tied", "l": "lost"}
 CLOSE = "close"
-LONG = ["group", "match", "seed", "cycles", "robot", "damage", "result"]
+LONG = ["seed", "match", "cycles", "seat", "robot", "damage", "result"]
 
 
 def width(text: str) -> int:
@@ -31,7 +33,8 @@ def aligned(rows: list[list[str]], left: Iterable[int]) -> str:
     lines = []
     for row in rows:
         blanks = [" " * (most - width(cell)) for most, cell in zip(widths, row)]
-        lines.append("  ".join(cell + blank if at in lefts else blank + cell for at, (cell, blank) in enumerate(zip(row, blanks))).rstrip())
+        cells = [cell + blank if at in lefts else blank + cell for at, (cell, blank) in enumerate(zip(row, blanks))]
+        lines.append("  ".join(cells).rstrip())
     return "\n".join(lines) + "\n"
 
 
@@ -41,19 +44,19 @@ def comma_separated(rows: Iterable[Iterable[object]]) -> str:
     return text.getvalue()
 
 
-def plain(number: Decimal) -> str:
-    """A number with at most three digits after its point, and no zero at its end."""
-    text = f"{number.quantize(Decimal('0.001'), ROUND_HALF_EVEN):f}"
-    return text.rstrip("0").rstrip(".")
+def rounded(points: Decimal) -> str:
+    """Points with three digits after their point."""
+    return f"{points:.3f}"
 
 
 def rows(table: list[Standing], by_size: bool) -> list[list[str]]:
     """The table's cells, with its head."""
     sizes = list(table[0].by_size) if by_size and table else []
-    head = ["rank", "robot", "played", "won", "tied", "lost", *(SIZE_NAMES[size] for size in sizes), "points", "rating", "low", "high", CLOSE]
+    counts = ["rank", "robot", "played", "won", "tied", "lost"]
+    head = [*counts, *(SIZE_NAMES[size] for size in sizes), "points", "rating", "low", "high", CLOSE]
     return [head, *([
         str(it.rank), it.name, *map(str, (it.score.played, it.score.won, it.score.tied, it.score.lost)),
-        *(plain(it.by_size[size]) for size in sizes), plain(it.points),
+        *(rounded(it.by_size[size]) for size in sizes), rounded(it.points),
         *(str(round(value)) for value in (it.rating.value, it.rating.low, it.rating.high)), CLOSE if it.close else "",
     ] for it in table)]
 
@@ -66,43 +69,39 @@ def table(standings: list[Standing], by_size: bool) -> str:
 def matrix(standings: list[Standing], faced: list[list[Faced | None]]) -> str:
     """Head to head, in the order of the table: won/tied/lost of the row's robot against the column's."""
     head = ["", *(str(place) for place in range(1, len(standings) + 1))]
-    cells = [[f"{place} {it.name}", *(cell(faced[it.robot][other.robot]) for other in standings)] for place, it in enumerate(standings, 1)]
-    return aligned([head, *cells], (0,))
+    rows = [[f"{place} {it.name}", *(cell(faced[it.robot][other.robot]) for other in standings)]
+            for place, it in enumerate(standings, 1)]
+    return aligned([head, *rows], (0,))
 
 
 def cell(it: Faced | None) -> str:
     return f"{it.won}/{it.tied}/{it.lost}" if it else "-"
 
 
-def order(record: Record) -> tuple[int, Group, int]:
-    return len(record.series.group), record.series.group, record.series.first
-
-
-def matches(records: list[Record]) -> Iterator[tuple[Group, int, Match]]:
-    """All matches in the order of their groups and numbers."""
-    for record in sorted(records, key=order):
+def long(records: Iterable[Record], names: list[str]) -> Iterator[str]:
+    """A row for each robot of each match, the robots of a match in the order of their seats."""
+    yield comma_separated([LONG])
+    for record in records:
+        series, found = record.series, list[list[object]]()
         for number, match in record.matches():
-            yield record.series.group, number, match
+            for seat, (robot, damage, letter) in enumerate(zip(series.seats, match.damage, match.results), 1):
+                found.append([series.seed, number, match.cycles, seat, names[robot], damage, RESULTS[letter]])
+        yield comma_separated(found)
 
 
-def long(records: list[Record], names: list[str], seed: int) -> str:
-    """A row for each robot of each match."""
-    found: list[list[object]] = [[*LONG]]
-    for group, number, match in matches(records):
-        among = " ".join(str(robot + 1) for robot in group)
-        for robot, damage, letter in zip(group, match.damage, match.results):
-            found.append([among, number, seed, match.cycles, names[robot], damage, RESULTS[letter]])
-    return comma_separated(found)
-
-
-def everything(settings: Settings, scoring: Scoring, robots: list[Robot], standings: list[Standing], faced: list[list[Faced | None]], records: list[Record]) -> str:
+def everything(
+    settings: Settings, scoring: Scoring, robots: list[Robot], standings: list[Standing], faced: list[list[Faced | None]],
+    records: Iterable[Record],
+) -> Iterator[str]:
     """All of it as JSON."""
     names = {it.robot: it.name for it in standings}
+    weights = scoring.weights
     said: dict[str, Any] = {
         "settings": {
-            "matches": settings.matches, "cycles": settings.cycles, "seed": settings.seed, "profile": settings.profile, "sizes": settings.sizes,
-            "sample": settings.sample, "points": {"won": float(scoring.won), "tied": float(scoring.tied)},
-            "weights": scoring.weights and {SIZE_NAMES[size]: float(weight) for size, weight in scoring.weights.items()},
+            "matches": settings.matches, "cycles": settings.cycles, "seed": settings.seed, "profile": settings.profile,
+            "program": settings.program, "sizes": settings.sizes, "sample": settings.sample,
+            "points": {"won": float(scoring.won), "tied": float(scoring.tied)},
+            "weights": {SIZE_NAMES[size]: float(weight) for size, weight in weights.items()} if weights else None,
         },
         "robots": [{"name": names[at], "file": it.path, "sha256": it.sha256} for at, it in enumerate(robots)],
         "table": [standing(it) for it in standings],
@@ -110,12 +109,23 @@ def everything(settings: Settings, scoring: Scoring, robots: list[Robot], standi
             {"robot": names[one], "against": names[other], "won": it.won, "tied": it.tied, "lost": it.lost}
             for one, row in enumerate(faced) for other, it in enumerate(row) if it
         ],
-        "matches": [
-            {"group": [names[robot] for robot in group], "match": number, "cycles": match.cycles, "damage": match.damage, "results": [RESULTS[letter] for letter in match.results]}
-            for group, number, match in matches(records)
-        ],
     }
-    return json.dumps(said, indent=1) + "\n"
+    yield json.dumps(said, indent=1).removesuffix("\n}") + ',\n "matches": ['
+    before = "\n  "
+    for record in records:
+        for match in matches(record, names):
+            yield before + json.dumps(match)
+            before = ",\n  "
+    yield "\n ]\n}\n"
+
+
+def matches(record: Record, names: dict[int, str]) -> Iterator[dict[str, Any]]:
+    """The matches of a record for JSON. A seed is a text, since readers round large numbers."""
+    robots = [names[robot] for robot in record.series.seats]
+    for number, match in record.matches():
+        results = [RESULTS[letter] for letter in match.results]
+        yield {"seed": str(record.series.seed), "match": number, "cycles": match.cycles,
+               "robots": robots, "damage": match.damage, "results": results}
 
 
 def standing(it: Standing) -> dict[str, Any]:

@@ -3,6 +3,7 @@
 from __future__ import annotations
 
 import itertools
+from collections import defaultdict
 from dataclasses import dataclass, field
 
 from .bootstrap import Packed, Weights
@@ -30,8 +31,7 @@ class Pair:
     played: int = 0
     tied: int = 0
     beaten: list[int] = field(default_factory=lambda: [0, 0])
-    rounds_played: Packed = 0
-    rounds_beaten: list[Packed] = field(default_factory=lambda: [0, 0])
+    rounds: Packed = 0
 
 
 @dataclass
@@ -43,31 +43,30 @@ class Cell:
 
 
 class Tally:
-    """All matches of a tournament, added up."""
+    """All matches of a tournament, added up. A robot's rounds are twice its score against all others."""
 
     def __init__(self) -> None:
         self.scores: dict[int, dict[int, Score]] = {}
-        self.pairs: dict[tuple[int, int], Pair] = {}
+        self.pairs: defaultdict[tuple[int, int], Pair] = defaultdict(Pair)
+        self.rounds: defaultdict[int, Packed] = defaultdict(int)
         self._weights = Weights()
 
     def add(self, record: Record) -> None:
         """Adds the matches of a record."""
-        cells: dict[str, Cell] = {}
-        group = record.series.group
-        begin = self._weights.begin(group)
-        for number, match in record.matches():
-            cell = cells.setdefault(match.results, Cell())
+        cells: defaultdict[str, Cell] = defaultdict(Cell)
+        series = record.series
+        for ended, rounds in zip(record.ended, self._weights.of(series.seed + series.first)):
+            cell = cells[ended]
             cell.matches += 1
-            cell.rounds += self._weights.of(begin + number)
-        for results, cell in cells.items():
-            self._add_scores(group, results, cell.matches)
-            for one, other in itertools.combinations(range(len(group)), 2):
-                pair = self.pairs.setdefault((group[one], group[other]), Pair())
-                add_to_pair(pair, results[one] == "l", results[other] == "l", cell)
+            cell.rounds += rounds
+        for ended, cell in cells.items():
+            self._add_scores(series.seats, ended, cell.matches)
+            for one, other in itertools.combinations(sorted(zip(series.seats, ended)), 2):
+                self._add_pair(one, other, cell)
 
-    def _add_scores(self, group: Group, results: str, matches: int) -> None:
-        of_size = self.scores.setdefault(len(group), {})
-        for robot, letter in zip(group, results):
+    def _add_scores(self, seats: Group, ended: str, matches: int) -> None:
+        of_size = self.scores.setdefault(len(seats), {})
+        for robot, letter in zip(seats, ended):
             score = of_size.setdefault(robot, Score())
             if letter == "w":
                 score.won += matches
@@ -76,14 +75,17 @@ class Tally:
             else:
                 score.lost += matches
 
-
-def add_to_pair(pair: Pair, one_died: bool, other_died: bool, cell: Cell) -> None:
-    """Adds matches in which one or both of a pair died, or none."""
-    pair.played += cell.matches
-    pair.rounds_played += cell.rounds
-    if one_died != other_died:
-        winner = 1 if one_died else 0
-        pair.beaten[winner] += cell.matches
-        pair.rounds_beaten[winner] += cell.rounds
-    elif not one_died:
-        pair.tied += cell.matches
+    def _add_pair(self, one: tuple[int, str], other: tuple[int, str], cell: Cell) -> None:
+        """Adds matches of two robots, each with what it did: one or both of them died, or none."""
+        pair = self.pairs[one[0], other[0]]
+        pair.played += cell.matches
+        pair.rounds += cell.rounds
+        died = one[1] == "l", other[1] == "l"
+        if died[0] != died[1]:
+            winner = 1 if died[0] else 0
+            pair.beaten[winner] += cell.matches
+            self.rounds[(one, other)[winner][0]] += 2 * cell.rounds
+        else:
+            pair.tied += 0 if died[0] else cell.matches
+            self.rounds[one[0]] += cell.rounds
+            self.rounds[other[0]] += cell.rounds

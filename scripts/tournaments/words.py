@@ -9,6 +9,7 @@ from decimal import Decimal
 from typing import Callable, NoReturn
 
 from .faults import Fault
+from .output import show
 
 MATCHES_MAX, CYCLES_MAX, SEED_MAX = 1_000_000, 1_000_000_000, 2**64 - 1
 
@@ -52,9 +53,25 @@ def decimals(count: int) -> Callable[[str], list[Decimal]]:
     return read
 
 
+FORMS = ("table", "csv", "matrix", "long", "json")
+
+
+def target(text: str) -> tuple[str, str]:
+    """Reads a form and a file, as csv=FILE."""
+    form, _, path = text.partition("=")
+    if form not in FORMS or not path:
+        raise argparse.ArgumentTypeError(f"{text!r} is not FORM=FILE with a form of {', '.join(FORMS)}")
+    return form, path
+
+
 class Parser(argparse.ArgumentParser):
+    """A parser whose faults are told in one line, and whose help is written as other output is."""
+
     def error(self, message: str) -> NoReturn:
         raise Fault(message)
+
+    def print_help(self, _: object = None) -> None:
+        show([self.format_help()])
 
 
 def common(name: str, does: str) -> Parser:
@@ -62,7 +79,7 @@ def common(name: str, does: str) -> Parser:
     it = Parser(prog=name, description=does, allow_abbrev=False)
     it.set_defaults(script=name)
     it.add_argument("-j", dest="jobs", metavar="JOBS", type=within(1, 1024), default=os.cpu_count() or 1, help="series at a time (default: the processors)")
-    it.add_argument("-m", dest="matches", metavar="MATCHES", type=within(1, MATCHES_MAX), help="matches of each group (default 100)")
+    it.add_argument("-m", dest="matches", metavar="MATCHES", type=within(1, MATCHES_MAX), help="matches of each group, rounded up to a multiple of its size (default 100)")
     it.add_argument("-l", dest="cycles", metavar="CYCLES", type=within(1, CYCLES_MAX), help="cycles of a match (default 500000)")
     it.add_argument("-s", dest="seed", metavar="SEED", type=within(0, SEED_MAX), help="seed (default 1)")
     it.add_argument("-p", dest="profile", metavar="PROFILE", type=within(1, 2), help="language profile, 1 or 2 (default 1)")
@@ -79,16 +96,22 @@ def tournament(name: str) -> Parser:
     it = common(name, "Plays every pair of robots (or every three, or four), and prints a table.")
     it.add_argument("--size", metavar="2|3|4", type=within(2, 4), help="robots of a match (default 2)")
     it.add_argument("--by-size", metavar="A,B,C", type=decimals(3), help="play pairs, threes and fours, and add up their points a match with these weights")
-    it.add_argument("--sample", metavar="N", type=within(1, 10_000_000), help="play only N groups, in which each robot is equally often")
+    it.add_argument("--sample", metavar="N", type=within(1, 10_000_000), help="play only N groups, drawn by the seed")
     it.add_argument("--piece", metavar="MATCHES", type=within(1, MATCHES_MAX), help="most matches of one series (default: so that all processors are busy)")
     it.add_argument("--plan", action="store_true", help="print the command lines of all series, one a line, and play nothing")
     it.add_argument("--merge", action="store_true", help="read what such command lines wrote from files, or from standard input")
     it.add_argument("--against", metavar="PLAN", help="with --merge: name the lines of the plan that are missing or twice")
     forms = it.add_mutually_exclusive_group()
-    forms.add_argument("--csv", action="store_true", help="print the table as comma-separated values")
-    forms.add_argument("--matrix", action="store_true", help="print what each robot won, tied and lost against each other")
-    forms.add_argument("--long", action="store_true", help="print comma-separated values, a row for each match and robot")
-    forms.add_argument("--json", action="store_true", help="print everything as JSON")
+    for form, does in {"csv": "the table as comma-separated values", "matrix": "what each robot won, tied and lost against each other",
+                       "long": "comma-separated values, a row for each match and robot", "json": "everything as JSON"}.items():
+        forms.add_argument(f"--{form}", dest="form", action="store_const", const=form, default="table", help=f"print {does}")
+    it.add_argument("--write", metavar="FORM=FILE", type=target, action="append", default=[],
+                    help="write a form (table, csv, matrix, long, json) into a file, too; may be given often")
+    it.add_argument("--html", metavar="FOLDER", help="write a site into this folder: the table, pairs, robots and matches")
+    it.add_argument("--title", metavar="TEXT", help="with --html: the site's title (default Tournament)")
+    it.add_argument("--page", metavar="URL", help="with --html: the page that plays battles in a browser")
+    it.add_argument("--replays", metavar="N", type=within(0, 100_000),
+                    help="with --html: make so many new pages of matches, if crobots-trace is there (default 100)")
     it.add_argument("robots", metavar="ROBOT", nargs="*", help="source files; with --merge, outputs")
     return it
 
@@ -98,6 +121,7 @@ def challenge(name: str) -> Parser:
     it = common(name, "Plays a robot and its older version against the same robots in the same matches, "
                       "and says what the change is worth.")
     it.add_argument("--old", metavar="OLD", required=True, help="the older version")
+    it.add_argument("--all", action="store_true", help="list all lost matches that the older version won")
     it.add_argument("new", metavar="NEW", help="the newer version")
     it.add_argument("field", metavar="ROBOT", nargs="+", help="the robots that they play against")
     return it

@@ -1,0 +1,143 @@
+"""Charts as SVG: ratings with their intervals, ratings over time, shares. Their colours are the style's."""
+
+from __future__ import annotations
+
+import datetime
+import functools
+from typing import Sequence
+
+from .facts import Place, Score
+from .markup import Markup, joined, tag
+from .scales import Scale, scale
+
+ROW_WIDTH, ROW_HEIGHT = 270, 26
+TIME_WIDTH, TIME_HEIGHT, TIME_LEFT, TIME_BOTTOM = 760, 230, 48, 28
+MINUS = "\N{MINUS SIGN}"
+
+
+def svg(width: int, height: int, *children: Markup, label: str | None = None, kind: str = "") -> Markup:
+    """A drawing. Without a label it repeats what stands beside it as text."""
+    role, hidden = ("img", None) if label else (None, "true")
+    return tag("svg", *children, viewBox=f"0 0 {width} {height}", width=width, height=height,
+               class_=f"chart {kind}".strip(), role=role, aria_label=label, aria_hidden=hidden)
+
+
+def whole(value: float) -> str:
+    """A whole number with the sign for minus."""
+    return f"{round(value)}".replace("-", MINUS)
+
+
+def text(x: float, y: float, said: str, anchor: str = "middle") -> Markup:
+    return tag("text", said, x=x, y=y, text_anchor=anchor)
+
+
+def upright(x: float, low: float, high: float, kind: str) -> Markup:
+    """An upright line."""
+    return tag("line", x1=x, x2=x, y1=low, y2=high, class_=kind)
+
+
+def rating_scale(places: Sequence[Place]) -> Scale:
+    """The axis of all rows of a table."""
+    return scale([end for it in places for end in (it.low, it.high)], 8, ROW_WIDTH - 8)
+
+
+def rating_axis(axis: Scale) -> Markup:
+    """The numbers of the axis."""
+    return svg(ROW_WIDTH, 18, *(text(axis.at(tick), 13, whole(tick)) for tick in axis.ticks()), kind="axis")
+
+
+def rating_row(axis: Scale, it: Place) -> Markup:
+    """A rating as a dot on its interval. An arrow says that it goes on beyond the axis."""
+    grid = [upright(axis.at(tick), 0, ROW_HEIGHT, "grid") for tick in axis.ticks()]
+    return svg(ROW_WIDTH, ROW_HEIGHT, *grid, *span(axis, it.low, it.rating, it.high, ROW_HEIGHT / 2), kind="row")
+
+
+def span(axis: Scale, low: float, value: float, high: float, y: float) -> list[Markup]:
+    """A value as a dot on its interval."""
+    begin, end = axis.at(low), axis.at(high)
+    found = [tag("rect", x=begin, y=y - 4, width=max(round(end - begin, 1), 1), height=8, rx=4, class_="interval")]
+    if low < axis.low:
+        found.append(tag("path", d=f"M{axis.begin - 7} {y}l7 -5v10z", class_="beyond"))
+    if high > axis.high:
+        found.append(tag("path", d=f"M{axis.end + 7} {y}l-7 -5v10z", class_="beyond"))
+    if axis.holds(value):
+        found.append(tag("circle", cx=axis.at(value), cy=y, r=4.5, class_="value"))
+    return found
+
+
+def share_row(low: float, value: float, high: float, label: str) -> Markup:
+    """A share as a dot on its interval, on an axis from 0 to 100 %."""
+    axis = Scale(0, 100, 12, 348)
+    grid = [upright(axis.at(tick), 4, 30, "even" if tick == 50 else "grid") for tick in (0, 25, 50, 75, 100)]
+    numbers = [text(axis.at(tick), 44, f"{tick} %" if tick else "0") for tick in (0, 25, 50, 75, 100)]
+    return svg(366, 48, *grid, *numbers, *span(axis, 100 * low, 100 * value, 100 * high, 17), label=label, kind="axis")
+
+
+def parts(score: Score, width: int = 120, height: int = 12, label: str | None = None) -> Markup:
+    """What was won, tied and lost, as parts of a bar."""
+    found, x = [], 0.0
+    for kind, count in (("won", score.won), ("tied", score.tied), ("lost", score.lost)):
+        wide = width * count / max(score.played, 1)
+        if count:
+            found.append(tag("rect", x=round(x, 1), y=0, width=round(wide, 1), height=height, class_=kind))
+        x += wide
+    return svg(width, height, *found, label=label, kind="parts")
+
+
+@functools.cache
+def damage(percent: int) -> Markup:
+    """A damage as a bar."""
+    track = tag("rect", x=0, y=0, width=100, height=8, rx=4, class_="track")
+    return svg(100, 8, track, tag("rect", x=0, y=0, width=min(percent, 100), height=8, rx=4, class_="damage"))
+
+
+def moments(days: Sequence[str]) -> list[float]:
+    """Where days stand in time; without dates one after another."""
+    try:
+        return [float(datetime.date.fromisoformat(day[:10]).toordinal()) for day in days]
+    except ValueError:
+        return [float(at) for at in range(len(days))]
+
+
+def during(days: Sequence[str], changes: Sequence[str]) -> list[str]:
+    """The changes that came after the first of these days, up to the last one."""
+    return [day for day in changes if days[0] < day <= days[-1]]
+
+
+def over_time(days: Sequence[str], places: Sequence[Place], changes: Sequence[str], label: str) -> Markup:
+    """A rating over time with its interval, and a dotted line at each day of a new version."""
+    every = sorted({*days, *during(days, changes)})
+    times = dict(zip(every, moments(every)))
+    across = Scale(times[days[0]], max(times[days[-1]], times[days[0]] + 1), TIME_LEFT + 6, TIME_WIDTH - 14)
+    up = scale([end for it in places for end in (it.low, it.high)], TIME_HEIGHT - TIME_BOTTOM, 8)
+    xs = [across.at(times[day]) for day in days]
+    new = [upright(across.at(times[day]), 8, TIME_HEIGHT - TIME_BOTTOM, "change") for day in during(days, changes)]
+    return svg(TIME_WIDTH, TIME_HEIGHT, *levels(up), *first_and_last(days, xs), *new, band(up, xs, places),
+               tag("polyline", points=" ".join(f"{x},{up.at(it.rating)}" for x, it in zip(xs, places)), class_="way"),
+               *(point(x, up, day, it) for x, day, it in zip(xs, days, places)), label=label, kind="time axis")
+
+
+def levels(up: Scale) -> list[Markup]:
+    """The levels of ratings, with their numbers."""
+    right = TIME_WIDTH - 8
+    return [joined(tag("line", x1=TIME_LEFT, x2=right, y1=up.at(tick), y2=up.at(tick), class_="grid"),
+                   text(TIME_LEFT - 6, up.at(tick) + 4, whole(tick), "end")) for tick in up.ticks()]
+
+
+def first_and_last(days: Sequence[str], xs: Sequence[float]) -> list[Markup]:
+    """The first day and the last one."""
+    y = TIME_HEIGHT - 8
+    return [text(xs[0], y, days[0], "start")] + ([text(xs[-1], y, days[-1], "end")] if len(days) > 1 else [])
+
+
+def band(up: Scale, xs: Sequence[float], places: Sequence[Place]) -> Markup:
+    """The intervals over time."""
+    above = [f"{x},{up.at(it.high)}" for x, it in zip(xs, places)]
+    below = [f"{x},{up.at(it.low)}" for x, it in zip(xs, places)]
+    return tag("polygon", points=" ".join(above + below[::-1]), class_="interval")
+
+
+def point(x: float, up: Scale, day: str, it: Place) -> Markup:
+    """A rating of a day."""
+    said = f"{day}: {whole(it.rating)} ({whole(it.low)} to {whole(it.high)}), rank {it.rank}"
+    return tag("circle", tag("title", said), cx=x, cy=up.at(it.rating), r=3.5, class_="value")

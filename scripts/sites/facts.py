@@ -1,0 +1,184 @@
+"""What a site shows: plain values, which a league or a tournament fills in.
+
+A tournament is a league of which less is known: no authors, no days, no archive. What isn't known is empty, and then
+the site leaves it out. Texts may have any letters, also the surrogates in names that are no UTF-8."""
+
+from __future__ import annotations
+
+from dataclasses import dataclass
+from decimal import Decimal
+from typing import Mapping
+
+RobotId = str
+
+
+@dataclass(frozen=True)
+class Score:
+    """How often one robot won, tied and lost. A robot that died has lost, even if all others died too.
+
+    Against one other robot it is also said how many of the lost matches both lost."""
+
+    won: int
+    tied: int
+    lost: int
+    both: int = 0
+
+    @property
+    def played(self) -> int:
+        return self.won + self.tied + self.lost
+
+
+@dataclass(frozen=True)
+class Settings:
+    """What the matches depend on beside the robots. A match has a seed of its own."""
+
+    matches: int
+    cycles: int
+    seed: int
+    profile: int
+    sizes: tuple[int, ...] = (2,)
+    # further rows of the page of settings, as ('sample', '400 groups')
+    more: tuple[tuple[str, str], ...] = ()
+
+
+@dataclass(frozen=True)
+class Program:
+    """The program that played, by what it says of itself and by the hash of its file."""
+
+    version: str
+    sha256: str
+
+
+@dataclass(frozen=True)
+class Version:
+    """A robot's source as it was played from a day on; None if only its hash is known.
+
+    A day is written as 2026-11-27."""
+
+    sha256: str
+    source: bytes | None
+    day: str = ""
+
+
+@dataclass(frozen=True)
+class Seat:
+    """A robot's seat in a match: with which damage it ended. Without a version it is the robot's last one."""
+
+    robot: RobotId
+    damage: int
+    version: str = ""
+
+
+@dataclass(frozen=True)
+class Battle:
+    """A match that the site names: its robots in the order of their files, its number, its seed, and when it ended."""
+
+    seats: tuple[Seat, ...]
+    number: int
+    seed: int
+    cycles: int
+    # the page that plays it, if there is one already
+    replay: str = ""
+
+
+@dataclass(frozen=True)
+class Robot:
+    """A robot with all its versions, the last of which plays. It has an id that no other robot ever has."""
+
+    id: RobotId
+    name: str
+    versions: tuple[Version, ...]
+    author: str = ""
+    # the day from which on it doesn't play any more
+    withdrawn: str = ""
+    # what `crobots-trace --sum` says of it
+    sums: str = ""
+    # matches that it lost; if they have days, its last ones, the last one first
+    lost: tuple[Battle, ...] = ()
+
+
+@dataclass(frozen=True)
+class Standing:
+    """A row of the table. It is close if its interval overlaps that of the row above."""
+
+    robot: RobotId
+    rank: int
+    score: Score
+    points: Decimal
+    rating: float
+    low: float
+    high: float
+    close: bool = False
+
+
+@dataclass(frozen=True)
+class Place:
+    """Where a robot was in an earlier table."""
+
+    rank: int
+    rating: float
+    low: float
+    high: float
+
+
+@dataclass(frozen=True)
+class Table:
+    """An earlier table, as it was published on a day."""
+
+    day: str
+    places: Mapping[RobotId, Place]
+
+
+@dataclass(frozen=True)
+class BySeat:
+    """What a pair's first robot did from one seat against the other robot in another. Seats count from 1."""
+
+    seat: int
+    against: int
+    score: Score
+
+
+@dataclass(frozen=True)
+class Notable:
+    """A match worth a look, and what it is: 'closest', 'shortest', 'longest', 'greatest upset'."""
+
+    what: str
+    battle: Battle
+
+
+@dataclass(frozen=True)
+class Pair:
+    """What two robots did to each other, from the first one's side.
+
+    The interval is that of its share: wins and half of the matches that both survived or lost, of all; from 0 to 1."""
+
+    one: RobotId
+    other: RobotId
+    score: Score
+    low: float
+    high: float
+    seats: tuple[BySeat, ...] = ()
+    notable: tuple[Notable, ...] = ()
+
+
+@dataclass(frozen=True)
+class Facts:
+    """All that a site shows. A pair is there once, whichever of its robots comes first."""
+
+    title: str
+    settings: Settings
+    program: Program
+    robots: tuple[Robot, ...]
+    # best first
+    standings: tuple[Standing, ...]
+    pairs: tuple[Pair, ...]
+    # the day of this table, and the tables before, the oldest first
+    day: str = ""
+    earlier: tuple[Table, ...] = ()
+    # what the table goes by
+    points: str = "points"
+    # the path of a file with sources, settings and results, and the command line that checks it
+    archive: str = ""
+    verify: str = ""
+    # the address of the page that plays battles in a browser
+    page: str = ""

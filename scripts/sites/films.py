@@ -1,0 +1,76 @@
+"""Makes pages that play matches: each by a child that does what scripts/replay does, if `crobots-trace` is there."""
+
+from __future__ import annotations
+
+import os
+import subprocess
+import sys
+import tempfile
+from concurrent.futures import ThreadPoolExecutor
+from dataclasses import dataclass
+from typing import Iterator, Mapping, Sequence
+
+from replays.faults import Fault
+from replays.main import program
+
+from .facts import Battle, Settings
+
+# Of a longer match a page has the last cycles alone, so no page is large.
+MOST_CYCLES = 50_000
+MOST_NAME = 255
+# Runs scripts/replay's module from the folder of this package.
+REPLAY = "import sys; sys.path.insert(0, sys.argv.pop(1)); from replays.main import run; sys.exit(run(sys.argv[1:]))"
+LIBRARY = os.path.dirname(os.path.dirname(os.path.abspath(__file__)))
+
+
+@dataclass(frozen=True)
+class Order:
+    """What is needed to film a match: the options, and the names and sources of its robots."""
+
+    options: tuple[str, ...]
+    robots: tuple[tuple[str, bytes], ...]
+
+
+def can_film() -> bool:
+    """Reports whether `crobots-trace` is there."""
+    try:
+        return bool(program())
+    except Fault:
+        return False
+
+
+def order(settings: Settings, battle: Battle, robots: Sequence[tuple[str, bytes]]) -> Order:
+    """The order for a match."""
+    first = battle.cycles - MOST_CYCLES
+    late = ("--from", str(first)) if first > 0 else ()
+    options = (f"-k{battle.number}", f"-l{settings.cycles}", f"-s{battle.seed}", f"-p{settings.profile}", *late)
+    return Order(options, tuple(robots))
+
+
+def made(orders: Mapping[str, Order], jobs: int) -> Iterator[tuple[str, bytes]]:
+    """The pages of these matches by their places, so many at a time. A match that can't be played has none."""
+    with ThreadPoolExecutor(jobs) as pool:
+        for place, text in zip(orders, pool.map(film, orders.values())):
+            if text:
+                yield place, text
+
+
+def film(it: Order) -> bytes:
+    """The page of a match; nothing if it can't be played."""
+    with tempfile.TemporaryDirectory(prefix="crobots-") as folder:
+        files = [written(folder, seat, name, source) for seat, (name, source) in enumerate(it.robots)]
+        python = [sys.executable, *(["-B"] if sys.dont_write_bytecode else []), "-c", REPLAY, LIBRARY]
+        ran = subprocess.run([*python, *it.options, *files], stdin=subprocess.DEVNULL, stdout=subprocess.PIPE,
+                             stderr=subprocess.DEVNULL, check=False)
+        return b"" if ran.returncode else ran.stdout
+
+
+def written(folder: str, seat: int, name: str, source: bytes) -> str:
+    """Writes a source into a file with the robot's name, by which the page calls it."""
+    last = os.fsencode(name).replace(b"\0", b"").split(b"/")[-1][-MOST_NAME:]
+    place = os.path.join(os.fsencode(folder), b"%d" % seat)
+    os.mkdir(place)
+    path = os.path.join(place, b"robot.r" if last in (b"", b".", b"..") else last)
+    with open(path, "wb") as file:
+        file.write(source)
+    return os.fsdecode(path)

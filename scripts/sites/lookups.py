@@ -1,0 +1,101 @@
+"""Finds what belongs to a robot, a pair or a match among all facts, and the links to it."""
+
+from __future__ import annotations
+
+from dataclasses import replace
+
+from . import links, places
+from .facts import Battle, BySeat, Facts, Pair, Place, RobotId, Standing, Version
+from .markup import Markup, name_of, tag
+from .shares import turned
+
+
+class Lookup:
+    """The facts by what they are about."""
+
+    def __init__(self, facts: Facts) -> None:
+        self.facts = facts
+        self.robots = {it.id: it for it in facts.robots}
+        self.standings = {it.robot: it for it in facts.standings}
+        self._rows = {it.robot: row for row, it in enumerate(facts.standings)}
+        self._pairs = {(it.one, it.other): it for it in facts.pairs}
+        self._versions = {(it.id, version.sha256): version for it in facts.robots for version in it.versions}
+        self._links: dict[tuple[RobotId, str], Markup] = {}
+        self._opponents: dict[RobotId, list[RobotId]] = {}
+        for it in facts.pairs:
+            self._opponents.setdefault(it.one, []).append(it.other)
+            self._opponents.setdefault(it.other, []).append(it.one)
+
+    def row(self, robot: RobotId) -> int:
+        """A robot's row in the table; of one without a row that after the last one."""
+        return self._rows.get(robot, len(self._rows))
+
+    def standing(self, robot: RobotId) -> Standing | None:
+        return self.standings.get(robot)
+
+    def pair(self, one: RobotId, other: RobotId) -> Pair | None:
+        """What two robots did to each other, from this one's side."""
+        found = self._pairs.get((one, other))
+        if found is None and (other, one) in self._pairs:
+            found = self._pairs[one, other] = from_other_side(self._pairs[other, one])
+        return found
+
+    def opponents(self, robot: RobotId) -> list[Pair]:
+        """The pairs of a robot from its side, in the order of the table."""
+        others = sorted(self._opponents.get(robot, ()), key=lambda it: (self.row(it), it))
+        return [pair for other in others if (pair := self.pair(robot, other))]
+
+    def better(self, pair: Pair) -> Pair:
+        """A pair from the side of the robot that is higher in the table."""
+        one, other = (self.row(it) for it in (pair.one, pair.other))
+        return from_other_side(pair) if other < one else pair
+
+    def versions(self, battle: Battle) -> list[Version]:
+        """The versions that played a match."""
+        return [self._versions[seat.robot, seat.version] if seat.version else self.robots[seat.robot].versions[-1]
+                for seat in battle.seats]
+
+    def sources(self, battle: Battle) -> list[tuple[str, bytes]]:
+        """The names and sources of a match's robots; none if one isn't known any more."""
+        seated = zip(battle.seats, self.versions(battle))
+        found = [(self.robots[seat.robot].name, version.source) for seat, version in seated]
+        known = [(name, source) for name, source in found if source is not None]
+        return known if len(known) == len(found) else []
+
+    def replay(self, battle: Battle) -> str:
+        """Where the page is that plays a match, if there is one."""
+        return places.replay_page(self.facts, battle, self.versions(battle))
+
+    def files(self, battle: Battle) -> list[str]:
+        """The files of a match's robots on the site."""
+        return [places.source_file(seat.robot, it) for seat, it in zip(battle.seats, self.versions(battle))]
+
+    def browser(self, battle: Battle) -> str:
+        """The address that opens a match in the browser's page; nothing if there is none."""
+        sources = self.sources(battle)
+        if not self.facts.page or not sources:
+            return ""
+        return self.facts.page.split("#")[0] + links.fragment(self.facts.settings, battle, sources)
+
+    def robot_link(self, robot: RobotId, up: str) -> Markup:
+        """A robot's name, as a link to its page."""
+        if (robot, up) not in self._links:
+            self._links[robot, up] = tag("a", name_of(self.robots[robot].name), href=up + places.robot_page(robot))
+        return self._links[robot, up]
+
+    def history(self, robot: RobotId) -> list[tuple[str, Place]]:
+        """Where a robot was in all tables, this one last."""
+        found = [(it.day, it.places[robot]) for it in self.facts.earlier if robot in it.places]
+        now = self.standing(robot)
+        return found + ([(self.facts.day, place_of(now))] if now else [])
+
+
+def place_of(it: Standing) -> Place:
+    return Place(it.rank, it.rating, it.low, it.high)
+
+
+def from_other_side(pair: Pair) -> Pair:
+    """The same pair with its robots exchanged."""
+    seats = tuple(BySeat(it.against, it.seat, turned(it.score)) for it in pair.seats)
+    return replace(pair, one=pair.other, other=pair.one, score=turned(pair.score), low=1 - pair.high, high=1 - pair.low,
+                   seats=seats)

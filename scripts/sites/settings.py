@@ -1,0 +1,60 @@
+"""The page of settings: what was played by which program, and how that is checked."""
+
+from __future__ import annotations
+
+import hashlib
+import os
+import shlex
+
+from tournaments.settings import SIZE_NAMES
+
+from . import places
+from .frames import page, section, sentence
+from .lookups import Lookup
+from .markup import Markup, joined, tag
+from .names import shown
+from .numbers import count, counted
+from .tables import command_line, listed
+
+
+
+def settings_page(lookup: Lookup) -> str:
+    """The page of settings."""
+    title = "Settings"
+    return page(lookup, places.SETTINGS, title, tag("h1", title), rules(lookup), program(lookup), archive(lookup))
+
+
+def rules(lookup: Lookup) -> Markup:
+    it = lookup.facts.settings
+    return section("Matches", listed([
+        ("Played as", ", ".join(SIZE_NAMES[size] for size in it.sizes)), ("Matches of a group", count(it.matches)),
+        ("Cycles of a match, at most", count(it.cycles)), ("Seed", str(it.seed)),
+        ("Language profile", str(it.profile)), *it.more]))
+
+
+def program(lookup: Lookup) -> Markup:
+    """The program that played."""
+    it = lookup.facts.program
+    return section("Program", listed([("Version", shown(it.version)), ("SHA-256 of its file", tag("code", it.sha256))]))
+
+
+def archive(lookup: Lookup) -> Markup:
+    """The archive, and how it is checked."""
+    facts = lookup.facts
+    if not facts.archive:
+        return Markup("")
+    with open(facts.archive, "rb") as file:
+        digest = hashlib.file_digest(file, "sha256").hexdigest()
+    name, size = os.path.basename(facts.archive), counted(os.path.getsize(facts.archive), "byte")
+    link = tag("a", name, href=places.archive_file(facts.archive), download=name)
+    rows = [("File", joined(link, f" ({size})")), ("SHA-256", tag("code", digest))]
+    said = sentence("All sources, the settings and all results, in one file.")
+    return section("Archive", said, listed(rows), *verify(facts.verify))
+
+
+def verify(line: str) -> list[Markup]:
+    """How the archive is checked."""
+    if not line:
+        return []
+    return [sentence("This command plays some of its matches again, and says what differs:"),
+            command_line(shlex.split(line))]

@@ -1,0 +1,80 @@
+"""The facts of a tournament, from what it comes to."""
+
+from __future__ import annotations
+
+import hashlib
+import os
+from typing import Iterable, Iterator, Mapping, Sequence
+
+from tournaments.records import Record
+from tournaments.robots import Robot
+from tournaments.settings import SIZE_NAMES
+from tournaments.settings import Settings as TournamentSettings
+from tournaments.standings import Scoring
+from tournaments.standings import Standing as TournamentStanding
+
+from .facts import Battle, Facts, Program, Score, Seat, Settings, Standing, Version
+from .facts import Robot as SiteRobot
+from .gathering import Gathering
+
+# So many lost matches stand on a robot's page.
+LOST = 5
+
+
+def facts_of_tournament(
+        title: str, settings: TournamentSettings, scoring: Scoring, among: Sequence[Robot],
+        sources: Mapping[str, bytes], standings: Sequence[TournamentStanding], records: Iterable[Record],
+        page: str = "") -> Facts:
+    """What the site of a tournament shows. The sources of robots are found by their hashes."""
+    names = {it.robot: it.name for it in standings}
+    gathering = Gathering({it.name: row for row, it in enumerate(standings)})
+    for record in records:
+        gathering.add([*battles(record, names)])
+    versions = [Version(it.sha256, sources.get(it.sha256)) for it in among]
+    robots = [SiteRobot(names[at], names[at], (it,), lost=gathering.lost(names[at], LOST))
+              for at, it in enumerate(versions)]
+    return Facts(
+        title, rules(settings, scoring), Program("", settings.program), tuple(robots), tuple(map(standing, standings)),
+        tuple(gathering.pairs()), points="points" if scoring.weights else "points a match", page=page)
+
+
+def battles(record: Record, names: Mapping[int, str]) -> Iterator[Battle]:
+    """The matches of a record."""
+    seated = [names[at] for at in record.series.seats]
+    for number, match in record.matches():
+        yield Battle(tuple(map(Seat, seated, match.damage)), number, record.series.seed, match.cycles)
+
+
+def standing(it: TournamentStanding) -> Standing:
+    score, rating = Score(it.score.won, it.score.tied, it.score.lost), it.rating
+    return Standing(it.name, it.rank, score, it.points, rating.value, rating.low, rating.high, it.close)
+
+
+def rules(settings: TournamentSettings, scoring: Scoring) -> Settings:
+    """The settings, with those that only a tournament has."""
+    more = [("Points", f"{scoring.won} for a win, {scoring.tied} for a tie")]
+    if scoring.weights:
+        weights = ", ".join(f"{SIZE_NAMES[size]} {weight}" for size, weight in scoring.weights.items())
+        more.append(("Weights of points a match", weights))
+    if settings.sample:
+        more.append(("Sample", f"{settings.sample} groups"))
+    return Settings(settings.matches, settings.cycles, settings.seed, settings.profile, settings.sizes, tuple(more))
+
+
+def kept_sources(among: Iterable[Robot], folder: str = "") -> dict[str, bytes]:
+    """The sources by their hashes: from the folder of copies, or from the robots' files that have still these bytes."""
+    found: dict[str, bytes] = {}
+    for it in among:
+        source = read(os.path.join(folder, it.sha256) if folder else it.path)
+        if source is not None and hashlib.sha256(source).hexdigest() == it.sha256:
+            found[it.sha256] = source
+    return found
+
+
+def read(path: str) -> bytes | None:
+    """The bytes of a file, if it can be read."""
+    try:
+        with open(path, "rb") as file:
+            return file.read()
+    except OSError:
+        return None

@@ -1,0 +1,60 @@
+"""Standard output and files, whose writing has to go well, and standard error, whose writing needn't.
+
+What is written is a name's own bytes, and letters of ASCII else: so no encoding can lack a letter."""
+
+from __future__ import annotations
+
+import contextlib
+import os
+from typing import Iterable
+
+from .faults import FILE, Fault
+
+CHUNK = 1 << 16
+INPUT, OUTPUT, ERRORS = 0, 1, 2
+
+
+def tell(text: str) -> None:
+    """Writes to standard error, as far as that goes."""
+    with contextlib.suppress(OSError):
+        write_all(ERRORS, os.fsencode(text))
+
+
+def write_all(file: int, text: bytes) -> None:
+    """Writes all of it, in one piece if the file takes it."""
+    while text:
+        text = text[os.write(file, text):]
+
+
+def write(file: int, pieces: Iterable[str]) -> None:
+    """Writes a text that comes in pieces, in larger ones."""
+    left = bytearray()
+    for piece in pieces:
+        left += os.fsencode(piece)
+        if len(left) >= CHUNK:
+            write_all(file, bytes(left))
+            left.clear()
+    write_all(file, bytes(left))
+
+
+def show(pieces: Iterable[str]) -> None:
+    """Writes a text to standard output. A pipe that nobody reads any more ends the program as it ends others."""
+    try:
+        write(OUTPUT, pieces)
+    except BrokenPipeError:
+        raise
+    except OSError as why:
+        raise Fault(f"cannot write: {why.strerror}", FILE) from why
+
+
+def open_standard_files() -> bool:
+    """Puts the null device where a standard file is closed, so that no other file gets its number.
+
+    Reports whether standard output was open."""
+    closed = []
+    for file in (INPUT, OUTPUT, ERRORS):
+        try:
+            os.fstat(file)
+        except OSError:
+            closed.append(os.open(os.devnull, os.O_RDWR))
+    return OUTPUT not in closed

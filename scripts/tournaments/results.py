@@ -1,0 +1,122 @@
+"""What a tournament comes to: its matches added up, and the forms that are written of it."""
+
+from __future__ import annotations
+
+import argparse
+import os
+from functools import cached_property
+from typing import Iterable, Sequence
+
+from sites.tournament_facts import kept_sources
+
+from . import robots, tables
+from .faults import Fault, unwritable
+from .output import show, tell, write
+from .publishing import write_site
+from .records import Record
+from .robots import Robot
+from .settings import SIZE_NAMES, Settings
+from .spools import Spool
+from .standings import Scoring, Standing, faced, standings
+from .tallies import Tally
+
+WITH_MATCHES = {"long", "json"}
+
+
+class Results:
+    """The matches added up, and the records themselves if a form has each match."""
+
+    def __init__(self, given: argparse.Namespace) -> None:
+        self._given = given
+        self._tally = Tally()
+        forms = {given.form, *(form for form, _ in given.write)}
+        self._spool = Spool() if forms & WITH_MATCHES or given.html else None
+        self._sources: dict[str, bytes] = {}
+
+    def add(self, record: Record) -> None:
+        self._tally.add(record)
+        if self._spool:
+            self._spool.add(record)
+
+    def keep_sources(self, among: list[Robot], folder: str = "") -> None:
+        """Reads the robots' sources, from the folder of copies if there is one, if a site is to show them."""
+        if self._given.html:
+            self._sources = kept_sources(among, folder)
+
+    def write(self, settings: Settings, among: list[Robot]) -> None:
+        """Writes the form for standard output, after those for files. A file that can't be written keeps nothing from the rest."""
+        forms = Forms(self._given, settings, among, self._tally, self._spool)
+        faults: list[Fault] = []
+        for form, path in self._given.write:
+            try:
+                write_file(path, forms.pieces(form))
+            except Fault as why:
+                faults.append(why)
+        if self._given.html:
+            try:
+                forms.write_site(self._sources)
+            except Fault as why:
+                faults.append(why)
+        show(forms.pieces(self._given.form))
+        for fault in faults[:-1]:
+            tell(f"{self._given.script}: {fault}\n")
+        for fault in faults[-1:]:
+            raise fault
+
+
+class Forms:
+    """The forms of a tournament; the table is made once for all of them."""
+
+    def __init__(self, given: argparse.Namespace, settings: Settings, among: list[Robot], tally: Tally, spool: Spool | None) -> None:
+        weights = dict(zip(SIZE_NAMES, given.by_size)) if given.by_size else None
+        self._given = given
+        self._scoring = Scoring(given.points[0], given.points[1], weights)
+        self._settings = settings
+        self._robots = among
+        self._tally = tally
+        self._spool = spool
+        self._names = robots.names([it.path for it in among])
+
+    @cached_property
+    def _standings(self) -> list[Standing]:
+        return standings(self._tally, self._names, self._scoring)
+
+    def write_site(self, sources: dict[str, bytes]) -> None:
+        """Writes the site, with these sources by their hashes."""
+        write_site(self._given, self._settings, self._scoring, self._robots, sources, self._standings, self._records())
+
+    def pieces(self, form: str) -> Iterable[str]:
+        """A form, piece by piece."""
+        if form == "long":
+            return tables.long(self._records(), self._names)
+        by_size = self._scoring.weights is not None
+        if form == "csv":
+            return [tables.comma_separated(tables.rows(self._standings, by_size))]
+        if form == "table":
+            return [tables.table(self._standings, by_size)]
+        both = faced(self._tally, len(self._names))
+        if form == "matrix":
+            return [tables.matrix(self._standings, both)]
+        return tables.everything(self._settings, self._scoring, self._robots, self._standings, both, self._records())
+
+    def _records(self) -> Iterable[Record]:
+        return self._spool.records() if self._spool else ()
+
+
+def write_file(path: str, pieces: Iterable[str]) -> None:
+    """Writes a text into a file."""
+    try:
+        with open(path, "wb") as file:
+            write(file.fileno(), pieces)
+    except OSError as why:
+        unwritable(path, why)
+
+
+def check_files(given: Sequence[tuple[str, str]]) -> None:
+    """Refuses files that can't be written, before anything is played."""
+    for _, path in given:
+        try:
+            if not os.path.exists(path) or os.path.isfile(path) or os.path.isdir(path):
+                os.close(os.open(path, os.O_WRONLY | os.O_CREAT | os.O_CLOEXEC, 0o666))
+        except OSError as why:
+            unwritable(path, why)

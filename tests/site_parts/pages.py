@@ -1,0 +1,293 @@
+"""Tests of the pages of a made site: they are whole, safe, can be read by all, and say what the facts say."""
+
+from __future__ import annotations
+
+import csv
+import functools
+import hashlib
+import json
+import os
+import re
+import tempfile
+from dataclasses import replace
+from decimal import Decimal
+from typing import Iterator
+
+from sites.facts import BySeat, Facts, Pair, Robot, Score
+from sites.publishing import publish
+
+from . import made
+from .reading import Element, dangling, files, links, read, rows
+from .units import unpacked
+
+Results = Iterator[tuple[str, bool]]
+ROBOTS = len(made.NAMES)
+ARCHIVE = b"sources, settings and results"
+HUNTER_FILE = f"sources/hunter-{hashlib.sha256(made.SOURCE + b'/* 0 */' + bytes([10])).hexdigest()[:12]}.r"
+
+
+def results() -> Results:
+    """Each test with whether it passed."""
+    with tempfile.TemporaryDirectory() as place:
+        archive = os.path.join(place, "League 1.tar")
+        with open(archive, "wb") as file:
+            file.write(ARCHIVE)
+        folder = os.path.join(place, "site")
+        publish(made.league(archive=archive), folder)
+        yield from whole(folder)
+        yield from safe(folder)
+        yield from sane(folder)
+        yield from the_table(folder)
+        yield from the_map(folder)
+        yield from a_pair(folder)
+        yield from a_robot(folder)
+        yield from the_settings(folder)
+        yield from the_data(folder)
+        yield from the_other_side(folder, place)
+        yield from with_less(place)
+
+
+@functools.cache
+def pages(folder: str) -> dict[str, Element]:
+    """All pages by their places."""
+    return {place: read(os.path.join(folder, place)) for place in sorted(files(folder)) if place.endswith(".html")}
+
+
+def whole(folder: str) -> Results:
+    """Every link leads to a file, and every file is found."""
+    found, wrong = dangling(folder)
+    there = files(folder)
+    yield f"links lead somewhere {wrong[:3]}", not wrong
+    yield "all files are found", there - found == {"site.list"}
+    yield "a page each", sum(it.startswith("pairs/") for it in there) == ROBOTS * (ROBOTS - 1) // 2 and sum(
+        it.startswith("robots/") for it in there) == ROBOTS
+    # four robots have an older version, which is the same bytes: yet each has its own file
+    yield "a source each", sum(it.startswith("sources/") for it in there) == ROBOTS + 4
+    yield "names for all systems", all(re.fullmatch(r"[a-z0-9._/-]+", it) for it in there)
+
+
+def safe(folder: str) -> Results:
+    """No script, and nothing from elsewhere."""
+    for place, page in pages(folder).items():
+        policy = next(it.attributes["content"] for it in page.all("meta")
+                      if it.attributes.get("http-equiv") == "Content-Security-Policy")
+        begin = "default-src 'none'; style-src 'self'"
+        yield f"{place}: the policy", policy.startswith(begin) and "script" not in policy
+        yield f"{place}: no script", not any(it.name in ("script", "iframe", "object", "style") for it in page.all())
+        names = {name for it in page.all() for name in it.attributes}
+        yield f"{place}: no handler", not any(name.startswith("on") or name in ("style", "src") for name in names)
+        out = [href for href in links(page) if re.match("[a-z]+:|//", href)]
+        known = all(href.startswith(made.PAGE + "#battle=") or href == "data:," for href in out)
+        yield f"{place}: nothing from elsewhere", known
+
+
+def sane(folder: str) -> Results:
+    """Headings one below another, names for what scrolls or is drawn, heads and captions of tables."""
+    for place, page in pages(folder).items():
+        levels = [int(it.name[1]) for it in page.all() if re.fullmatch("h[1-6]", it.name)]
+        yield f"{place}: headings", levels[0] == 1 and levels.count(1) == 1 and all(
+            after <= before + 1 for before, after in zip(levels, levels[1:]))
+        yield f"{place}: heads of tables", all(it.attributes.get("scope") in ("row", "col") for it in page.all("th"))
+        first = [next(child.name for child in it.children if isinstance(child, Element)) for it in page.all("table")]
+        yield f"{place}: captions", {*first} <= {"caption"}
+        yield f"{place}: rows of tables", all(len({len(row) for row in rows(it)}) == 1 for it in page.all("table"))
+        yield f"{place}: drawings", all(it.attributes.get("aria-label") if it.attributes.get("role") == "img"
+                                        else it.attributes.get("aria-hidden") == "true" for it in page.all("svg"))
+        yield f"{place}: what scrolls", all(it.attributes.get("role") == "region" and it.attributes.get("aria-label")
+                                            for it in page.all() if "tabindex" in it.attributes)
+        yield f"{place}: links have names", all(it.text().strip() or it.attributes.get("title") for it in page.all("a"))
+        yield f"{place}: language, title, main part", page.one("html").attributes["lang"] == "en" and bool(
+            page.one("title").text()) and len([*page.all("main")]) == 1
+
+
+def the_table(folder: str) -> Results:
+    """The rows of the table are those of the facts."""
+    page = read(os.path.join(folder, "index.html"))
+    found = rows(page.one("table"))
+    head = ["Rank", "Trend", "Robot", "Points a match", "Rating", "95\u00a0% interval", "Played", "Won", "Tied", "Lost",
+            "Results"]
+    yield "the head", [it for at, it in enumerate(found[0]) if at != 5] == head
+    # 11 opponents: the first robot wins 6 of 10 against each, and ties 1
+    yield "the first row", found[1][:5] + found[1][6:] == [
+        "1", "=same ", "hunter.r", "1.900", "2000", "1940 to 2060", "110", "66", "11", "33", ""]
+    # it wins 6 against each of 10, and 2 against the first
+    yield "the second row", found[2][:5] + found[2][6:] == [
+        "2", "▲up 1", made.SCRIPT + "Ada <Lovelace>", "1.791", "250", "190 to 310", "110", "62", "11", "37", ""]
+    yield "a robot that fell", [*found[3][:3], found[3][4]] == ["3", "▼down 1", made.NAMES[2], "200≈"]
+    yield "a new robot", found[12][1:3] + found[12][4:7:2] == ["new", "-m1Ada <Lovelace>", "−250≈", "−310 to −190"]
+    yield "names", [row[2].removesuffix("Ada <Lovelace>") for row in found[3:]] == [
+        made.NAMES[2], "  two  blanks .r", "caf\ufffd.r", *made.NAMES[5:]]
+    drawn = [[it.name for it in row.all() if it.name in ("circle", "path")] for row in page.all("tr")]
+    yield "an outlier is clipped", drawn == [[], ["path"], *[["circle"]] * 11]
+    yield "how many", "12 robots · 660 matches" in page.text()
+
+
+def the_map(folder: str) -> Results:
+    """The cells of the map are shares, and lead to the pairs."""
+    page = read(os.path.join(folder, "map.html"))
+    found = rows(page.one("table"))
+    wanted = [[*["30"] * one, "", *["70"] * (ROBOTS - 1 - one)] for one in range(ROBOTS)]
+    yield "shares", [row[1:] for row in found[1:]] == wanted
+    cells = [it for it in page.all("td") if [*it.all("a")]]
+    yield "colours", {(it.text(), *it.classes()) for it in cells} == {("70", "h14"), ("30", "h6")}
+    first = cells[0].one("a").attributes
+    yield "a cell leads to its pair", first["href"] == "pairs/_3cscript_3ealert_281_29_3c_2fscript_3e.r/hunter.r.html"
+    yield "a cell in words", first["title"] == f"hunter.r against {made.SCRIPT}: 70.0\u00a0%"
+
+
+def a_pair(folder: str) -> Results:
+    """The page of a pair."""
+    page = read(os.path.join(folder, "pairs", "_2e_2e", "hunter.r.html"))
+    facts = {it.one("dt").text(): it.one("dd").text().replace("\u00a0", " ") for it in page.one("dl").all("div")}
+    yield "the heading", page.one("h1").text() == "hunter.r against .."
+    yield "the score", facts == {
+        "Matches": "10", "Won, tied, lost": "6 won, 1 tied, 3 lost, of which both lost 1",
+        "Share": "70.0 %, 95 % interval 39.8 % to 89.2 %", "Verdict": "which of them is better may be chance"}
+    yield "by seat", rows(page.one("table")) == [
+        ["Seat of hunter.r", "Seat of ..", "Played", "Won", "Tied", "Lost", "Share", "Results"],
+        ["1", "2", "5", "4", "0", "1", "80.0\u00a0%", ""], ["2", "1", "5", "2", "1", "2", "60.0\u00a0%", ""]]
+    cards = [*page.all("article")]
+    yield "matches", [it.one("h3").text() for it in cards] == ["Closest, longest", "Shortest", "Greatest upset"]
+    seats = [[part.text() for part in it.all("span") if "unseen" not in part.classes()] for it in cards[2].all("li")]
+    yield "its seats", seats == [["..", "won", " 12 % damage"], ["hunter.r", "lost", " 100 % damage"]]
+    words = cards[1].one("pre").text().split(" ")
+    yield "its command line", words[:7] == ["crobots", "-f1", "-m1", "-l500000", f"-s{2**64 - 1}", "-p1", HUNTER_FILE]
+    yield "its files", os.path.isfile(os.path.join(folder, words[7])) and words[7].startswith("sources/_2e_2e-")
+    link = next(href for href in links(cards[1]) if href.startswith(made.PAGE))
+    battle = json.loads(unpacked(link[len(made.PAGE):]))
+    yield "its link", [it["name"] for it in battle["robots"]] == ["hunter.r", ".."] and battle["settings"] == {
+        "matches": 1, "limit": 500000, "seed": str(2**64 - 1), "first": 1, "profile": 1}
+
+
+def a_robot(folder: str) -> Results:
+    """The page of a robot."""
+    page = read(os.path.join(folder, "robots", "hunter.r.html"))
+    sections = {it.one("h2").text(): it for it in page.all("section")}
+    yield "its parts", [*sections] == ["Rating over time", "Opponents", "Shots and damage", "Versions", "Source"]
+    yield "its source", [it.text() for it in sections["Source"].all("span") if "line" in it.classes()] == [
+        *made.SOURCE.decode().splitlines(), "/* 0 */"]
+    tables = {it.one("caption").text(): rows(it) for it in page.all("table")}
+    versions = tables["Versions, the last one first"]
+    yield "its versions", [row[0] for row in versions[1:]] == ["2026-11-10", "2026-10-01"]
+    yield "all opponents", len(tables["All opponents, in the order of the table"]) == ROBOTS
+    best = tables["Its best opponents"]
+    yield "its best opponents", len(best) == 6
+    yield "its best opponent", best[1][1:6] == ["70.0\u00a0%", "39.8\u00a0% to 89.2\u00a0%", "6", "1", "3"]
+    yield "its rating over time", [row[:3] for row in tables["Rating by day"][1:]] == [
+        ["2026-11-22", "1", "2000"], ["2026-11-15", "1", "250"], ["2026-11-08", "1", "250"], ["2026-11-01", "1", "250"]]
+    chart = sections["Rating over time"].one("svg")
+    changes = [it for it in chart.all("line") if "change" in it.classes()]
+    yield "the chart", (len([*chart.all("circle")]), len(changes)) == (4, 1)
+    label = "Rating from 2026-11-01 to 2026-11-22: from 250 to 2000"
+    yield "the chart in words", chart.attributes["aria-label"] == label
+    yield from another_robot(folder)
+
+
+def another_robot(folder: str) -> Results:
+    """The page of a robot with a bad name, and of one whose source is no UTF-8."""
+    other = read(os.path.join(folder, "robots", "_3cscript_3ealert_281_29_3c_2fscript_3e.r.html"))
+    yield "a bad name", other.one("h1").text() == made.SCRIPT and "by Ada <Lovelace>" in other.text()
+    lost = [it for it in other.all("section") if it.one("h2").text() == "Last lost matches"]
+    worst = next(rows(it) for it in other.all("table") if it.one("caption").text() == "Its worst opponents")
+    yield "its worst opponents", [row[:2] for row in worst[1:3]] == [
+        ["hunter.r", "30.0\u00a0%"], [made.NAMES[-1], "70.0\u00a0%"]]
+    yield "a lost match", [it.one("h3").text() for it in lost[0].all("article")] == ["Against hunter.r"]
+    latin = read(os.path.join(folder, "robots", "caf_ed_b3_a9.r.html"))
+    yield "a source that is no UTF-8", "/* caf\ufffd */ main() { }" in latin.text()
+    there = next(href for href in links(latin) if "/sources/" in href)
+    with open(os.path.join(folder, "robots", there), "rb") as file:
+        yield "its file is the same bytes", file.read() == made.LATIN
+
+
+def the_settings(folder: str) -> Results:
+    """The page of settings."""
+    page = read(os.path.join(folder, "settings.html"))
+    facts = {it.one("dt").text(): it.one("dd").text() for part in page.all("dl") for it in part.all("div")}
+    yield "settings", facts == {
+        "Played as": "pairs", "Matches of a group": "10", "Cycles of a match, at most": "500,000", "Seed": "7",
+        "Language profile": "1", "Sample": "every pair", "Version": "crobots <1>", "SHA-256 of its file": "ab" * 32,
+        "File": f"League 1.tar ({len(ARCHIVE)} bytes)", "SHA-256": hashlib.sha256(ARCHIVE).hexdigest()}
+    yield "how it is checked", page.one("pre").text() == "crobots-league verify 20 'the archive.tar'"
+    with open(os.path.join(folder, "archive", "_4ceague_201.tar"), "rb") as file:
+        yield "the archive", file.read() == ARCHIVE
+
+
+def the_data(folder: str) -> Results:
+    """The same as data."""
+    with open(os.path.join(folder, "table.csv"), encoding="utf-8", newline="") as file:
+        table = [*csv.DictReader(file)]
+    yield "the table as CSV", len(table) == ROBOTS and {**table[2]} == {
+        "rank": "3", "robot": made.NAMES[2], "name": made.NAMES[2], "author": "", "played": "110", "won": "58",
+        "tied": "11", "lost": "41", "points": "1.682", "rating": "200.0", "low": "140.0", "high": "260.0",
+        "close": "close"}
+    with open(os.path.join(folder, "pairs.csv"), encoding="utf-8", newline="") as file:
+        pairs = [*csv.DictReader(file)]
+    yield "the pairs as CSV", len(pairs) == ROBOTS * (ROBOTS - 1) and {**pairs[ROBOTS - 1]} == {
+        "robot": made.SCRIPT, "against": "hunter.r", "played": "10", "won": "2", "tied": "1", "lost": "7",
+        "both_lost": "1", "share": "0.3", "low": "0.108", "high": "0.602"}
+    with open(os.path.join(folder, "site.json"), encoding="utf-8") as file:
+        told = json.load(file)
+    yield "settings as JSON", told["settings"] == {
+        "matches": 10, "cycles": 500000, "seed": 7, "profile": 1, "sizes": [2], "Sample": "every pair"}
+    listed = [it["page"] for it in told["robots"] + told["pairs"]]
+    yield "places as JSON", all(os.path.isfile(os.path.join(folder, it)) for it in listed)
+    pair = told["pairs"][0]
+    yield "a pair as JSON", [pair[it] for it in ("won", "tied", "lost", "both_lost", "share")] == [6, 1, 3, 1, 0.7]
+    yield "a match as JSON", {**pair["notable"][1], "command": ""} == {
+        "what": "shortest", "robots": ["hunter.r", made.SCRIPT], "damage": [5, 100], "match": 1, "seed": 2**64 - 1,
+        "cycles": 15, "command": ""}
+    yield "names as JSON", [it["name"] for it in told["robots"]] == made.NAMES
+
+
+def the_other_side(folder: str, place: str) -> Results:
+    """Which robot of a pair comes first makes no difference."""
+    facts = made.league()
+    seats = BySeat(2, 1, Score(1, 0, 4, 0)), BySeat(1, 2, Score(1, 1, 3, 1))
+    turned = tuple(Pair(it.other, it.one, Score(2, 1, 7, 1), 0.108, 0.602, seats, it.notable) for it in facts.pairs)
+    other = os.path.join(place, "turned")
+    publish(replace(facts, pairs=turned), other)
+    same = [one for one in files(folder) if one.endswith(".html") and one != "settings.html"]
+    yield "a pair's other side", all(content(folder, it) == content(other, it) for it in same)
+
+
+def content(folder: str, place: str) -> bytes:
+    with open(os.path.join(folder, place), "rb") as file:
+        return file.read()
+
+
+def with_less(place: str) -> Results:
+    """Sites of which less is known."""
+    few = made.league(3, "")
+    less = replace(few, day="", earlier=(), robots=tuple(Robot(it.id, it.name, it.versions) for it in few.robots))
+    robots = (*less.robots, replace(made.robot(3, "gone.r"), withdrawn="2026-11-20", lost=(), versions=()))
+    some: dict[str, Facts] = {
+        "a tournament": less, "a robot that was withdrawn": replace(less, robots=robots),
+        "equal robots": replace(less, standings=tuple(
+            replace(it, rating=0.0, low=0.0, high=0.0) for it in less.standings)),
+        "a single robot": replace(less, robots=less.robots[:1], standings=less.standings[:1], pairs=()),
+        "nothing": replace(less, robots=(), standings=(), pairs=()),
+        "many robots": many(25),
+    }
+    for name, facts in some.items():
+        folder = os.path.join(place, name)
+        publish(facts, folder)
+        found, wrong = dangling(folder)
+        yield f"{name}: links lead somewhere", not wrong and files(folder) - found == {"site.list"}
+    page = read(os.path.join(place, "a tournament", "index.html"))
+    yield "no trend without an earlier table", rows(page.one("table"))[0][:2] == ["Rank", "Robot"]
+    yield "no link to a page that isn't given", not any("#battle" in it for it in links(read(os.path.join(
+        place, "a tournament", "pairs", "_3cscript_3ealert_281_29_3c_2fscript_3e.r", "hunter.r.html"))))
+    page = read(os.path.join(place, "a robot that was withdrawn", "index.html"))
+    yield "a robot that isn't in the table", "gone.r, withdrawn on 2026-11-20" in page.text()
+    page = read(os.path.join(place, "many robots", "map.html"))
+    cells = [it for it in page.one("tbody").all("a") if it.attributes["href"].startswith("pairs/")]
+    yield "many robots: cells have names", all(it.attributes.get("title") and not it.text() for it in cells)
+
+
+def many(robots: int) -> Facts:
+    """More robots than there are bad names, all equal."""
+    few = made.league(2)
+    rows = [replace(few.standings[0], robot=f"{at}.r", rank=1, points=Decimal(1)) for at in range(robots)]
+    among = [Robot(f"{at}.r", f"{at}.r", (made.version(made.SOURCE),)) for at in range(robots)]
+    pairs = [Pair(f"{one}.r", f"{other}.r", Score(5, 0, 5), 0.2, 0.8) for one in range(robots) for other in range(one)]
+    return replace(few, robots=tuple(among), earlier=(), standings=tuple(rows), pairs=tuple(pairs))

@@ -1,0 +1,229 @@
+"""Tests of what pages are made of: names, markup, shares, notable matches, command lines, links, colours, scales."""
+
+from __future__ import annotations
+
+import itertools
+import json
+import math
+import os
+import random
+import re
+import shlex
+import shutil
+import subprocess
+import zlib
+from base64 import urlsafe_b64decode
+from pathlib import Path
+from typing import Any, Iterator
+
+from sites import colours, commands, links, names, notables, places, scales, shares, sources, sums
+from sites.facts import Battle, Score, Seat, Settings
+from sites.markup import Markup, block, tag
+
+from . import made
+
+HERE = os.path.dirname(os.path.abspath(__file__))
+TOP = os.path.normpath(os.path.join(HERE, "..", ".."))
+WEB = os.path.join(TOP, "web")
+SETTINGS = Settings(100, 500_000, 1, 1)
+Results = Iterator[tuple[str, bool]]
+
+FILE_NAMES = {
+    "hunter.r": "hunter.r", "a-b.r": "a-b.r", "..": "_2e_2e", ".": "_2e", "": "_", "a..b": "a._2eb",
+    ".hidden": "_2ehidden", "end.": "end_2e", "CON": "_43_4f_4e", "con": "_63on", "con.r": "_63on.r",
+    "console.r": "console.r", "index": "_69ndex", "com1.r": "_63om1.r", "a/b.r": "a_2fb.r", "a b": "a_20b",
+    "a_b": "a_5fb", "caf\udce9": "caf_ed_b3_a9", "é": "_c3_a9",
+    "<i>": "_3ci_3e", "-m1": "_2dm1", "-": "_2d", ".-": "_2e-",
+}
+WORDS = {
+    "a.r": "a.r", "sources/a-0.r": "sources/a-0.r", "a b.r": "'a b.r'", "it's.r": "'it'\"'\"'s.r'",
+    "caf\udce9.r": "$'caf\\351.r'", "a\nb's": "$'a\\012b\\047s'", "$(true)": "'$(true)'", "": "''",
+}
+# Intervals of Wilson, as tables of statistics have them.
+INTERVALS = {(8, 0, 2): (0.4902, 0.9433), (0, 0, 10): (0.0, 0.2775), (10, 0, 0): (0.7225, 1.0),
+             (50, 0, 50): (0.4038, 0.5962), (0, 10, 0): (0.2366, 0.7634)}
+SOURCE = b"main(){/* a\nb */ if(x>12)cannon(y);goto a;a23456789012345678901234567890123;}\x1aif"
+COLOURED = [
+    '<span class="def">main</span>(){<span class="comment">/* a</span>',
+    '<span class="comment">b */</span> <span class="keyword">if</span>(x&gt;<span class="number">12</span>)'
+    '<span class="builtin">cannon</span>(y);<span class="error">goto</span> a;'
+    '<span class="error">a23456789012345678901234567890123</span>;}<span class="comment">\ufffdif</span>',
+]
+
+
+def results() -> Results:
+    """Each test with whether it passed."""
+    yield from file_names()
+    yield from markup()
+    yield from scores()
+    yield from chosen()
+    yield from command_lines()
+    yield from battle_links()
+    yield from source_lines()
+    yield from colour_steps()
+    yield from axes()
+    yield "sums of two matches", dict(sums.rows(made.SUMS * 2)) == {
+        "Shots fired": "20.0 a match", "Shots that hit": "5.0 a match (25.0 %)", "Damage to others": "12.0 % a match",
+        "Damage by shots of others": "60.0 % a match", "Damage by its own shots": "20.0 % a match",
+        "Damage by walls": "16.0 % a match", "Damage by collisions": "4.0 % a match"}
+
+
+def file_names() -> Results:
+    """Files' names are safe, and different for different robots."""
+    for name, wanted in FILE_NAMES.items():
+        yield f"the file of {name!r}", names.file_name(name) == wanted
+    yield "an archive's name", places.archive_file("/tmp/League-2026.1.zip") == "archive/League-2026.1.zip"
+    yield "an archive's bad name", places.archive_file("/tmp/../a b") == "archive/a_20b"
+    source = random.Random(1)
+    many = {"".join(source.choice("aA._-/ c\udce9o0n") for _ in range(source.randrange(12))) for _ in range(5000)}
+    many |= {"x" * length for length in range(60, 300)} | {"A" * length for length in range(20, 100)}
+    found = [names.file_name(name) for name in many]
+    yield "5,000 robots have files of their own", len({it.lower() for it in found}) == len(many)
+    yield "names of files are safe", all(re.fullmatch(r"(?![.-])[a-z0-9._-]{1,80}(?<![.])", it) for it in found)
+
+
+def markup() -> Results:
+    """Texts are escaped, and what can't be seen is shown as such."""
+    wanted = '<a href="&quot;" class="x">&lt;b&gt;<i>&amp;</i></a>'
+    yield "an element", tag("a", "<b>", tag("i", "&"), href='"', aria_label=None, class_="x") == wanted
+    yield "an element without an end", tag("meta", charset="utf-8") == '<meta charset="utf-8">'
+    yield "a text is escaped once", tag("p", tag("b", "1 > 0")) == "<p><b>1 &gt; 0</b></p>"
+    yield "what can't be seen", tag("p", "a\x00\n\udce9b\tc") == "<p>a\ufffd\ufffd\ufffdb\tc</p>"
+    yield "lines", block(["<", Markup("<b>")]) == "&lt;\n<b>"
+    yield "a name of blanks", names.named("  ") == "(no name)"
+
+
+def scores() -> Results:
+    """Shares and their intervals."""
+    for counts, (low, high) in INTERVALS.items():
+        found = shares.interval(Score(*counts))
+        yield f"the interval of {counts}", abs(found[0] - low) < 5e-5 and abs(found[1] - high) < 5e-5
+    yield "the share of ties", shares.share(Score(6, 1, 3, 1)) == 0.7
+    yield "the other side", shares.turned(Score(6, 1, 3, 1)) == Score(2, 1, 7, 1)
+    yield "no match", (shares.share(Score(0, 0, 0)), shares.interval(Score(0, 0, 0))) == (0.5, (0.0, 1.0))
+
+
+def chosen() -> Results:
+    """The matches worth a look, of a few."""
+    ended = [(0, 100, 3000), (100, 40, 2000), (60, 100, 9000), (60, 100, 6000), (100, 10, 5000), (100, 100, 100),
+             (30, 30, 500_000), (60, 100, 6000)]
+    source = random.Random(4)
+    fought = [made.battle("a", "b", *it[:2], number) for number, it in enumerate(ended)]
+    fought = [Battle(battle.seats, battle.number, battle.seed, it[2]) for battle, it in zip(fought, ended)]
+    found = {it.what: it.battle.number for it in notables.notables(fought, "a", "b")}
+    # the last match is like the fourth, and has a lower seed
+    yield "notable matches", found == {"closest": 7, "shortest": 1, "longest": 2, "greatest upset": 4}
+    yield "in any order", all(it == notables.notables(fought, "a", "b") for it in (
+        notables.notables(source.sample(fought * 2, 16), "a", "b") for _ in range(20)))
+    alone = [it.what for it in notables.notables(fought[:1], "a", "b")]
+    yield "without an upset", alone == ["closest", "shortest", "longest"]
+    yield "nothing is decided", notables.notables(fought[5:7], "a", "b") == ()
+
+
+def command_lines() -> Results:
+    """Command lines, also as bash reads them."""
+    battle = Battle((Seat("a", 0), Seat("b", 100)), 17, 2**64 - 1, 90)
+    words = commands.again(SETTINGS, battle, ["-a.r", "b.r"])
+    wanted = ["crobots", "-f17", "-m1", "-l500000", "-s18446744073709551615", "-p1", "./-a.r", "b.r"]
+    yield "the words of a match", words == wanted
+    for word, quoted in WORDS.items():
+        yield f"the word {word!r}", commands.quoted(word) == quoted
+        ran = subprocess.run(["bash", "-c", f"printf %s {commands.quoted(word)}"], capture_output=True, check=False)
+        yield f"the word {word!r} in bash", ran.stdout == os.fsencode(word)
+    yield "a line", shlex.split(commands.line(["a b", "c"])) == ["a b", "c"]
+
+
+def battle_links() -> Results:
+    """Links are those that the browser's page makes and reads."""
+    fought = [(number, robots) for number, robots in enumerate([
+        [("a.r", b"main() { }")],
+        [("\"<x>\" \u00e9.r", "/* \u00e9\u2028 */ main() { }\r\n".encode()), ("b.r", made.LATIN)],
+        [(f"{at}.r", made.SOURCE * 200 * at) for at in range(1, 5)]], 1)]
+    fragments = [links.fragment(SETTINGS, Battle((), number, 2**64 - number, 0), robots) for number, robots in fought]
+    battles = [{
+        "robots": [{"name": name, "source": source.decode("utf-8", "replace")} for name, source in robots],
+        "settings": {"matches": 1, "limit": 500_000, "seed": str(2**64 - number), "first": number, "profile": 1},
+    } for number, robots in fought]
+    yield "what links carry", [json.loads(unpacked(it)) for it in fragments] == battles
+    if shutil.which("node") is None:
+        print("left out: links and colours of the browser's page, since there is no node")
+        return
+    texts = [path.read_text("utf-8") for path in sorted(Path(TOP, "robots").glob("*.r"))]
+    texts.append("a.b #x \"y\" 12ab _if /*/ x */ sqrt(/* */ $ '\n/* open")
+    told = asked(battles, fragments, texts)
+    yield "links.js reads the links", told["read"] == battles
+    yield "links.js makes the same", [json.loads(unpacked(it)) for it in told["made"]] == battles
+    for text, kinds in zip(texts, told["kinds"]):
+        wanted = [["" if it in (None, "operator", "variable") else it for it in line] for line in kinds]
+        yield f"colours of {text[:20]!r}", kinds_of(text) == wanted
+
+
+def asked(battles: list[dict[str, Any]], fragments: list[str], texts: list[str]) -> Any:
+    """What the browser's page makes of them."""
+    words = ["node", "--no-warnings", os.path.join(HERE, "links.mjs"), WEB]
+    ran = subprocess.run(words, input=json.dumps({"battles": battles, "fragments": fragments, "sources": texts}),
+                         capture_output=True, text=True, check=True)
+    return json.loads(ran.stdout)
+
+
+def unpacked(fragment: str) -> bytes:
+    """What a link carries."""
+    assert fragment.startswith("#battle=") and re.fullmatch("[A-Za-z0-9_-]+", fragment[8:])
+    return zlib.decompress(urlsafe_b64decode(fragment[8:] + "=" * (-len(fragment[8:]) % 4)), wbits=-15)
+
+
+def kinds_of(text: str) -> list[list[str]]:
+    """The kinds of a source's letters, line by line."""
+    found: list[list[str]] = [[]]
+    for kind, letter in ((kind, letter) for kind, piece in sources.tokens(text.encode()) for letter in piece):
+        if letter == "\n":
+            found.append([])
+        else:
+            found[-1].append(kind)
+    return found
+
+
+def source_lines() -> Results:
+    """Sources with colours."""
+    yield "a source with colours", sources.lines(SOURCE) == COLOURED
+    yield "lines that end with two bytes", sources.lines(b"a\r\nb\r\n") == ["a", "b"]
+    yield "an empty source", sources.lines(b"") == []
+
+
+def light(colour: str) -> float:
+    """How light a colour is, by the guidelines for pages that all can read."""
+    parts = [int(colour[at:at + 2], 16) / 255 for at in (1, 3, 5)]
+    linear = [it / 12.92 if it <= 0.03928 else math.pow((it + 0.055) / 1.055, 2.4) for it in parts]
+    return sum(it * part for it, part in zip(linear, (0.2126, 0.7152, 0.0722)))
+
+
+def contrast(one: str, other: str) -> float:
+    both = sorted((light(one), light(other)))
+    return (both[1] + 0.05) / (both[0] + 0.05)
+
+
+def colour_steps() -> Results:
+    """What is written can be read, in the light and in the dark."""
+    rules = re.findall(r"\.h\d+\{background:(#\w{6});color:(#\w{6})\}", colours.style())
+    yield "steps of the map", len(rules) == 42 and len(set(rules)) == 42
+    yield "contrast in the map", all(contrast(*rule) >= 4.5 for rule in rules)
+    style = Path(TOP, "scripts", "sites", "site.css").read_text("utf-8")
+    parts = re.findall(r":root \{(.*?)\}", style, re.DOTALL)
+    themes = [dict(re.findall(r"--([\w-]+): (#\w{6});", part)) for part in parts]
+    inks = ("ink", "soft", "accent", "won", "lost", "up", "keyword", "number", "builtin", "comment", "fault")
+    for theme, (ink, ground) in itertools.product(themes, itertools.product(inks, ("ground", "panel"))):
+        yield f"contrast of {ink} on {ground}", contrast(theme[ink], theme[ground]) >= 4.5
+    for theme in themes:
+        drawn = [(theme[part], theme["panel"]) for part in ("won", "lost", "accent")]
+        yield "contrast of what is drawn", all(contrast(*it) >= 3 for it in drawn)
+    yield "two themes", len(themes) == 2 and set(themes[0]) == set(themes[1])
+
+
+def axes() -> Results:
+    """An axis leaves outliers out, and has round numbers."""
+    it = scales.scale([0.0, 10.0, 20.0, 30.0, 40.0, 5000.0], 0, 100)
+    # the middle half goes from 12.5 to 37.5, so the axis may go to 37.5 + 1.5 * 25
+    yield "an outlier is beyond the axis", not it.holds(5000) and it.holds(0) and it.holds(75) and not it.holds(80)
+    yield "a place beyond is the end", it.at(5000) == 100 and it.at(-5000) == 0
+    yield "round numbers", it.ticks() == [0, 20, 40, 60]
+    yield "one value", scales.scale([7.0], 0, 10).at(7) == 5

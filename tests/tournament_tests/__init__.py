@@ -1,0 +1,1 @@
+"""The parts of tests/tournaments, one module a subject."""
