@@ -41,7 +41,7 @@ def node(folder: str) -> list[str]:
 
 def script_and_module(folder: str, name: str) -> list[str]:
     """The words by which Node runs a script of this folder on the module."""
-    return [os.path.join(HERE, name), os.path.join(folder, "crobots.wasm")]
+    return [os.path.join(HERE, name), f"{folder}.wasm"]
 
 
 def lacking(folder: str) -> str:
@@ -296,7 +296,7 @@ def any_blocks(folder: str) -> list[str]:
 
 def size(folder: str) -> list[str]:
     """The module is small enough to be loaded at once."""
-    count = os.path.getsize(os.path.join(folder, "crobots.wasm"))
+    count = os.path.getsize(f"{folder}.wasm")
     return [f"{count} bytes"] if count > MOST_BYTES else []
 
 
