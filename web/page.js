@@ -1,5 +1,5 @@
 // The page: robots and settings that are edited, runs by the engine, and what they gave.
-import {Ending, Limits, hasWideMemories} from "./engine.js";
+import {Ending, Limits, takesModule} from "./engine.js";
 import {makeEditor} from "./editor.js";
 import {battleOf, checked, fragmentOf, isBattle, toBytes} from "./links.js";
 import {UPDATE_CYCLES} from "./films.js";
@@ -11,7 +11,6 @@ const COMPILE_AFTER = 250;
 // how many windows of 15 cycles of a match are shown while the rest is made, and after how many milliseconds
 const FIRST_WINDOWS = 1000;
 const SHOW_AFTER = 300;
-const LACKING = "This page needs WebAssembly with 64-bit memories, which Chrome and Edge have from version 133, and Firefox from version 134.";
 const BROKEN = "The link carries no battle that can be read, so this is another one.";
 const FIRST_BATTLE = ["hunter.r", "sniper.r"];
 const NEW_ROBOT = "main() {\n  while (1) {\n    drive(0, 0);\n  }\n}\n";
@@ -411,11 +410,11 @@ async function firstBattle(samples) {
 }
 
 async function begin() {
-    if (!hasWideMemories()) {
-        byId("lacking").textContent = LACKING;
-        byId("lacking").hidden = false;
+    if (!takesModule()) {
+        // the page says what it needs
         return;
     }
+    byId("lacking").hidden = true;
     // what the page is built with; from a file nothing can be fetched, so all of it is a script
     const {robots, editor, player, worker, module} = globalThis.CROBOTS;
     const address = URL.createObjectURL(new Blob([worker], {type: "text/javascript"}));

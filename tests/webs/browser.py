@@ -406,16 +406,24 @@ def stopped(page: Page, crobots: str) -> list[str]:
     return reports(page, crobots, sample_battles()[20:21])
 
 
+# what an older browser lacks: all of WebAssembly, bulk memory or sign extension, numbers of 64 bits, the language of the script
+OLDER = ("delete globalThis.WebAssembly", "WebAssembly.Module = function () { throw new WebAssembly.CompileError(); }", "delete globalThis.BigInt",
+         "document.addEventListener('readystatechange', () => document.querySelector('[src=\"page.js\"]')?.remove(), {once: true})")
+
+
 def older(page: Page) -> list[str]:
-    """A browser without 64-bit memories gets one sentence."""
-    hide = page.driver.execute_cdp_cmd("Page.addScriptToEvaluateOnNewDocument", {"source": "WebAssembly.validate = () => false"})
-    page.driver.get("about:blank")
-    page.driver.get(page.address)
-    page.wait("return document.getElementById('lacking').textContent")
-    seen = page.js("return [document.getElementById('lacking').innerText, document.getElementById('main').hidden]")
-    page.driver.execute_cdp_cmd("Page.removeScriptToEvaluateOnNewDocument", hide)
-    is_sentence = re.fullmatch(r"This page needs [^.]* Chrome and Edge have from version \d+, and Firefox from version \d+\.", seen[0])
-    return [] if is_sentence and seen[1] else [f"{seen}"]
+    """A browser that can't run the module gets two sentences, also if it can't read the script."""
+    wrong = []
+    for lacks in OLDER:
+        added = page.driver.execute_cdp_cmd("Page.addScriptToEvaluateOnNewDocument", {"source": lacks})
+        page.driver.get("about:blank")
+        page.driver.get(page.address)
+        page.wait("return getComputedStyle(document.getElementById('lacking')).visibility === 'visible'")
+        seen = page.js("return [document.getElementById('lacking').innerText, document.getElementById('main').hidden]")
+        page.driver.execute_cdp_cmd("Page.removeScriptToEvaluateOnNewDocument", added)
+        told = r"This page needs [^.]*\. Chrome and Edge have these from version \d+, Firefox from version \d+, and Safari from version \d+\."
+        wrong += [] if re.fullmatch(told, seen[0]) and seen[1] else [f"{lacks}: {seen}"]
+    return wrong
 
 
 def plain(page: Page, folder: str) -> list[str]:
