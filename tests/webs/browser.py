@@ -16,7 +16,7 @@ import tempfile
 import threading
 import time
 import zlib
-from typing import Any, Iterator
+from typing import Any, Callable, ContextManager, Iterator
 
 from .battles import Battle, Settings, outcome, random_battles, sample_battles, samples, script, vectors
 
@@ -25,14 +25,22 @@ DEBIAN = "/usr/lib/python3/dist-packages"
 WIDTHS = (360, 1200)
 
 
-def lacking(folder: str) -> str:
-    """What is lacking for these tests, the page's editor too. Debian's modules are found by another Python too."""
+def has_selenium() -> bool:
+    """Whether selenium is there. Debian's modules are found by another Python too."""
     if not importlib.util.find_spec("selenium") and os.path.isdir(DEBIAN):
         sys.path.append(DEBIAN)
-    programs = [name for name in ("chromium", "chromedriver") if not shutil.which(name)]
-    modules = [] if importlib.util.find_spec("selenium") else ["python3-selenium"]
-    editor = [] if os.listdir(os.path.join(folder, "codemirror")) else ["libjs-codemirror"]
-    missing = programs + modules + editor
+    return importlib.util.find_spec("selenium") is not None
+
+
+def without_editor(folder: str) -> list[str]:
+    """The package of the page's editor, if the page was built without it."""
+    return [] if os.listdir(os.path.join(folder, "codemirror")) else ["libjs-codemirror"]
+
+
+def lacking(folder: str) -> str:
+    """What is lacking for these tests, the page's editor too."""
+    missing = [name for name in ("chromium", "chromedriver") if not shutil.which(name)]
+    missing += ([] if has_selenium() else ["python3-selenium"]) + without_editor(folder)
     return f"there is no {' and no '.join(missing)}" if missing else ""
 
 
@@ -371,7 +379,7 @@ def fought(page: Page, crobots: str, robots: list[tuple[str, bytes]], end: str) 
     return [] if report == wanted and f"  1) {end} {robots[0][0]}" in report else [f"{report!r}, not {wanted!r} with {end}"]
 
 
-def story(page: Page, crobots: str, folder: str) -> list[str]:
+def story(page: Page, crobots: str, folder: str, fresh: Callable[[], ContextManager[Any]]) -> list[str]:
     """What someone does who has only a browser, with the page as a file: a robot is changed, its fault seen and mended; it
     loses, another one wins; and the link is opened by someone else."""
     other = Page(page.driver, "file://" + os.path.join(os.path.abspath(folder), "index.html"))
@@ -392,8 +400,8 @@ def story(page: Page, crobots: str, folder: str) -> list[str]:
     other.js("document.getElementById('link').click()")
     other.wait("return document.getElementById('said').textContent.startsWith('The link')")
     link = other.js("return location.hash")
-    with chromium() as fresh:
-        reader = Page(fresh, other.address)
+    with fresh() as driver:
+        reader = Page(driver, other.address)
         reader.open(link)
         return wrong + fought(reader, crobots, battle, "won 1 tied 0 lost 0") + console(reader)
 
@@ -469,8 +477,8 @@ def speed(page: Page) -> list[str]:
 
 
 def console(page: Page) -> list[str]:
-    """No message on the console."""
-    return [entry["message"] for entry in page.driver.get_log("browser")]
+    """No message on the console, of which Chromium alone tells."""
+    return [entry["message"] for entry in page.driver.get_log("browser")] if page.driver.name == "chrome" else []
 
 
 def results(crobots: str, _stages: str, folder: str) -> Iterator[tuple[str, list[str]]]:
@@ -493,7 +501,7 @@ def results(crobots: str, _stages: str, folder: str) -> Iterator[tuple[str, list
         yield "widths", widths(page)
         yield "keys", keys(page)
         yield "names of controls", named(page)
-        yield "the page as a file", story(page, crobots, folder)
+        yield "the page as a file", story(page, crobots, folder, chromium)
         yield "a plain text field", plain(page, folder)
         yield "an older browser", older(page)
         yield "console", console(page)
