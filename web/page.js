@@ -3,7 +3,7 @@ import {ask, buttonOf} from "./asking.js";
 import {checked} from "./battles.js";
 import {Caller} from "./calling.js";
 import {makeEditor} from "./editor.js";
-import {hasWideMemories} from "./engine.js";
+import {takesModule} from "./engine.js";
 import {onDrop, robotsOf, save} from "./files.js";
 import {Finder} from "./finding.js";
 import {helpWriting} from "./helping.js";
@@ -12,7 +12,6 @@ import {battleOf, fragmentOf, unpacked} from "./links.js";
 import {Playing, tell} from "./playing.js";
 import {Workbench} from "./workbench.js";
 
-const LACKING = "This page needs WebAssembly with 64-bit memories, which Chrome and Edge have from version 133, and Firefox from version 134.";
 const NO_DATA = "The page is not whole: its file data.js is missing or can't be read. Unpack or copy all files of the page.";
 const MOST_MODULE_BYTES = 4 * 1024 * 1024;
 
@@ -114,8 +113,14 @@ class Page {
 
 /** Says what the page lacks, and nothing else. */
 function lack(text) {
+    byId("main").hidden = true;
     byId("lacking").textContent = text;
     byId("lacking").hidden = false;
+}
+
+/** Returns whether the browser has all that the page needs; the page says what that is until a script hides it. */
+function isFit() {
+    return takesModule() && typeof DecompressionStream === "function" && CSS.supports("color", "color-mix(in srgb, red, blue)");
 }
 
 /** Makes the page of what it is built with: from a file nothing can be fetched, so all of it is a script. */
@@ -133,10 +138,9 @@ async function make(data) {
 }
 
 const data = globalThis.CROBOTS;
-if (!hasWideMemories()) {
-    lack(LACKING);
-} else if (!data) {
-    lack(NO_DATA);
-} else {
+if (isFit() && data) {
+    byId("lacking").hidden = true;
     make(data).catch(fault => lack(`The page can't start: ${fault.message}`));
+} else if (isFit()) {
+    lack(NO_DATA);
 }

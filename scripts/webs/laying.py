@@ -153,7 +153,8 @@ def lay(folder: str, module: str) -> None:
     put(folder, "page.js", script_of("page"))
     put(folder, "data.js", data_of(module, manuals[0]))
     pack(folder)
-    shutil.copy(module, f"{folder}.wasm")
+    if os.path.abspath(module) != f"{folder}.wasm":
+        shutil.copy(module, f"{folder}.wasm")
 
 
 def pack(folder: str) -> None:

@@ -7,7 +7,7 @@ import os
 import re
 import shutil
 import sys
-from typing import Iterator
+from typing import Any, Callable, ContextManager, Iterator
 
 from . import everyone, helping, keeping, robust, seeing
 from .battles import Battle, Settings, outcome, random_battles, sample_battles, samples, script, vectors
@@ -16,14 +16,22 @@ from .pages import Page, chromium, console, served
 DEBIAN = "/usr/lib/python3/dist-packages"
 
 
-def lacking(folder: str) -> str:
-    """What is lacking for these tests, the page's editor too. Debian's modules are found by another Python too."""
+def has_selenium() -> bool:
+    """Whether selenium is there. Debian's modules are found by another Python too."""
     if not importlib.util.find_spec("selenium") and os.path.isdir(DEBIAN):
         sys.path.append(DEBIAN)
-    programs = [name for name in ("chromium", "chromedriver") if not shutil.which(name)]
-    modules = [] if importlib.util.find_spec("selenium") else ["python3-selenium"]
-    editor = [] if os.listdir(os.path.join(folder, "codemirror")) else ["libjs-codemirror"]
-    missing = programs + modules + editor
+    return importlib.util.find_spec("selenium") is not None
+
+
+def without_editor(folder: str) -> list[str]:
+    """The package of the page's editor, if the page was built without it."""
+    return [] if os.listdir(os.path.join(folder, "codemirror")) else ["libjs-codemirror"]
+
+
+def lacking(folder: str) -> str:
+    """What is lacking for these tests, the page's editor too."""
+    missing = [name for name in ("chromium", "chromedriver") if not shutil.which(name)]
+    missing += ([] if has_selenium() else ["python3-selenium"]) + without_editor(folder)
     return f"there is no {' and no '.join(missing)}" if missing else ""
 
 
@@ -257,7 +265,7 @@ def fought(page: Page, crobots: str, robots: list[tuple[str, bytes]], end: str) 
     return [] if report == wanted and f"  1) {end} {robots[0][0]}" in report else [f"{report!r}, not {wanted!r} with {end}"]
 
 
-def story(page: Page, crobots: str, folder: str) -> list[str]:
+def story(page: Page, crobots: str, folder: str, fresh: Callable[[], ContextManager[Any]]) -> list[str]:
     """What someone does who has only a browser, with the page as a file: a robot is changed, its fault seen and mended; it
     loses, another one wins; and the link is opened by someone else."""
     other = Page(page.driver, "file://" + os.path.join(os.path.abspath(folder), "index.html"))
@@ -277,8 +285,8 @@ def story(page: Page, crobots: str, folder: str) -> list[str]:
     other.js("document.getElementById('link').click()")
     other.wait("return document.getElementById('said').textContent.startsWith('The link')")
     link = other.js("return location.hash")
-    with chromium() as fresh:
-        reader = Page(fresh, other.address)
+    with fresh() as driver:
+        reader = Page(driver, other.address)
         reader.open(link)
         return wrong + fought(reader, crobots, battle, "won 1 tied 0 lost 0") + console(reader)
 
@@ -291,16 +299,24 @@ def stopped(page: Page, crobots: str) -> list[str]:
     return reports(page, crobots, sample_battles()[20:21])
 
 
+# what an older browser lacks: all of WebAssembly, bulk memory or sign extension, numbers of 64 bits, the language of the script
+OLDER = ("delete globalThis.WebAssembly", "WebAssembly.Module = function () { throw new WebAssembly.CompileError(); }", "delete globalThis.BigInt",
+         "document.addEventListener('readystatechange', () => document.querySelector('[src=\"page.js\"]')?.remove(), {once: true})")
+
+
 def older(page: Page) -> list[str]:
-    """A browser without 64-bit memories gets one sentence."""
-    hide = page.driver.execute_cdp_cmd("Page.addScriptToEvaluateOnNewDocument", {"source": "WebAssembly.validate = () => false"})
-    page.driver.get("about:blank")
-    page.driver.get(page.address)
-    page.wait("return document.getElementById('lacking').textContent")
-    seen = page.js("return [document.getElementById('lacking').innerText, document.getElementById('main').hidden]")
-    page.driver.execute_cdp_cmd("Page.removeScriptToEvaluateOnNewDocument", hide)
-    is_sentence = re.fullmatch(r"This page needs [^.]* Chrome and Edge have from version \d+, and Firefox from version \d+\.", seen[0])
-    return [] if is_sentence and seen[1] else [f"{seen}"]
+    """A browser that can't run the module gets two sentences, also if it can't read the script."""
+    wrong = []
+    for lacks in OLDER:
+        added = page.driver.execute_cdp_cmd("Page.addScriptToEvaluateOnNewDocument", {"source": lacks})
+        page.driver.get("about:blank")
+        page.driver.get(page.address)
+        page.wait("return getComputedStyle(document.getElementById('lacking')).visibility === 'visible'")
+        seen = page.js("return [document.getElementById('lacking').innerText, document.getElementById('main').hidden]")
+        page.driver.execute_cdp_cmd("Page.removeScriptToEvaluateOnNewDocument", added)
+        told = r"This page needs [^.]*\. Chrome and Edge have these from version \d+, Firefox from version \d+, and Safari from version \d+\."
+        wrong += [] if re.fullmatch(told, seen[0]) and seen[1] else [f"{lacks}: {seen}"]
+    return wrong
 
 
 def speed(page: Page) -> list[str]:
@@ -335,7 +351,7 @@ def results(crobots: str, _stages: str, folder: str) -> Iterator[tuple[str, list
         yield "a stopped series", stopped(page, crobots)
         yield "keys", keys(page)
         yield "names of controls", named(page)
-        yield "the page as a file", story(page, crobots, folder)
+        yield "the page as a file", story(page, crobots, folder, chromium)
         yield from keeping.results(page)
         yield from seeing.results(page)
         yield from helping.results(page, crobots)

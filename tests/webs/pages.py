@@ -200,5 +200,5 @@ class Page:
 
 
 def console(page: Page) -> list[str]:
-    """What the page wrote on the console."""
-    return [entry["message"] for entry in page.driver.get_log("browser")]
+    """What the page wrote on the console, of which Chromium alone tells."""
+    return [entry["message"] for entry in page.driver.get_log("browser")] if page.driver.name == "chrome" else []
