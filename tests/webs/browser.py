@@ -9,7 +9,7 @@ import shutil
 import sys
 from typing import Any, Callable, ContextManager, Iterator
 
-from . import everyone, helping, keeping, robust, seeing
+from . import everyone, helping, keeping, paths, robust, seeing
 from .battles import Battle, Settings, outcome, random_battles, sample_battles, samples, script, vectors
 from .pages import Page, chromium, console, served
 
@@ -241,17 +241,6 @@ def keys(page: Page) -> list[str]:
     return wrong
 
 
-def named(page: Page) -> list[str]:
-    """Each control has a name that a screen reader says."""
-    page.show(Battle(samples()[:2]))
-    if not page.js("return document.getElementById('replay').hidden"):
-        page.watch(1)
-    tree = page.driver.execute_cdp_cmd("Accessibility.getFullAXTree", {})["nodes"]
-    roles = {"button", "textbox", "combobox", "spinbutton", "slider", "tab", "listbox", "option", "meter", "Iframe"}
-    return [f"{node['role']['value']} without a name: {node.get('nodeId')}" for node in tree
-            if not node["ignored"] and node["role"]["value"] in roles and not node.get("name", {}).get("value", "").strip()]
-
-
 def typed(page: Page, keys: str, diagnostic: str) -> None:
     """Types at the place of the focus, until the robot is compiled."""
     page.driver.switch_to.active_element.send_keys(keys)
@@ -308,12 +297,11 @@ def older(page: Page) -> list[str]:
     """A browser that can't run the module gets two sentences, also if it can't read the script."""
     wrong = []
     for lacks in OLDER:
-        added = page.driver.execute_cdp_cmd("Page.addScriptToEvaluateOnNewDocument", {"source": lacks})
-        page.driver.get("about:blank")
-        page.driver.get(page.address)
-        page.wait("return getComputedStyle(document.getElementById('lacking')).visibility === 'visible'")
-        seen = page.js("return [document.getElementById('lacking').innerText, document.getElementById('main').hidden]")
-        page.driver.execute_cdp_cmd("Page.removeScriptToEvaluateOnNewDocument", added)
+        with page.before(lacks):
+            page.driver.get("about:blank")
+            page.driver.get(page.address)
+            page.wait("return getComputedStyle(document.getElementById('lacking')).visibility === 'visible'")
+            seen = page.js("return [document.getElementById('lacking').innerText, document.getElementById('main').hidden]")
         told = r"This page needs [^.]*\. Chrome and Edge have these from version \d+, Firefox from version \d+, and Safari from version \d+\."
         wrong += [] if re.fullmatch(told, seen[0]) and seen[1] else [f"{lacks}: {seen}"]
     return wrong
@@ -350,12 +338,12 @@ def results(crobots: str, _stages: str, folder: str) -> Iterator[tuple[str, list
         yield "a cycle beyond a film", far(page)
         yield "a stopped series", stopped(page, crobots)
         yield "keys", keys(page)
-        yield "names of controls", named(page)
         yield "the page as a file", story(page, crobots, folder, chromium)
         yield from keeping.results(page)
-        yield from seeing.results(page)
-        yield from helping.results(page, crobots)
+        yield from seeing.results(page, crobots)
+        yield from helping.results(page, crobots, folder)
         yield from robust.results(page, folder)
         yield from everyone.results(page)
+        yield from paths.results(page)
         yield "an older browser", older(page)
         yield "console", console(page)

@@ -6,12 +6,14 @@ import base64
 import contextlib
 import functools
 import http.server
+import importlib
 import json
 import os
 import shutil
 import tempfile
 import threading
 import time
+import urllib.parse
 import zlib
 from typing import Any, Iterator
 
@@ -55,15 +57,14 @@ def without(folder: str, *names: str) -> Iterator[str]:
 @contextlib.contextmanager
 def chromium() -> Iterator[Any]:
     """A browser without a window."""
-    from selenium import webdriver  # pylint: disable=import-outside-toplevel,import-error
-    from selenium.webdriver.chrome.service import Service  # pylint: disable=import-outside-toplevel,import-error
-
+    webdriver: Any = importlib.import_module("selenium.webdriver")
     options = webdriver.ChromeOptions()
     options.binary_location = shutil.which("chromium")
     for word in ("--headless=new", "--no-sandbox", "--disable-gpu", "--disable-dev-shm-usage", "--window-size=1280,1000"):
         options.add_argument(word)
     options.set_capability("goog:loggingPrefs", {"browser": "ALL"})
-    driver = webdriver.Chrome(service=Service(shutil.which("chromedriver")), options=options)
+    service: Any = importlib.import_module("selenium.webdriver.chrome.service")
+    driver = webdriver.Chrome(service=service.Service(shutil.which("chromedriver")), options=options)
     try:
         yield driver
     finally:
@@ -98,8 +99,18 @@ class Page:
 
     def fresh(self, tail: str = "") -> None:
         """Opens the page anew in a browser that kept nothing."""
+        self.driver.get(urllib.parse.urljoin(self.address, "about.html"))
         self.js("localStorage.clear()")
         self.open(tail)
+
+    @contextlib.contextmanager
+    def before(self, code: str) -> Iterator[None]:
+        """Runs code before each page that is opened meanwhile. Only Chromium can."""
+        added = self.driver.execute_cdp_cmd("Page.addScriptToEvaluateOnNewDocument", {"source": code})
+        try:
+            yield
+        finally:
+            self.driver.execute_cdp_cmd("Page.removeScriptToEvaluateOnNewDocument", added)
 
     def show(self, battle: Battle) -> None:
         """Follows a link to a battle in the open page, until the first robot is compiled."""
@@ -123,11 +134,11 @@ class Page:
 
     def text(self, name: str) -> str:
         """The text of an element."""
-        return self.js("return document.getElementById(arguments[0]).textContent", name)
+        return str(self.js("return document.getElementById(arguments[0]).textContent", name))
 
     def seen(self, name: str) -> str:
         """The text of an element as it is seen; nothing of one that is hidden."""
-        return self.js("const it = document.getElementById(arguments[0]); return it.hidden ? '' : it.innerText", name)
+        return str(self.js("const it = document.getElementById(arguments[0]); return it.hidden ? '' : it.innerText", name))
 
     def click(self, name: str) -> None:
         """Clicks an element."""
@@ -151,12 +162,12 @@ class Page:
     @property
     def source(self) -> str:
         """The source that is shown."""
-        return self.js("return document.querySelector('.CodeMirror').CodeMirror.getValue()")
+        return str(self.js("return document.querySelector('.CodeMirror').CodeMirror.getValue()"))
 
     @property
     def names(self) -> list[str]:
         """The names on the tabs."""
-        return self.js("return [...document.querySelectorAll('#tabs [role=tab]')].map(it => it.textContent)")
+        return list(self.js("return [...document.querySelectorAll('#tabs [role=tab]')].map(it => it.textContent)"))
 
     def entries(self) -> list[list[list[str]]]:
         """The battles that the browser keeps: of each the names and the sources of its robots."""
@@ -172,10 +183,9 @@ class Page:
 
     def press(self, *keys: str) -> None:
         """Presses keys, by their names in selenium, or types letters."""
-        from selenium.webdriver.common.keys import Keys  # pylint: disable=import-outside-toplevel,import-error
-
+        named: Any = importlib.import_module("selenium.webdriver.common.keys")
         for key in keys:
-            self.driver.switch_to.active_element.send_keys(getattr(Keys, key, key))
+            self.driver.switch_to.active_element.send_keys(getattr(named.Keys, key, key))
 
     def watch(self, number: int, cycle: int = 0) -> None:
         """Watches a match from a cycle on."""
