@@ -12,8 +12,8 @@ sections and by instructions. The lowered one may differ from the wide one in th
 - numbers in code may be written shorter
 
 A section, an instruction or an item that isn't named here is refused. So, with less than 4 GiB of memory, each call
-that the wide module answers is answered alike, or ended by a test: an access that the wide one makes has its address and
-its end inside the memory, so below 2 to the 32nd, and wrapping changes neither."""
+that the wide module answers is answered alike, or ended by a test: an access that the wide one makes has its address
+and its end inside the memory, so below 2 to the 32nd, and wrapping changes neither."""
 
 from __future__ import annotations
 
