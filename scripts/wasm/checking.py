@@ -1,18 +1,19 @@
 """Checks a lowered WebAssembly module against the wide one that it was made from.
 
-It shares no code with `lowering`, so of the two this one alone has to be trusted. It walks both modules in step, section
-by section and instruction by instruction. It accepts a module that differs from the wide one in this and nothing else:
+It shares no code with `lowering`, so of the two this one alone has to be trusted. It walks both modules in step, by
+sections and by instructions. The lowered one may differ from the wide one in this, and in nothing else:
 
 - the memory has 32-bit addresses, and as many pages
 - the place of a piece of data is a constant of 32 bits, and the same number
 - sections for tools are gone
 - each function has three more locals behind its own, which nothing but the accesses uses
 - each access to the memory is the same, with its address wrapped, and its count if it is a copy or a fill
-- an exported function begins with a test of each argument of 64 bits: the call ends if it isn't below the memory's size
+- an exported function begins with a test of each 64-bit argument: one that isn't below the memory's size ends the call
 - numbers in code may be written shorter
 
-So both do the same as long as no address and no count that the code computes comes to 2 to the 32nd. A section, an
-instruction or an item that isn't named here is refused."""
+A section, an instruction or an item that isn't named here is refused. So, with less than 4 GiB of memory, each call
+that the wide module answers is answered alike, or ended by a test: an access that the wide one makes has its address
+and its end inside the memory, so below 2 to the 32nd, and wrapping changes neither."""
 
 from __future__ import annotations
 

@@ -185,7 +185,10 @@ def parameters_of(parts: dict[int, bytes]) -> list[bytes]:
         types.append(reader.counted())
         reader.counted()
     reader = Reader(parts[FUNCTION])
-    return [types[reader.number()] for _ in reader.items()]
+    numbers = [reader.number() for _ in reader.items()]
+    if any(number >= len(types) for number in numbers):
+        raise UnknownPart("a function without a type")
+    return [types[number] for number in numbers]
 
 
 def exported(parts: dict[int, bytes]) -> set[int]:
@@ -197,7 +200,11 @@ def exported(parts: dict[int, bytes]) -> set[int]:
 
 def lowered_code(parts: dict[int, bytes]) -> bytes:
     parameters, calls, reader = parameters_of(parts), exported(parts), Reader(parts[CODE])
-    return vector([counted(lowered_function(reader.counted(), parameters[n], n in calls)) for n in reader.items()])
+    bodies = [reader.counted() for _ in reader.items()]
+    if len(bodies) != len(parameters):
+        raise UnknownPart("a function without code")
+    functions = enumerate(zip(bodies, parameters))
+    return vector([counted(lowered_function(body, kinds, number in calls)) for number, (body, kinds) in functions])
 
 
 def lowered_memory(parts: dict[int, bytes]) -> bytes:
@@ -236,6 +243,8 @@ def parts_of(module: bytes) -> dict[int, bytes]:
             raise UnknownPart(f"section {number}")
         if number != CUSTOM:
             found[number] = content
+    if not {TYPE, FUNCTION, MEMORY, EXPORT, CODE} <= {*found}:
+        raise UnknownPart("too few sections")
     return found
 
 
