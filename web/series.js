@@ -48,7 +48,11 @@ export class Series {
         return this.totals.matches;
     }
 
+    /** The report: that of the only piece as it stands, or else what the pieces add up to. */
     get text() {
+        if (this.whole !== undefined) {
+            return this.whole;
+        }
         const more = this.leftOut ? [`(${this.leftOut} more matches were played. Their reports are left out here.)\n`] : [];
         return [...this.reports, ...more, this.totals].join("");
     }
@@ -89,6 +93,7 @@ export class Series {
     }
 
     take(matches, text) {
+        this.whole = matches === this.settings.matches ? text : undefined;
         // a name has no line break, so this is no part of one
         const at = text.lastIndexOf("\nTotals: ") + 1;
         this.totals.add(matches, text.slice(at));

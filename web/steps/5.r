@@ -1,7 +1,7 @@
 /* 5. A robot that wins
 A robot that stands still is hit again and again. This one remembers its damage: when there is more, it drives off,
 and turns round before a wall. It aims like the one before, and wins most of its matches.
-Against hunter.r. */
+Against wallhugger.r. */
 int angle, range, before, heading;
 
 narrowed(angle)
