@@ -20,7 +20,7 @@ export class Keeping {
         byId("unkept").textContent = UNKEPT;
         byId("kept").addEventListener("toggle", () => this.showEntries());
         byId("new").addEventListener("click", () => this.beginNew());
-        this.keeper.onOther(() => this.noted.say(OTHER, {"Show it here": () => this.open(this.keeper.present)}));
+        this.keeper.onOther(() => this.noted.say(OTHER, {"Show it here": () => this.open(this.keeper.present ?? this.displaced)}));
         window.addEventListener("hashchange", () => this.follow());
     }
 
