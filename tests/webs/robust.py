@@ -108,7 +108,8 @@ def policy(page: Page, folder: str) -> list[str]:
     for address in (page.address, "file://" + os.path.join(os.path.abspath(folder), "index.html")):
         other = Page(page.driver, address)
         other.open()
-        tries = {"eval": "try { (0, eval)('1'); return 'ran' } catch { return 'refused' }",
+        # the driver's own call may generate code, so this is tried after it
+        tries = {"eval": "return new Promise(done => setTimeout(() => { try { (0, eval)('1'); done('ran'); } catch { done('refused'); } }))",
                  "inline": "window.ran = 'refused'; const it = document.createElement('script'); it.textContent = 'window.ran = \"ran\"'; document.body.append(it); return window.ran",
                  "elsewhere": "return fetch('https://example.org/').then(() => 'ran', () => 'refused')"}
         wrong += [f"{address}: {name} ran" for name, code in tries.items() if other.js(code) != "refused"]

@@ -91,7 +91,7 @@ def diagnostic(page: Page) -> list[str]:
     page.write(FAULTY)
     bottom = page.js("return document.getElementById('diagnostic').getBoundingClientRect().bottom + scrollY")
     places = page.js("const box = it => document.querySelector(it).getBoundingClientRect();"
-                     "return [box('.CodeMirror .faulty').bottom, box('.CodeMirror .fault-words').top]")
+                     "return [box('.CodeMirror .faulty ~ .CodeMirror-line, .CodeMirror .faulty ~ * .CodeMirror-line').bottom, box('.CodeMirror .fault-words').top]")
     wrong = [] if 0 < bottom <= 651 else [f"the diagnostic ends at {bottom}"]
     wrong += [] if abs(places[0] - places[1]) < 3 else [f"the line ends at {places[0]}, the words begin at {places[1]}"]
     page.js("document.getElementById('tab-1').click()")
@@ -188,7 +188,7 @@ def one_name(page: Page) -> list[str]:
         page.set("name", written)
         page.js("document.getElementById('name').dispatchEvent(new Event('change'))")
         report = page.run()
-        shown = {page.js("return document.getElementById('name').value"), page.names[0], report.split("\n")[1][26:]}
+        shown = {page.js("return document.getElementById('name').value"), page.names[0], report.split("\n")[1][23:]}
         wrong += [] if shown == {wanted} else [f"{written!r}: {shown}"]
     return wrong
 
