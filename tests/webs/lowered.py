@@ -1,4 +1,4 @@
-"""Tests of the page's module beside the one that it was lowered from: it is accepted, and refused with a bit flipped."""
+"""Tests of the page's module beside the one that it was made from: it is accepted, and with a flipped bit refused."""
 
 from __future__ import annotations
 
