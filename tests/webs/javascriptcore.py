@@ -26,7 +26,7 @@ def answers(folder: str, battles: list[Battle]) -> list[Answer]:
     with tempfile.NamedTemporaryFile("w", suffix=".json") as file:
         json.dump(jobs, file)
         file.flush()
-        words = [PROGRAM, "-m", os.path.join(HERE, "jsc.mjs"), "--", os.path.join(folder, "crobots.wasm"), file.name]
+        words = [PROGRAM, "-m", os.path.join(HERE, "jsc.mjs"), "--", f"{folder}.wasm", file.name]
         ran = subprocess.run(words, capture_output=True, text=True, check=True, timeout=SECONDS)
     return [(it["ending"], bytes(it["text"]), bytes(it["faults"])) for it in json.loads(ran.stdout)]
 

@@ -1,4 +1,4 @@
-"""Tests of the page's module beside the one that it was lowered from: it is accepted, and with one flipped bit refused."""
+"""Tests of the page's module beside the one that it was made from: it is accepted, and with a flipped bit refused."""
 
 from __future__ import annotations
 
@@ -32,7 +32,7 @@ def flipped(module: bytes, bit: int) -> bytes:
 
 def results(_crobots: str, _stages: str, folder: str) -> Iterator[tuple[str, list[str]]]:
     """The tests' names, and what is wrong."""
-    with open(WIDE, "rb") as wide, open(os.path.join(folder, "crobots.wasm"), "rb") as low:
+    with open(WIDE, "rb") as wide, open(f"{folder}.wasm", "rb") as low:
         before, after = wide.read(), low.read()
     why = refusal(before, after)
     yield "the lowered module", [why] if why else []

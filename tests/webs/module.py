@@ -16,6 +16,7 @@ from typing import Any, Iterator
 from .battles import Battle, Settings, deepest, hostile_battles, outcome, random_battles, sample_battles, samples, vectors
 
 HERE = os.path.dirname(os.path.abspath(__file__))
+WEB = os.path.join(HERE, "..", "..", "web")
 STILL = ("still.r", b"main(){}")
 MOST_SEED = 2**64 - 1
 SECONDS = 120
@@ -32,7 +33,7 @@ STEPS = {"++": "+=", "--": "-="}
 
 def words_of(name: str, folder: str) -> list[str]:
     """The words by which Node runs a script of this folder on the module."""
-    return [shutil.which("node") or "node", os.path.join(HERE, name), os.path.join(folder, "crobots.wasm")]
+    return [shutil.which("node") or "node", os.path.join(HERE, name), f"{folder}.wasm"]
 
 
 def lacking(_folder: str) -> str:
@@ -293,14 +294,26 @@ def any_blocks(folder: str) -> list[str]:
     return wrong + ([] if told["ends"] == ["ended"] * 90 else [f"outside of the memory: {told['ends']}"])
 
 
+def units() -> list[str]:
+    """Parts of the page that need no browser. Node takes the modules if a file beside them says what they are."""
+    with tempfile.TemporaryDirectory() as place:
+        shutil.copytree(WEB, place, dirs_exist_ok=True)
+        with open(os.path.join(place, "package.json"), "w", encoding="ascii") as file:
+            file.write('{"type": "module"}')
+        words = [shutil.which("node") or "node", os.path.join(HERE, "units.mjs"), place]
+        ran = subprocess.run(words, capture_output=True, text=True, check=False, timeout=SECONDS)
+    return list(json.loads(ran.stdout)) if not ran.returncode else [ran.stderr[-500:]]
+
+
 def size(folder: str) -> list[str]:
     """The module is small enough to be loaded at once."""
-    count = os.path.getsize(os.path.join(folder, "crobots.wasm"))
+    count = os.path.getsize(f"{folder}.wasm")
     return [f"{count} bytes"] if count > MOST_BYTES else []
 
 
 def results(crobots: str, stages: str, folder: str) -> Iterator[tuple[str, list[str]]]:
     """The tests' names, and what is wrong."""
+    yield "parts of the page", units()
     yield "size", size(folder)
     yield "blocks of any bytes", any_blocks(folder)
     yield "samples", differing(crobots, folder, sample_battles())

@@ -10,8 +10,9 @@ import shutil
 import subprocess
 from typing import Any, Iterator
 
-from . import browser
+from . import browser, everyone, robust
 from .battles import random_battles, sample_battles
+from .pages import Page, served
 
 BROWSERS = "/usr/lib/*/webkit2gtk-4.*/MiniBrowser"
 DRIVER, DISPLAY = "WebKitWebDriver", "Xvfb"
@@ -64,8 +65,8 @@ def webkit() -> Iterator[Any]:
 
 def results(crobots: str, _stages: str, folder: str) -> Iterator[tuple[str, list[str]]]:
     """The tests' names, and what is wrong."""
-    with display(), browser.served(folder) as address, webkit() as driver:
-        page = browser.Page(driver, address)
+    with display(), served(folder) as address, webkit() as driver:
+        page = Page(driver, address)
         page.open()
         yield "samples", browser.reports(page, crobots, sample_battles())
         yield "random robots", browser.reports(page, crobots, random_battles(30, 7))
@@ -78,7 +79,7 @@ def results(crobots: str, _stages: str, folder: str) -> Iterator[tuple[str, list
         yield "watched matches", browser.watched(page, crobots)
         yield "a cycle beyond a film", browser.far(page)
         yield "a stopped series", browser.stopped(page, crobots)
-        yield "widths", browser.widths(page)
+        yield "widths", everyone.widths(page)
         yield "keys", browser.keys(page)
         yield "the page as a file", browser.story(page, crobots, folder, webkit)
-        yield "a plain text field", browser.plain(page, folder)
+        yield "a plain text field", robust.plain(page, folder)
