@@ -52,8 +52,8 @@ def refuse(why: str) -> NoReturn:
 class Walk:
     """A place in a module, up to which it was read."""
 
-    def __init__(self, data: bytes, begin: int = 0, end: int | None = None) -> None:
-        self.data, self.at, self.end = data, begin, len(data) if end is None else end
+    def __init__(self, data: bytes, begin: int, end: int) -> None:
+        self.data, self.at, self.end = data, begin, end
 
     @property
     def is_over(self) -> bool:
@@ -102,7 +102,7 @@ def require(is_so: bool, why: str) -> None:
 
 def sections(module: bytes, for_tools: bool) -> dict[int, Walk]:
     """The sections by their numbers. Those for tools, which have the number 0, are left out, or refused."""
-    walk, found = Walk(module, len(MAGIC)), dict[int, Walk]()
+    walk, found = Walk(module, len(MAGIC), len(module)), dict[int, Walk]()
     require(module.startswith(MAGIC), "it doesn't begin as a module")
     while not walk.is_over:
         number, content = walk.byte(), walk.part()
