@@ -156,6 +156,11 @@ function robotOf({name, places, damages, scans, death}) {
     };
 }
 
+/** Returns the last cycle of a film. */
+export function cyclesOf(text) {
+    return Number(text.slice(text.lastIndexOf("\n", text.length - 2) + 1).split("\t")[0]);
+}
+
 /** Returns whether a film has where robots are at its begin: that of windows after a match's end has none. */
 export function isFilm(text) {
     return /\tstands\t|^0\t1\tat\t/m.test(text);

@@ -43,7 +43,8 @@ export class Watcher {
 
     /** Shows some windows of a match if the film of all of it takes long, and then all of it. */
     async showBoth(wish, windows) {
-        const film = this.ask(wish, "film");
+        // a film that is cut off before the cycle that is asked for isn't read if these windows have it
+        const film = this.ask(wish, "film", windows.kept === null ? {} : {beyond: wish.cycle});
         const isSlow = await Promise.race([film.then(() => false), new Promise(done => setTimeout(done, SHOW_AFTER, true))]);
         // a match that ended before has nothing in these windows
         const isShown = isSlow && windows.kept !== null;
@@ -55,8 +56,7 @@ export class Watcher {
             this.say(reasonOf(null, whole.faults), true);
             return isShown;
         }
-        const isMade = whole.ending === Ending.DONE || whole.ending === Ending.FULL && whole.cycles > wish.cycle;
-        if (isMade || windows.kept === null) {
+        if (whole.kept !== null || windows.kept === null) {
             return this.showWhole(wish, whole, isShown ? this.screen.place : undefined);
         }
         if (!isShown) {

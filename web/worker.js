@@ -1,6 +1,6 @@
 // Runs the engine beside the page, so that the page stays alive while matches are played and their films are read.
 import {Ending, Engine} from "./engine.js";
-import {isFilm, keptOf} from "./films.js";
+import {cyclesOf, isFilm, keptOf} from "./films.js";
 
 const FILMS = ["film", "windows"];
 
@@ -17,11 +17,11 @@ function start(module) {
 }
 
 /**
- * Reads a film for the player. What it keeps of it is a text in JSON that may stand between tags; null if the match has none of
- * the cycles that were asked for.
+ * Reads a film for the player. What it keeps of it is a text in JSON that may stand between tags; null if the film has none of
+ * the cycles that were asked for, or was cut off before one that it has to go `beyond`.
  */
-function read({ending, text, faults}, {from = 0}, robots) {
-    if (!isFilm(text)) {
+function read({ending, text, faults}, {from = 0, beyond = -1}, robots) {
+    if (!isFilm(text) || ending === Ending.FULL && cyclesOf(text) <= beyond) {
         return {ending, faults, kept: null};
     }
     const isCut = ending === Ending.FULL || ending === Ending.GOES_ON;

@@ -11,7 +11,7 @@ from typing import Any, Callable, ContextManager, Iterator
 
 from . import everyone, helping, keeping, paths, robust, seeing
 from .battles import Battle, Settings, outcome, random_battles, sample_battles, samples, script, vectors
-from .pages import Page, chromium, console, served
+from .pages import Page, chromium, console, served, without
 
 DEBIAN = "/usr/lib/python3/dist-packages"
 
@@ -288,22 +288,30 @@ def stopped(page: Page, crobots: str) -> list[str]:
     return reports(page, crobots, sample_battles()[20:21])
 
 
-# what an older browser lacks: all of WebAssembly, bulk memory or sign extension, numbers of 64 bits, the language of the script
+# what an older browser lacks: all of WebAssembly, bulk memory or sign extension, numbers of 64 bits, streams that unpack
 OLDER = ("delete globalThis.WebAssembly", "WebAssembly.Module = function () { throw new WebAssembly.CompileError(); }", "delete globalThis.BigInt",
-         "document.addEventListener('readystatechange', () => document.querySelector('[src=\"page.js\"]')?.remove(), {once: true})")
+         "delete globalThis.DecompressionStream")
+NEEDS = r"This page needs [^.]*\. Chrome and Edge have these from version \d+, Firefox from version \d+, and Safari from version \d+\."
 
 
-def older(page: Page) -> list[str]:
+def needs(page: Page, address: str) -> list[str]:
+    """What is wrong if the page can't run and says what it needs."""
+    page.driver.get("about:blank")
+    page.driver.get(address)
+    page.wait("return document.readyState === 'complete' && getComputedStyle(document.getElementById('lacking')).visibility === 'visible'")
+    seen = page.js("return [document.getElementById('lacking').innerText, document.getElementById('lacking').hidden, document.getElementById('main').hidden]")
+    return [] if re.fullmatch(NEEDS, seen[0]) and seen[1:] == [False, True] else [f"{seen}"]
+
+
+def older(page: Page, folder: str) -> list[str]:
     """A browser that can't run the module gets two sentences, also if it can't read the script."""
     wrong = []
     for lacks in OLDER:
         with page.before(lacks):
-            page.driver.get("about:blank")
-            page.driver.get(page.address)
-            page.wait("return getComputedStyle(document.getElementById('lacking')).visibility === 'visible'")
-            seen = page.js("return [document.getElementById('lacking').innerText, document.getElementById('main').hidden]")
-        told = r"This page needs [^.]*\. Chrome and Edge have these from version \d+, Firefox from version \d+, and Safari from version \d+\."
-        wrong += [] if re.fullmatch(told, seen[0]) and seen[1] else [f"{lacks}: {seen}"]
+            wrong += [f"{lacks}: {line}" for line in needs(page, page.address)]
+    with without(folder, "page.js") as address:
+        wrong += [f"without a script: {line}" for line in needs(page, address)]
+    console(page)
     return wrong
 
 
@@ -345,5 +353,5 @@ def results(crobots: str, _stages: str, folder: str) -> Iterator[tuple[str, list
         yield from robust.results(page, folder)
         yield from everyone.results(page)
         yield from paths.results(page)
-        yield "an older browser", older(page)
+        yield "an older browser", older(page, folder)
         yield "console", console(page)

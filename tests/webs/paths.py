@@ -18,6 +18,8 @@ KINDS = ("mouse", "keys", "touch")
 MOST_TABS = 200
 FRIEND = "main() { while (1) drive(30, 40); }"
 MINE = "/* mine */"
+# keys as the protocol of drivers has them
+BACKSPACE, TAB, SHIFT = "\ue003", "\ue004", "\ue008"
 
 
 class Reader:
@@ -35,11 +37,14 @@ class Reader:
             self.point(element)
 
     def tab(self, element: str) -> None:
-        """Goes to an element by the tab key."""
+        """Goes to an element by the tab key, and back with shift."""
         for _ in range(MOST_TABS):
-            if self.page.js(f"return document.activeElement === {element} || {element}.contains(document.activeElement)"):
+            is_there, is_before = self.page.js(f"const [it, now] = [{element}, document.activeElement];"
+                                               "return [it.contains(now), (now.compareDocumentPosition(it) & 2) > 0]")
+            if is_there:
                 return
-            self.page.press("TAB")
+            keys = [SHIFT] if is_before else []
+            self.keys([*(("keyDown", key) for key in [*keys, TAB]), *(("keyUp", key) for key in [TAB, *keys])])
         raise TimeoutError(f"no way by the tab key to {element}")
 
     def point(self, element: str) -> None:
@@ -54,8 +59,12 @@ class Reader:
         perform(self.page.driver, [{"type": "pointer", "id": self.kind, "parameters": {"pointerType": self.kind}, "actions": steps}])
 
     def write(self, text: str) -> None:
-        """Writes where the focus is."""
-        self.page.press(*text)
+        """Writes where the cursor is."""
+        self.keys([(kind, letter) for letter in text for kind in ("keyDown", "keyUp")])
+
+    def keys(self, steps: list[tuple[str, str]]) -> None:
+        """Presses and releases keys."""
+        perform(self.page.driver, [{"type": "key", "id": "keyboard", "actions": [{"type": kind, "value": key} for kind, key in steps]}])
 
 
 def perform(driver: Any, actions: list[dict[str, Any]]) -> None:
@@ -82,13 +91,13 @@ def write_and_mend(reader: Reader) -> None:
     if reader.kind == "keys":
         reader.tab("document.querySelector('.CodeMirror')")
     else:
-        reader.point("document.querySelector('.CodeMirror-lines')")
+        reader.point("document.querySelector('.CodeMirror-line')")
     page.js("document.querySelector('.CodeMirror').CodeMirror.setCursor(0, 0)")
     reader.write(MINE)
     told(page, "#diagnostic", "No fault.")
     reader.write(" break;")
-    told(page, ".fault-words", "syntax error. Something before this place is missing")
-    page.press(*["\b"] * 7)
+    told(page, ".fault-words", "reserved word. This word of C is not in the language")
+    reader.write(BACKSPACE * 7)
     told(page, "#diagnostic", "No fault.")
 
 
@@ -142,7 +151,7 @@ def friend(reader: Reader) -> None:
     if reader.kind == "keys":
         reader.tab("document.querySelector('.CodeMirror')")
     else:
-        reader.point("document.querySelector('.CodeMirror-lines')")
+        reader.point("document.querySelector('.CodeMirror-line')")
     reader.write(" ")
     page.wait("return !location.hash")
     page.open()
