@@ -305,7 +305,7 @@ def needs(page: Page, address: str) -> list[str]:
 
 def older(page: Page, folder: str) -> list[str]:
     """A browser that can't run the module gets two sentences, also if it can't read the script."""
-    wrong = []
+    wrong = console(page)
     for lacks in OLDER:
         with page.before(lacks):
             wrong += [f"{lacks}: {line}" for line in needs(page, page.address)]

@@ -92,6 +92,14 @@ class Firefox:
         """The element that has the focus."""
         return Field(self, self.ask("WebDriver:GetActiveElement")[ELEMENT])
 
+    def frame(self, number: int) -> None:
+        """Goes into a frame of the page."""
+        self.ask("WebDriver:SwitchToFrame", id=number)
+
+    def default_content(self) -> None:
+        """Goes back to the page."""
+        self.ask("WebDriver:SwitchToFrame")
+
     def perform(self, actions: list[dict[str, Any]]) -> None:
         """Does what pointers do."""
         self.ask("WebDriver:PerformActions", actions=actions)

@@ -110,9 +110,9 @@ def watch_the_hit(reader: Reader) -> None:
     told(page, "#told", "can be watched")
     page.wait("return document.activeElement.id === 'film' && !document.getElementById('watch').disabled")
     if reader.kind == "keys":
-        page.driver.switch_to.frame(0) if page.driver.name != "firefox" else page.driver.ask("WebDriver:SwitchToFrame", id=0)
-        page.press("n")
-        page.driver.switch_to.default_content() if page.driver.name != "firefox" else page.driver.ask("WebDriver:SwitchToFrame")
+        page.driver.switch_to.frame(0)
+        reader.write("n")
+        page.driver.switch_to.default_content()
     else:
         place = page.js("const frame = document.getElementById('film'); const box = frame.getBoundingClientRect();"
                         "const it = frame.contentDocument.getElementById('hit-after').getBoundingClientRect();"

@@ -22,8 +22,8 @@ LOST = ("codemirror/codemirror.js", "codemirror/matchbrackets.js", "codemirror/s
 
 
 def plain(page: Page, folder: str) -> list[str]:
-    """Without a part of CodeMirror there is a plain text field, and all else is as ever; undo survives a change of tab."""
-    wrong = []
+    """Without a part of CodeMirror there is a plain text field, and all else is as ever; what was written stays in its tab."""
+    wrong = console(page)
     for name in LOST:
         with without(folder, name) as address:
             other = Page(page.driver, address)
@@ -40,12 +40,13 @@ def plain(page: Page, folder: str) -> list[str]:
 
 def no_data(page: Page, folder: str) -> list[str]:
     """Without its data the page says so."""
+    wrong = console(page)
     with without(folder, "data.js") as address:
         page.driver.get(address)
         page.wait("return document.getElementById('lacking').textContent.includes('data.js')")
         seen = page.js("return [document.getElementById('lacking').hidden, document.getElementById('main').hidden]")
         console(page)
-    return [] if seen == [False, True] else [f"{seen}"]
+    return wrong + ([] if seen == [False, True] else [f"{seen}"])
 
 
 def dying(page: Page) -> list[str]:
@@ -104,7 +105,8 @@ def policy(page: Page, folder: str) -> list[str]:
     with open(os.path.join(folder, "index.html"), encoding="utf-8") as file:
         told = re.search(r'Content-Security-Policy" content="([^"]*)"', file.read())
     scripts = re.search(r"script-src ([^;]*)", told[1])[1].split() if told else []  # type: ignore[index]
-    wrong = [] if told and "default-src 'none'" in told[1] and not {"'unsafe-inline'", "'unsafe-eval'", "*"} & set(scripts) else [f"{told}"]
+    wrong = console(page)
+    wrong += [] if told and "default-src 'none'" in told[1] and not {"'unsafe-inline'", "'unsafe-eval'", "*"} & set(scripts) else [f"{told}"]
     for address in (page.address, "file://" + os.path.join(os.path.abspath(folder), "index.html")):
         other = Page(page.driver, address)
         other.open()
