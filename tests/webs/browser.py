@@ -290,7 +290,8 @@ def stopped(page: Page, crobots: str) -> list[str]:
 
 # what an older browser lacks: all of WebAssembly, bulk memory or sign extension, numbers of 64 bits, the language of the script
 OLDER = ("delete globalThis.WebAssembly", "WebAssembly.Module = function () { throw new WebAssembly.CompileError(); }", "delete globalThis.BigInt",
-         "document.addEventListener('readystatechange', () => document.querySelector('[src=\"page.js\"]')?.remove(), {once: true})")
+         "new MutationObserver(all => all.forEach(it => it.addedNodes.forEach(node => {"
+         " if (node.src?.endsWith('page.js')) node.type = 'text/plain'; }))).observe(document, {childList: true, subtree: true})")
 
 
 def older(page: Page) -> list[str]:
