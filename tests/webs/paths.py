@@ -158,7 +158,9 @@ def friend(reader: Reader) -> None:
     reader.press("document.querySelector('#linked button')")
     page.wait("return document.getElementById('tab-0').textContent === 'step5.r'")
     reader.press("document.querySelector('#kept summary')")
-    page.wait("return document.querySelectorAll('#entries button').length === 3")
+    page.wait("return document.getElementById('kept').open")
+    page.wait("return [...document.querySelectorAll('#entries button')].map(it => it.textContent).sort().join('; ') === arguments[0]",
+              "friend.r; hunter.r, sniper.r; step5.r, wallhugger.r")
     reader.press("[...document.querySelectorAll('#entries button')].find(it => it.textContent === 'hunter.r, sniper.r')")
     page.wait("return document.querySelector('.CodeMirror').CodeMirror.getValue().startsWith(arguments[0])", MINE)
 
@@ -177,7 +179,7 @@ def path(page: Page, kind: str, width: int, height: int) -> list[str]:
             step = part.__name__
             part(reader)
     except TimeoutError as why:
-        return [f"{step.replace('_', ' ')}: {why}"]
+        return [f"{step.replace('_', ' ')}: {why}; {page.js('return document.body.innerText').splitlines()[:40]}"]
     return []
 
 
