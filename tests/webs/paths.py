@@ -48,8 +48,11 @@ class Reader:
         raise TimeoutError(f"no way by the tab key to {element}")
 
     def point(self, element: str) -> None:
-        """Points at the middle of an element."""
-        place = self.page.js(f"const it = {element}; it.scrollIntoView({{block: 'center'}}); const box = it.getBoundingClientRect();"
+        """Points at the middle of an element, once it is scrolled to and drawn there."""
+        self.page.js(f"window.isDrawn = false; {element}.scrollIntoView({{block: 'center'}});"
+                     "requestAnimationFrame(() => requestAnimationFrame(() => setTimeout(() => { window.isDrawn = true; }, 100)))")
+        self.page.wait("return window.isDrawn")
+        place = self.page.js(f"const box = {element}.getBoundingClientRect();"
                              "return [Math.round(box.left + box.width / 2), Math.round(box.top + Math.min(box.height, 60) / 2)]")
         self.at(*place)
 
