@@ -27,6 +27,7 @@ export class Keeping {
     /** Begins with the battle of a link, or with the one that was kept last, or with samples. */
     begin(linked, samples) {
         const [entry] = this.keeper.entries;
+        const isBroken = isBattle(location.hash) && !linked;
         if (linked) {
             this.take(linked);
         } else if (entry) {
@@ -34,7 +35,7 @@ export class Keeping {
         } else {
             this.edit(firstBattle(samples, {name: "robot1.r", source: NEW_SOURCE}));
         }
-        if (isBattle(location.hash) && !linked) {
+        if (isBroken) {
             this.told(BROKEN);
         }
     }
