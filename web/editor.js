@@ -1,46 +1,94 @@
-// The field in which a source is edited: CodeMirror, or a plain text field where it is lacking.
+// The field in which a source is edited: CodeMirror, or a plain text field where it or a part of it is lacking.
+//
+// Each robot has a document of its own, with its own undo.
 import {defineLanguage} from "./language.js";
 
 const LONG_LINE = 5000;
 const MOST_LINES = 50000;
-const ADDONS = ["matchbrackets.js", "closebrackets.js", "active-line.js"];
+const ADDONS = ["matchbrackets.js", "closebrackets.js", "active-line.js", "show-hint.js"];
+const STYLES = ["codemirror.css", "show-hint.css"];
 
-/** Loads a classic script. */
-function script(path) {
+/** Loads a part of the page; answers when it is there, and fails if it isn't. */
+function load(tag, place, values) {
     return new Promise((done, fail) => {
-        const it = Object.assign(document.createElement("script"), {src: path, onload: done, onerror: fail});
-        document.head.append(it);
+        const it = Object.assign(document.createElement(tag), values, {onload: done, onerror: fail});
+        document.head[place](it);
     });
 }
 
-/** Makes the editor of a text field; with CodeMirror if it is there. */
+const script = name => load("script", "append", {src: `codemirror/${name}`});
+// before the page's own style, which says more
+const style = name => load("link", "prepend", {rel: "stylesheet", href: `codemirror/${name}`});
+
+/** Makes the editor of a text field; with CodeMirror if all of it is there. */
 export async function makeEditor(field, hasCodeMirror) {
     if (!hasCodeMirror) {
         return new PlainEditor(field);
     }
-    document.head.prepend(Object.assign(document.createElement("link"), {rel: "stylesheet", href: "codemirror/codemirror.css"}));
-    await script("codemirror/codemirror.js");
-    await Promise.all(ADDONS.map(name => script(`codemirror/${name}`)));
-    defineLanguage(window.CodeMirror);
-    return new ColouredEditor(field);
+    try {
+        await Promise.all([script("codemirror.js"), ...STYLES.map(style)]);
+        await Promise.all(ADDONS.map(script));
+        defineLanguage(window.CodeMirror);
+        return new ColouredEditor(field);
+    } catch {
+        return new PlainEditor(field);
+    }
 }
 
-/** A plain text field. */
+/** Returns the number of the line in which a place of a text is. */
+function lineAt(text, place) {
+    return text.slice(0, place).split("\n").length;
+}
+
+/** A plain text field for each robot, one of which is shown. */
 class PlainEditor {
     constructor(field) {
         this.field = field;
+        this.blank = field.cloneNode();
+        this.fields = new WeakMap();
+        this.calls = {input: [], move: []};
+    }
+
+    /** Shows a robot's source. */
+    show(robot) {
+        if (!this.fields.has(robot)) {
+            this.fields.set(robot, this.fieldOf(robot.source));
+        }
+        const shown = this.fields.get(robot);
+        this.field.replaceWith(shown);
+        this.field = shown;
+    }
+
+    fieldOf(text) {
+        const field = Object.assign(this.blank.cloneNode(), {value: text});
+        const tell = () => this.calls.move.forEach(call => call(lineAt(field.value, field.selectionStart)));
+        field.addEventListener("input", () => this.calls.input.forEach(call => call()));
+        field.addEventListener("click", tell);
+        field.addEventListener("keyup", tell);
+        return field;
     }
 
     get text() {
         return this.field.value;
     }
 
-    set text(text) {
+    /** Puts another text in place of all that is there. */
+    replace(text) {
         this.field.value = text;
+        this.calls.input.forEach(call => call());
     }
 
     onChange(call) {
-        this.field.addEventListener("input", call);
+        this.calls.input.push(call);
+    }
+
+    /** Calls back with the cursor's line when it moves. */
+    onMove(call) {
+        this.calls.move.push(call);
+    }
+
+    get line() {
+        return lineAt(this.text, this.field.selectionStart);
     }
 
     /** Marks a line as faulty, and no other; none if it is null. */
@@ -52,16 +100,32 @@ class PlainEditor {
     /** Puts the cursor on a line. */
     goTo(line) {
         const at = line > 1 ? this.text.split("\n").slice(0, line - 1).join("\n").length + 1 : 0;
-        this.field.focus();
-        this.field.setSelectionRange(at, at);
+        this.select(at, at);
     }
 
-    /** Calls back with the cursor's line when it moves. */
-    onMove(call) {
-        const tell = () => call(this.text.slice(0, this.field.selectionStart).split("\n").length);
-        for (const event of ["click", "keyup"]) {
-            this.field.addEventListener(event, tell);
-        }
+    focus() {
+        this.field.focus();
+    }
+
+    get selection() {
+        return {from: this.field.selectionStart, to: this.field.selectionEnd};
+    }
+
+    get selected() {
+        return this.text.slice(this.field.selectionStart, this.field.selectionEnd);
+    }
+
+    select(from, to) {
+        this.field.focus();
+        this.field.setSelectionRange(from, to);
+    }
+
+    /** A plain field can't mark places. */
+    markAll() {}
+
+    /** Where the cursor is drawn isn't known. */
+    get cursorBox() {
+        return null;
     }
 }
 
@@ -70,34 +134,52 @@ class ColouredEditor {
     constructor(field) {
         this.mirror = window.CodeMirror.fromTextArea(field, {
             mode: "crobots", lineNumbers: true, indentUnit: 2, matchBrackets: true, autoCloseBrackets: true,
-            styleActiveLine: true, inputStyle: "contenteditable", lineWrapping: true,
+            styleActiveLine: true, inputStyle: "contenteditable", lineWrapping: true, cursorScrollMargin: 40,
             gutters: ["CodeMirror-linenumbers", "faults"],
             // the tab key leaves the field, as keyboards need it
             extraKeys: {Tab: false, "Shift-Tab": false},
         });
+        this.describe(field);
+        this.documents = new WeakMap();
+        this.marks = new WeakMap();
+        this.found = [];
+    }
+
+    /** Says to assistive technology what the field is. */
+    describe(field) {
+        const names = ["aria-label", "aria-describedby"];
+        const values = {role: "textbox", "aria-multiline": "true", ...Object.fromEntries(names.map(it => [it, field.getAttribute(it)]))};
         const input = this.mirror.getInputField();
-        input.setAttribute("aria-label", field.getAttribute("aria-label"));
-        input.setAttribute("aria-describedby", "diagnostic");
-        this.line = null;
+        Object.entries(values).forEach(([name, value]) => input.setAttribute(name, value));
+    }
+
+    /** Shows a robot's source. */
+    show(robot) {
+        if (!this.documents.has(robot)) {
+            this.documents.set(robot, new window.CodeMirror.Doc(robot.source, "crobots"));
+        }
+        this.fit(robot.source);
+        this.mirror.swapDoc(this.documents.get(robot));
     }
 
     get text() {
         return this.mirror.getValue();
     }
 
-    set text(text) {
-        this.fit(Math.max(...text.split("\n", MOST_LINES).map(line => line.length)));
+    /** Puts another text in place of all that is there. */
+    replace(text) {
+        this.fit(text);
         this.mirror.setValue(text);
-        this.mirror.clearHistory();
     }
 
     /** Leaves out what takes long in very long lines. */
-    fit(longest) {
+    fit(text) {
+        const longest = text.split("\n", MOST_LINES).reduce((most, line) => Math.max(most, line.length), 0);
         const isShort = longest <= LONG_LINE;
-        if (this.mirror.getOption("lineWrapping") !== isShort) {
-            this.mirror.setOption("lineWrapping", isShort);
-            this.mirror.setOption("matchBrackets", isShort);
-            this.mirror.setOption("styleActiveLine", isShort);
+        for (const name of ["lineWrapping", "matchBrackets", "styleActiveLine"]) {
+            if (this.mirror.getOption(name) !== isShort) {
+                this.mirror.setOption(name, isShort);
+            }
         }
     }
 
@@ -105,18 +187,41 @@ class ColouredEditor {
         this.mirror.on("change", call);
     }
 
-    /** Marks a line as faulty, and no other; none if it is null. */
-    mark(line) {
-        this.mirror.clearGutter("faults");
-        if (this.line !== null) {
-            this.mirror.removeLineClass(this.line, "background", "faulty");
-        }
-        this.line = null;
-        if (line !== null) {
-            this.line = this.mirror.addLineClass(Math.min(line, this.mirror.lineCount()) - 1, "background", "faulty");
-            const sign = Object.assign(document.createElement("span"), {className: "fault-sign", textContent: "●", title: `fault in line ${line}`});
-            this.mirror.setGutterMarker(this.line, "faults", sign);
-        }
+    /** Calls back with the cursor's line when it moves. */
+    onMove(call) {
+        this.mirror.on("cursorActivity", () => call(this.line));
+    }
+
+    get line() {
+        return this.mirror.getCursor().line + 1;
+    }
+
+    /** Marks a line as faulty, with these words below it, and no other; none if it is null. */
+    mark(line, words = "") {
+        const {mirror} = this;
+        const shown = mirror.getDoc();
+        const last = this.marks.get(shown);
+        mirror.operation(() => {
+            mirror.clearGutter("faults");
+            if (last) {
+                mirror.removeLineClass(last.line, "background", "faulty");
+                last.words.clear();
+                this.marks.delete(shown);
+            }
+            if (line !== null) {
+                this.marks.set(shown, this.marked(line, words));
+            }
+        });
+    }
+
+    marked(line, words) {
+        const {mirror} = this;
+        const handle = mirror.addLineClass(Math.min(line, mirror.lineCount()) - 1, "background", "faulty");
+        const sign = Object.assign(document.createElement("span"), {className: "fault-sign", textContent: "●", title: `fault in line ${line}`});
+        mirror.setGutterMarker(handle, "faults", sign);
+        // a screen reader has these words from the line above the field
+        const told = Object.assign(document.createElement("p"), {className: "fault-words", textContent: words, ariaHidden: "true"});
+        return {line: handle, words: mirror.addLineWidget(handle, told)};
     }
 
     /** Puts the cursor on a line. */
@@ -125,8 +230,36 @@ class ColouredEditor {
         this.mirror.setCursor(line - 1, 0);
     }
 
-    /** Calls back with the cursor's line when it moves. */
-    onMove(call) {
-        this.mirror.on("cursorActivity", () => call(this.mirror.getCursor().line + 1));
+    focus() {
+        this.mirror.focus();
+    }
+
+    /** Where the cursor's line is drawn in the window. */
+    get cursorBox() {
+        return this.mirror.cursorCoords(true, "window");
+    }
+
+    get selection() {
+        const [from, to] = ["from", "to"].map(side => this.mirror.indexFromPos(this.mirror.getCursor(side)));
+        return {from, to};
+    }
+
+    get selected() {
+        return this.mirror.getSelection();
+    }
+
+    select(from, to) {
+        const ends = [from, to].map(at => this.mirror.posFromIndex(at));
+        this.mirror.setSelection(...ends);
+        this.mirror.scrollIntoView({from: ends[0], to: ends[1]}, 60);
+    }
+
+    /** Marks the places of a text of this length, and no others. */
+    markAll(places, length) {
+        const {mirror} = this;
+        mirror.operation(() => {
+            this.found.forEach(it => it.clear());
+            this.found = places.map(at => mirror.markText(mirror.posFromIndex(at), mirror.posFromIndex(at + length), {className: "found"}));
+        });
     }
 }

@@ -35,22 +35,16 @@ const decoder = new TextDecoder();
 /** A wish that the engine can't be asked. */
 export class WishError extends Error {}
 
-/** Returns whether this browser has 64-bit memories, and tables, which come with them. */
-export function hasWideMemories() {
-    // the smallest module with both: its header, a table of no entry, and a memory of no page
-    const bytes = new Uint8Array([0, 97, 115, 109, 1, 0, 0, 0, 4, 4, 1, 112, 4, 0, 5, 3, 1, 4, 0]);
-    return typeof WebAssembly === "object" && WebAssembly.validate(bytes);
-}
-
-/** Grows a memory by so many pages, as this browser or an older one takes the number. */
-function grow(memory, pages) {
+/** Returns whether this browser takes the module, by a small one: it copies memory, and extends the sign of a BigInt. */
+export function takesModule() {
+    // one function from i64 to i64: i32.const 0, three times, memory.copy; local.get 0, i64.extend8_s
+    const bytes = new Uint8Array([0, 97, 115, 109, 1, 0, 0, 0, 1, 6, 1, 96, 1, 126, 1, 126, 3, 2, 1, 0, 5, 3, 1, 0, 0,
+        7, 5, 1, 1, 102, 0, 0, 10, 17, 1, 15, 0, 65, 0, 65, 0, 65, 0, 252, 10, 0, 0, 32, 0, 194, 11]);
     try {
-        return Number(memory.grow(BigInt(pages)));
-    } catch (fault) {
-        if (!(fault instanceof TypeError)) {
-            throw fault;
-        }
-        return memory.grow(pages);
+        const {exports} = new WebAssembly.Instance(new WebAssembly.Module(bytes));
+        return exports.f(BigInt(129)) === BigInt(-127);
+    } catch {
+        return false;
     }
 }
 
@@ -81,7 +75,7 @@ export class Engine {
         this.text = this.robots + Limits.robots * ROBOT_BYTES;
         this.faults = this.text + SHEET_BYTES;
         const end = this.faults + SHEET_BYTES;
-        grow(this.memory, Math.ceil((end - start) / PAGE_BYTES));
+        this.memory.grow(Math.ceil((end - start) / PAGE_BYTES));
     }
 
     /** Throws if the module's blocks are not laid out as this file has them. */

@@ -156,8 +156,21 @@ function robotOf({name, places, damages, scans, death}) {
     };
 }
 
-/** Returns what the page of a match keeps of its film. One robot fights itself, and then has its name twice. */
-export function keptOf(text, names) {
+/** Returns the last cycle of a film. */
+export function cyclesOf(text) {
+    return Number(text.slice(text.lastIndexOf("\n", text.length - 2) + 1).split("\t")[0]);
+}
+
+/** Returns whether a film has where robots are at its begin: that of windows after a match's end has none. */
+export function isFilm(text) {
+    return /\tstands\t|^0\t1\tat\t/m.test(text);
+}
+
+/**
+ * Returns what the page of a match keeps of its film, which begins with the update `from`, and is cut if the match goes on after
+ * it. One robot fights itself, and then has its name twice.
+ */
+export function keptOf(text, names, from = 0, isCut = false) {
     const film = new Film(text, names.length === 1 ? [names[0], names[0]] : names);
     const shots = film.shots.map(it => [it.cycle, it.robot, it.x, it.y, it.burst - it.cycle, it.toX - it.x, it.toY - it.y, it.harm]);
     const whys = [...film.whys.keys()].map(text => text.split("\t")).map(([cause, name, line]) => [cause, name, Number(line)]);
@@ -166,5 +179,6 @@ export function keptOf(text, names) {
         shots: columns(["cycle", "robot", "x", "y", "flight", "dx", "dy", "harm"], shots),
         hurts: columns(["cycle", "robot", "kind", "damage", "by"], film.hurts),
         restarts: columns(["cycle", "robot", "why"], film.restarts),
+        first: from * UPDATE_CYCLES, isCut,
     };
 }

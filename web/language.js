@@ -2,6 +2,9 @@
 
 const words = (kind, text) => text.split(" ").map(word => [word, kind]);
 
+/** The words of the language that are suggested. */
+export const WORDS = "if else while return int".split(" ");
+
 const KINDS = new Map([
     ...words("keyword", "if else while return"),
     ...words("type", "int long auto register"),

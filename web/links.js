@@ -1,10 +1,26 @@
 // Links that carry a battle: its robots and its settings, packed into the fragment of the address.
+import {checked} from "./battles.js";
 
 const MARK = "#battle=";
+// four sources of the greatest length, with room for what stands between them
+const MOST_BYTES = 6 * 1024 * 1024;
 
-/** Reads all of a stream's bytes. */
-async function bytesOf(stream) {
-    return new Uint8Array(await new Response(stream).arrayBuffer());
+/** Reads a stream's bytes, and no more than so many: a stream that has more is given up at once. */
+async function bytesOf(stream, most) {
+    const reader = stream.getReader();
+    const parts = [];
+    for (let size = 0; ;) {
+        const {done, value} = await reader.read();
+        if (done) {
+            return new Uint8Array(await new Blob(parts).arrayBuffer());
+        }
+        parts.push(value);
+        size += value.length;
+        if (size > most) {
+            await reader.cancel();
+            throw new RangeError(`more than ${most} bytes`);
+        }
+    }
 }
 
 function toText(bytes) {
@@ -16,15 +32,21 @@ function toText(bytes) {
 }
 
 /** Returns the bytes of a text in base 64, of either alphabet. */
-export function toBytes(text) {
+function toBytes(text) {
     const binary = atob(text.replaceAll("-", "+").replaceAll("_", "/"));
     return Uint8Array.from(binary, letter => letter.charCodeAt(0));
+}
+
+/** Returns the bytes that a text in base 64 packs, if they aren't more than so many. */
+export function unpacked(text, most) {
+    const packed = new Blob([toBytes(text)]).stream();
+    return bytesOf(packed.pipeThrough(new DecompressionStream("deflate-raw")), most);
 }
 
 /** Returns the fragment that carries this battle. */
 export async function fragmentOf(battle) {
     const packed = new Blob([JSON.stringify(battle)]).stream().pipeThrough(new CompressionStream("deflate-raw"));
-    return MARK + toText(await bytesOf(packed));
+    return MARK + toText(await bytesOf(packed, Infinity));
 }
 
 /** Returns whether a fragment is one that is to carry a battle. */
@@ -38,22 +60,9 @@ export async function battleOf(fragment) {
         return null;
     }
     try {
-        const packed = new Blob([toBytes(fragment.slice(MARK.length))]).stream();
-        const bytes = await bytesOf(packed.pipeThrough(new DecompressionStream("deflate-raw")));
+        const bytes = await unpacked(fragment.slice(MARK.length), MOST_BYTES);
         return checked(JSON.parse(new TextDecoder().decode(bytes)));
     } catch {
         return null;
     }
-}
-
-/** Returns what a battle has to have, and no more; null if it lacks something. */
-export function checked(battle) {
-    const isRobot = it => typeof it?.name === "string" && typeof it?.source === "string";
-    const robots = battle?.robots;
-    if (!Array.isArray(robots) || robots.length < 1 || robots.length > 4 || !robots.every(isRobot)) {
-        return null;
-    }
-    const {matches = 1, limit = 500000, seed = "1", first = 1, profile = 1} = battle.settings ?? {};
-    const settings = {matches: Number(matches), limit: Number(limit), seed: String(seed), first: Number(first), profile: Number(profile)};
-    return {robots: robots.map(({name, source}) => ({name, source})), settings};
 }

@@ -1,7 +1,7 @@
 // Shows a film by the page that plays matches, as the script replay makes it.
-import {keptOf} from "./films.js";
 
-const SCRIPTS = ["matches.js", "drawing.js", "player.js"];
+// how high the film is at least, however low the window
+const LEAST_HEIGHT = 320;
 
 const escaped = text => text.replaceAll("&", "&amp;").replaceAll("<", "&lt;").replaceAll('"', "&quot;");
 
@@ -10,89 +10,85 @@ function listed(names) {
     return [names.slice(0, -1).join(", "), names.at(-1)].filter(it => it).join(" and ");
 }
 
-/** Returns a script by which a player shows nothing from before a cycle, and tells of no end if the match goes on. */
-function scriptOf(from, goesOn) {
-    const isEnd = "it.replace(/^The match ends after (\\d+) cycles/, 'The film ends at cycle $1').replace('at the end', 'here')";
-    return `
-{
-  const told = (it) => ${goesOn} ? ${isEnd} : it;
-  player.seek = (cycle) => Player.prototype.seek.call(player, Math.max(${from}, cycle));
-  player.toggle = () => {
-    if (!player.isPlaying && player.cycle >= player.match.cycles) player.seek(${from});
-    Player.prototype.toggle.call(player);
-  };
-  player.match.event = (index) => {
-    const event = Match.prototype.event.call(player.match, index);
-    return { ...event, text: told(event.text) };
-  };
-  player.speaker.follow = (cycle, isStep) => {
-    Speaker.prototype.follow.call(player.speaker, cycle, isStep);
-    player.speaker.region.textContent = told(player.speaker.region.textContent);
-  };
-  element("slider").min = ${from};
-  player.seek(${from});
-}
-`;
+/** Returns the page of what is kept of a film, which is a text in JSON, of the match with this number. */
+function pageOf(kept, number, names) {
+    const title = escaped(`Match ${number}: ${listed(names.length === 1 ? [names[0], names[0]] : names)}`);
+    return globalThis.CROBOTS.player.replaceAll("$title", () => title).replace("$match", () => kept);
 }
 
-/** Returns the page of what is kept of a film of the match with this number. */
-function pageOf(kept, number, {from = 0, goesOn = false}) {
-    const files = globalThis.CROBOTS.player;
-    const values = {
-        title: escaped(`Match ${number}: ${listed(kept.robots.map(({name}) => name))}`),
-        style: files["page.css"],
-        match: JSON.stringify(kept).replaceAll("<", "\\u003c"),
-        script: SCRIPTS.map(name => files[name]).join("") + (from || goesOn ? scriptOf(from, goesOn) : ""),
-    };
-    return files["page.html"].replace(/\$(\w+)/g, (whole, name) => values[name] ?? whole);
-}
-
-/** Fits a frame to the height of what it shows. */
-function fit(frame) {
-    const {body, documentElement} = frame.contentDocument;
-    // no scroll bar comes and goes, which would change the width and so the height
-    documentElement.style.overflow = "hidden";
-    const resize = () => { frame.style.height = `${documentElement.offsetHeight + 2}px`; };
-    new frame.contentWindow.ResizeObserver(resize).observe(body);
-    resize();
-}
-
-/**
- * Shows a film in a frame: of a whole match, or of a part that begins at the cycle `from`, or after which the match `goesOn`.
- * Returns how many cycles the match has up to the film's end.
- */
-export async function showFilm(frame, film, number, names, part = {}) {
-    const kept = keptOf(film, names);
-    const page = pageOf(kept, number, part);
-    await new Promise(done => {
-        frame.onload = done;
-        frame.srcdoc = page;
-        frame.hidden = false;
-    });
-    fit(frame);
-    return kept.cycles;
-}
-
-/** Goes to a cycle of the match that a frame shows, if it shows one. */
-export function jumpTo(frame, cycle) {
-    const slider = frame.contentDocument?.getElementById("slider");
-    if (slider) {
-        slider.value = cycle;
-        slider.dispatchEvent(new Event("input"));
+/** The frame in which a film is shown, as high as what it shows; that fits into the window, below the controls of the page. */
+export class Screen {
+    constructor(frame, controls) {
+        Object.assign(this, {frame, controls});
+        window.addEventListener("resize", () => this.fit());
     }
-}
 
-/** Returns the cycle at which a frame shows a match, and whether it plays on. */
-export function placeIn(frame) {
-    const {contentDocument: page} = frame;
-    const isPlaying = page.getElementById("play-pause").getAttribute("aria-label") === "pause";
-    return {cycle: page.getElementById("slider").value, isPlaying};
-}
+    get inside() {
+        return this.frame.contentDocument;
+    }
 
-/** Lets the match that a frame shows go on from such a place. */
-export function goOn(frame, {cycle, isPlaying}) {
-    jumpTo(frame, cycle);
-    if (isPlaying) {
-        frame.contentDocument.getElementById("play-pause").click();
+    element(id) {
+        return this.inside?.getElementById(id) ?? null;
+    }
+
+    /** Whether a film is shown. */
+    get isOn() {
+        return !this.frame.hidden && this.element("slider") !== null;
+    }
+
+    /** Shows a film. */
+    async show(kept, number, names) {
+        const page = pageOf(kept, number, names);
+        await new Promise(done => {
+            this.frame.onload = done;
+            this.frame.srcdoc = page;
+            this.frame.hidden = false;
+        });
+        this.fit();
+        new this.frame.contentWindow.ResizeObserver(() => this.resize()).observe(this.inside.body);
+    }
+
+    /** Hands the window's height in: the frame's own is that of what it shows. */
+    fit() {
+        const root = this.inside?.documentElement;
+        if (root && this.isOn) {
+            // no scroll bar comes and goes, which would change the width and so the height
+            root.style.overflow = "hidden";
+            root.style.setProperty("--height", `${Math.max(LEAST_HEIGHT, window.innerHeight - this.controls.offsetHeight - 24)}px`);
+            this.resize();
+        }
+    }
+
+    resize() {
+        this.frame.style.height = `${this.inside.documentElement.offsetHeight + 2}px`;
+    }
+
+    /** Scrolls to the film, and lets its keys work. */
+    focus() {
+        this.controls.scrollIntoView({block: "start"});
+        this.frame.focus();
+        this.element("play-pause").focus({preventScroll: true});
+    }
+
+    /** Goes to a cycle of the match that is shown. */
+    jumpTo(cycle) {
+        if (this.isOn) {
+            this.element("slider").value = cycle;
+            this.element("slider").dispatchEvent(new Event("input"));
+        }
+    }
+
+    /** The cycle at which the match is shown, and whether it plays on. */
+    get place() {
+        const isPlaying = this.element("play-pause").getAttribute("aria-label") === "pause";
+        return {cycle: this.element("slider").value, isPlaying};
+    }
+
+    /** Lets the match go on from such a place. */
+    goOn({cycle, isPlaying}) {
+        this.jumpTo(cycle);
+        if (isPlaying) {
+            this.element("play-pause").click();
+        }
     }
 }

@@ -1,5 +1,8 @@
-// Runs the engine beside the page, so that the page stays alive while matches are played.
-import {Engine} from "./engine.js";
+// Runs the engine beside the page, so that the page stays alive while matches are played and their films are read.
+import {Ending, Engine} from "./engine.js";
+import {cyclesOf, isFilm, keptOf} from "./films.js";
+
+const FILMS = ["film", "windows"];
 
 let bytes;
 let engine;
@@ -8,13 +11,29 @@ let engine;
 function start(module) {
     bytes = module;
     engine = Engine.load(bytes);
+    engine.catch(() => {
+        // each call tells of it
+    });
+}
+
+/**
+ * Reads a film for the player. What it keeps of it is a text in JSON that may stand between tags; null if the film has none of
+ * the cycles that were asked for, or was cut off before one that it has to go `beyond`.
+ */
+function read({ending, text, faults}, {from = 0, beyond = -1}, robots) {
+    if (!isFilm(text) || ending === Ending.FULL && cyclesOf(text) <= beyond) {
+        return {ending, faults, kept: null};
+    }
+    const isCut = ending === Ending.FULL || ending === Ending.GOES_ON;
+    const kept = keptOf(text, robots.map(({name}) => name), from, isCut);
+    return {ending, faults, kept: JSON.stringify(kept).replaceAll("<", "\\u003c"), cycles: kept.cycles};
 }
 
 /** Does what a message asks for, and answers by its number. */
 async function answer({number, call, settings, robots}) {
     try {
-        const result = (await engine)[call](settings, robots);
-        postMessage({number, result});
+        const answered = (await engine)[call](settings, robots);
+        postMessage({number, result: FILMS.includes(call) ? read(answered, settings, robots) : answered});
     } catch (fault) {
         if (fault instanceof WebAssembly.RuntimeError) {
             // a call that was cut off leaves its stack; the next one gets a module of its own

@@ -31,6 +31,23 @@ function countAtMost(sorted, limit) {
   return low;
 }
 
+/** Merges sorted lists of cycles: the cycles, and of each the number of its list and its row there. Of equals the first list goes first. */
+function merged(lists) {
+  const size = lists.reduce((sum, { length }) => sum + length, 0);
+  const all = { cycle: new Int32Array(size), list: new Uint8Array(size), row: new Uint32Array(size) };
+  const next = lists.map(() => 0);
+  for (let at = 0; at < size; at++) {
+    let least = -1;
+    lists.forEach((list, number) => {
+      if (next[number] < list.length && (least < 0 || list[next[number]] < lists[least][next[least]])) least = number;
+    });
+    all.cycle[at] = lists[least][next[least]];
+    all.list[at] = least;
+    all.row[at] = next[least]++;
+  }
+  return all;
+}
+
 function mixed(from, to, part) {
   return from + (to - from) * part;
 }
@@ -89,7 +106,14 @@ class Match {
 
   /** An event in words: its cycle, the robot that it happened to, and what. */
   event(index) {
-    return { cycle: this.events.cycle[index], robot: this.events.robot[index], text: this.events.text[index]() };
+    const { cycle, list, row, ends } = this.events, at = row[index];
+    const kinds = [
+      () => [this.hurts.robot[at], this.#hurtText(at)],
+      () => [this.restarts.robot[at], this.#restartText(at)],
+      () => [ends[at].number, this.#endText(ends[at])],
+    ];
+    const [robot, text] = kinds[list[index]]();
+    return { cycle: cycle[index], robot, text };
   }
 
   #robot(robot, cycle, glow) {
@@ -175,19 +199,17 @@ class Match {
     return { missiles, bursts };
   }
 
-  /** All events, sorted by their cycles; their texts are made when they are asked for. */
+  /** All events, sorted by their cycles: each is the row of a list. Their texts are made when they are asked for. */
   #events() {
-    const rows = [];
-    this.hurts.cycle.forEach((cycle, at) => rows.push([cycle, this.hurts.robot[at], () => this.#hurtText(at)]));
-    this.restarts.cycle.forEach((cycle, at) => rows.push([cycle, this.restarts.robot[at], () => this.#restartText(at)]));
-    for (const { number, death } of this.robots) {
-      if (death !== null) rows.push([death, number, () => "is dead"]);
-    }
-    for (const { number, death } of this.robots) {
-      if (death === null) rows.push([this.cycles, number, () => `is alive ${this.isCut ? "then" : "at the end"}, with damage ${this.damageOf(number, this.cycles)}%`]);
-    }
-    rows.sort((a, b) => a[0] - b[0]);
-    return { cycle: rows.map((row) => row[0]), robot: rows.map((row) => row[1]), text: rows.map((row) => row[2]) };
+    const ends = this.robots.map((robot) => ({ cycle: robot.death ?? this.cycles, robot }));
+    ends.sort((a, b) => a.cycle - b.cycle || (a.robot.death === null) - (b.robot.death === null));
+    const lists = [this.hurts.cycle, this.restarts.cycle, ends.map((end) => end.cycle)];
+    return { ...merged(lists), ends: ends.map((end) => end.robot) };
+  }
+
+  #endText({ number, death }) {
+    if (death !== null) return "is dead";
+    return `is alive ${this.isCut ? "then" : "at the end"}, with damage ${this.damageOf(number, this.cycles)}%`;
   }
 
   #hurtText(at) {

@@ -10,6 +10,9 @@ const LEAST_GLOW = 60;
 const MOST_GLOW = 1200;
 const SECONDS_OF_GLOW = 0.35;
 const SECONDS_BETWEEN_WORDS = 2;
+// For those who want no motion the match plays by still pictures, so many milliseconds apart.
+const CALM = matchMedia("(prefers-reduced-motion: reduce)");
+const MILLISECONDS_OF_A_STILL = 500;
 
 const element = (id) => document.getElementById(id);
 const shown = (number) => number.toLocaleString("en");
@@ -154,6 +157,7 @@ class Player {
     this.match = match;
     this.cycle = match.first;
     this.isPlaying = false;
+    this.stillAt = -Infinity;
     this.speed = this.#fittingSpeed();
     const colours = coloursOf(document.documentElement);
     this.field = new FieldDrawing(element("field"), colours);
@@ -195,6 +199,7 @@ class Player {
     this.cards.show(moment);
     this.events.show(whole);
     this.#clock(whole);
+    if (whole !== this.describedAt) element("described").textContent = "";
     if (!this.isPlaying) element("field").setAttribute("aria-label", this.#described(moment));
   }
 
@@ -213,8 +218,15 @@ class Player {
       this.isPlaying = false;
     }
     this.speaker.follow(Math.floor(this.cycle), false);
-    this.show();
+    if (this.#isDue(now)) this.show();
     if (this.isPlaying) requestAnimationFrame((next) => this.#frame(next));
+  }
+
+  /** Whether a picture is drawn now. */
+  #isDue(now) {
+    if (CALM.matches && this.isPlaying && now - this.stillAt < MILLISECONDS_OF_A_STILL) return false;
+    this.stillAt = now;
+    return true;
   }
 
   /** The speed at which the match is neither over at once nor too long; that of 300 cycles a second if it can be. */
@@ -252,6 +264,15 @@ class Player {
     return `The field at cycle ${Math.floor(moment.cycle)}: ${robots.join("; ")}`;
   }
 
+  /** Says the moment in words, where one sees them too; they go with the next cycle. */
+  #describe() {
+    const { cycle, robots } = this.match.moment(Math.floor(this.cycle), LEAST_GLOW);
+    const texts = robots.map(({ number, dead, x, y, damage }) =>
+      dead ? `${number} dead` : `${number} at ${Math.floor(x / 10)}, ${Math.floor(y / 10)}, damage ${damage} percent`);
+    element("described").textContent = `Cycle ${cycle}: ${texts.join("; ")}`;
+    this.describedAt = cycle;
+  }
+
   /** Goes to the cycle of an address that ends with one, such as #4035. */
   #follow(hash) {
     if (/^#\d+$/.test(hash)) this.cycle = this.#within(Number(hash.slice(1)));
@@ -287,6 +308,7 @@ class Player {
       "cycle-after": () => this.#step(Math.floor(cycle) + 1),
       "cycle-before": () => this.#step(Math.ceil(cycle) - 1),
       "restart-after": () => this.#step(match.restartAfter(cycle) ?? match.cycles),
+      describe: () => this.#describe(),
       faster: () => this.#faster(1),
       slower: () => this.#faster(-1),
     };
@@ -297,6 +319,7 @@ class Player {
     const arrow = event.shiftKey ? "cycle" : "update";
     const keys = {
       " ": "play-pause", Home: "to-start", End: "to-end", n: "hit-after", p: "hit-before", r: "restart-after",
+      d: "describe",
       ArrowRight: `${arrow}-after`, ArrowLeft: `${arrow}-before`, ArrowUp: "faster", ArrowDown: "slower",
     };
     return keys[event.key.length === 1 ? event.key.toLowerCase() : event.key];

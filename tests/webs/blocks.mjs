@@ -2,13 +2,15 @@
 //
 // It writes what the module imports and exports, how often each code was answered, and what calls by addresses outside of
 // the memory ended with, in JSON. The calls have no long match: a limit is small, or too great.
-import {Engine, moduleOf} from "./loaded.mjs";
+import fs from "node:fs";
+import {Engine} from "./loaded.mjs";
 
 const [path, count, seed] = process.argv.slice(2);
-const bytes = moduleOf(path);
+const bytes = fs.readFileSync(path);
 const engine = await Engine.load(bytes);
 const ROBOT_BYTES = (engine.text - engine.robots) / 4;
 const SOURCE = new TextEncoder().encode("main(){ while (1) { cannon(rand(360), 99); drive(rand(360), 50); } }\x1a");
+const CALLS = ["run", "film", "film_windows"];
 const MOST = 2 ** 32 - 1;
 const SIZES = [0, 1, 68, 69, 255, 256, 1048576, 1048577, 1048578, MOST];
 const NUMBERS = [0, 1, 2, 26, 27, 2 ** 31, MOST];
@@ -62,17 +64,21 @@ function call(codes) {
     }
     const robots = below(6) ? 1 + below(4) : 0;
     const addresses = [engine.order, engine.robots, robots, engine.text, engine.faults].map(BigInt);
-    const name = oneOf(["run", "film", "film_windows"]);
+    const name = oneOf(CALLS);
     const code = engine.exports[name](...addresses);
     codes[code] = (codes[code] ?? 0) + 1;
 }
 
-/** What a call ends with whose blocks are at such an address, by a module of its own. */
-async function outside(address) {
-    const {exports} = await Engine.load(bytes);
+const compiled = await WebAssembly.compile(bytes);
+
+/** What a call ends with of whose words one is outside of the memory, by a module of its own. */
+function outside(call, at, word) {
+    const {exports} = new WebAssembly.Instance(compiled);
+    // there all is 0, which isn't within the limits
+    const words = [0n, 0n, 1n, 0n, 0n];
+    words[at] = word;
     try {
-        exports.run(address, address, 1n, address, address);
-        return "answered";
+        return exports[call](...words);
     } catch (fault) {
         return fault.constructor === WebAssembly.RuntimeError ? "ended" : String(fault);
     }
@@ -82,6 +88,11 @@ const codes = {};
 for (let n = 0; n < Number(count); n++) {
     call(codes);
 }
-const module = await WebAssembly.compile(bytes);
-const ends = await Promise.all([BigInt(engine.memory.buffer.byteLength), 1n << 62n, (1n << 64n) - 9n].map(outside));
-console.log(JSON.stringify({imports: WebAssembly.Module.imports(module), exports: WebAssembly.Module.exports(module).map(it => it.name), codes, ends}));
+// the memory's end, numbers whose lower half is an address, and the last ones
+const beyond = size => [size, 1n << 32n, (1n << 32n) - 8n, (1n << 32n) + 4096n, 1n << 62n, (1n << 64n) - 9n];
+const sizes = beyond(BigInt(new WebAssembly.Instance(compiled).exports.memory.buffer.byteLength));
+const ends = CALLS.flatMap(call => [0, 1, 2, 3, 4].flatMap(at => sizes.map(word => outside(call, at, word))));
+const inside = CALLS.map(call => outside(call, 0, 0n));
+const imports = WebAssembly.Module.imports(compiled);
+const exports = WebAssembly.Module.exports(compiled).map(it => it.name);
+console.log(JSON.stringify({imports, exports, codes, inside, ends}));

@@ -2,155 +2,37 @@
 
 from __future__ import annotations
 
-import base64
-import contextlib
-import functools
-import http.server
 import importlib.util
-import json
 import os
 import re
 import shutil
 import sys
-import tempfile
-import threading
-import time
-import zlib
-from typing import Any, Iterator
+from typing import Any, Callable, ContextManager, Iterator
 
+from . import everyone, helping, keeping, paths, robust, seeing
 from .battles import Battle, Settings, outcome, random_battles, sample_battles, samples, script, vectors
+from .pages import Page, chromium, console, served, without
 
-SECONDS = 60
 DEBIAN = "/usr/lib/python3/dist-packages"
-WIDTHS = (360, 1200)
+
+
+def has_selenium() -> bool:
+    """Whether selenium is there. Debian's modules are found by another Python too."""
+    if not importlib.util.find_spec("selenium") and os.path.isdir(DEBIAN):
+        sys.path.append(DEBIAN)
+    return importlib.util.find_spec("selenium") is not None
+
+
+def without_editor(folder: str) -> list[str]:
+    """The package of the page's editor, if the page was built without it."""
+    return [] if os.listdir(os.path.join(folder, "codemirror")) else ["libjs-codemirror"]
 
 
 def lacking(folder: str) -> str:
-    """What is lacking for these tests, the page's editor too. Debian's modules are found by another Python too."""
-    if not importlib.util.find_spec("selenium") and os.path.isdir(DEBIAN):
-        sys.path.append(DEBIAN)
-    programs = [name for name in ("chromium", "chromedriver") if not shutil.which(name)]
-    modules = [] if importlib.util.find_spec("selenium") else ["python3-selenium"]
-    editor = [] if os.listdir(os.path.join(folder, "codemirror")) else ["libjs-codemirror"]
-    missing = programs + modules + editor
+    """What is lacking for these tests, the page's editor too."""
+    missing = [name for name in ("chromium", "chromedriver") if not shutil.which(name)]
+    missing += ([] if has_selenium() else ["python3-selenium"]) + without_editor(folder)
     return f"there is no {' and no '.join(missing)}" if missing else ""
-
-
-class Quiet(http.server.SimpleHTTPRequestHandler):
-    """Serves files without a word."""
-
-    def log_message(self, format: str, *args: Any) -> None:  # pylint: disable=redefined-builtin
-        """Says nothing."""
-
-
-@contextlib.contextmanager
-def served(folder: str) -> Iterator[str]:
-    """The address at which a folder is served."""
-    server = http.server.ThreadingHTTPServer(("127.0.0.1", 0), functools.partial(Quiet, directory=folder))
-    thread = threading.Thread(target=server.serve_forever)
-    thread.start()
-    try:
-        yield f"http://127.0.0.1:{server.server_address[1]}/"
-    finally:
-        server.shutdown()
-        server.server_close()
-        thread.join()
-
-
-@contextlib.contextmanager
-def chromium() -> Iterator[Any]:
-    """A browser without a window."""
-    from selenium import webdriver  # pylint: disable=import-outside-toplevel,import-error
-    from selenium.webdriver.chrome.service import Service  # pylint: disable=import-outside-toplevel,import-error
-
-    options = webdriver.ChromeOptions()
-    options.binary_location = shutil.which("chromium")
-    for word in ("--headless=new", "--no-sandbox", "--disable-gpu", "--disable-dev-shm-usage", "--window-size=1280,1000"):
-        options.add_argument(word)
-    options.set_capability("goog:loggingPrefs", {"browser": "ALL"})
-    driver = webdriver.Chrome(service=Service(shutil.which("chromedriver")), options=options)
-    try:
-        yield driver
-    finally:
-        driver.quit()
-
-
-def fragment(battle: Battle) -> str:
-    """The fragment of a link to a battle."""
-    robots = [{"name": name, "source": source.decode()} for name, source in battle.robots]
-    text = json.dumps({"robots": robots, "settings": {**vars(battle.settings), "seed": str(battle.settings.seed)}})
-    packer = zlib.compressobj(wbits=-15)
-    return "#battle=" + base64.urlsafe_b64encode(packer.compress(text.encode()) + packer.flush()).decode().rstrip("=")
-
-
-class Page:
-    """The page in a browser."""
-
-    def __init__(self, driver: Any, address: str) -> None:
-        self.driver = driver
-        self.address = address
-
-    def open(self, tail: str = "") -> None:
-        """Opens the page anew."""
-        self.driver.get("about:blank")
-        self.driver.get(self.address + tail)
-        self.wait("return document.getElementById('diagnostic')?.textContent")
-
-    def show(self, battle: Battle) -> None:
-        """Follows a link to a battle in the open page, until the first robot is compiled."""
-        self.js("document.getElementById('seed').value = ''; document.getElementById('diagnostic').textContent = '';"
-                "location.hash = arguments[0]", fragment(battle))
-        self.wait("return document.getElementById('seed').value && document.getElementById('diagnostic').textContent")
-
-    def js(self, code: str, *words: Any) -> Any:
-        """Runs code in the page."""
-        return self.driver.execute_script(code, *words)
-
-    def wait(self, code: str, *words: Any) -> Any:
-        """Waits until code answers something."""
-        end = time.monotonic() + SECONDS
-        while time.monotonic() < end:
-            found = self.js(code, *words)
-            if found:
-                return found
-            time.sleep(0.01)
-        raise TimeoutError(code)
-
-    def text(self, name: str) -> str:
-        """The text of an element."""
-        return self.js("return document.getElementById(arguments[0]).textContent", name)
-
-    def set(self, name: str, value: str) -> None:
-        """Writes a value into a field."""
-        self.js("const it = document.getElementById(arguments[0]); it.value = arguments[1];"
-                "it.dispatchEvent(new Event('input', {bubbles: true}))", name, value)
-
-    def run(self) -> str:
-        """Runs the battle; returns the report."""
-        self.js("document.getElementById('said').textContent = ''; document.getElementById('run').click()")
-        self.wait("const it = document.getElementById('said').textContent; return it && it !== 'The battle runs.'")
-        return self.text("report")
-
-    def press(self, *keys: str) -> None:
-        """Presses keys, by their names in selenium."""
-        from selenium.webdriver.common.keys import Keys  # pylint: disable=import-outside-toplevel,import-error
-
-        for key in keys:
-            self.driver.switch_to.active_element.send_keys(getattr(Keys, key))
-
-    def watch(self, number: int, cycle: int = 0) -> None:
-        """Watches a match from a cycle on."""
-        self.js("document.getElementById('film').srcdoc = ''; document.getElementById('said').textContent = '';"
-                "document.getElementById('watched').value = arguments[0]; document.getElementById('from').value = arguments[1];"
-                "document.getElementById('watch').click()", number, cycle)
-        self.wait("return document.getElementById('said').textContent.includes('can be watched')")
-
-    def marked(self) -> tuple[str, list[str]]:
-        """The diagnostic, and the numbers of the marked lines in sight."""
-        self.js("document.querySelector('#diagnostic button').click()")
-        lines = self.js("return [...document.querySelectorAll('.CodeMirror .faulty')].map(it =>"
-                        " it.parentElement.querySelector('.CodeMirror-linenumber').textContent)")
-        return self.text("diagnostic"), lines
 
 
 def reports(page: Page, crobots: str, battles: list[Battle]) -> list[str]:
@@ -176,17 +58,28 @@ def diagnostics() -> dict[str, tuple[bytes, int]]:
     return found
 
 
+def marked(page: Page) -> tuple[str, list[str]]:
+    """The diagnostic, and the numbers of the marked lines in sight."""
+    page.js("document.querySelector('#diagnostic button').click()")
+    lines = page.js("return [...document.querySelectorAll('.CodeMirror .faulty')].map(it =>"
+                    " it.parentElement.querySelector('.CodeMirror-linenumber').textContent)")
+    return page.text("diagnostic"), lines
+
+
 def marks(page: Page) -> list[str]:
-    """Each diagnostic is shown and marked at its line."""
-    wrong = []
+    """Each diagnostic is shown and marked at its line, with a sentence of advice there."""
+    wrong, advice = [], set()
     found = diagnostics()
     for text, (source, line) in found.items():
         page.show(Battle([("a.r", source)]))
-        wanted = (f"Line {line}: {text}. Go there", [str(line)])
-        got = page.marked()
-        if got != wanted:
-            wrong.append(f"{source[:60]!r}: {got}, not {wanted}")
-    return wrong + ([] if len(found) == 16 else [f"{len(found)} diagnostics: {sorted(found)}"])
+        told, lines = marked(page)
+        words = page.js("return [...document.querySelectorAll('.CodeMirror .fault-words')].map(it => it.textContent)")
+        shown = re.fullmatch(rf"Line {line}: {text}\. (\S.*\.+) Go there", told)
+        if not shown or lines != [str(line)] or words != [f"{text}. {shown[1]}"]:
+            wrong.append(f"{source[:60]!r}: {told}, {lines}, {words}, not {text} in line {line}")
+        else:
+            advice.add(shown[1])
+    return wrong + ([] if len(found) == len(advice) == 16 else [f"{len(found)} diagnostics, {len(advice)} pieces of advice"])
 
 
 def alive(page: Page, crobots: str) -> list[str]:
@@ -209,8 +102,7 @@ def links(page: Page, crobots: str) -> list[str]:
     page.js("document.getElementById('link').click()")
     page.wait("return document.getElementById('said').textContent.startsWith('The link')")
     link = page.js("return location.hash")
-    page.js("localStorage.clear()")
-    page.open(link)
+    page.fresh(link)
     wanted = battle.told(crobots)[1].decode()
     wrong = [] if page.run() == wanted else ["the link shows another battle"]
     page.set("limit", "4000")
@@ -288,14 +180,14 @@ def far(page: Page) -> list[str]:
     page.show(Battle([("a.r", b"main(){}"), ("b.r", b"main(){}")], Settings(limit=2_000_000)))
     page.watch(1, 1_500_000)
     inside = "document.getElementById('film').contentDocument"
-    clock, said = page.js(f"return [{inside}.getElementById('clock').textContent, document.getElementById('said').textContent]")
+    clock, said = page.js(f"return [{inside}.getElementById('clock').textContent, document.getElementById('told').textContent]")
     page.js(f"{inside}.getElementById('to-start').click()")
     begin = page.js(f"return {inside}.getElementById('clock').textContent")
     page.js(f"{inside}.getElementById('to-end').click()")
     events = page.js(f"return {inside}.getElementById('events').textContent")
     wrong = [] if clock == begin == "cycle 1,500,000 of 1,515,000" else [f"{clock}, {begin}"]
     wrong += [] if said.startswith("Match 1 can be watched below from cycle 1500000 to 1515000.") else [said]
-    return wrong + ([] if "is alive here" in events and "at the end" not in events else [events])
+    return wrong + ([] if "is alive then" in events and "at the end" not in events else [events])
 
 
 LOOKOUT = b"""int hits;
@@ -329,7 +221,8 @@ def listing(page: Page) -> list[str]:
 
 
 def keys(page: Page) -> list[str]:
-    """By keys alone: a row of the listing leads to its line and changes nothing, and the focus stays at a button pressed."""
+    """By keys alone: a row of the listing leads to its line and changes nothing; after Run the focus is where it was, after
+    Watch it is in the film."""
     source = samples()[2][1].decode()
     page.show(Battle(samples()[2:4]))
     page.js("document.getElementById('code').focus()")
@@ -338,24 +231,14 @@ def keys(page: Page) -> list[str]:
     mirror = "document.querySelector('.CodeMirror').CodeMirror"
     at, text = page.js(f"return [{mirror}.getCursor().line + 1, {mirror}.getValue()]")
     wrong = [] if chosen == str(at) and text == source else [f"from a row of line {chosen} to line {at}"]
-    for button, said in (("run", "Done"), ("watch", "Match 1 can")):
+    for button, line, said, wanted in (("run", "said", "Done", "run"), ("watch", "told", "Match 1 can", "film")):
         page.js("document.getElementById(arguments[0]).focus()", button)
         page.press("ENTER")
-        page.wait("return document.getElementById('said').textContent.startsWith(arguments[0])", said)
+        page.wait("return document.getElementById(arguments[0]).textContent.startsWith(arguments[1])", line, said)
+        page.wait("return !document.getElementById('run').disabled")
         focus = page.js("return document.activeElement.id")
-        wrong += [] if focus == button else [f"after {button} the focus is at {focus!r}"]
+        wrong += [] if focus == wanted else [f"after {button} the focus is at {focus!r}"]
     return wrong
-
-
-def named(page: Page) -> list[str]:
-    """Each control has a name that a screen reader says."""
-    page.show(Battle(samples()[:2]))
-    if not page.js("return document.getElementById('replay').hidden"):
-        page.watch(1)
-    tree = page.driver.execute_cdp_cmd("Accessibility.getFullAXTree", {})["nodes"]
-    roles = {"button", "textbox", "combobox", "spinbutton", "slider", "tab", "listbox", "option", "meter", "Iframe"}
-    return [f"{node['role']['value']} without a name: {node.get('nodeId')}" for node in tree
-            if not node["ignored"] and node["role"]["value"] in roles and not node.get("name", {}).get("value", "").strip()]
 
 
 def typed(page: Page, keys: str, diagnostic: str) -> None:
@@ -371,13 +254,12 @@ def fought(page: Page, crobots: str, robots: list[tuple[str, bytes]], end: str) 
     return [] if report == wanted and f"  1) {end} {robots[0][0]}" in report else [f"{report!r}, not {wanted!r} with {end}"]
 
 
-def story(page: Page, crobots: str, folder: str) -> list[str]:
+def story(page: Page, crobots: str, folder: str, fresh: Callable[[], ContextManager[Any]]) -> list[str]:
     """What someone does who has only a browser, with the page as a file: a robot is changed, its fault seen and mended; it
     loses, another one wins; and the link is opened by someone else."""
     other = Page(page.driver, "file://" + os.path.join(os.path.abspath(folder), "index.html"))
     other.open()
-    other.js("localStorage.clear()")
-    other.open()
+    other.fresh()
     robots, weak = dict(samples()), "main() { while (1) drive(0, 100); "
     other.js("const it = document.querySelector('.CodeMirror').CodeMirror; it.setValue(''); it.focus()")
     # each bracket brings its other one, which the next key goes past
@@ -386,14 +268,14 @@ def story(page: Page, crobots: str, folder: str) -> list[str]:
     wrong = [] if other.text("said") == "No match was played: a robot has a fault." else [other.text("said")]
     typed(other, "\b\b\b}", "No fault.")
     wrong += fought(other, crobots, [("hunter.r", f"{weak}}}".encode()), ("sniper.r", robots["sniper.r"])], "won 0 tied 0 lost 1")
-    other.js("const it = document.getElementById('sample'); it.value = 'centre.r'; it.dispatchEvent(new Event('change'))")
+    other.js("document.getElementById('sample').value = 'centre.r'; document.getElementById('replace').click()")
     battle = [(name, robots[name]) for name in ("centre.r", "sniper.r")]
     wrong += fought(other, crobots, battle, "won 1 tied 0 lost 0")
     other.js("document.getElementById('link').click()")
     other.wait("return document.getElementById('said').textContent.startsWith('The link')")
     link = other.js("return location.hash")
-    with chromium() as fresh:
-        reader = Page(fresh, other.address)
+    with fresh() as driver:
+        reader = Page(driver, other.address)
         reader.open(link)
         return wrong + fought(reader, crobots, battle, "won 1 tied 0 lost 0") + console(reader)
 
@@ -402,48 +284,34 @@ def stopped(page: Page, crobots: str) -> list[str]:
     """A long series is stopped, and the next battle runs as ever."""
     page.show(Battle(samples()[:2], Settings(1_000_000, 1_000_000)))
     page.js("document.getElementById('run').click(); document.getElementById('stop').click()")
-    page.wait("return document.getElementById('said').textContent === 'Stopped.'")
+    page.wait("return document.getElementById('said').textContent.startsWith('Stopped. ')")
     return reports(page, crobots, sample_battles()[20:21])
 
 
-def older(page: Page) -> list[str]:
-    """A browser without 64-bit memories gets one sentence."""
-    hide = page.driver.execute_cdp_cmd("Page.addScriptToEvaluateOnNewDocument", {"source": "WebAssembly.validate = () => false"})
+# what an older browser lacks: all of WebAssembly, bulk memory or sign extension, numbers of 64 bits, streams that unpack
+OLDER = ("delete globalThis.WebAssembly", "WebAssembly.Module = function () { throw new WebAssembly.CompileError(); }", "delete globalThis.BigInt",
+         "delete globalThis.DecompressionStream")
+NEEDS = r"This page needs [^.]*\. Chrome and Edge have these from version \d+, Firefox from version \d+, and Safari from version \d+\."
+
+
+def needs(page: Page, address: str) -> list[str]:
+    """What is wrong if the page can't run and says what it needs."""
     page.driver.get("about:blank")
-    page.driver.get(page.address)
-    page.wait("return document.getElementById('lacking').textContent")
-    seen = page.js("return [document.getElementById('lacking').innerText, document.getElementById('main').hidden]")
-    page.driver.execute_cdp_cmd("Page.removeScriptToEvaluateOnNewDocument", hide)
-    is_sentence = re.fullmatch(r"This page needs [^.]* Chrome and Edge have from version \d+, and Firefox from version \d+\.", seen[0])
-    return [] if is_sentence and seen[1] else [f"{seen}"]
+    page.driver.get(address)
+    page.wait("return document.readyState === 'complete' && getComputedStyle(document.getElementById('lacking')).visibility === 'visible'")
+    seen = page.js("return [document.getElementById('lacking').innerText, document.getElementById('lacking').hidden, document.getElementById('main').hidden]")
+    return [] if re.fullmatch(NEEDS, seen[0]) and seen[1:] == [False, True] else [f"{seen}"]
 
 
-def plain(page: Page, folder: str) -> list[str]:
-    """Without CodeMirror there is a plain text field, and all else is as ever."""
-    with open(os.path.join(folder, "data.js"), encoding="utf-8") as file:
-        kept = file.read()
-    with tempfile.TemporaryDirectory() as place:
-        shutil.copytree(folder, place, dirs_exist_ok=True)
-        shutil.rmtree(os.path.join(place, "codemirror"))
-        with open(os.path.join(place, "data.js"), "w", encoding="utf-8") as file:
-            file.write(kept.replace('"editor": true', '"editor": false'))
-        with served(place) as address:
-            other = Page(page.driver, address)
-            other.open()
-            other.js("const it = document.getElementById('source'); it.value = 'main(){\\nbreak; }'; it.dispatchEvent(new Event('input'))")
-            other.wait("return document.getElementById('diagnostic').textContent.startsWith('Line 2: reserved word.')")
-            return [] if other.js("return document.getElementById('source').dataset.line") == "2" else ["no line is marked"]
-
-
-def widths(page: Page) -> list[str]:
-    """No width needs scrolling sideways."""
-    wrong = []
-    for width in WIDTHS:
-        page.driver.set_window_size(width, 900)
-        page.open()
-        page.run()
-        wide = page.js("return document.documentElement.scrollWidth - document.documentElement.clientWidth")
-        wrong += [f"{width} pixels: {wide} too wide"] if wide > 0 else []
+def older(page: Page, folder: str) -> list[str]:
+    """A browser that can't run the module gets two sentences, also if it can't read the script."""
+    wrong = console(page)
+    for lacks in OLDER:
+        with page.before(lacks):
+            wrong += [f"{lacks}: {line}" for line in needs(page, page.address)]
+    with without(folder, "page.js") as address:
+        wrong += [f"without a script: {line}" for line in needs(page, address)]
+    console(page)
     return wrong
 
 
@@ -458,11 +326,6 @@ def speed(page: Page) -> list[str]:
     print(f"the page is drawn after {drawn:.0f} ms; 100,000 cycles take {took} s")
     played = report.startswith("Match 1: cycles = 100000\n")
     return ([f"first draw after {drawn} ms"] if drawn > 500 else []) + ([] if took <= 1 and played else [f"100,000 cycles in {took} s: {report}"])
-
-
-def console(page: Page) -> list[str]:
-    """No message on the console."""
-    return [entry["message"] for entry in page.driver.get_log("browser")]
 
 
 def results(crobots: str, _stages: str, folder: str) -> Iterator[tuple[str, list[str]]]:
@@ -482,10 +345,13 @@ def results(crobots: str, _stages: str, folder: str) -> Iterator[tuple[str, list
         yield "watched matches", watched(page, crobots)
         yield "a cycle beyond a film", far(page)
         yield "a stopped series", stopped(page, crobots)
-        yield "widths", widths(page)
         yield "keys", keys(page)
-        yield "names of controls", named(page)
-        yield "the page as a file", story(page, crobots, folder)
-        yield "a plain text field", plain(page, folder)
-        yield "an older browser", older(page)
+        yield "the page as a file", story(page, crobots, folder, chromium)
+        yield from keeping.results(page)
+        yield from seeing.results(page, crobots)
+        yield from helping.results(page, crobots, folder)
+        yield from robust.results(page, folder)
+        yield from everyone.results(page)
+        yield from paths.results(page)
+        yield "an older browser", older(page, folder)
         yield "console", console(page)

@@ -3,9 +3,9 @@
 // JOBS is a list in JSON: each has `call` (run, list, places, film or windows), `settings` and `robots`, whose sources are base64. An answer
 // has `ending`, `text` and `faults`, the last two in base64.
 import fs from "node:fs";
-import {Engine, moduleOf} from "./loaded.mjs";
+import {Engine} from "./loaded.mjs";
 
-const engine = await Engine.load(moduleOf(process.argv[2]));
+const engine = await Engine.load(fs.readFileSync(process.argv[2]));
 
 function answer(job) {
     const robots = job.robots.map(({name, source}) => ({name, source: Buffer.from(source, "base64")}));

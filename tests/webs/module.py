@@ -16,7 +16,7 @@ from typing import Any, Iterator
 from .battles import Battle, Settings, deepest, hostile_battles, outcome, random_battles, sample_battles, samples, vectors
 
 HERE = os.path.dirname(os.path.abspath(__file__))
-WIDE = "--experimental-wasm-memory64"
+WEB = os.path.join(HERE, "..", "..", "web")
 STILL = ("still.r", b"main(){}")
 MOST_SEED = 2**64 - 1
 SECONDS = 120
@@ -24,29 +24,21 @@ MOST_BYTES = 400_000
 CALLS = 1000
 EXPORTS = ["__heap_base", "film", "film_windows", "memory", "order_bytes", "robot_bytes", "run", "sheet_bytes"]
 TOKEN = re.compile(rb"[A-Za-z_]\w*|\d+|<<=|>>=|\+\+|--|&&|\|\||[-+*/%&|^<>=!]=|<<|>>|[^\s\x1a]")
+# a status, a text and faults
+Answer = tuple[int, bytes, bytes]
 # tokens that are no constants, but make some
 MADE_CONSTANTS = ("-", "!", "~", "++", "--", "else", "while", ";", "}", "&&", "||")
 STEPS = {"++": "+=", "--": "-="}
 
 
-def node(folder: str) -> list[str]:
-    """A Node that takes the module; an old one needs a word for 64-bit memories, which a new one doesn't know."""
-    path = shutil.which("node") or ""
-    for words in ([path], [path, WIDE]) if path else ():
-        ran = subprocess.run([*words, *script_and_module(folder, "engine.mjs")], input=b"[]", capture_output=True, check=False, timeout=SECONDS)
-        if not ran.returncode:
-            return words
-    return []
-
-
-def script_and_module(folder: str, name: str) -> list[str]:
+def words_of(name: str, folder: str) -> list[str]:
     """The words by which Node runs a script of this folder on the module."""
-    return [os.path.join(HERE, name), os.path.join(folder, "crobots.wasm")]
+    return [shutil.which("node") or "node", os.path.join(HERE, name), f"{folder}.wasm"]
 
 
-def lacking(folder: str) -> str:
+def lacking(_folder: str) -> str:
     """What is lacking for these tests."""
-    return "" if node(folder) else "there is no Node that takes a module with 64-bit memories"
+    return "" if shutil.which("node") else "there is no Node"
 
 
 def job(battle: Battle) -> dict[str, Any]:
@@ -57,23 +49,28 @@ def job(battle: Battle) -> dict[str, Any]:
     return {"call": battle.call, "settings": settings, "robots": robots}
 
 
-def answers(folder: str, battles: list[Battle]) -> list[tuple[int, bytes, bytes]]:
+def answers(folder: str, battles: list[Battle]) -> list[Answer]:
     """What the module answers."""
-    words = [*node(folder), *script_and_module(folder, "engine.mjs")]
+    words = words_of("engine.mjs", folder)
     jobs = json.dumps([job(battle) for battle in battles])
     ran = subprocess.run(words, input=jobs, capture_output=True, text=True, check=True, timeout=SECONDS)
     return [(it["ending"], base64.b64decode(it["text"]), base64.b64decode(it["faults"])) for it in json.loads(ran.stdout)]
 
 
-def compared(crobots: str, folder: str, battles: list[Battle]) -> list[str]:
-    """Where the module and crobots differ."""
+def compared(crobots: str, battles: list[Battle], answered: list[Answer]) -> list[str]:
+    """Where the module's answers and those of crobots differ."""
     wrong = []
-    for battle, got in zip(battles, answers(folder, battles), strict=True):
+    for battle, got in zip(battles, answered, strict=True):
         wanted = battle.told(crobots)
         if got != wanted:
             names = [name for name, _ in battle.robots]
             wrong.append(f"{names}, {battle.settings}: {got[0]} {got[1][:200]!r} {got[2]!r}, and crobots {wanted[0]} {wanted[1][:200]!r} {wanted[2]!r}")
     return wrong
+
+
+def differing(crobots: str, folder: str, battles: list[Battle]) -> list[str]:
+    """Where the module and crobots differ."""
+    return compared(crobots, battles, answers(folder, battles))
 
 
 def refused(folder: str) -> list[str]:
@@ -88,7 +85,7 @@ def at_limits(crobots: str, folder: str) -> list[str]:
     """Settings at their limits, and robots whose names aren't ASCII."""
     settings = [Settings(limit=1), Settings(limit=14), Settings(limit=15, seed=MOST_SEED), Settings(limit=16, first=1_000_000), Settings(limit=99, profile=2)]
     battles = [Battle([STILL, ("ärger.r", b"main(){while(1)drive(9,9);}")], it) for it in settings]
-    return compared(crobots, folder, battles)
+    return differing(crobots, folder, battles)
 
 
 def full(crobots: str, folder: str) -> list[str]:
@@ -104,7 +101,8 @@ def full(crobots: str, folder: str) -> list[str]:
 
 def filmed(film: bytes) -> tuple[int, list[int], list[int]]:
     """The cycles of a film, the damages at its end, and what each robot lost by its events."""
-    cycles, ends, lost = 0, [], [0] * 4
+    cycles, lost = 0, [0] * 4
+    ends: list[int] = []
     for line in film.decode().splitlines()[1:]:
         cycle, robot, kind, *fields = line.split("\t")
         if kind == "end":
@@ -152,7 +150,7 @@ def without_borders(film: bytes) -> bytes:
     return BORDER.sub(b"", film.partition(b"\n")[2])
 
 
-def put_together(whole: bytes, parts: list[tuple[int, bytes, bytes]]) -> list[str]:
+def put_together(whole: bytes, parts: list[Answer]) -> list[str]:
     """Where films of windows, put together up to the first one that is over, are not the film of the whole match, and where
     one ends that the next one doesn't begin."""
     last = next(at for at, (code, _, _) in enumerate(parts) if code != GOES_ON)
@@ -253,7 +251,7 @@ def lines_of_restarts(folder: str) -> list[str]:
     return [] if rows == wanted else [f"{rows}"]
 
 
-def placed(answer: tuple[int, bytes, bytes]) -> list[tuple[int, int]]:
+def placed(answer: Answer) -> list[tuple[int, int]]:
     """The lines and columns of an answer to `places`, by the addresses."""
     rows = [line.split("\t") for line in answer[1].decode().splitlines()[1:]]
     assert [int(row[0]) for row in rows] == [*range(len(rows))]
@@ -324,7 +322,7 @@ def places(crobots: str, stages: str, folder: str) -> list[str]:
 
 def any_blocks(folder: str) -> list[str]:
     """Whatever stands in the blocks, a call answers with a code; beyond the memory it ends. Nothing comes from the host."""
-    words = [*node(folder), *script_and_module(folder, "blocks.mjs"), str(CALLS), "1"]
+    words = [*words_of("blocks.mjs", folder), str(CALLS), "1"]
     ran = subprocess.run(words, capture_output=True, text=True, check=False, timeout=SECONDS)
     if ran.returncode:
         return [ran.stderr[-500:]]
@@ -332,23 +330,37 @@ def any_blocks(folder: str) -> list[str]:
     wrong = [f"imports: {told['imports']}"] if told["imports"] else []
     wrong += [] if sorted(told["exports"]) == EXPORTS else [f"exports: {told['exports']}"]
     wrong += [] if set(told["codes"]) >= {"0", "1", "2"} and set(told["codes"]) <= {"0", "1", "2", "4", "6"} else [f"codes: {told['codes']}"]
-    return wrong + ([] if told["ends"] == ["ended"] * 3 else [f"outside of the memory: {told['ends']}"])
+    wrong += [] if told["inside"] == [2] * 3 else [f"inside of the memory: {told['inside']}"]
+    # each of three calls, with each of its five words so: the memory's end, and five numbers beyond it
+    return wrong + ([] if told["ends"] == ["ended"] * 90 else [f"outside of the memory: {told['ends']}"])
+
+
+def units() -> list[str]:
+    """Parts of the page that need no browser. Node takes the modules if a file beside them says what they are."""
+    with tempfile.TemporaryDirectory() as place:
+        shutil.copytree(WEB, place, dirs_exist_ok=True)
+        with open(os.path.join(place, "package.json"), "w", encoding="ascii") as file:
+            file.write('{"type": "module"}')
+        words = [shutil.which("node") or "node", os.path.join(HERE, "units.mjs"), place]
+        ran = subprocess.run(words, capture_output=True, text=True, check=False, timeout=SECONDS)
+    return list(json.loads(ran.stdout)) if not ran.returncode else [ran.stderr[-500:]]
 
 
 def size(folder: str) -> list[str]:
     """The module is small enough to be loaded at once."""
-    count = os.path.getsize(os.path.join(folder, "crobots.wasm"))
+    count = os.path.getsize(f"{folder}.wasm")
     return [f"{count} bytes"] if count > MOST_BYTES else []
 
 
 def results(crobots: str, stages: str, folder: str) -> Iterator[tuple[str, list[str]]]:
     """The tests' names, and what is wrong."""
+    yield "parts of the page", units()
     yield "size", size(folder)
     yield "blocks of any bytes", any_blocks(folder)
-    yield "samples", compared(crobots, folder, sample_battles())
-    yield "vectors", compared(crobots, folder, vectors("listings", "faults", "battles", "profiles"))
-    yield "random robots", compared(crobots, folder, random_battles(100))
-    yield "hostile sources", compared(crobots, folder, hostile_battles())
+    yield "samples", differing(crobots, folder, sample_battles())
+    yield "vectors", differing(crobots, folder, vectors("listings", "faults", "battles", "profiles"))
+    yield "random robots", differing(crobots, folder, random_battles(100))
+    yield "hostile sources", differing(crobots, folder, hostile_battles())
     yield "refused settings", refused(folder)
     yield "settings at limits", at_limits(crobots, folder)
     yield "a full sheet", full(crobots, folder)

@@ -1,0 +1,176 @@
+"""Lays the page into its folder: its modules as scripts, what it is built with as another one, the editor, pages, and a zip."""
+
+from __future__ import annotations
+
+import base64
+import glob
+import hashlib
+import html
+import json
+import os
+import re
+import shutil
+import subprocess
+import zipfile
+import zlib
+from string import Template
+
+from .helping import functions, panel, steps, text_of, whole
+from .manuals import Page
+
+TOP = os.path.normpath(os.path.join(os.path.dirname(os.path.abspath(__file__)), "..", ".."))
+WEB = os.path.join(TOP, "web")
+PLAYER = os.path.join(TOP, "scripts", "replays")
+PLAYER_SCRIPTS = ("matches.js", "drawing.js", "player.js")
+MANUALS = ("crobots-robots.6", "crobots.6")
+LICENCES = ("LICENSE", "LICENCE", "COPYING")
+EDITOR = "/usr/share/javascript/codemirror"
+EDITOR_FILES = ("lib/codemirror.js", "lib/codemirror.css", "addon/edit/matchbrackets.js", "addon/edit/closebrackets.js",
+                "addon/selection/active-line.js", "addon/hint/show-hint.js", "addon/hint/show-hint.css")
+# A folder or a zip is a page if it has this file.
+KNOWN_BY = "data.js"
+# The page runs its own scripts, the module and the player's script, and no other; it asks the network for nothing.
+POLICY = ("default-src 'none'; script-src 'self' blob: 'wasm-unsafe-eval' 'sha256-$player'; worker-src blob:; style-src 'self' 'unsafe-inline'; "
+          "img-src data:; base-uri 'none'; form-action 'none'")
+# Each file of the zip has this time, so that the same page makes the same bytes.
+TIME = (1980, 1, 1, 0, 0, 0)
+
+IMPORT = re.compile(r'^import (\{.*\}) from "\./(\w+)\.js";$', re.MULTILINE)
+EXPORT = re.compile(r"^export ((?:async )?(?:const|function|class) (\w+))", re.MULTILINE)
+
+
+def in_order(name: str, before: tuple[str, ...] = ()) -> tuple[str, ...]:
+    """The modules that a module imports, each once and before those that import it, and the module itself."""
+    for _, below in IMPORT.findall(text_of(WEB, f"{name}.js")):
+        before = before if below in before else in_order(below, before)
+    return (*before, name)
+
+
+def wrapped(name: str) -> str:
+    """A module as a function, whose result is what it exports."""
+    text = text_of(WEB, f"{name}.js")
+    exports = ", ".join(found for _, found in EXPORT.findall(text))
+    body = EXPORT.sub(r"\1", IMPORT.sub(r"const \1 = modules.\2;", text))
+    return f"modules.{name} = (() => {{\n{body}return {{{exports}}};\n}})();\n"
+
+
+def script_of(name: str) -> str:
+    """A module, with those that it imports, as one script."""
+    return '"use strict";\n(() => {\nconst modules = {};\n' + "".join(map(wrapped, in_order(name))) + "})();\n"
+
+
+def samples() -> list[dict[str, str]]:
+    """The robots to choose from, by their names."""
+    return [{"name": os.path.basename(path), "source": text_of(path)} for path in sorted(glob.glob(os.path.join(TOP, "robots", "*.r")))]
+
+
+def player_script() -> str:
+    """The script of the page that plays matches."""
+    return "".join(text_of(PLAYER, name) for name in PLAYER_SCRIPTS)
+
+
+def player() -> str:
+    """The page that plays matches, without the match and its title."""
+    return Template(text_of(PLAYER, "page.html")).safe_substitute(style=text_of(PLAYER, "page.css"), script=player_script())
+
+
+def packed(data: bytes) -> str:
+    """Bytes deflated and in base 64."""
+    packer = zlib.compressobj(9, wbits=-15)
+    return base64.b64encode(packer.compress(data) + packer.flush()).decode()
+
+
+def data_of(module: str, manual: Page) -> str:
+    """What the page is built with, as a script."""
+    with open(module, "rb") as file:
+        coded = packed(file.read())
+    data = {"robots": samples(), "steps": steps(WEB), "functions": functions(manual), "editor": os.path.isdir(EDITOR),
+            "player": player(), "worker": script_of("worker"), "module": coded}
+    return f"globalThis.CROBOTS = {json.dumps(data, indent=1)};\n"
+
+
+def policy() -> str:
+    """What the page may do."""
+    digest = hashlib.sha256(f"\n{player_script()}".encode()).digest()
+    return Template(POLICY).substitute(player=base64.b64encode(digest).decode())
+
+
+def slim(text: str) -> str:
+    """A script of the editor without its comments and the blanks before its lines; the notice of its licence stays."""
+    head, lines = text.split("\n\n")[0], [line.strip() for line in text.split("\n")]
+    code = [line for line in lines if line and not line.startswith("//")]
+    if any(line.endswith("\\") or "`" in line.replace('"`"', "") for line in code):
+        return text
+    return "\n".join([head, *code, ""])
+
+
+def version() -> str:
+    """The version of the repository, if it is one of git."""
+    ran = subprocess.run(["git", "-C", TOP, "describe", "--tags", "--always"], capture_output=True, text=True, check=False)
+    return ran.stdout.strip() or "unknown"
+
+
+def licence() -> str:
+    """The file with the licence, if there is one."""
+    return next((name for name in LICENCES if os.path.isfile(os.path.join(TOP, name))), "")
+
+
+def about(module: str) -> str:
+    """The page on what this is."""
+    with open(module, "rb") as file:
+        data = file.read()
+    name = licence()
+    text = f'The licence is in the file <a href="{name}.txt">{name}</a>.' if name else "The sources state no licence."
+    return Template(text_of(WEB, "about.html")).substitute(
+        version=html.escape(version()), hash=hashlib.sha256(data).hexdigest(), bytes=f"{len(data):,}", licence=text)
+
+
+def put(folder: str, name: str, text: str) -> None:
+    """Writes a file of the page."""
+    with open(os.path.join(folder, name), "w", encoding="utf-8") as file:
+        file.write(text)
+
+
+def lay_editor(folder: str) -> None:
+    """Puts the editor's files into a folder, if it is installed."""
+    os.makedirs(folder)
+    for name in EDITOR_FILES if os.path.isdir(EDITOR) else ():
+        put(folder, os.path.basename(name), slim(text_of(EDITOR, name)) if name.endswith(".js") else text_of(EDITOR, name))
+
+
+def lay(folder: str, module: str) -> None:
+    """Puts the page's files into the folder, and beside it all of them in a zip, and the module."""
+    shutil.rmtree(folder, ignore_errors=True)
+    lay_editor(os.path.join(folder, "codemirror"))
+    manuals = [Page(text_of(TOP, "man", name)) for name in MANUALS]
+    put(folder, "index.html", Template(text_of(WEB, "index.html")).substitute(policy=policy(), language=panel(manuals[0], WEB)))
+    put(folder, "manual.html", Template(text_of(WEB, "manual.html")).substitute(text=whole(manuals)))
+    put(folder, "about.html", about(module))
+    for name in ("page.css", "text.css"):
+        shutil.copy(os.path.join(WEB, name), folder)
+    if licence():
+        shutil.copy(os.path.join(TOP, licence()), os.path.join(folder, f"{licence()}.txt"))
+    put(folder, "page.js", script_of("page"))
+    put(folder, "data.js", data_of(module, manuals[0]))
+    pack(folder)
+    if os.path.abspath(module) != f"{folder}.wasm":
+        shutil.copy(module, f"{folder}.wasm")
+
+
+def pack(folder: str) -> None:
+    """Puts all files of a folder into a zip beside it."""
+    paths = sorted(path for path in glob.glob(os.path.join(folder, "**", "*"), recursive=True) if os.path.isfile(path))
+    with zipfile.ZipFile(f"{folder}.zip", "w", zipfile.ZIP_DEFLATED, compresslevel=9) as pack_:
+        for path in paths:
+            entry = zipfile.ZipInfo(os.path.relpath(path, folder), TIME)
+            entry.compress_type, entry.external_attr = zipfile.ZIP_DEFLATED, 0o644 << 16
+            with open(path, "rb") as file:
+                pack_.writestr(entry, file.read())
+
+
+def is_foreign(folder: str) -> bool:
+    """Whether a folder, or the zip beside it, holds something else than an earlier page."""
+    pack_ = f"{folder}.zip"
+    if os.path.exists(pack_) and not (zipfile.is_zipfile(pack_) and KNOWN_BY in zipfile.ZipFile(pack_).namelist()):
+        return True
+    return os.path.exists(folder) and (not os.path.isdir(folder) or os.listdir(folder) != [] and not os.path.isfile(os.path.join(folder, KNOWN_BY)))

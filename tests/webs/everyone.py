@@ -1,0 +1,167 @@
+"""Tests that the page is for everyone: widths, contrast, sizes, names, forced colours, no motion, the moment in words."""
+
+from __future__ import annotations
+
+import os
+import re
+import time
+from typing import Any, Iterator
+
+from .battles import Battle, Settings, samples
+from .pages import Page
+
+WIDTHS = (320, 360, 683, 768, 1366, 1920)
+HEIGHT = 800
+FAULTY = b"/* a comment */\nmain()\n{\n  int angle;\n  while (scan(angle, 10) == 0) angle += 20;\n  break;\n}\n"
+ROLES = {"button", "textbox", "combobox", "spinbutton", "slider", "tab", "listbox", "option", "meter", "Iframe", "link", "dialog", "progressbar"}
+MOMENT = r"Cycle 450: 1 at \d+, \d+, damage \d+ percent; 2 at \d+, \d+, damage \d+ percent"
+
+
+def probe(page: Page) -> None:
+    """Puts the script that measures into the page."""
+    with open(os.path.join(os.path.dirname(os.path.abspath(__file__)), "probe.js"), encoding="utf-8") as file:
+        page.js(file.read())
+
+
+def widths(page: Page) -> list[str]:
+    """No width needs scrolling sideways."""
+    wrong = []
+    for width in WIDTHS:
+        page.driver.set_window_size(max(width, 500), HEIGHT)
+        if page.driver.name == "chrome":
+            page.size(width, HEIGHT)
+        page.open()
+        page.run()
+        page.js("document.querySelectorAll('details').forEach(it => { it.open = true; })")
+        wide = page.js("return document.documentElement.scrollWidth - document.documentElement.clientWidth")
+        wrong += [f"{width} pixels: {wide} too wide"] if wide > 0 else []
+    if page.driver.name == "chrome":
+        page.driver.execute_cdp_cmd("Emulation.clearDeviceMetricsOverride", {})
+    page.driver.set_window_size(1280, 1000)
+    return wrong
+
+
+def full_of_things(page: Page) -> None:
+    """Shows the page with all that it has: a fault, a report, a film, what is found, lists, help."""
+    page.show(Battle([("a.r", FAULTY), *samples()[:2]], Settings(3, 3_000)))
+    page.run()
+    page.js("document.getElementById('tab-0').click()")
+    page.js("document.querySelectorAll('details').forEach(it => { it.open = true; })")
+    page.click("find")
+    page.set("wanted", "angle")
+    page.js("document.querySelector('.CodeMirror').CodeMirror.focus(); document.querySelector('.CodeMirror').CodeMirror.setCursor(4, 17)")
+    page.wait("return document.querySelector('.fault-words')")
+
+
+def film(page: Page) -> None:
+    """Shows a film in which somebody is hurt."""
+    page.show(Battle([*samples()[3:5], samples()[0]], Settings(1, 30_000)))
+    page.watch(1)
+    page.inside("it.getElementById('to-end').click(); it.getElementById('describe').click()")
+
+
+def contrast(page: Page) -> list[str]:
+    """In both themes texts have a contrast of 4.5 with what is behind them, also selected ones, and borders one of 3."""
+    wrong = []
+    page.fresh()
+    for theme in ("light", "dark"):
+        page.media(color_scheme=theme)
+        for name, show, view in (("page", full_of_things, "window"), ("film", film, "document.getElementById('film').contentWindow")):
+            show(page)
+            probe(page)
+            found = page.js(f"return probe({view})")
+            wrong += [f"{theme}, {name}: {it}" for it in found["texts"] + found["borders"]]
+        for other in ("manual.html", "about.html"):
+            page.driver.get(page.address + other)
+            probe(page)
+            wrong += [f"{theme}, {other}: {it}" for it in page.js("return probe(window).texts")]
+        page.open()
+    page.media()
+    return wrong
+
+
+def touch(page: Page) -> list[str]:
+    """On a screen that is touched all that is pressed is at least 24 pixels high and wide, rows of the listing too."""
+    wrong = []
+    page.driver.execute_cdp_cmd("Emulation.setTouchEmulationEnabled", {"enabled": True})
+    for width in WIDTHS:
+        page.driver.execute_cdp_cmd("Emulation.setDeviceMetricsOverride", {"width": width, "height": HEIGHT, "deviceScaleFactor": 2, "mobile": True})
+        page.fresh()
+        page.run()
+        page.js("document.querySelectorAll('details').forEach(it => { it.open = true; })")
+        probe(page)
+        found = page.js("return [document.querySelectorAll('#code [role=option]').length, probe(window).sizes]")
+        wrong += [f"{width}: {it}" for it in found[1]] + ([] if found[0] > 10 else ["no rows"])
+    page.watch(1)
+    probe(page)
+    wrong += [f"film: {it}" for it in page.js("return probe(document.getElementById('film').contentWindow).sizes")]
+    page.driver.execute_cdp_cmd("Emulation.clearDeviceMetricsOverride", {})
+    page.driver.execute_cdp_cmd("Emulation.setTouchEmulationEnabled", {"enabled": False})
+    return wrong
+
+
+def named(page: Page) -> list[str]:
+    """Each control has a name that a screen reader says, and the editor is a text field of several lines."""
+    page.fresh()
+    full_of_things(page)
+    page.show(Battle(samples()[:2]))
+    page.watch(1)
+    page.js("document.getElementById('remove').click()")
+    tree = page.driver.execute_cdp_cmd("Accessibility.getFullAXTree", {})["nodes"]
+    page.press("ESCAPE")
+    wrong = [f"{node['role']['value']} without a name: {node.get('nodeId')}" for node in tree
+             if not node["ignored"] and node["role"]["value"] in ROLES and not node.get("name", {}).get("value", "").strip()]
+    kind = page.js("const it = document.querySelector('.CodeMirror [contenteditable]');"
+                   "return [it.getAttribute('role'), it.getAttribute('aria-multiline'), it.getAttribute('aria-label')]")
+    return wrong + ([] if kind == ["textbox", "true", "Source of the robot"] else [f"{kind}"])
+
+
+def forced_colours(page: Page) -> list[str]:
+    """With forced colours the bars of damage and the tab that is shown are still seen."""
+    page.fresh()
+    film(page)
+    page.media(forced_colors="active")
+    bars = page.inside("const view = document.getElementById('film').contentWindow;"
+                       "return [...it.querySelectorAll('.bar')].map(bar => [bar, bar.firstChild].map(part => view.getComputedStyle(part).backgroundColor))")
+    chosen = page.js("return [0, 1].map(at => getComputedStyle(document.getElementById(`tab-${at}`)).outlineStyle)")
+    page.media()
+    wrong = [] if bars and all(bar != fill for bar, fill in bars) else [f"bars: {bars}"]
+    return wrong + ([] if chosen == ["solid", "none"] else [f"tabs: {chosen}"])
+
+
+def in_words(page: Page) -> list[str]:
+    """The moment is said in words on request, by a key and by a button, and goes with the next one."""
+    page.fresh()
+    page.watch(1, 450)
+    page.driver.switch_to.frame("film")
+    page.press("d")
+    page.driver.switch_to.default_content()
+    said = page.inside("const box = it.getElementById('described'); return [box.textContent, box.getAttribute('role')]")
+    place = page.inside("return it.querySelector('#robots .state').textContent")
+    page.inside("it.getElementById('update-after').click()")
+    later = page.inside("return it.getElementById('described').textContent")
+    at = re.match(r"(\d+), (\d+) m", place)
+    right = re.fullmatch(MOMENT, said[0]) and said[1] == "status" and at and f"1 at {at[1]}, {at[2]}," in said[0] and later == ""
+    return [] if right else [f"{said} {place} {later}"]
+
+
+def still(page: Page) -> list[str]:
+    """For those who want no motion a match plays by still pictures, at most three a second."""
+    counts = []
+    for motion in ("no-preference", "reduce"):
+        page.media(reduced_motion=motion)
+        page.fresh()
+        page.watch(1)
+        page.inside("window.drawn = 0; new MutationObserver(() => { window.drawn += 1; })"
+                    ".observe(it.getElementById('clock'), {childList: true}); it.getElementById('play-pause').click()")
+        time.sleep(1.5)
+        counts.append(page.js("return window.drawn"))
+    page.media()
+    return [] if counts[0] > 10 and 1 <= counts[1] <= 5 else [f"pictures: {counts}"]
+
+
+def results(page: Page) -> Iterator[tuple[str, list[str]]]:
+    """The tests' names, and what is wrong."""
+    tests: list[Any] = [widths, contrast, touch, named, forced_colours, in_words, still]
+    for test in tests:
+        yield f"for everyone: {test.__name__.replace('_', ' ')}", test(page)

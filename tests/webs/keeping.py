@@ -1,0 +1,217 @@
+"""Tests that the page loses nothing: samples, links, two tabs, removal, a storage that is full or blocked, undo, files."""
+
+from __future__ import annotations
+
+import os
+import tempfile
+import time
+from typing import Any, Iterator
+
+from .battles import Battle, samples
+from .pages import Page, fragment
+
+OWN = "main() { while (1) drive(10, 20); }"
+FRIEND = "main() { while (1) drive(30, 40); }"
+BLOCKED = "Object.defineProperty(window, 'localStorage', {get() { throw new DOMException('no', 'SecurityError'); }})"
+MIRROR = "document.querySelector('.CodeMirror').CodeMirror"
+
+
+def sources(page: Page) -> set[str]:
+    """All sources that the browser keeps."""
+    return {source for robots in page.entries() for _, source in robots}
+
+
+def a_sample(page: Page) -> list[str]:
+    """A sample that is chosen by a key replaces nothing; added it is a robot more; put in place of one it can be undone."""
+    page.fresh()
+    page.write(OWN)
+    page.js("document.getElementById('sample').focus()")
+    page.press("ARROW_DOWN", "ARROW_DOWN")
+    wrong = [] if page.source == OWN and len(page.names) == 2 else ["a key in the list replaces the robot"]
+    page.js("document.getElementById('sample').value = 'pilot.r'")
+    page.click("add-sample")
+    wrong += [] if page.names == ["hunter.r", "sniper.r", "pilot.r"] else [f"added: {page.names}"]
+    page.js("document.getElementById('tab-0').click()")
+    page.click("replace")
+    replaced = page.names[0], page.source == dict(samples())["pilot.r"].decode()
+    wrong += [] if replaced == ("pilot.r", True) else [f"replaced: {replaced}"]
+    page.choose("noted", "Undo")
+    back = page.names[0], page.source
+    return wrong + ([] if back == ("hunter.r", OWN) and OWN in sources(page) else [f"undone: {back}"])
+
+
+def a_link(page: Page) -> list[str]:
+    """A link and a key leave one's own robots where they were; the page leads back to them, and lists both battles."""
+    page.fresh()
+    page.write(OWN)
+    page.open(fragment(Battle([("friend.r", FRIEND.encode())])))
+    page.js(f"{MIRROR}.replaceRange(' ', {{line: 0, ch: 0}})")
+    wrong = [] if {OWN, f" {FRIEND}"} <= sources(page) else [f"after a key: {sources(page)}"]
+    page.choose("linked", "Back to my robots")
+    wrong += [] if page.source == OWN and page.names[0] == "hunter.r" else [f"back: {page.names}"]
+    page.js("document.getElementById('kept').open = true")
+    page.wait("return document.getElementById('entries').children.length === 2")
+    page.choose("entries", "friend.r")
+    return wrong + ([] if page.source == f" {FRIEND}" else ["the list doesn't lead to the friend's battle"])
+
+
+def a_link_in_the_open_page(page: Page) -> list[str]:
+    """A link that is followed in the open page displaces robots that nothing kept yet; the way back has them too."""
+    with page.before(BLOCKED):
+        page.open()
+        page.write(OWN)
+        told = page.seen("unkept")
+        page.show(Battle([("friend.r", FRIEND.encode())]))
+        page.choose("linked", "Back to my robots")
+        wrong = [] if page.source == OWN else [page.source]
+    return wrong + ([] if told.startswith("This browser keeps nothing of this page") else [f"a blocked storage: {told!r}"])
+
+
+def next_day(page: Page) -> list[str]:
+    """After a friend's link was only looked at, the page opens with one's own robots."""
+    page.fresh()
+    page.write(OWN)
+    page.open(fragment(Battle([("friend.r", FRIEND.encode())])))
+    page.run()
+    page.open()
+    return [] if page.source == OWN else [page.source]
+
+
+def twenty(page: Page) -> list[str]:
+    """The last twenty battles are kept, and the oldest ones go."""
+    page.fresh()
+    for number in range(22):
+        page.click("new")
+        page.js(f"{MIRROR}.setValue('/* {number} */ main(){{}}')")
+        time.sleep(0.003)
+    numbers = sorted(int(source.split()[1]) for source in sources(page))
+    return [] if numbers == [*range(2, 22)] else [f"{numbers}"]
+
+
+def two_tabs(page: Page) -> list[str]:
+    """Two tabs with the same battle: the second change is told of, and both are kept."""
+    driver = page.driver
+    page.fresh()
+    page.write(OWN)
+    first = driver.current_window_handle
+    driver.switch_to.new_window("tab")
+    try:
+        page.open()
+        page.write("main() { /* second */ }")
+        driver.switch_to.window(first)
+        page.wait("return !document.getElementById('noted').hidden")
+        told = [page.seen("noted")]
+        page.write("main() { /* first */ }")
+        told.append(page.seen("noted"))
+        kept = sources(page)
+    finally:
+        driver.switch_to.window(driver.window_handles[-1])
+        driver.close()
+        driver.switch_to.window(first)
+    wrong = [] if {"main() { /* first */ }", "main() { /* second */ }"} <= kept else [f"kept: {kept}"]
+    told_well = told[0].startswith("This battle was changed in another tab.") and told[1].startswith("Another tab has changed this battle too.")
+    return wrong + ([] if told_well else [f"told: {told}"])
+
+
+def removing(page: Page) -> list[str]:
+    """To remove a robot is asked, and can be undone."""
+    page.fresh()
+    page.write(OWN)
+    page.click("remove")
+    wrong = [] if page.js("return document.getElementById('asking').open") else ["removing doesn't ask"]
+    page.press("ESCAPE")
+    page.wait("return !document.getElementById('asking').open")
+    wrong += [] if len(page.names) == 2 else ["a no removes"]
+    page.click("remove")
+    page.choose("answers", "Remove it")
+    page.wait("return document.querySelectorAll('#tabs [role=tab]').length === 1")
+    page.choose("noted", "Undo")
+    return wrong + ([] if page.names == ["hunter.r", "sniper.r"] and page.source == OWN else [f"undone: {page.names}"])
+
+
+def full(page: Page) -> list[str]:
+    """A full storage is told of, and again a place in it."""
+    page.fresh()
+    page.write(OWN)
+    page.js("let text = 'x'.repeat(1 << 20); while (text) try { localStorage.setItem('filler' + localStorage.length, text); }"
+            " catch { text = text.slice(0, text.length >> 1); }")
+    page.write(OWN + "/* more and more */" * 20)
+    told = page.seen("unkept")
+    page.js("Object.keys(localStorage).filter(it => it.startsWith('filler')).forEach(it => localStorage.removeItem(it))")
+    page.write(OWN)
+    later = page.seen("unkept")
+    right = told.startswith("This browser keeps nothing of this page") and later == ""
+    return [] if right and OWN in sources(page) else [f"full: {told!r}, later {later!r}"]
+
+
+def undo(page: Page) -> list[str]:
+    """What was written can be undone after another tab was shown."""
+    page.fresh()
+    page.write(OWN)
+    page.js("document.getElementById('tab-1').click(); document.getElementById('tab-0').click()")
+    page.js(f"{MIRROR}.undo()")
+    return [] if page.source == dict(samples())["hunter.r"].decode() else [page.source[:80]]
+
+
+def dropped(page: Page, files: dict[str, str]) -> None:
+    """Drops files on the page."""
+    page.js("const data = new DataTransfer(); Object.entries(arguments[0]).forEach(([name, text]) => data.items.add(new File([text], name)));"
+            "document.body.dispatchEvent(new DragEvent('drop', {dataTransfer: data, bubbles: true, cancelable: true}))", files)
+    page.wait("return document.getElementById('noted').textContent.includes('opened')")
+
+
+def opening(page: Page) -> list[str]:
+    """Files become robots: several at once, by the button or dropped; what doesn't fit is told of."""
+    page.fresh()
+    with tempfile.TemporaryDirectory() as folder:
+        paths = [os.path.join(folder, name) for name in ("one.r", "two.r")]
+        for path in paths:
+            with open(path, "w", encoding="utf-8") as file:
+                file.write(OWN)
+        page.js("document.getElementById('files').hidden = false")
+        page.driver.find_element("id", "files").send_keys("\n".join(paths))
+        page.wait("return document.getElementById('noted').textContent.includes('opened')")
+        page.js("document.getElementById('files').hidden = true")
+    wrong = [] if page.names == ["hunter.r", "sniper.r", "one.r", "two.r"] and page.source == OWN else [f"{page.names}"]
+    dropped(page, {"three.r": FRIEND})
+    told = page.seen("noted")
+    wrong += [] if told.startswith("0 of 1 files opened. Not opened: three.r.") and len(page.names) == 4 else [told]
+    page.click("remove")
+    page.choose("answers", "Remove it")
+    page.wait("return document.querySelectorAll('#tabs [role=tab]').length === 3")
+    dropped(page, {"three.r": FRIEND})
+    return wrong + ([] if page.names[-1] == "three.r" and page.source == FRIEND else [f"dropped: {page.names}"])
+
+
+def saving(page: Page) -> list[str]:
+    """A robot is saved as a file, whose name ends in .r."""
+    page.fresh()
+    page.write(OWN)
+    page.set("name", "mine")
+    with tempfile.TemporaryDirectory() as folder:
+        page.driver.execute_cdp_cmd("Browser.setDownloadBehavior", {"behavior": "allow", "downloadPath": folder})
+        page.click("save")
+        path = os.path.join(folder, "mine.r")
+        end = time.monotonic() + 20
+        while not os.path.exists(path) and time.monotonic() < end:
+            time.sleep(0.02)
+        if not os.path.exists(path):
+            return [f"no file mine.r: {os.listdir(folder)}"]
+        with open(path, encoding="utf-8") as file:
+            text = file.read()
+    return [] if text == OWN else [text]
+
+
+def former(page: Page) -> list[str]:
+    """What an earlier page kept is there as one of the battles."""
+    page.open()
+    page.js("localStorage.clear(); localStorage.setItem('crobots', JSON.stringify({robots: [{name: 'old.r', source: arguments[0]}]}))", OWN)
+    page.open()
+    return [] if page.names == ["old.r"] and page.source == OWN else [f"{page.names}"]
+
+
+def results(page: Page) -> Iterator[tuple[str, list[str]]]:
+    """The tests' names, and what is wrong."""
+    tests: list[Any] = [a_sample, a_link, a_link_in_the_open_page, next_day, twenty, two_tabs, removing, full, undo, opening, saving, former]
+    for test in tests:
+        yield f"nothing is lost: {test.__name__.replace('_', ' ')}", test(page)

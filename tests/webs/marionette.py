@@ -1,0 +1,140 @@
+"""A Firefox without a window, asked by its own protocol, Marionette: what the tests need of a driver."""
+
+from __future__ import annotations
+
+import contextlib
+import json
+import os
+import shutil
+import socket
+import subprocess
+import tempfile
+import time
+from typing import Any, Iterator
+
+SECONDS = 60
+ELEMENT = "element-6066-11e4-a52e-4f735466cecf"
+PREFERENCES = {"marionette.port": 0, "browser.shell.checkDefaultBrowser": False, "datareporting.policy.dataSubmissionEnabled": False,
+               "browser.aboutwelcome.enabled": False, "app.update.enabled": False, "dom.w3c_touch_events.enabled": 1}
+
+
+def program() -> str | None:
+    """The browser, if it is installed."""
+    return shutil.which("firefox-esr") or shutil.which("firefox")
+
+
+class Field:
+    """An element that takes keys."""
+
+    def __init__(self, driver: Firefox, name: str) -> None:
+        self._driver, self._name = driver, name
+
+    def send_keys(self, text: str) -> None:
+        """Presses keys."""
+        self._driver.ask("WebDriver:ElementSendKeys", id=self._name, text=text)
+
+
+class Firefox:
+    """A session of a browser, with those names of selenium that the tests use."""
+
+    name = "firefox"
+
+    def __init__(self, port: int) -> None:
+        self._socket = socket.create_connection(("127.0.0.1", port), SECONDS)
+        self._rest, self._count = b"", 0
+        self._hear()
+        self.ask("WebDriver:NewSession", capabilities={})
+
+    def _hear(self) -> Any:
+        """What the browser says next: a number of bytes, a colon, and so many bytes."""
+        while b":" not in self._rest or len(self._rest.partition(b":")[2]) < int(self._rest.partition(b":")[0]):
+            more = self._socket.recv(1 << 16)
+            if not more:
+                raise RuntimeError("the browser ended")
+            self._rest += more
+        size, _, rest = self._rest.partition(b":")
+        self._rest = rest[int(size):]
+        return json.loads(rest[:int(size)])
+
+    def ask(self, command: str, **words: Any) -> Any:
+        """Asks the browser; answers what it answers."""
+        self._count += 1
+        text = json.dumps([0, self._count, command, words]).encode()
+        self._socket.sendall(str(len(text)).encode() + b":" + text)
+        _, _, fault, answer = self._hear()
+        if fault:
+            raise RuntimeError(f"{command}: {fault['message']}")
+        return answer.get("value", answer) if isinstance(answer, dict) else answer
+
+    def get(self, address: str) -> None:
+        """Opens an address."""
+        self.ask("WebDriver:Navigate", url=address)
+
+    def refresh(self) -> None:
+        """Loads the page anew."""
+        self.ask("WebDriver:Refresh")
+
+    def execute_script(self, code: str, *words: Any) -> Any:
+        """Runs code in the page."""
+        return self.ask("WebDriver:ExecuteScript", script=code, args=list(words))
+
+    def set_window_size(self, width: int, height: int) -> None:
+        """Gives the window a size."""
+        self.ask("WebDriver:SetWindowRect", width=width, height=height)
+
+    @property
+    def switch_to(self) -> Firefox:
+        """Where selenium has what follows."""
+        return self
+
+    @property
+    def active_element(self) -> Field:
+        """The element that has the focus."""
+        return Field(self, self.ask("WebDriver:GetActiveElement")[ELEMENT])
+
+    def frame(self, number: int) -> None:
+        """Goes into a frame of the page."""
+        self.ask("WebDriver:SwitchToFrame", id=number)
+
+    def default_content(self) -> None:
+        """Goes back to the page."""
+        self.ask("WebDriver:SwitchToFrame")
+
+    def perform(self, actions: list[dict[str, Any]]) -> None:
+        """Does what pointers do."""
+        self.ask("WebDriver:PerformActions", actions=actions)
+        self.ask("WebDriver:ReleaseActions")
+
+    def quit(self) -> None:
+        """Ends the browser."""
+        with contextlib.suppress(RuntimeError, OSError):
+            self.ask("Marionette:Quit", flags=["eForceQuit"])
+        self._socket.close()
+
+
+def port_of(profile: str) -> int:
+    """The port at which a browser with this profile listens, once it does."""
+    end = time.monotonic() + SECONDS
+    path = os.path.join(profile, "MarionetteActivePort")
+    while time.monotonic() < end:
+        with contextlib.suppress(OSError, ValueError), open(path, encoding="ascii") as file:
+            return int(file.read())
+        time.sleep(0.05)
+    raise TimeoutError("the browser doesn't listen")
+
+
+@contextlib.contextmanager
+def firefox() -> Iterator[Firefox]:
+    """A browser without a window."""
+    with tempfile.TemporaryDirectory(ignore_cleanup_errors=True) as profile:
+        with open(os.path.join(profile, "user.js"), "w", encoding="ascii") as file:
+            file.writelines(f"user_pref({json.dumps(name)}, {json.dumps(value)});\n" for name, value in PREFERENCES.items())
+        words = [program() or "", "--headless", "--no-remote", "--marionette", "--profile", profile, "about:blank"]
+        with subprocess.Popen(words, stdin=subprocess.DEVNULL, stdout=subprocess.DEVNULL, stderr=subprocess.DEVNULL) as child:
+            try:
+                driver = Firefox(port_of(profile))
+                yield driver
+                driver.quit()
+                child.wait(SECONDS)
+            finally:
+                child.kill()

@@ -1,0 +1,214 @@
+"""A page in a browser: it is served, opened, and used as by a reader."""
+
+from __future__ import annotations
+
+import base64
+import contextlib
+import functools
+import http.server
+import importlib
+import json
+import os
+import shutil
+import tempfile
+import threading
+import time
+import urllib.parse
+import zlib
+from typing import Any, Iterator
+
+from .battles import Battle
+
+SECONDS = 60
+
+
+class Quiet(http.server.SimpleHTTPRequestHandler):
+    """Serves files without a word."""
+
+    def log_message(self, format: str, *args: Any) -> None:  # pylint: disable=redefined-builtin
+        """Says nothing."""
+
+
+@contextlib.contextmanager
+def served(folder: str) -> Iterator[str]:
+    """The address at which a folder is served."""
+    server = http.server.ThreadingHTTPServer(("127.0.0.1", 0), functools.partial(Quiet, directory=folder))
+    thread = threading.Thread(target=server.serve_forever)
+    thread.start()
+    try:
+        yield f"http://127.0.0.1:{server.server_address[1]}/"
+    finally:
+        server.shutdown()
+        server.server_close()
+        thread.join()
+
+
+@contextlib.contextmanager
+def without(folder: str, *names: str) -> Iterator[str]:
+    """The address of a copy of the page that lacks some files."""
+    with tempfile.TemporaryDirectory() as place:
+        shutil.copytree(folder, place, dirs_exist_ok=True)
+        for name in names:
+            os.remove(os.path.join(place, name))
+        with served(place) as address:
+            yield address
+
+
+@contextlib.contextmanager
+def chromium() -> Iterator[Any]:
+    """A browser without a window."""
+    webdriver: Any = importlib.import_module("selenium.webdriver")
+    options = webdriver.ChromeOptions()
+    options.binary_location = shutil.which("chromium")
+    for word in ("--headless=new", "--no-sandbox", "--disable-gpu", "--disable-dev-shm-usage", "--window-size=1280,1000"):
+        options.add_argument(word)
+    options.set_capability("goog:loggingPrefs", {"browser": "ALL"})
+    service: Any = importlib.import_module("selenium.webdriver.chrome.service")
+    driver = webdriver.Chrome(service=service.Service(shutil.which("chromedriver")), options=options)
+    try:
+        yield driver
+    finally:
+        driver.quit()
+
+
+def packed(text: bytes) -> str:
+    """The fragment of a link that carries some bytes."""
+    packer = zlib.compressobj(9, wbits=-15)
+    return "#battle=" + base64.urlsafe_b64encode(packer.compress(text) + packer.flush()).decode().rstrip("=")
+
+
+def fragment(battle: Battle) -> str:
+    """The fragment of a link to a battle."""
+    robots = [{"name": name, "source": source.decode()} for name, source in battle.robots]
+    settings = {**vars(battle.settings), "seed": str(battle.settings.seed)}
+    return packed(json.dumps({"robots": robots, "settings": settings}).encode())
+
+
+class Page:
+    """The page in a browser."""
+
+    def __init__(self, driver: Any, address: str) -> None:
+        self.driver = driver
+        self.address = address
+
+    def open(self, tail: str = "") -> None:
+        """Opens the page anew."""
+        self.driver.get("about:blank")
+        self.driver.get(self.address + tail)
+        self.wait("return document.getElementById('diagnostic')?.textContent")
+
+    def fresh(self, tail: str = "") -> None:
+        """Opens the page anew in a browser that kept nothing."""
+        self.driver.get(urllib.parse.urljoin(self.address, "about.html"))
+        self.js("localStorage.clear()")
+        self.open(tail)
+
+    @contextlib.contextmanager
+    def before(self, code: str) -> Iterator[None]:
+        """Runs code before each page that is opened meanwhile. Only Chromium can."""
+        added = self.driver.execute_cdp_cmd("Page.addScriptToEvaluateOnNewDocument", {"source": code})
+        try:
+            yield
+        finally:
+            self.driver.execute_cdp_cmd("Page.removeScriptToEvaluateOnNewDocument", added)
+
+    def show(self, battle: Battle) -> None:
+        """Follows a link to a battle in the open page, until the first robot is compiled."""
+        self.js("document.getElementById('seed').value = ''; document.getElementById('diagnostic').textContent = '';"
+                "location.hash = arguments[0]", fragment(battle))
+        self.wait("return document.getElementById('seed').value && document.getElementById('diagnostic').textContent")
+
+    def js(self, code: str, *words: Any) -> Any:
+        """Runs code in the page."""
+        return self.driver.execute_script(code, *words)
+
+    def wait(self, code: str, *words: Any) -> Any:
+        """Waits until code answers something."""
+        end = time.monotonic() + SECONDS
+        while time.monotonic() < end:
+            found = self.js(code, *words)
+            if found:
+                return found
+            time.sleep(0.01)
+        raise TimeoutError(code)
+
+    def text(self, name: str) -> str:
+        """The text of an element."""
+        return str(self.js("return document.getElementById(arguments[0]).textContent", name))
+
+    def seen(self, name: str) -> str:
+        """The text of an element as it is seen; nothing of one that is hidden."""
+        return str(self.js("const it = document.getElementById(arguments[0]); return it.hidden ? '' : it.innerText", name))
+
+    def click(self, name: str) -> None:
+        """Clicks an element."""
+        self.js("document.getElementById(arguments[0]).click()", name)
+
+    def choose(self, box: str, words: str) -> None:
+        """Clicks the button with these words in an element."""
+        self.js("[...document.getElementById(arguments[0]).querySelectorAll('button')].find(it => it.textContent === arguments[1]).click()", box, words)
+
+    def set(self, name: str, value: str) -> None:
+        """Writes a value into a field."""
+        self.js("const it = document.getElementById(arguments[0]); it.value = arguments[1];"
+                "it.dispatchEvent(new Event('input', {bubbles: true}))", name, value)
+
+    def write(self, source: str) -> None:
+        """Writes a source in place of the one that is shown, until it is compiled."""
+        self.js("document.getElementById('diagnostic').textContent = '';"
+                "document.querySelector('.CodeMirror').CodeMirror.setValue(arguments[0])", source)
+        self.wait("return document.getElementById('diagnostic').textContent")
+
+    @property
+    def source(self) -> str:
+        """The source that is shown."""
+        return str(self.js("return document.querySelector('.CodeMirror').CodeMirror.getValue()"))
+
+    @property
+    def names(self) -> list[str]:
+        """The names on the tabs."""
+        return list(self.js("return [...document.querySelectorAll('#tabs [role=tab]')].map(it => it.textContent)"))
+
+    def entries(self) -> list[list[list[str]]]:
+        """The battles that the browser keeps: of each the names and the sources of its robots."""
+        kept = self.js("return Object.entries(localStorage).filter(([key]) => key.startsWith('crobots-battle-')).map(([, text]) => text)")
+        battles = [json.loads(text.partition("\n")[2])["battle"] for text in kept]
+        return [[[it["name"], it["source"]] for it in battle["robots"]] for battle in battles]
+
+    def run(self) -> str:
+        """Runs the battle; returns the report."""
+        self.js("document.getElementById('said').textContent = ''; document.getElementById('run').click()")
+        self.wait("const it = document.getElementById('said').textContent; return it && it !== 'The battle runs.'")
+        return self.text("report")
+
+    def press(self, *keys: str) -> None:
+        """Presses keys, by their names in selenium, or types letters."""
+        named: Any = importlib.import_module("selenium.webdriver.common.keys")
+        for key in keys:
+            self.driver.switch_to.active_element.send_keys(getattr(named.Keys, key, key))
+
+    def watch(self, number: int, cycle: int = 0) -> None:
+        """Watches a match from a cycle on."""
+        self.js("document.getElementById('film').srcdoc = ''; document.getElementById('told').textContent = '';"
+                "document.getElementById('watched').value = arguments[0]; document.getElementById('from').value = arguments[1];"
+                "document.getElementById('watch').click()", number, cycle)
+        self.wait("return document.getElementById('told').textContent.includes('can be watched') && !document.getElementById('watch').disabled")
+
+    def inside(self, code: str, *words: Any) -> Any:
+        """Runs code in the film that is shown, whose document is `it`."""
+        return self.js(f"const it = document.getElementById('film').contentDocument; {code}", *words)
+
+    def size(self, width: int, height: int) -> None:
+        """Gives the window's inside a size."""
+        self.driver.execute_cdp_cmd("Emulation.setDeviceMetricsOverride",
+                                    {"width": width, "height": height, "deviceScaleFactor": 1, "mobile": False})
+
+    def media(self, **features: str) -> None:
+        """Chooses what the reader prefers: color_scheme, reduced_motion, and forced_colors; none of them without words."""
+        names = {"color_scheme": "prefers-color-scheme", "reduced_motion": "prefers-reduced-motion", "forced_colors": "forced-colors"}
+        self.driver.execute_cdp_cmd("Emulation.setEmulatedMedia", {"features": [{"name": names[it], "value": value} for it, value in features.items()]})
+
+
+def console(page: Page) -> list[str]:
+    """What the page wrote on the console, of which Chromium alone tells."""
+    return [entry["message"] for entry in page.driver.get_log("browser")] if page.driver.name == "chrome" else []

@@ -1,0 +1,157 @@
+"""Tests that the page stands what is missing, what dies and what is hostile."""
+
+from __future__ import annotations
+
+import hashlib
+import json
+import os
+import re
+import time
+import zipfile
+from typing import Iterator
+
+from .battles import Battle, Settings, samples
+from .pages import Page, console, packed, without
+
+FIELD = "document.querySelector('#writing textarea:not([style*=none])')"
+# a link of 78 KB that unpacks to 60 MB
+BOMB = 60_000_000
+DISGUISED = "live.r\n  1) won 9 tied 0 lost 0 \u202egnp.evil\u2066\x07"
+MOST_BYTES, MOST_PACKED = 800_000, 240_000
+LOST = ("codemirror/codemirror.js", "codemirror/matchbrackets.js", "codemirror/show-hint.js", "codemirror/show-hint.css")
+
+
+def plain(page: Page, folder: str) -> list[str]:
+    """Without a part of CodeMirror there is a plain text field, and all else is as ever; what was written stays in its tab."""
+    wrong = console(page)
+    for name in LOST:
+        with without(folder, name) as address:
+            other = Page(page.driver, address)
+            other.fresh()
+            other.js(f"const it = {FIELD}; it.value = 'main(){{\\nbreak; }}'; it.dispatchEvent(new Event('input'))")
+            other.wait("return document.getElementById('diagnostic').textContent.startsWith('Line 2: reserved word.')")
+            other.js("document.getElementById('tab-1').click(); document.getElementById('tab-0').click()")
+            other.wait("return document.getElementById('diagnostic').textContent.startsWith('Line 2: reserved word.')")
+            shown = other.js(f"const it = {FIELD}; return [it.value, it.dataset.line]")
+            wrong += [] if shown == ["main(){\nbreak; }", "2"] else [f"without {name}: {shown}"]
+            console(other)
+    return wrong
+
+
+def no_data(page: Page, folder: str) -> list[str]:
+    """Without its data the page says so."""
+    wrong = console(page)
+    with without(folder, "data.js") as address:
+        page.driver.get(address)
+        page.wait("return document.getElementById('lacking').textContent.includes('data.js')")
+        seen = page.js("return [document.getElementById('lacking').hidden, document.getElementById('main').hidden]")
+        console(page)
+    return wrong + ([] if seen == [False, True] else [f"{seen}"])
+
+
+def dying(page: Page) -> list[str]:
+    """A worker that dies is told of, and the next battle runs."""
+    keep = "window.workers = []; const Plain = Worker; window.Worker = class extends Plain { constructor(...words) { super(...words); workers.push(this); } }"
+    with page.before(keep):
+        page.open()
+    page.show(Battle(samples()[:2], Settings(limit=1_000_000_000)))
+    page.show(Battle([("a.r", b"main(){while(1);}"), ("b.r", b"main(){while(1);}")], Settings(limit=1_000_000_000)))
+    page.click("run")
+    page.js("workers.forEach(it => it.dispatchEvent(new ErrorEvent('error', {message: 'out of memory', cancelable: true})))")
+    page.wait("return document.getElementById('said').textContent !== 'The battle runs.'")
+    said = page.text("said")
+    page.set("limit", "99")
+    report = page.run()
+    page.write("main() { break; }")
+    told = page.text("diagnostic")
+    right = said.startswith("The engine ended.") and report.startswith("Match 1: cycles = 99\n") and told.startswith("Line 1: reserved word.")
+    return [] if right else [f"{said!r} {report!r} {told!r}"]
+
+
+def bomb(page: Page) -> list[str]:
+    """A link that unpacks to more than a battle can have is refused at once; one that a battle fills is not."""
+    page.fresh()
+    text = json.dumps({"robots": [{"name": "a.r", "source": "/*" + "a" * BOMB}]}).encode()
+    link = packed(text)
+    begun = time.monotonic()
+    page.open(link)
+    page.wait("return document.getElementById('said').textContent.startsWith('The link carries no battle')")
+    took = time.monotonic() - begun
+    largest = [{"name": f"{n}.r", "source": " " * 1_048_577} for n in range(4)]
+    page.open(packed(json.dumps({"robots": largest}).encode()))
+    names = page.names
+    return [] if took < 5 and len(link) < 90_000 and names == [f"{n}.r" for n in range(4)] else [f"{len(link)} bytes, {took:.1f} s, {names}"]
+
+
+def disguises(page: Page) -> list[str]:
+    """Names that come with a link have no ends of lines, no control characters and no marks of direction."""
+    page.show(Battle([(DISGUISED, b"main(){}")], Settings(limit=1)))
+    lines = page.run().split("\n")
+    name = page.names[0]
+    wanted = "live.r  1) won 9 tied 0 lost 0 gnp.evil"
+    return [] if name == wanted and len(lines) == 7 else [f"{name!r} {lines}"]
+
+
+def strange_settings(page: Page) -> list[str]:
+    """Settings of a link that aren't within their limits are the usual ones."""
+    page.open(packed(json.dumps({"robots": [{"name": "a.r", "source": "main(){}"}], "settings":
+                                 {"matches": {}, "limit": -1, "seed": "9" * 30, "first": "x", "profile": 3}}).encode()))
+    shown = page.js("return ['matches', 'limit', 'seed', 'first', 'profile'].map(it => document.getElementById(it).value)")
+    return [] if shown == ["1", "500000", "1", "1", "1"] else [f"{shown}"]
+
+
+def policy(page: Page, folder: str) -> list[str]:
+    """The page runs no code that is generated or comes from elsewhere, and works so as a file and from a server."""
+    with open(os.path.join(folder, "index.html"), encoding="utf-8") as file:
+        told = re.search(r'Content-Security-Policy" content="([^"]*)"', file.read())
+    scripts = re.search(r"script-src ([^;]*)", told[1])[1].split() if told else []  # type: ignore[index]
+    wrong = console(page)
+    wrong += [] if told and "default-src 'none'" in told[1] and not {"'unsafe-inline'", "'unsafe-eval'", "*"} & set(scripts) else [f"{told}"]
+    for address in (page.address, "file://" + os.path.join(os.path.abspath(folder), "index.html")):
+        other = Page(page.driver, address)
+        other.open()
+        # the driver's own call may generate code, so this is tried after it
+        tries = {"eval": "return new Promise(done => setTimeout(() => { try { (0, eval)('1'); done('ran'); } catch { done('refused'); } }))",
+                 "inline": "window.ran = 'refused'; const it = document.createElement('script'); it.textContent = 'window.ran = \"ran\"'; document.body.append(it); return window.ran",
+                 "elsewhere": "return fetch('https://example.org/').then(() => 'ran', () => 'refused')"}
+        wrong += [f"{address}: {name} ran" for name, code in tries.items() if other.js(code) != "refused"]
+        report = other.run()
+        other.watch(1)
+        other.inside("it.getElementById('play-pause').click()")
+        other.wait("return Number(document.getElementById('film').contentDocument.getElementById('slider').value) > 0")
+        wrong += [] if report.startswith("Match 1: ") else [f"{address}: {report!r}"]
+    said = [line for line in console(page) if "Content Security Policy" not in line and "Content-Security-Policy" not in line]
+    return wrong + said
+
+
+def size(folder: str) -> list[str]:
+    """What a browser loads is small, and the zip has all of the folder."""
+    paths = [os.path.join(place, name) for place, _, names in os.walk(folder) for name in names]
+    count, zipped = sum(map(os.path.getsize, paths)), os.path.getsize(f"{folder}.zip")
+    with zipfile.ZipFile(f"{folder}.zip") as pack:
+        names = {os.path.join(folder, name) for name in pack.namelist()}
+    print(f"the page has {count:,} bytes, and its zip {zipped:,}")
+    wrong = [] if names == set(paths) else [f"the zip lacks {set(paths) - names}"]
+    return wrong + ([] if count <= MOST_BYTES and zipped <= MOST_PACKED else [f"{count} bytes, {zipped} packed"])
+
+
+def about(folder: str) -> list[str]:
+    """The page on what it is has the module's hash, and the zip unpacks to a page that has it too."""
+    with open(f"{folder}.wasm", "rb") as file:
+        digest = hashlib.sha256(file.read()).hexdigest()
+    with open(os.path.join(folder, "about.html"), encoding="utf-8") as file:
+        text = file.read()
+    return [] if digest in text and re.search(r"<dt>Version</dt><dd>\S+</dd>", text) else ["the hash or the version is missing"]
+
+
+def results(page: Page, folder: str) -> Iterator[tuple[str, list[str]]]:
+    """The tests' names, and what is wrong."""
+    yield "robust: a missing part of the editor", plain(page, folder)
+    yield "robust: missing data", no_data(page, folder)
+    yield "robust: a worker that dies", dying(page)
+    yield "robust: a link that is a bomb", bomb(page)
+    yield "robust: names in disguise", disguises(page)
+    yield "robust: strange settings", strange_settings(page)
+    yield "robust: the policy", policy(page, folder)
+    yield "robust: size and zip", size(folder)
+    yield "robust: about", about(folder)

@@ -1,0 +1,78 @@
+// units.mjs FOLDER: tests parts of the page that need no browser, by Node. FOLDER has the modules of web/ as Node takes them.
+//
+// It writes what is wrong, in JSON. Expected values are worked out by hand.
+import path from "node:path";
+import {pathToFileURL} from "node:url";
+import zlib from "node:zlib";
+
+const wrong = [];
+const load = name => import(pathToFileURL(path.join(process.argv[2], `${name}.js`)));
+const {cleanName, freeName, nameInWork} = await load("names");
+const {checked, isSeed} = await load("battles");
+const {battleOf, fragmentOf} = await load("links");
+const {placesOf} = await load("finding");
+const {completions, openCall, wordAt} = await load("helping");
+const {Series, ended} = await load("series");
+const {adviceOf} = await load("advice");
+
+function check(name, got, wanted) {
+    const [shown, right] = [JSON.stringify(got), JSON.stringify(wanted)];
+    if (shown !== right) {
+        wrong.push(`${name}: ${shown}, not ${right}`);
+    }
+}
+
+check("a name", [cleanName("a/b\n\u202e\u0007\u2028c.r ", "x"), cleanName(" \u200e ", "x"), nameInWork("a b "), cleanName("\ud800é😀", "x")],
+    ["abc.r", "x", "a b ", "é😀"]);
+check("a long name", [...cleanName("😀".repeat(99), "x")].length, 60);
+check("a free name", freeName([{name: "robot1.r"}, {name: "robot3.r"}]), "robot2.r");
+check("seeds", ["0", "18446744073709551615", "18446744073709551616", "", "-1", "1e3", " 1"].map(isSeed), [true, true, false, false, false, false, false]);
+
+const robot = {name: "a.r", source: "main(){}"};
+const usual = {matches: 1, limit: 500000, first: 1, profile: 1, seed: "1"};
+check("a battle", checked({robots: [{...robot, more: 1}], settings: {matches: 1000001, limit: 0, seed: "x", first: 2.5, profile: "2"}, more: 1}),
+    {robots: [robot], settings: {...usual, profile: 2}});
+check("no battles", [null, {}, {robots: []}, {robots: Array(5).fill(robot)}, {robots: [{name: 1, source: ""}]}].map(checked), [null, null, null, null, null]);
+
+const packed = text => `#battle=${zlib.deflateRawSync(text).toString("base64url")}`;
+const room = 6 * 1024 * 1024;
+const battle = source => JSON.stringify({robots: [{name: "a.r", source}]});
+const fill = battle("").length;
+check("a link and back", await battleOf(await fragmentOf({robots: [robot], settings: usual})), {robots: [robot], settings: usual});
+check("the largest link", (await battleOf(packed(battle("x".repeat(room - fill)))))?.robots[0].source.length, room - fill);
+check("links that are none", [await battleOf(packed(battle("x".repeat(room - fill + 1)))), await battleOf("#battle=%%%"), await battleOf(packed("[")), await battleOf("#x")],
+    [null, null, null, null]);
+
+check("places", [placesOf("ab", "abxABab"), placesOf("", "x"), placesOf("aa", "aaaa")], [[0, 3, 5], [], [0, 2]]);
+
+const functions = new Map([["scan", {}], ["cannon", {}], ["cos", {}]]);
+const at = text => openCall(text, functions);
+check("open calls", [at("scan("), at("cannon(scan(1), "), at("scan(1)"), at("f(1, 2"), at("cannon(f(1, 2"), at("scan(/* cannon( */ 1,"), at("scan(1; cos(")],
+    [{name: "scan", argument: 0}, {name: "cannon", argument: 1}, null, null, {name: "cannon", argument: 0}, {name: "scan", argument: 1}, {name: "cos", argument: 0}]);
+check("a word", [wordAt("a = scan(1)", 6), wordAt("a = scan(1)", 4), wordAt("a = ", 2)], ["scan", "scan", ""]);
+check("completions", completions("co", "int count; /* cold */ course(); co", functions), ["cos", "count", "course"]);
+check("no completion", completions("cos", "", functions), []);
+
+/** A series of an engine that plays to the second robot's win, and fills its sheet with more than so many matches. */
+async function play(matches, most, first = 1) {
+    const calls = [];
+    const series = new Series({matches, first}, ({matches: count, first: from}) => {
+        calls.push([from, count]);
+        const reports = Array.from({length: count}, (_, n) => `Match ${from + n}: cycles = 1\n`).join("");
+        const totals = `Totals: ${count} matches\n  1) won 0 tied 0 lost ${count} a\n  2) won ${count} tied 0 lost 0 Totals: 9\n`;
+        return count > most ? {ending: 4, text: "", faults: ""} : {ending: 0, text: reports + totals, faults: ""};
+    }, () => {});
+    return {calls, series, end: await series.play()};
+}
+
+const whole = text => `${text}\nTotals: 30 matches\n  1) won 0 tied 0 lost 30 a\n  2) won 30 tied 0 lost 0 Totals: 9\n`;
+const reports = from => Array.from({length: 30}, (_, n) => `Match ${from + n}: cycles = 1`).join("\n");
+const [short, long, tight] = [await play(10, 10), await play(30, 99, 5), await play(30, 3)];
+check("a short series is one piece", short.calls, [[1, 10]]);
+check("a series in pieces", [long.series.text, long.end.ending, long.calls[0]], [whole(reports(5)), 0, [5, 1]]);
+check("pieces that are too long", [tight.series.text, tight.end.ending], [whole(reports(1)), 0]);
+const died = new Series({matches: 99, first: 1}, () => { throw new Error("stopped"); }, () => {});
+check("a series that is stopped", ended(died, await died.play(), 0), "Stopped. No match was played to its end.");
+
+check("no advice", adviceOf("nonsense"), "");
+console.log(JSON.stringify(wrong));

@@ -1,0 +1,85 @@
+"""Tests of the whole page, by WebKit, which Safari has: those of Chromium, but for what only Chromium's driver tells."""
+
+from __future__ import annotations
+
+import contextlib
+import glob
+import importlib
+import os
+import shutil
+import subprocess
+from typing import Any, Iterator
+
+from . import browser, everyone, robust
+from .battles import random_battles, sample_battles
+from .pages import Page, served
+
+BROWSERS = "/usr/lib/*/webkit2gtk-4.*/MiniBrowser"
+DRIVER, DISPLAY = "WebKitWebDriver", "Xvfb"
+SCREEN = "1400x1100x24"
+
+
+def mini_browser() -> str:
+    """The small browser that comes with WebKitGTK, if it is installed."""
+    return max(glob.glob(BROWSERS), default="")
+
+
+def lacking(folder: str) -> str:
+    """What is lacking for these tests."""
+    editor = browser.without_editor(folder)
+    missing = [name for name in (DRIVER, DISPLAY) if not shutil.which(name)] + ([] if mini_browser() else ["MiniBrowser"])
+    missing += [] if browser.has_selenium() else ["python3-selenium"]
+    return f"there is no {' and no '.join(missing + editor)}" if missing + editor else ""
+
+
+@contextlib.contextmanager
+def display() -> Iterator[None]:
+    """A screen that nobody sees, for the programs that are started meanwhile."""
+    before = os.environ.get("DISPLAY")
+    words = [DISPLAY, "-displayfd", "1", "-screen", "0", SCREEN, "-nolisten", "tcp"]
+    with subprocess.Popen(words, stdout=subprocess.PIPE, stderr=subprocess.DEVNULL, text=True) as screen:
+        assert screen.stdout
+        os.environ["DISPLAY"] = f":{screen.stdout.readline().strip()}"
+        try:
+            yield
+        finally:
+            screen.terminate()
+            os.environ.pop("DISPLAY")
+            os.environ.update({"DISPLAY": before} if before else {})
+
+
+@contextlib.contextmanager
+def webkit() -> Iterator[Any]:
+    """A browser on the screen."""
+    webdriver: Any = importlib.import_module("selenium.webdriver")
+    options = webdriver.WebKitGTKOptions()
+    options.binary_location = mini_browser()
+    options.add_argument("--automation")
+    driver = webdriver.WebKitGTK(executable_path=shutil.which(DRIVER), options=options)
+    try:
+        driver.set_window_size(1280, 1000)
+        yield driver
+    finally:
+        driver.quit()
+
+
+def results(crobots: str, _stages: str, folder: str) -> Iterator[tuple[str, list[str]]]:
+    """The tests' names, and what is wrong."""
+    with display(), served(folder) as address, webkit() as driver:
+        page = Page(driver, address)
+        page.open()
+        yield "samples", browser.reports(page, crobots, sample_battles())
+        yield "random robots", browser.reports(page, crobots, random_battles(30, 7))
+        yield "diagnostics", browser.marks(page)
+        yield "hostile sources", browser.alive(page, crobots)
+        yield "listing", browser.listing(page)
+        yield "links", browser.links(page, crobots)
+        yield "a link from the second tab", browser.second_tab(page)
+        yield "settings that are none", browser.unset(page)
+        yield "watched matches", browser.watched(page, crobots)
+        yield "a cycle beyond a film", browser.far(page)
+        yield "a stopped series", browser.stopped(page, crobots)
+        yield "widths", everyone.widths(page)
+        yield "keys", browser.keys(page)
+        yield "the page as a file", browser.story(page, crobots, folder, webkit)
+        yield "a plain text field", robust.plain(page, folder)

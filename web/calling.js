@@ -1,0 +1,64 @@
+// Calls the engine in its worker: one call after another, each with its answer.
+
+/** What a call fails with when it was ended by the page. */
+export const STOPPED = "stopped";
+const DIED = "The engine ended. It was started anew, so you can try once more.";
+
+/** What calls the engine in its worker, which has this address and takes this module. */
+export class Caller {
+    constructor(address, module) {
+        this.address = address;
+        this.module = module;
+        this.number = 0;
+        this.waiting = new Map();
+        this.start();
+    }
+
+    /** Starts a worker. One that ends by itself is started anew by the next call. */
+    start() {
+        this.worker = new Worker(this.address);
+        this.worker.onmessage = ({data}) => this.take(data);
+        this.worker.onerror = event => {
+            event.preventDefault();
+            this.end(event.message ? `${DIED} (${event.message})` : DIED);
+        };
+        this.worker.onmessageerror = () => this.end(DIED);
+        this.worker.postMessage({module: this.module});
+    }
+
+    take({number, fault, result}) {
+        const {done, fail} = this.waiting.get(number);
+        this.waiting.delete(number);
+        if (fault === undefined) {
+            done(result);
+        } else {
+            fail(new Error(fault));
+        }
+    }
+
+    /** Asks for a call of the engine; answers what the worker answers. */
+    call(call, settings, robots) {
+        if (!this.worker) {
+            this.start();
+        }
+        this.number += 1;
+        const {number} = this;
+        this.worker.postMessage({number, call, settings, robots});
+        return new Promise((done, fail) => this.waiting.set(number, {done, fail}));
+    }
+
+    /** Ends what runs. */
+    stop() {
+        this.end(STOPPED);
+        this.start();
+    }
+
+    /** Ends the worker; what waits for an answer fails for this reason. */
+    end(why) {
+        this.worker.terminate();
+        this.worker = null;
+        const failing = [...this.waiting.values()];
+        this.waiting.clear();
+        failing.forEach(({fail}) => fail(new Error(why)));
+    }
+}

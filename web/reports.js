@@ -1,0 +1,60 @@
+// The report of a battle: its text, in which the head of each match is a button that leads to its film.
+
+const HEAD = /^Match (\d+): cycles = \d+$/gm;
+// of a very long report the first matches are buttons
+const MOST_BUTTONS = 5000;
+
+/** The report, whose matches are watched by a click, or by the arrow keys and Enter. */
+export class Report {
+    /** Fills an element; `watch` is called with the number of the match that is chosen. */
+    constructor(box, watch) {
+        this.box = box;
+        box.addEventListener("click", event => {
+            const head = event.target.closest("button");
+            if (head) {
+                this.choose(head);
+                watch(Number(head.dataset.match));
+            }
+        });
+        box.addEventListener("keydown", event => this.press(event));
+    }
+
+    show(text) {
+        const parts = [];
+        let end = 0;
+        for (const found of text.matchAll(HEAD)) {
+            if (parts.length >= 2 * MOST_BUTTONS) {
+                break;
+            }
+            parts.push(text.slice(end, found.index), this.head(found[0], found[1]));
+            end = found.index + found[0].length;
+        }
+        this.box.replaceChildren(...parts.filter(it => it !== ""), text.slice(end));
+        this.heads = parts.filter(it => typeof it !== "string");
+        if (this.heads.length) {
+            this.heads[0].tabIndex = 0;
+        }
+    }
+
+    head(text, match) {
+        const head = Object.assign(document.createElement("button"), {type: "button", textContent: text, tabIndex: -1, title: "Watch this match"});
+        head.dataset.match = match;
+        return head;
+    }
+
+    /** Of all heads one is reached by the tab key. */
+    choose(head) {
+        this.heads.forEach(it => { it.tabIndex = it === head ? 0 : -1; });
+    }
+
+    press(event) {
+        const step = {ArrowDown: 1, ArrowUp: -1}[event.key];
+        const at = this.heads?.indexOf(document.activeElement) ?? -1;
+        const next = at >= 0 && step ? this.heads[at + step] : null;
+        if (next) {
+            event.preventDefault();
+            this.choose(next);
+            next.focus();
+        }
+    }
+}

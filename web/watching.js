@@ -1,0 +1,94 @@
+// Watches a match: has it filmed, and shows the film.
+import {Ending} from "./engine.js";
+import {UPDATE_CYCLES} from "./films.js";
+import {STOPPED} from "./calling.js";
+
+// how many windows of 15 cycles of a match are shown while the rest is made, and after how many milliseconds
+const FIRST_WINDOWS = 1000;
+const SHOW_AFTER = 300;
+
+/** What is to be watched: the match with this number of a battle, from a cycle on. */
+export class Wish {
+    constructor({robots, settings}, number, cycle) {
+        Object.assign(this, {robots, settings, number, cycle});
+        this.from = Math.floor(cycle / UPDATE_CYCLES);
+        this.names = robots.map(({name}) => name);
+    }
+}
+
+export class Watcher {
+    /** `runner` calls the engine, `screen` shows films, `say` tells how it goes. */
+    constructor(runner, screen, say) {
+        Object.assign(this, {runner, screen, say});
+    }
+
+    async ask(wish, call, more) {
+        try {
+            return await this.runner.call(call, {...wish.settings, first: wish.number, ...more}, wish.robots);
+        } catch (fault) {
+            return {ending: null, kept: null, faults: fault.message};
+        }
+    }
+
+    /**
+     * Plays a match, and shows it. If that takes long, the windows after the cycle that is asked for are shown before, and they
+     * stay if all that the page can keep of the match ends before them. Returns whether a film is shown.
+     */
+    async watch(wish) {
+        const windows = await this.ask(wish, "windows", {from: wish.from, windows: FIRST_WINDOWS});
+        const isAll = windows.ending === Ending.DONE && wish.from === 0;
+        const isPart = windows.ending === Ending.DONE || windows.ending === Ending.GOES_ON;
+        return isPart && !isAll ? this.showBoth(wish, windows) : this.showWhole(wish, windows);
+    }
+
+    /** Shows some windows of a match if the film of all of it takes long, and then all of it. */
+    async showBoth(wish, windows) {
+        // a film that is cut off before the cycle that is asked for isn't read if these windows have it
+        const film = this.ask(wish, "film", windows.kept === null ? {} : {beyond: wish.cycle});
+        const isSlow = await Promise.race([film.then(() => false), new Promise(done => setTimeout(done, SHOW_AFTER, true))]);
+        // a match that ended before has nothing in these windows
+        const isShown = isSlow && windows.kept !== null;
+        if (isShown) {
+            await this.showWindows(wish, windows);
+        }
+        const whole = await film;
+        if (whole.ending === null) {
+            this.say(reasonOf(null, whole.faults), true);
+            return isShown;
+        }
+        if (whole.kept !== null || windows.kept === null) {
+            return this.showWhole(wish, whole, isShown ? this.screen.place : undefined);
+        }
+        if (!isShown) {
+            await this.showWindows(wish, windows);
+        }
+        this.say(`Match ${wish.number} can be watched below from cycle ${wish.from * UPDATE_CYCLES} to ${windows.cycles}. Ask for another cycle to see more.`);
+        return true;
+    }
+
+    /** Shows some windows of a match. */
+    async showWindows({number, from, names}, {kept, cycles}) {
+        await this.screen.show(kept, number, names);
+        this.say(`Match ${number} is shown below from cycle ${from * UPDATE_CYCLES} to ${cycles}. The rest is being played.`);
+    }
+
+    /** Shows all that there is of a match's film, at the cycle that was asked for, or where it is shown already. */
+    async showWhole({number, cycle, names}, {ending, kept, cycles, faults}, place = {cycle, isPlaying: false}) {
+        if (kept === null) {
+            this.say(reasonOf(ending, faults), true);
+            return false;
+        }
+        await this.screen.show(kept, number, names);
+        this.screen.goOn(place);
+        this.say(`Match ${number} can be watched below${ending === Ending.FULL ? `, up to cycle ${cycles}` : ""}.`);
+        return true;
+    }
+}
+
+/** Returns in words why there is no film. */
+function reasonOf(ending, faults) {
+    if (ending === Ending.FAULTY) {
+        return "No match was played: a robot has a fault.";
+    }
+    return faults === STOPPED ? "Stopped. The match wasn't played to its end." : faults || "The settings were refused.";
+}
