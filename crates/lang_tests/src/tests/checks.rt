@@ -69,23 +69,36 @@ pub fn check_fault(
     source: &[u8],
     wanted: Option<(u32, Code)>,
 ) -> Result<(), Fail> {
-    check_fault_in(rt, &SIZES, Profile::first(), source, wanted)
+    check_fault_in(rt, Profile::first(), source, wanted)
 }
 
-/// Compares what is wrong with a source of this profile, for pieces of these sizes.
+/// Compares what is wrong with a source of this profile, for pieces of each size.
 pub fn check_fault_in(
     rt: &(impl Abort + AllocGlobal),
-    sizes: &[usize],
     profile: Profile,
     source: &[u8],
     wanted: Option<(u32, Code)>,
 ) -> Result<(), Fail> {
+    for most in SIZES {
+        check_fault_by(rt, most, profile, source, wanted)?;
+    }
+    Ok(())
+}
+
+/// Compares what is wrong with a source of this profile, for pieces of at most so many bytes.
+pub fn check_fault_by(
+    rt: &(impl Abort + AllocGlobal),
+    most: usize,
+    profile: Profile,
+    source: &[u8],
+    wanted: Option<(u32, Code)>,
+) -> Result<(), Fail>
+    requires { 0 < most }
+{
     let wanted = wanted.map(|(line, code)| source_fault(line, code));
     let front = String::from_utf8_lossy(rt.alloc(), &source[..source.len().min(70)])?;
-    for most in sizes {
-        let outcome = parsed_by(rt.alloc(), profile, Pieces::new(source, *most));
-        assert_eq!(rt; outcome.fault(), wanted, "{most} bytes at once of {front}");
-    }
+    let outcome = parsed_by(rt.alloc(), profile, Pieces::new(source, most));
+    assert_eq!(rt; outcome.fault(), wanted, "{most} bytes at once of {front}");
     Ok(())
 }
 

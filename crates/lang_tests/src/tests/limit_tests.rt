@@ -1,6 +1,6 @@
 //! Limits: what a parse answers to a source at each limit, and to one past it, in pieces of many sizes.
 
-use crate::tests::checks::{SIZES, check_fault, check_fault_in};
+use crate::tests::checks::{check_fault, check_fault_by, check_fault_in};
 use crate::tests::sources::Part::{Once, Times};
 use crate::tests::sources::{Part, numbered, source_of};
 use lang::{Code, Profile};
@@ -66,7 +66,8 @@ const LENGTHS: &[(&[Part], Option<(u32, Code)>)] = &[
 fn sources_have_a_limit(rt: HostRuntime) -> Result<(), Fail> {
     for (parts, wanted) in LENGTHS {
         let source = source_of(rt.alloc(), parts)?;
-        check_fault_in(&rt, &[1, usize::MAX], Profile::first(), &source, *wanted)?;
+        check_fault_by(&rt, 1, Profile::first(), &source, *wanted)?;
+        check_fault_by(&rt, usize::MAX, Profile::first(), &source, *wanted)?;
     }
     Ok(())
 }
@@ -106,7 +107,7 @@ fn code_has_a_limit_by_its_profile(rt: HostRuntime) -> Result<(), Fail> {
     ] {
         let parts = [Once(b"main(){"), Times(b"1;", statements), Once(b"\n}\n")];
         let source = source_of(rt.alloc(), &parts)?;
-        check_fault_in(&rt, &SIZES, profile, &source, wanted)?;
+        check_fault_in(&rt, profile, &source, wanted)?;
     }
     Ok(())
 }

@@ -12,8 +12,7 @@ finish-requires c =
       told = record {
         resolved = file.resolved;
         stands =
-            c.in-Ok-replay.ensures.ok c.first-profile.result (actions file.file)
-            (file.built c.first-profile.result c.new-trees.ensures) c.first-profile.result [] c.new-maker.ensures;
+            c.in-Ok-replay.ensures.ok _ (actions file.file) (file.built _ c.new-trees.ensures) _ [] c.new-maker.ensures;
         named = file.named;
         main = file.main;
       };
