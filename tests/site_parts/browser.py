@@ -2,8 +2,10 @@
 
 from __future__ import annotations
 
+import contextlib
 import os
 import tempfile
+import time
 from typing import Iterator
 
 from browsers import Browser, chromium
@@ -63,9 +65,17 @@ def keys(browser: Browser, site: str) -> Results:
         browser.value("document.querySelector('.scroll').textContent.trim().slice(0, 40) + '|DIV'"), "hunter.r|A"]
     browser.load(os.path.join(site, "map.html"))
     browser.value("document.querySelector('td a').click()")
-    browser.value("new Promise(done => setTimeout(done, 300))")
-    heading = browser.value("document.querySelector('h1').textContent")
-    yield "a cell leads to its pair", heading == f"hunter.r against {made.SCRIPT}"
+    yield "a cell leads to its pair", has_heading(browser, f"hunter.r against {made.SCRIPT}")
+
+
+def has_heading(browser: Browser, wanted: str) -> bool:
+    """Waits, five seconds at most, for a page with this heading. A page that is left meanwhile answers nothing."""
+    for _ in range(50):
+        with contextlib.suppress(RuntimeError):
+            if browser.value("document.querySelector('h1').textContent") == wanted:
+                return True
+        time.sleep(0.1)
+    return False
 
 
 def tab(browser: Browser) -> None:

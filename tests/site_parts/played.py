@@ -33,7 +33,7 @@ HERE = os.path.dirname(os.path.abspath(__file__))
 TOP = os.path.normpath(os.path.join(HERE, "..", ".."))
 SETTINGS = ("-m4", "-l20000", "--points", "3,1")
 COMMANDS, REPLAYS = 40, 6
-PERCENTS = "[...document.querySelectorAll('#robots .percent')].map(it => parseInt(it.textContent))"
+PERCENTS = "[...document.querySelectorAll('#robots .percent')].map(it => parseInt(/[0-9]+/.exec(it.textContent)))"
 Row = dict[str, str]
 
 
