@@ -97,7 +97,7 @@ class Challenge:
     def _said(self, worth: dict[int, Worth], whole: Worth) -> str:
         """The same in words."""
         changes = sorted((it.change().value, self._names[opponent]) for opponent, it in worth.items() if it.change().is_sure)
-        gained = [name for change, name in reversed(changes) if change > 0]
+        gained = [name for change, name in sorted(changes, key=lambda it: (-it[0], it[1])) if change > 0]
         lost = [name for change, name in changes if change < 0]
         _, _, change, low, high = whole.cells()
         matches = len(whole.of_each[0][NEW])

@@ -65,7 +65,8 @@ class Signals(Base):
     def a_signal_after_all_was_played(self) -> list[str]:
         """While the table is made, and while records are merged: here modules wait there until the signal comes."""
         wait = "import time\ndef ratings(*_: object) -> None:\n    print(end='rating', flush=True)\n    time.sleep(9)\n"
-        shutil.copytree(os.path.join(SCRIPTS, "tournaments"), self._at("waiting/tournaments"))
+        for package in ("tournaments", "sites", "replays"):
+            shutil.copytree(os.path.join(SCRIPTS, package), self._at(f"waiting/{package}"))
         shutil.copy(os.path.join(SCRIPTS, "tournament"), self._at("waiting/tournament"))
         with open(self._at("waiting/tournaments/ratings.py"), "a", encoding="ascii") as module:
             module.write(wait)
