@@ -3,6 +3,7 @@ use Rattle.std.specs.Prelude.{◌≡◌, ℕ, ◌+◌, ◌<◌, List, [], Bool, 
 use Rattle.grammar.specs.Tree.{File}
 use Rattle.code.specs.Generation.{ObjectCode}
 use Rattle.battles.specs.Battle.{Outcome}
+use Rattle.settings.specs.Limits.{files_max}
 use Rattle.settings.specs.Setup.{Setup}
 use Rattle.series.specs.declared.endings.SeriesFault.{SeriesFault}
 use Rattle.series.specs.declared.endings.Step.{Step}
@@ -40,7 +41,7 @@ score_at tally i = get_or tally.scores i no_score
 
 -- the scores of up to four robots are those of these outcomes
 abbrev pub IsTallyOf : Tallied → List Outcome → Type 0
-IsTallyOf tally outcomes = (i : ℕ) → i < 4 → score_at tally i ≡ score_of outcomes i
+IsTallyOf tally outcomes = (i : ℕ) → i < files_max → score_at tally i ≡ score_of outcomes i
 
 -- a series: what it is asked to do, its programs, how many matches were played, and whether a write has failed
 pub record Standing : Type 0 where

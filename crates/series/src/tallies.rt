@@ -2,6 +2,7 @@
 
 ghost use Rattle.std.specs.Prelude.{◌≡◌, ℕ, ◌+◌, ◌-◌, ◌^◌, ◌<◌, ◌≤◌, List, [], ◌∷◌, ◌++◌, length, map, All};
 ghost use Rattle.battles.specs.Battle.{Outcome as Ended, alive};
+ghost use Rattle.settings.specs.Limits.{files_max};
 ghost use Rattle.series.specs.Lines.{ended_line};
 ghost use Rattle.series.specs.Courses.{Tallied, IsTallyOf, score_at, with_match};
 ghost use Rattle.sinks.specs.Draft.{MayFail, Adds};
@@ -37,7 +38,7 @@ impl Model for Tally {
 
     ghost view = { λ t. record { matches = t.matches; scores = t.scores } };
 
-    ghost invariant = { λ t. (length t.scores ≡ 4)
+    ghost invariant = { λ t. (length t.scores ≡ files_max)
         × All (λ score. score.won + score.tied + score.lost ≡ t.matches) t.scores };
 }
 
