@@ -1,6 +1,6 @@
 //! Laws of code, each stated as the contract of a function.
 
-ghost use Rattle.code.specs.Laws.{HasLengthOfActions, MoreTurnsChangeNothing, WantsWhatTreesWant};
+ghost use Rattle.code.specs.Laws.{HasLengthOfActions, IsAlwaysReady, MoreTurnsChangeNothing, WantsWhatTreesWant};
 
 /// Proves that the code of a file that may be compiled has, by every profile, as many instructions as its actions make,
 /// and one NOP.
@@ -17,4 +17,10 @@ pub fn code_means_trees()
 /// greater than the number of replies.
 pub fn more_turns()
     ensures { MoreTurnsChangeNothing }
+{}
+
+/// Proves that the next instruction of the code of a file that may be compiled finds on the stack all that it takes,
+/// along all replies.
+pub fn always_ready()
+    ensures { IsAlwaysReady }
 {}

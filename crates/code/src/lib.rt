@@ -23,7 +23,7 @@ pub use frame::Frame;
 pub use grammar::{Intrinsic, Profile};
 pub use instr::Instr;
 pub use known::known_programs;
-pub use laws::{code_means_trees, length_of_code, more_turns};
+pub use laws::{always_ready, code_means_trees, length_of_code, more_turns};
 pub use limits::{MOST_FRAMES, MOST_INSTRUCTIONS, MOST_WORDS};
 pub use machine::Machine;
 pub use maker::Maker;
