@@ -13,11 +13,14 @@ whose edits were never tried since there is a ledger."""
 from __future__ import annotations
 
 import hashlib
+import sys
 from dataclasses import dataclass
 from functools import cache
 from pathlib import Path
 
-import surfaces
+sys.path.insert(0, str(Path(__file__).resolve().parent.parent / "scripts"))
+import surfaces  # noqa: E402
+from catalog import crates  # noqa: E402
 
 MOST_EDITS, MOST_EDITS_OF_A_CRATE = 120, 12
 TRIED = "further-edits.tried"
@@ -45,7 +48,7 @@ class Ledger:
 
     def __init__(self, top: Path) -> None:
         self._top = top
-        self._below = listed(top)
+        self._below = crates.listed(top)
 
     def crates(self) -> list[str]:
         """The crates that have further edits."""
@@ -57,14 +60,7 @@ class Ledger:
 
     def needed(self, names: list[str]) -> set[str]:
         """These crates, and those that they stand on, directly or through others."""
-        found: set[str] = set()
-        waiting = [*names]
-        while waiting:
-            name = waiting.pop()
-            if name in self._below and name not in found:
-                found.add(name)
-                waiting += self._below[name]
-        return found
+        return set(crates.needed(names, self._top))
 
     def digest(self, crate: str) -> str:
         """What decides whether a crate's further edits are refused."""
@@ -104,16 +100,6 @@ class Ledger:
 @cache
 def surface(folder: Path, only_public: bool) -> bytes:
     return surfaces.read(folder, only_public).encode()
-
-
-def listed(top: Path) -> dict[str, list[str]]:
-    """The crates of crates.txt, and on which crates of the repository each stands directly."""
-    rows: dict[str, list[str]] = {}
-    for line in (top / "crates.txt").read_text(encoding="utf-8").splitlines():
-        name, colon, rest = line.partition("#")[0].partition(":")
-        if colon:
-            rows[name.split()[0]] = rest.split()
-    return {name: [it for it in below if it in rows] for name, below in rows.items()}
 
 
 def wrong(top: Path, edit: Path) -> str:

@@ -91,7 +91,11 @@ impl Sides {
             Question::Plain(Want::Restart) => add_one(&mut self.plain_restarts),
             Question::Plain(_) => add_one(&mut self.plain_asks),
             Question::Restart => add_one(&mut self.restarts),
-            _ => add_one(&mut self.asks),
+            Question::Draw(..)
+            | Question::Ask(..)
+            | Question::Scan(..)
+            | Question::Cannon(..)
+            | Question::Drive(..) => add_one(&mut self.asks),
         }
     }
 }
@@ -135,7 +139,7 @@ fn answer(
             engine.reply(exe, question, reply);
             machine.advance(program, reply);
         }
-        _ => {
+        Want::Quiet | Want::Restart => {
             engine.restart(exe);
             machine.restart(program);
         }

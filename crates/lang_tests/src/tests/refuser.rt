@@ -34,6 +34,7 @@ impl Build for Refuser {
     fn act(&mut self, action: Action) -> Result<(), BuildFault> {
         match action {
             Action::EndFunction(_) => Err(BuildFault::Full),
+            // Every other action is taken as long as one is left, whatever it is.
             _ => self.take(),
         }
     }

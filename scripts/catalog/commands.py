@@ -1,0 +1,68 @@
+"""The commands that are installed, in one table: installation, packages, completions and tests take them from here.
+
+A new command is a line of COMMANDS, a crate or a file of scripts/, and a manual page of its name."""
+
+from __future__ import annotations
+
+from dataclasses import dataclass
+from pathlib import Path
+
+TOP = Path(__file__).resolve().parent.parent.parent
+ROBOT = str(TOP / "robots" / "runner.r")
+
+
+@dataclass(frozen=True)
+class Program:
+    """A command that is a proved program: its crate, and words with which it ends well."""
+
+    name: str
+    crate: str
+    trial: tuple[str, ...]
+
+    @property
+    def path(self) -> Path:
+        """Where it is once it is built."""
+        return TOP / "crates" / self.crate / "out" / self.crate
+
+
+@dataclass(frozen=True)
+class Script:
+    """A command that is a script: its file in scripts/, and the folders there whose modules it takes."""
+
+    name: str
+    file: str
+    packages: tuple[str, ...]
+
+    @property
+    def path(self) -> Path:
+        return TOP / "scripts" / self.file
+
+
+Command = Program | Script
+
+PROGRAMS = (
+    Program("crobots", "crobots", ("-c", ROBOT)),
+    Program("crobots-tracks", "tracks", ("-l15", ROBOT)),
+    Program("crobots-trace", "trace", ("-l15", ROBOT)),
+    Program("crobots-why", "why", (ROBOT,)),
+    Program("crobots-stages", "stages", ("--tokens", ROBOT)),
+)
+SCRIPTS = (
+    Script("crobots-tournament", "tournament", ("tournaments", "sites")),
+    Script("crobots-challenge", "challenge", ("tournaments",)),
+    Script("crobots-league", "league", ("leagues", "tournaments", "sites")),
+    Script("crobots-replay", "replay", ("replays",)),
+)
+COMMANDS: tuple[Command, ...] = (*PROGRAMS, *SCRIPTS)
+# The game by itself, which is installed before the others.
+GAME = PROGRAMS[0]
+
+
+def packages() -> list[str]:
+    """The folders of scripts/ that the commands take, each once."""
+    return sorted({package for script in SCRIPTS for package in script.packages})
+
+
+def manual_page(command: Command) -> Path:
+    """The manual page of a command."""
+    return TOP / "man" / f"{command.name}.6"
