@@ -7,7 +7,7 @@ use grammar::Action;
 pub const MOST_ACTIONS: usize = 4;
 
 /// The token that a step's actions come from.
-#[derive(Clone, Copy, Debug, PartialEq, Eq)]
+#[derive(Clone, Copy)]
 pub enum Origin {
     /// The one at which the production was chosen.
     Chosen,

@@ -6,7 +6,7 @@ use std::alloc::{AllocError, Global};
 use tokens::{Cursor, LexicalError, LocatedToken, Pieces, SOURCE_BYTES, Token, WINDOW};
 
 /// A token of a source in memory, with its place.
-#[derive(Clone, Copy, Debug, PartialEq, Eq)]
+#[derive(Clone, Copy)]
 pub struct Located {
     /// What it is.
     pub token: Token,

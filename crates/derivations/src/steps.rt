@@ -13,7 +13,7 @@ use std::alloc::{AllocError, Global};
 use tokens::Token;
 
 /// How a step ended.
-#[derive(Clone, Copy, Debug, PartialEq, Eq)]
+#[derive(Clone, Copy, PartialEq, Eq)]
 pub enum StepEnd {
     /// The derivation is one step further.
     Stepped,
@@ -24,7 +24,7 @@ pub enum StepEnd {
 }
 
 /// An item that is still to be matched or done, and the token at which its production was chosen.
-#[derive(Clone, Copy, Debug, PartialEq, Eq)]
+#[derive(Clone, Copy)]
 pub struct Pending {
     /// The item.
     pub item: Item,

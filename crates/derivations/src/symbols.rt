@@ -9,7 +9,7 @@ use std::marker::Model;
 use tokens::{Punctuator, Word};
 
 /// What a name is there for.
-#[derive(Clone, Copy, Debug, PartialEq, Eq)]
+#[derive(Clone, Copy, PartialEq, Eq)]
 pub enum Role {
     /// A function's definition begins.
     Defined,
@@ -28,7 +28,7 @@ pub enum Role {
 }
 
 /// A symbol of the grammar, which the derivation replaces by a production.
-#[derive(Clone, Copy, Debug, PartialEq, Eq)]
+#[derive(Clone, Copy, PartialEq, Eq)]
 pub enum Symbol {
     /// A file, or the rest of it.
     Source,
@@ -73,7 +73,7 @@ pub enum Symbol {
 }
 
 /// What is made of the trees just derived.
-#[derive(Clone, Copy, Debug, PartialEq, Eq)]
+#[derive(Clone, Copy, PartialEq, Eq)]
 pub enum SemanticAction {
     /// A binary operator of the last two expressions.
     Operate(Op),
@@ -114,7 +114,7 @@ pub enum SemanticAction {
 }
 
 /// What a derivation still has to match or to do.
-#[derive(Clone, Copy, Debug, PartialEq, Eq)]
+#[derive(Clone, Copy, PartialEq, Eq)]
 pub enum Item {
     /// This punctuator comes next.
     Exactly(Punctuator),

@@ -59,14 +59,18 @@ fn add_count(text: &mut String, count: usize) -> Result<(), AllocError> {
 fn parameters(nodes: &Nodes, callee: Callee) -> usize {
     match callee {
         Callee::Intrinsic(intrinsic) => usize::from(intrinsic.arguments()),
-        Callee::Function(number) => {
-            let mut bodies = nodes.bodies().iter();
-            match bodies.find(|body| body.number == number) {
-                Some(body) => body.parameters,
-                None => 0,
-            }
+        Callee::Function(number) => parameters_of(nodes, number),
+    }
+}
+
+/// Returns how many parameters the function of this number has.
+fn parameters_of(nodes: &Nodes, number: u8) -> usize {
+    for body in nodes.bodies() {
+        if body.number == number {
+            return body.parameters;
         }
     }
+    0
 }
 
 /// Warns of calls on the right of `&&` and `||`, where both sides are always evaluated.
@@ -97,16 +101,14 @@ fn warn_of_right_side(lint: &mut Lint<'_>, node: &Node, op: &str) -> Result<(), 
 
 /// Returns the innermost `&&` or `||` on whose right side a node stands.
 fn logic_above(nodes: &Nodes, index: usize) -> Option<&'static str> {
-    let above = nodes.all().get(index..)?;
-    let mut logic = above
-        .iter()
-        .filter(|node| matches!(node.kind, Kind::Binary(Op::And | Op::Or)));
-    let first = logic.find(|node| node.middle <= index)?;
-    match first.kind {
-        Kind::Binary(Op::And) => Some("&&"),
-        // (the filter passes these two alone)
-        _ => Some("||"),
+    for node in nodes.within(index, nodes.all().len()) {
+        match node.kind {
+            Kind::Binary(Op::And) if node.middle <= index => return Some("&&"),
+            Kind::Binary(Op::Or) if node.middle <= index => return Some("||"),
+            _ => {}
+        }
     }
+    None
 }
 
 /// Warns of functions that may call themselves.

@@ -15,7 +15,7 @@ const MOST_SHOWN: usize = 110;
 pub fn add_marked(text: &mut String, source: &[u8], at: usize) -> Result<(), AllocError> {
     let start = line_start(source, at);
     let line = line_from(source.get(start..).unwrap_or(&[]));
-    if line.iter().all(|byte| is_space(*byte)) {
+    if is_blank(line) {
         return Ok(());
     }
     let marked = at.saturating_sub(start);
@@ -37,21 +37,23 @@ pub fn add_marked(text: &mut String, source: &[u8], at: usize) -> Result<(), All
 /// Returns where the line begins that has the byte of an index.
 fn line_start(source: &[u8], at: usize) -> usize {
     let before = source.get(..at).unwrap_or(source);
-    match before.iter().rposition(|byte| *byte == b'\n') {
-        Some(place) => place.saturating_add(1),
-        None => 0,
+    let mut start = 0usize;
+    for (place, byte) in before.iter().enumerate() {
+        if *byte == b'\n' {
+            start = place.saturating_add(1);
+        }
     }
+    start
 }
 
 /// Returns the line that some bytes begin with: byte 26 ends the source, and so the line.
 fn line_from(bytes: &[u8]) -> &[u8] {
-    match bytes
-        .iter()
-        .position(|byte| matches!(byte, b'\n' | b'\r' | 26))
-    {
-        Some(end) => bytes.get(..end).unwrap_or(bytes),
-        None => bytes,
+    for (end, byte) in bytes.iter().enumerate() {
+        if matches!(byte, b'\n' | b'\r' | 26) {
+            return bytes.get(..end).unwrap_or(bytes);
+        }
     }
+    bytes
 }
 
 /// Returns how many bytes of a line are cut off at its begin, by how many are before the marked one.
@@ -61,6 +63,16 @@ fn first_shown(marked: usize) -> usize
     ensures whole { marked ≤ MOST_BEFORE → result ≡ 0 }
 {
     marked.saturating_sub(MOST_BEFORE)
+}
+
+/// Reports whether a line has spaces alone.
+fn is_blank(line: &[u8]) -> bool {
+    for byte in line {
+        if !is_space(*byte) {
+            return false;
+        }
+    }
+    true
 }
 
 /// Reports whether a byte separates tokens.

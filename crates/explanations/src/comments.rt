@@ -17,13 +17,21 @@ pub fn swallowed(source: &[u8], name: &[u8]) -> Option<u32> {
     let (mut line, mut rest) = (1u32, source);
     for _ in 0..source.len() {
         let comment = first_comment(rest, line)?;
-        if after(comment.inside, name).is_some_and(|behind| after(behind, b"/*").is_some()) {
+        if begins_behind(comment.inside, name) {
             return Some(comment.line);
         }
         line = comment.line.saturating_add(line_ends(comment.inside));
         rest = comment.behind;
     }
     None
+}
+
+/// Reports whether a text has a name in it, and after that the begin of a comment.
+fn begins_behind(text: &[u8], name: &[u8]) -> bool {
+    match after(text, name) {
+        Some(behind) => after(behind, b"/*").is_some(),
+        None => false,
+    }
 }
 
 /// Returns the line on which a comment begins that has the begin of another one in it, if a place stands between the end
@@ -83,6 +91,11 @@ fn before<'a>(text: &'a [u8], part: &[u8]) -> &'a [u8] {
 
 /// Counts the line ends of a text.
 fn line_ends(text: &[u8]) -> u32 {
-    let count = text.iter().filter(|byte| **byte == b'\n').count();
-    u32::try_from(count).unwrap_or(u32::MAX)
+    let mut count: u32 = 0;
+    for byte in text {
+        if *byte == b'\n' {
+            count = count.saturating_add(1);
+        }
+    }
+    count
 }

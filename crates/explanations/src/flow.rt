@@ -4,6 +4,7 @@ use crate::misnamed::name_at;
 use crate::nodes::{Body, Kind, Node, Nodes};
 use crate::values::condition_of;
 use crate::warnings::Lint;
+use derivations::Located;
 use grammar::{Callee, Var};
 use std::alloc::AllocError;
 
@@ -11,8 +12,7 @@ use std::alloc::AllocError;
 pub fn warn_of_main(lint: &mut Lint<'_>) -> Result<(), AllocError> {
     for number in 0..lint.nodes().bodies().len() {
         if let Some(body) = lint.nodes().bodies().get(number).copied() {
-            let is_main = name_at(lint.tokens(), body.token).is_some_and(|name| name.is(b"main"));
-            if is_main {
+            if is_main(lint.tokens(), &body) {
                 warn_of_returns(lint, &body)?;
             }
         }
@@ -20,19 +20,32 @@ pub fn warn_of_main(lint: &mut Lint<'_>) -> Result<(), AllocError> {
     Ok(())
 }
 
+/// Reports whether a function is `main`.
+fn is_main(tokens: &[Located], body: &Body) -> bool {
+    match name_at(tokens, body.token) {
+        Some(name) => name.is(b"main"),
+        None => false,
+    }
+}
+
 /// Warns of the first return of `main`, or of its end, if that is reached.
 fn warn_of_returns(lint: &mut Lint<'_>, main: &Body) -> Result<(), AllocError> {
     let words = "`main` can return here: the robot then begins anew, with all variables 0";
-    let nodes = lint.nodes().within(main.first, main.end);
-    let mut returns = nodes
-        .iter()
-        .filter(|node| node.kind == Kind::Return && !node.is_dead);
-    let first = returns.next().map(|node| node.token);
-    match first {
+    match first_return(lint.nodes().within(main.first, main.end)) {
         Some(token) => lint.tell(token, words),
         None if main.falls => lint.tell(main.closing, words),
         None => Ok(()),
     }
+}
+
+/// Returns the index of the token of the first return that may be reached.
+fn first_return(nodes: &[Node]) -> Option<usize> {
+    for node in nodes {
+        if node.kind == Kind::Return && !node.is_dead {
+            return Some(node.token);
+        }
+    }
+    None
 }
 
 /// Warns of statements that are never reached.
@@ -53,8 +66,7 @@ pub fn warn_of_unreached(lint: &mut Lint<'_>) -> Result<(), AllocError> {
 pub fn warn_of_conditions(lint: &mut Lint<'_>) -> Result<(), AllocError> {
     for index in 0..lint.nodes().all().len() {
         if let Some(words) = on_condition(lint.nodes(), index) {
-            let token = lint.nodes().get(index).map(|node| node.token).unwrap_or(0);
-            lint.tell(token, words)?;
+            lint.tell(lint.nodes().token(index), words)?;
         }
     }
     Ok(())
@@ -66,46 +78,53 @@ fn on_condition(nodes: &Nodes, index: usize) -> Option<&'static str> {
     if node.kind != Kind::While {
         return None;
     }
-    let asks = nodes.within(node.first, node.middle).iter().any(|below| matches!(
-        below.kind,
-        Kind::Fetch(_) | Kind::Call(..)
-    ));
+    let condition = nodes.within(node.first, node.middle);
+    let whole = nodes.within(node.first, index);
     match condition_of(nodes, index)?.value {
         Some(0) => Some("the condition of this loop is always 0: its body never runs"),
-        Some(_) if asks => Some("the condition of this loop is never 0, whatever it asks"),
-        None if is_fixed(nodes, index) => Some(
+        Some(_) if asks(condition) => {
+            Some("the condition of this loop is never 0, whatever it asks")
+        }
+        None if is_fixed(condition, whole) => Some(
             "the condition of this loop can't change: nothing in it sets its variables",
         ),
         _ => None,
     }
 }
 
-/// Reports whether the node of an index is a loop whose condition has variables and can't change.
-fn is_fixed(nodes: &Nodes, index: usize) -> bool {
-    let Some(node) = nodes.get(index) else {
-        return false;
-    };
-    if node.kind != Kind::While || condition_of(nodes, index).is_none() {
-        return false;
+/// Reports whether a condition reads a variable, or calls a function.
+fn asks(condition: &[Node]) -> bool {
+    for node in condition {
+        if matches!(node.kind, Kind::Fetch(_) | Kind::Call(..)) {
+            return true;
+        }
     }
-    let condition = nodes.within(node.first, node.middle);
-    let whole = nodes.within(node.first, index);
-    let is_read = condition
-        .iter()
-        .any(|below| matches!(below.kind, Kind::Fetch(_)));
-    let calls = condition
-        .iter()
-        .any(|below| matches!(below.kind, Kind::Call(..)));
-    is_read && !calls && !condition.iter().any(|below| may_change(whole, below))
+    false
 }
 
-/// Reports whether a node of a condition sets a variable, or reads one that the loop may set.
-fn may_change(whole: &[Node], below: &Node) -> bool {
-    match below.kind {
-        Kind::Store(..) | Kind::Step(_) => true,
-        Kind::Fetch(var) => whole.iter().any(|node| sets(node, var)),
-        _ => false,
+/// Reports whether the condition of a loop reads variables, calls nothing, and sets none, and the whole loop sets none of
+/// those that it reads.
+fn is_fixed(condition: &[Node], whole: &[Node]) -> bool {
+    let mut is_read = false;
+    for node in condition {
+        match node.kind {
+            Kind::Fetch(var) if may_set(whole, var) => return false,
+            Kind::Fetch(_) => is_read = true,
+            Kind::Store(..) | Kind::Step(_) | Kind::Call(..) => return false,
+            _ => {}
+        }
     }
+    is_read
+}
+
+/// Reports whether one of these nodes may set a variable.
+fn may_set(nodes: &[Node], var: Var) -> bool {
+    for node in nodes {
+        if sets(node, var) {
+            return true;
+        }
+    }
+    false
 }
 
 /// Reports whether a node may set a variable: a function of the file may set each external.

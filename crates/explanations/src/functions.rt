@@ -10,12 +10,18 @@ use tokens::{Punctuator, Token};
 /// Returns the hint on a function that begins where a block is still open.
 pub fn on_inner_functions(scene: &Scene<'_>) -> Option<Hint> {
     let begin = scene.pending_at(Item::Exactly(Punctuator::Semicolon))?;
-    let is_misspelled = scene.name(begin).is_some_and(|name| scene.is_lone(&name)
-        && meant_by(name.as_bytes()).is_some());
-    if scene.is_outside() || is_misspelled || !is_head(scene.tokens, begin) {
+    if scene.is_outside() || is_misspelled(scene, begin) || !is_head(scene.tokens, begin) {
         return None;
     }
     Some(Hint::Text("a function can't begin inside another one: a `}` may be missing above"))
+}
+
+/// Reports whether the token of an index is a name that is written for a word, and stands nowhere else.
+fn is_misspelled(scene: &Scene<'_>, index: usize) -> bool {
+    match scene.name(index) {
+        Some(name) => scene.is_lone(&name) && meant_by(name.as_bytes()).is_some(),
+        None => false,
+    }
 }
 
 /// Returns the hint on a call behind the last function.

@@ -5,9 +5,9 @@ use tokens::{Punctuator, Token, Word};
 
 /// Returns the index after the bracket that closes the one right after a token.
 pub fn behind_brackets(tokens: &[Located], before: usize) -> Option<usize> {
-    let open = before.checked_add(1)?;
+    let open = before.saturating_add(1);
     let mut depth = 0usize;
-    for (number, located) in tokens.get(open..)?.iter().enumerate() {
+    for (number, located) in from(tokens, open).iter().enumerate() {
         match located.token {
             Token::Punctuator(Punctuator::OpenRound) => depth = depth.saturating_add(1),
             Token::Punctuator(Punctuator::CloseRound) => depth = depth.saturating_sub(1),
@@ -15,7 +15,7 @@ pub fn behind_brackets(tokens: &[Located], before: usize) -> Option<usize> {
             _ => {}
         }
         if depth == 0 {
-            return open.checked_add(number)?.checked_add(1);
+            return Some(open.saturating_add(number).saturating_add(1));
         }
     }
     None
@@ -24,24 +24,40 @@ pub fn behind_brackets(tokens: &[Located], before: usize) -> Option<usize> {
 /// Reports whether a function's head begins at an index: type words, a name and brackets, and behind them its block, or
 /// the types of its parameters and then its block.
 pub fn is_head(tokens: &[Located], index: usize) -> bool {
-    let rest = tokens.get(index..).unwrap_or(&[]);
-    let types = rest
-        .iter()
-        .take_while(|located| located.token == Token::Word(Word::Type));
-    let name = index.saturating_add(types.count());
-    let is_name = matches!(kind_at(tokens, name), Some(Token::Name(_)));
-    is_name && behind_brackets(tokens, name).is_some_and(|behind| begins_block(tokens, behind))
+    let name = behind_types(tokens, index);
+    match (token_at(tokens, name), behind_brackets(tokens, name)) {
+        (Token::Name(_), Some(behind)) => begins_block(tokens, behind),
+        _ => false,
+    }
+}
+
+/// Returns the index after the type words that stand at an index.
+fn behind_types(tokens: &[Located], index: usize) -> usize {
+    let mut behind = index;
+    for located in from(tokens, index) {
+        if located.token != Token::Word(Word::Type) {
+            return behind;
+        }
+        behind = behind.saturating_add(1);
+    }
+    behind
 }
 
 /// Reports whether a block begins at an index, or declarations do with a block behind them.
 fn begins_block(tokens: &[Located], index: usize) -> bool {
-    let mut rest = tokens.get(index..).unwrap_or(&[]).iter();
-    let behind = rest.find(|located| !is_declaring(&located.token));
-    let is_typed = kind_at(tokens, index) == Some(Token::Word(Word::Type));
-    let is_block = kind_at(tokens, index) == Some(Token::Punctuator(Punctuator::OpenCurly));
-    let is_followed = behind.is_some_and(|located| located.token
-        == Token::Punctuator(Punctuator::OpenCurly));
-    is_block || is_typed && is_followed
+    let open = Token::Punctuator(Punctuator::OpenCurly);
+    let first = token_at(tokens, index);
+    first == open || first == Token::Word(Word::Type) && behind_declarations(tokens, index) == open
+}
+
+/// Returns the first token from an index on that belongs to no declaration.
+fn behind_declarations(tokens: &[Located], index: usize) -> Token {
+    for located in from(tokens, index) {
+        if !is_declaring(&located.token) {
+            return located.token;
+        }
+    }
+    Token::End
 }
 
 /// Reports whether a token may belong to a declaration.
@@ -57,9 +73,18 @@ fn is_declaring(token: &Token) -> bool {
 /// Reports whether a name outside of functions is called rather than defined: no type word stands before it, and behind
 /// its brackets neither a block nor a type begins.
 pub fn is_call(tokens: &[Located], name: usize) -> bool {
-    let before = name.checked_sub(1).and_then(|index| kind_at(tokens, index));
-    let behind = behind_brackets(tokens, name).and_then(|index| kind_at(tokens, index));
-    before != Some(Token::Word(Word::Type)) && behind.is_some_and(|token| !may_define(&token))
+    match behind_brackets(tokens, name) {
+        Some(behind) => !follows_type(tokens, name) && !may_define(&token_at(tokens, behind)),
+        None => false,
+    }
+}
+
+/// Reports whether a type word stands right before an index.
+fn follows_type(tokens: &[Located], index: usize) -> bool {
+    match tokens.get(..index) {
+        Some([.., before]) => before.token == Token::Word(Word::Type),
+        _ => false,
+    }
 }
 
 /// Reports whether a token may stand behind the brackets of a definition.
@@ -75,11 +100,23 @@ fn may_define(token: &Token) -> bool {
 
 /// Reports whether a `}` stands before an index.
 pub fn is_behind_block(tokens: &[Located], index: usize) -> bool {
-    let before = tokens.get(..index).unwrap_or(tokens);
-    before.iter().any(|located| located.token == Token::Punctuator(Punctuator::CloseCurly))
+    for located in tokens.get(..index).unwrap_or(tokens) {
+        if located.token == Token::Punctuator(Punctuator::CloseCurly) {
+            return true;
+        }
+    }
+    false
 }
 
-/// Returns the token of an index.
-fn kind_at(tokens: &[Located], index: usize) -> Option<Token> {
-    Some(tokens.get(index)?.token)
+/// Returns the token of an index: after the last one, the end.
+pub fn token_at(tokens: &[Located], index: usize) -> Token {
+    match tokens.get(index) {
+        Some(located) => located.token,
+        None => Token::End,
+    }
+}
+
+/// Returns the tokens from an index on.
+fn from(tokens: &[Located], index: usize) -> &[Located] {
+    tokens.get(index..).unwrap_or(&[])
 }

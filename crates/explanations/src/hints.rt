@@ -8,10 +8,10 @@ use crate::told::spelling_of;
 use derivations::{Item, Role};
 use grammar::{operator_from, store_operator};
 use std::alloc::AllocError;
-use tokens::{Name, Punctuator, Token, Word};
+use tokens::{CONSTANT_MAX, Name, Punctuator, Token, Word};
 
 /// A hint.
-#[derive(Clone, Copy, Debug, PartialEq, Eq)]
+#[derive(Clone, Copy)]
 pub enum Hint {
     /// This text.
     Text(&'static str),
@@ -106,14 +106,14 @@ fn on_numbers(scene: &Scene<'_>) -> Option<Hint> {
 
 /// Returns the value of hexadecimal digits, if they are some and it is a constant's.
 fn hexadecimal(digits: &[u8]) -> Option<u32> {
-    let mut value = None;
+    let mut value: Option<u32> = None;
     for byte in digits {
         let digit = char::from(*byte).to_digit(16)?;
-        value = Some(
-            u32::checked_mul(value.unwrap_or(0), 16)?
-                .checked_add(digit)
-                .filter(|sum| *sum <= tokens::CONSTANT_MAX)?,
-        );
+        let sum = value.unwrap_or(0).saturating_mul(16).saturating_add(digit);
+        if sum > CONSTANT_MAX {
+            return None;
+        }
+        value = Some(sum);
     }
     value
 }
@@ -178,10 +178,7 @@ fn declares(scene: &Scene<'_>) -> bool {
 
 /// Reports whether the next token stands in a list of parameters.
 fn is_in_list(scene: &Scene<'_>) -> bool {
-    scene.wants(Punctuator::CloseRound)
-        || scene
-            .wanted()
-            .is_some_and(|pending| pending.item == Item::Naming(Role::Parameter))
+    scene.wants(Punctuator::CloseRound) || scene.wants_item(Item::Naming(Role::Parameter))
 }
 
 /// Operators as beginners spell them: two marks, of which the second doesn't fit, and what is meant.
@@ -196,11 +193,10 @@ static MISSPELLED: [(Punctuator, Punctuator, &str); 6] = [
 
 /// Returns the hint on marks that are no operators here.
 fn on_operators(scene: &Scene<'_>) -> Option<Hint> {
-    let misspelled = MISSPELLED
-        .iter()
-        .find(|row| scene.follows_mark(row.0) && scene.is_mark(row.1));
-    if let Some(row) = misspelled {
-        return Some(Hint::Meant(row.2));
+    for (first, second, meant) in &MISSPELLED {
+        if scene.follows_mark(*first) && scene.is_mark(*second) {
+            return Some(Hint::Meant(*meant));
+        }
     }
     if scene.is_mark(Punctuator::Equals) {
         match scene.token(scene.index.saturating_add(1)) {

@@ -3,7 +3,7 @@
 use crate::spelling::{is_near, is_same_but_for_case};
 
 /// What a name may be written for.
-#[derive(Clone, Copy, Debug, PartialEq, Eq)]
+#[derive(Clone, Copy)]
 pub enum Lookalike {
     /// This word, misspelled.
     Word(&'static str),
@@ -54,12 +54,17 @@ static FOREIGN: [(&str, &str); 18] = [
 
 /// Returns what a name may be written for.
 pub fn meant_by(name: &[u8]) -> Option<Lookalike> {
-    let foreign = FOREIGN.iter().find(|row| row.0.as_bytes() == name);
-    if let Some(row) = foreign {
-        return Some(Lookalike::Foreign(row.1));
+    for (foreign, hint) in &FOREIGN {
+        if foreign.as_bytes() == name {
+            return Some(Lookalike::Foreign(*hint));
+        }
     }
-    let word = WORDS.iter().find(|row| resembles(name, row.0.as_bytes()))?;
-    Some(Lookalike::Word(word.1))
+    for (word, shown) in &WORDS {
+        if resembles(name, word.as_bytes()) {
+            return Some(Lookalike::Word(*shown));
+        }
+    }
+    None
 }
 
 /// Reports whether a name may be a misspelled word. Of two letters only the order or the case may be wrong.

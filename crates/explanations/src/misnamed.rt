@@ -94,11 +94,20 @@ fn on_stray_code(found: &Found<'_>) -> Option<Hint> {
 /// Returns the index of the name of the function whose head has the fault.
 fn head_of(found: &Found<'_>) -> usize {
     let open = Token::Punctuator(Punctuator::OpenRound);
-    let before = found.tokens.get(..found.index).unwrap_or(&[]);
-    match before.iter().rposition(|located| located.token == open) {
-        Some(place) if found.code == Code::BadParameterDeclaration => place.saturating_sub(1),
-        _ => found.index,
+    let mut head = found.index;
+    if found.code == Code::BadParameterDeclaration {
+        for (place, located) in before(found).iter().enumerate() {
+            if located.token == open {
+                head = place.saturating_sub(1);
+            }
+        }
     }
+    head
+}
+
+/// Returns the tokens before that of a fault.
+fn before<'a>(found: &Found<'a>) -> &'a [Located] {
+    found.tokens.get(..found.index).unwrap_or(&[])
 }
 
 /// Returns the name of the token of an index.
@@ -116,27 +125,36 @@ fn add_first(
     defined: &[usize],
     name: &Name,
 ) -> Result<(), AllocError> {
-    let mut others = defined.iter().filter_map(|index| tokens.get(*index));
-    match others.find(|located| located.token == Token::Name(*name)) {
-        Some(first) => write!(text, "it is defined on line {} already", first.line),
-        None => text.push_str("it is defined already"),
+    for index in defined {
+        if let Some(first) = tokens.get(*index)
+            && first.token == Token::Name(*name)
+        {
+            return write!(text, "it is defined on line {} already", first.line);
+        }
     }
+    text.push_str("it is defined already")
 }
 
 /// Adds what is wrong with a parameter: it is twice in the list, or not in it.
 fn add_parameter(text: &mut String, found: &Found<'_>) -> Result<(), AllocError> {
-    let before = found.tokens.get(..found.index).unwrap_or(&[]);
-    let mut brackets = before.iter().rev().filter(|located| {
-        located.token == Token::Punctuator(Punctuator::OpenRound)
-            || located.token == Token::Punctuator(Punctuator::CloseRound)
-    });
-    let is_in_list = brackets.next().is_some_and(|located| located.token
-        == Token::Punctuator(Punctuator::OpenRound));
-    text.push_str(if is_in_list {
+    text.push_str(if ends_in_brackets(before(found)) {
         "the list has this name twice"
     } else {
         "the list in the brackets hasn't this name; locals are declared behind the `{`"
     })
+}
+
+/// Reports whether the last bracket among some tokens opens.
+fn ends_in_brackets(tokens: &[Located]) -> bool {
+    let mut is_open = false;
+    for located in tokens {
+        match located.token {
+            Token::Punctuator(Punctuator::OpenRound) => is_open = true,
+            Token::Punctuator(Punctuator::CloseRound) => is_open = false,
+            _ => {}
+        }
+    }
+    is_open
 }
 
 /// Adds which function may be meant by a name that none has.
@@ -146,16 +164,11 @@ fn add_meant(
     defined: &[usize],
     name: &Name,
 ) -> Result<(), AllocError> {
-    let called = CALLED.iter().find(|row| name.is(row.0.as_bytes()));
-    if let Some(row) = called {
-        return text.push_str(row.1);
+    if let Some(hint) = on_called(name) {
+        return text.push_str(hint);
     }
-    let intrinsic = INTRINSICS.iter().find(|intrinsic| may_mean(
-        name.as_bytes(),
-        intrinsic.name().as_bytes(),
-    ));
-    if let Some(intrinsic) = intrinsic {
-        return write!(text, "perhaps `{}` is meant", intrinsic.name());
+    if let Some(intrinsic) = near_intrinsic(name) {
+        return write!(text, "perhaps `{intrinsic}` is meant");
     }
     if let Some(function) = near_function(found.tokens, defined, name.as_bytes()) {
         return write!(text, "perhaps `{}` is meant", text_of(&function));
@@ -165,6 +178,26 @@ fn add_meant(
         Some(Lookalike::Foreign(words)) => text.push_str(words),
         None => add_unknown(text, found, name),
     }
+}
+
+/// Returns the hint on a name that beginners call.
+fn on_called(name: &Name) -> Option<&'static str> {
+    for (called, hint) in &CALLED {
+        if name.is(called.as_bytes()) {
+            return Some(*hint);
+        }
+    }
+    None
+}
+
+/// Returns the name of the first intrinsic function that may be meant by another name.
+fn near_intrinsic(name: &Name) -> Option<&'static str> {
+    for intrinsic in &INTRINSICS {
+        if may_mean(name.as_bytes(), intrinsic.name().as_bytes()) {
+            return Some(intrinsic.name());
+        }
+    }
+    None
 }
 
 /// Adds why a name may be no function's: its function is in a comment, or it is a variable's.
@@ -186,15 +219,24 @@ fn add_unknown(text: &mut String, found: &Found<'_>, name: &Name) -> Result<(), 
 /// Reports whether a name stands somewhere without a bracket behind it.
 fn is_variable(tokens: &[Located], name: &Name) -> bool {
     let open = Token::Punctuator(Punctuator::OpenRound);
-    let mut pairs = tokens.iter().zip(tokens.iter().skip(1));
-    pairs.any(|pair| pair.0.token == Token::Name(*name) && pair.1.token != open)
+    let mut follows_name = false;
+    for located in tokens {
+        if follows_name && located.token != open {
+            return true;
+        }
+        follows_name = located.token == Token::Name(*name);
+    }
+    false
 }
 
 /// Reports whether a name is an intrinsic function's.
 pub fn is_intrinsic(name: &Name) -> bool {
-    INTRINSICS
-        .iter()
-        .any(|intrinsic| name.is(intrinsic.name().as_bytes()))
+    for intrinsic in &INTRINSICS {
+        if name.is(intrinsic.name().as_bytes()) {
+            return true;
+        }
+    }
+    false
 }
 
 /// Adds which function may be meant as `main`, or that it is in a comment.
@@ -212,8 +254,14 @@ fn add_main(text: &mut String, found: &Found<'_>, defined: &[usize]) -> Result<(
 
 /// Returns the first function of the file whose name is spelled nearly as another one.
 fn near_function(tokens: &[Located], defined: &[usize], name: &[u8]) -> Option<Name> {
-    let mut functions = defined.iter().filter_map(|index| name_at(tokens, *index));
-    functions.find(|function| may_mean(name, function.as_bytes()))
+    for index in defined {
+        if let Some(function) = name_at(tokens, *index)
+            && may_mean(name, function.as_bytes())
+        {
+            return Some(function);
+        }
+    }
+    None
 }
 
 /// Reports whether a name may be meant by another one, of at least three letters.

@@ -7,7 +7,7 @@ use grammar::{Callee, Op, Profile, StoreOp, Var};
 use std::alloc::{AllocError, Global};
 
 /// What a node is.
-#[derive(Clone, Copy, Debug, PartialEq, Eq)]
+#[derive(Clone, Copy, PartialEq, Eq)]
 pub enum Kind {
     /// A constant.
     Constant(u32),
@@ -34,7 +34,7 @@ pub enum Kind {
 }
 
 /// A node. Those below it stand before it, from `first` on.
-#[derive(Clone, Copy, Debug, PartialEq, Eq)]
+#[derive(Clone, Copy)]
 pub struct Node {
     /// What it is.
     pub kind: Kind,
@@ -71,7 +71,7 @@ impl Node {
 }
 
 /// A function of the file, with the nodes of its body.
-#[derive(Clone, Copy, Debug, PartialEq, Eq)]
+#[derive(Clone, Copy)]
 pub struct Body {
     /// Its number.
     pub number: u8,
@@ -91,21 +91,21 @@ pub struct Body {
 
 /// What still has no node above it: a node, or where a body begins, with the token that its `if`, `while` or function is
 /// named by.
-#[derive(Clone, Copy, Debug, PartialEq, Eq)]
+#[derive(Clone, Copy)]
 enum Root {
     Node(usize),
     Mark(usize),
 }
 
 /// A call whose arguments aren't all there.
-#[derive(Clone, Copy, Debug, PartialEq, Eq)]
+#[derive(Clone, Copy)]
 struct Open {
     callee: Callee,
     arguments: usize,
 }
 
 /// A body's statements, taken off.
-#[derive(Clone, Copy, Debug, PartialEq, Eq)]
+#[derive(Clone, Copy)]
 struct Taken {
     mark: usize,
     first: usize,
@@ -181,6 +181,14 @@ impl Nodes {
     /// Returns the node of an index.
     pub fn get(&self, index: usize) -> Option<&Node> {
         self.list.get(index)
+    }
+
+    /// Returns the index of the token that the node of an index is named by.
+    pub fn token(&self, index: usize) -> usize {
+        match self.list.get(index) {
+            Some(node) => node.token,
+            None => 0,
+        }
     }
 
     /// Returns the functions, in the order of the file.
@@ -475,7 +483,10 @@ impl Nodes {
 
     /// Reports whether what follows the node of an index is never reached.
     fn ends(&self, index: usize) -> bool {
-        self.list.get(index).is_some_and(|node| node.ends)
+        match self.list.get(index) {
+            Some(node) => node.ends,
+            None => false,
+        }
     }
 
     /// Notes that a statement is never reached, if there is one, nor are the nodes after it, up to another one.
@@ -521,5 +532,8 @@ impl Nodes {
 
 /// Reports whether a value is known, and isn't 0.
 fn is_true(value: Option<i32>) -> bool {
-    value.is_some_and(|value| value != 0)
+    match value {
+        Some(value) => value != 0,
+        None => false,
+    }
 }

@@ -67,13 +67,18 @@ static WORDS: [(&str, &str); 20] = [
 /// Returns the hint on a refused word.
 pub fn on_word(source: &[u8], located: &Located) -> Option<&'static str> {
     let spelling = spelling_of(source, located);
-    let row = WORDS.iter().find(|row| row.0 == spelling)?;
-    Some(row.1)
+    for (word, hint) in &WORDS {
+        if *word == spelling {
+            return Some(*hint);
+        }
+    }
+    None
 }
 
 /// Returns the hint on a byte that begins no token, by those around it.
 pub fn on_character(source: &[u8], tokens: &[Located], index: usize) -> Option<&'static str> {
     let located = tokens.get(index)?;
+    let before = tokens.get(..index).unwrap_or(&[]);
     match byte_of(source, located) {
         b'"' | b'\'' => Some(
             "there is no text and there are no characters: all values are whole numbers",
@@ -87,7 +92,10 @@ pub fn on_character(source: &[u8], tokens: &[Located], index: usize) -> Option<&
         b':' => Some(
             "there are no labels, and no `:` behind a condition or a head: a block stands in `{` and `}`",
         ),
-        b'.' => Some(on_point(source, tokens, index)),
+        b'.' if follows_number(before, located) || is_before_digit(source, located) => {
+            Some("there are no fractions: all values are whole numbers")
+        }
+        b'.' => Some("there are no structures and no methods: a name stands alone"),
         b'\\' => Some("a line needs no sign to go on in the next one"),
         128.. => Some(
             "outside comments only ASCII is read: retype what was copied from a text, as curly quotes or a long dash",
@@ -101,19 +109,20 @@ fn follows(source: &[u8], located: &Located, byte: u8) -> bool {
     source.get(located.end) == Some(&byte)
 }
 
-/// Returns the hint on a point: in a number, or elsewhere.
-fn on_point(source: &[u8], tokens: &[Located], index: usize) -> &'static str {
-    let before = index.checked_sub(1).and_then(|place| tokens.get(place));
-    let start = match tokens.get(index) {
-        Some(located) => located.start,
-        None => 0,
-    };
-    let is_behind = before.is_some_and(|token| token.end == start
-        && matches!(token.token, Token::Constant(_)));
-    let after = source.get(start.saturating_add(1)).copied().unwrap_or(0);
-    if is_behind || after.is_ascii_digit() {
-        "there are no fractions: all values are whole numbers"
-    } else {
-        "there are no structures and no methods: a name stands alone"
+/// Reports whether the last of some tokens is a number, and nothing stands between it and a further token.
+fn follows_number(tokens: &[Located], located: &Located) -> bool {
+    match tokens {
+        [.., before] => {
+            before.end == located.start && matches!(before.token, Token::Constant(_))
+        }
+        [] => false,
+    }
+}
+
+/// Reports whether a digit follows the first byte of a token.
+fn is_before_digit(source: &[u8], located: &Located) -> bool {
+    match source.get(located.start.saturating_add(1)) {
+        Some(after) => after.is_ascii_digit(),
+        None => false,
     }
 }

@@ -1,5 +1,6 @@
 //! What a hint goes by: a fault's token, those around it, and what the derivation wanted there.
 
+use crate::heads::token_at;
 use crate::wanted::Kinds;
 use derivations::{Derivation, Item, Located, Pending, Symbol};
 use tokens::{Name, Punctuator, Token, Word};
@@ -49,10 +50,7 @@ impl<'a> Scene<'a> {
 
     /// Returns the token of an index: after the last one, the end.
     pub fn token(&self, index: usize) -> Token {
-        match self.tokens.get(index) {
-            Some(located) => located.token,
-            None => Token::End,
-        }
+        token_at(self.tokens, index)
     }
 
     /// Returns the token before the one that doesn't fit, with its place.
@@ -62,7 +60,10 @@ impl<'a> Scene<'a> {
 
     /// Reports whether the token before is this one.
     pub fn follows(&self, token: &Token) -> bool {
-        self.before().is_some_and(|before| before.token == *token)
+        match self.before() {
+            Some(before) => before.token == *token,
+            None => false,
+        }
     }
 
     /// Reports whether the token before is this mark.
@@ -110,8 +111,15 @@ impl<'a> Scene<'a> {
 
     /// Reports whether the derivation wanted this mark first.
     pub fn wants(&self, punctuator: Punctuator) -> bool {
-        self.wanted()
-            .is_some_and(|pending| pending.item == Item::Exactly(punctuator))
+        self.wants_item(Item::Exactly(punctuator))
+    }
+
+    /// Reports whether the derivation wanted this item first.
+    pub fn wants_item(&self, item: Item) -> bool {
+        match self.wanted() {
+            Some(pending) => pending.item == item,
+            None => false,
+        }
     }
 
     /// Returns the index of the token at which that was chosen.
@@ -137,11 +145,13 @@ impl<'a> Scene<'a> {
 
     /// Reports whether a name stands at no more than one place.
     pub fn is_lone(&self, name: &Name) -> bool {
-        let same = self
-            .tokens
-            .iter()
-            .filter(|located| located.token == Token::Name(*name));
-        same.count() < 2
+        let mut places: usize = 0;
+        for located in self.tokens {
+            if located.token == Token::Name(*name) {
+                places = places.saturating_add(1);
+            }
+        }
+        places < 2
     }
 
     /// Returns the line of the token of an index.
@@ -159,16 +169,16 @@ impl<'a> Scene<'a> {
 
     /// Returns the index of the token at which the innermost item of a kind was chosen, of those still to match.
     pub fn pending_at(&self, item: Item) -> Option<usize> {
-        let mut pending = self
-            .stack
-            .iter()
-            .rev()
-            .filter(|pending| pending.item == item);
-        Some(pending.next()?.chosen_at)
+        for pending in self.stack.iter().rev() {
+            if pending.item == item {
+                return Some(pending.chosen_at);
+            }
+        }
+        None
     }
 
     /// Reports whether the head of a function was just derived.
     pub fn is_behind_head(&self) -> bool {
-        self.wanted().is_some_and(|pending| { pending.item == Item::Part(Symbol::FunctionBlock) })
+        self.wants_item(Item::Part(Symbol::FunctionBlock))
     }
 }

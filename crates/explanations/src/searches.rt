@@ -85,8 +85,11 @@ impl<'a> Search<'a> {
 
     /// Returns the first mention of the earliest mentioned function that isn't defined.
     fn undefined(&self) -> Option<usize> {
-        let mut functions = self.mentioned.iter().zip(self.begun.iter());
-        let lacking = functions.find(|function| function.0.is_some() && !*function.1)?;
-        *lacking.0
+        for (number, mentioned) in self.mentioned.iter().enumerate() {
+            if mentioned.is_some() && self.begun.get(number) == Some(&false) {
+                return *mentioned;
+            }
+        }
+        None
     }
 }

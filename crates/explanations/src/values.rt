@@ -13,12 +13,22 @@ pub fn warn_of_no_effect(lint: &mut Lint<'_>) -> Result<(), AllocError> {
     for index in 0..lint.nodes().all().len() {
         if let Some(node) = lint.nodes().get(index).copied() {
             let below = lint.nodes().within(node.first, index);
-            if node.kind == Kind::Evaluate && !below.iter().any(has_effect) {
+            if node.kind == Kind::Evaluate && !have_effect(below) {
                 lint.tell(node.token, "this statement has no effect")?;
             }
         }
     }
     Ok(())
+}
+
+/// Reports whether one of these nodes sets something, or calls what does more than answer.
+fn have_effect(nodes: &[Node]) -> bool {
+    for node in nodes {
+        if has_effect(node) {
+            return true;
+        }
+    }
+    false
 }
 
 /// Reports whether a node sets something, or calls what does more than answer.
@@ -92,6 +102,10 @@ pub fn condition_of(nodes: &Nodes, index: usize) -> Option<&Node> {
 /// Reports whether two brackets are open before a token.
 fn is_in_brackets(tokens: &[Located], token: usize) -> bool {
     let open = Token::Punctuator(Punctuator::OpenRound);
-    let before = tokens.get(token.saturating_sub(2)..token).unwrap_or(&[]);
-    before.iter().all(|located| located.token == open)
+    for before in tokens.get(token.saturating_sub(2)..token).unwrap_or(&[]) {
+        if before.token != open {
+            return false;
+        }
+    }
+    true
 }

@@ -5,12 +5,13 @@ use crate::nodes::{Body, Kind, Node};
 use crate::spelling::is_same_but_for_case;
 use crate::told::text_of;
 use crate::warnings::Lint;
+use derivations::Located;
 use grammar::{MOST_NAMES, StoreOp, Var};
 use std::alloc::AllocError;
 use tokens::Name;
 
 /// Where a variable of a function is first read and first set, by the tokens of its name.
-#[derive(Clone, Copy, Debug, Default, PartialEq, Eq)]
+#[derive(Clone, Copy, Default)]
 struct Use {
     read: Option<usize>,
     set: Option<usize>,
@@ -82,12 +83,27 @@ fn is_truth(name: &Name) -> bool {
 /// Returns the name of another variable that may be meant by the one of a token: of the function, or else of the file if it
 /// is declared before that token.
 fn meant(lint: &Lint<'_>, uses: &[Use; MOST_NAMES], token: usize, name: &Name) -> Option<Name> {
-    let locals = uses.iter().filter_map(|own| own.read.or(own.set));
-    let externals = lint.nodes().externals().iter().copied();
-    let mut names = locals
-        .chain(externals.filter(|external| *external < token))
-        .filter_map(|index| name_at(lint.tokens(), index));
-    names.find(|other| other != name && may_mean(name.as_bytes(), other.as_bytes()))
+    for own in uses {
+        if let Some(local) = own.read.or(own.set)
+            && let Some(other) = meant_at(lint.tokens(), local, name)
+        {
+            return Some(other);
+        }
+    }
+    for external in lint.nodes().externals() {
+        if *external < token
+            && let Some(other) = meant_at(lint.tokens(), *external, name)
+        {
+            return Some(other);
+        }
+    }
+    None
+}
+
+/// Returns the name of the token of an index, if it is another one and may be meant by this one.
+fn meant_at(tokens: &[Located], index: usize, name: &Name) -> Option<Name> {
+    let other = name_at(tokens, index)?;
+    (other != *name && may_mean(name.as_bytes(), other.as_bytes())).then_some(other)
 }
 
 /// Finds where the variables of a function are read and set, by its nodes.

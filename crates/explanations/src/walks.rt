@@ -6,7 +6,7 @@ use std::alloc::{AllocError, Global};
 use tokens::{Name, Token, Word};
 
 /// What a name means where it stands.
-#[derive(Clone, Copy, Debug, PartialEq, Eq)]
+#[derive(Clone, Copy)]
 pub enum Meaning {
     /// A variable is mentioned.
     Mentions(Var),
@@ -23,7 +23,7 @@ pub enum Meaning {
 }
 
 /// What a step of a walk came upon.
-#[derive(Clone, Copy, Debug, PartialEq, Eq)]
+#[derive(Clone, Copy)]
 pub enum Event {
     /// Nothing of its own.
     Passed,
@@ -160,15 +160,27 @@ impl<'a> Walk<'a> {
     /// Resolves a name in its role.
     fn meaning(&mut self, role: Role, name: &Name) -> Result<Meaning, Code> {
         let line = self.line();
-        match role {
-            Role::Defined => Ok(Meaning::Begins(self.scope.define(name, line)?)),
-            Role::Called => Ok(Meaning::Calls(self.scope.call(name, line)?)),
-            Role::Mentioned => Ok(Meaning::Mentions(self.scope.mention(name)?)),
-            Role::Parameter => self.scope.parameter(name).map(|_| Meaning::Parameter),
-            Role::Typed => self.scope.typed(name).map(|_| Meaning::Declares),
-            Role::Local => self.scope.local(name).map(|_| Meaning::Declares),
-            Role::External => self.scope.external(name).map(|_| Meaning::External),
-        }
+        Ok(match role {
+            Role::Defined => Meaning::Begins(self.scope.define(name, line)?),
+            Role::Called => Meaning::Calls(self.scope.call(name, line)?),
+            Role::Mentioned => Meaning::Mentions(self.scope.mention(name)?),
+            Role::Parameter => {
+                self.scope.parameter(name)?;
+                Meaning::Parameter
+            }
+            Role::Typed => {
+                self.scope.typed(name)?;
+                Meaning::Declares
+            }
+            Role::Local => {
+                self.scope.local(name)?;
+                Meaning::Declares
+            }
+            Role::External => {
+                self.scope.external(name)?;
+                Meaning::External
+            }
+        })
     }
 
     /// Returns the line of the next token.

@@ -6,7 +6,7 @@ use std::alloc::{AllocError, Global};
 use tokens::{Punctuator, Token, Word};
 
 /// A kind of what may stand at a place.
-#[derive(Clone, Copy, Debug, PartialEq, Eq)]
+#[derive(Clone, Copy, PartialEq, Eq)]
 enum Wanted {
     /// This mark.
     Exactly(Punctuator),
@@ -29,7 +29,7 @@ enum Wanted {
 }
 
 /// Which large kinds fit at a place: a token of theirs isn't named alone.
-#[derive(Clone, Copy, Debug, PartialEq, Eq)]
+#[derive(Clone, Copy)]
 pub struct Kinds {
     /// A statement may begin there.
     pub statement: bool,

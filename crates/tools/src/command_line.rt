@@ -8,9 +8,15 @@ use std::io::ErrorKind;
 
 /// Returns the words of the command line after the program's name. Words that are no text are wrong usage.
 pub fn words(rt: &HostRuntime) -> Result<Vec<String>, Fault> {
-    let mut words = env::args(rt).map_err(|error| fault_by(error.kind()))?;
+    let mut words = match env::args(rt) {
+        Ok(words) => words,
+        Err(error) => return Err(fault_by(error.kind())),
+    };
     let _ = words.next();
-    words.collect(rt.alloc()).map_err(|_| Fault::Memory)
+    match words.collect(rt.alloc()) {
+        Ok(words) => Ok(words),
+        Err(_) => Err(Fault::Memory),
+    }
 }
 
 /// Returns why there are no words: memory was refused, or they are no text.

@@ -8,25 +8,25 @@ use tokens::{SOURCE_BYTES, WINDOW};
 
 /// Opens the file of a word. If it can't be opened, a line with the program's name and the word is written.
 pub fn opened(rt: &HostRuntime, program: &str, word: &str) -> Result<File, Fault> {
-    File::open(rt, word).map_err(|fault| {
-        if fault.kind() == ErrorKind::OutOfMemory {
-            return Fault::Memory;
+    match File::open(rt, word) {
+        Ok(file) => Ok(file),
+        Err(fault) if fault.kind() == ErrorKind::OutOfMemory => Err(Fault::Memory),
+        Err(_) => {
+            let _ = eprintln!(rt; "{program}: cannot open {word}");
+            Err(Fault::Read)
         }
-        let _ = eprintln!(rt; "{program}: cannot open {word}");
-        Fault::Read
-    })
+    }
 }
 
 /// Reads the file of a word: all of it, or so many bytes that the rest has no part in its meaning. If it can't be opened
 /// or read, a line with the program's name and the word is written.
 pub fn source_of(rt: &HostRuntime, program: &str, word: &str) -> Result<Vec<u8>, Fault> {
     let mut file = opened(rt, program, word)?;
-    read_whole(rt.alloc(), &mut file).map_err(|fault| {
-        if fault == Fault::Read {
-            let _ = eprintln!(rt; "{program}: cannot read {word}");
-        }
-        fault
-    })
+    let source = read_whole(rt.alloc(), &mut file);
+    if let Err(Fault::Read) = &source {
+        let _ = eprintln!(rt; "{program}: cannot read {word}");
+    }
+    source
 }
 
 /// Reads bytes until there are none, or more than a source may have.
@@ -34,7 +34,9 @@ fn read_whole<F: Read>(alloc: Global, file: &mut F) -> Result<Vec<u8>, Fault> {
     let mut source = Vec::new(alloc);
     let mut window = [0; WINDOW];
     for _ in 0..=SOURCE_BYTES {
-        let count = file.read(&mut window).map_err(|_| Fault::Read)?;
+        let Ok(count) = file.read(&mut window) else {
+            return Err(Fault::Read);
+        };
         source.extend_from_slice(window.get(..count).unwrap_or(&[]))?;
         if count == 0 || source.len() > SOURCE_BYTES as usize {
             break;

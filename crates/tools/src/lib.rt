@@ -10,6 +10,7 @@ mod frames;
 mod options;
 mod outputs;
 mod spans;
+mod texts;
 mod wishes;
 
 pub use compiling::{Compiled, compile, name_of, programs, tell_diagnostic};
@@ -19,4 +20,5 @@ pub use frames::{Frame, Work};
 pub use options::{Known, Options, read_options};
 pub use outputs::{Output, write_text};
 pub use spans::{SPAN_OPTIONS, Span};
+pub use texts::{Draft, Text, add_left, add_right, add_signed};
 pub use wishes::{MATCH_OPTIONS, file_of, number_of, profile, wish};

@@ -4,7 +4,7 @@ use crate::faults::Fault;
 use std::alloc::Global;
 
 /// An option that a program knows: `-k` if its name is one letter, else `--name`.
-#[derive(Clone, Copy, Debug)]
+#[derive(Clone, Copy)]
 pub enum Known {
     /// An option without a value.
     Flag(&'static str),
@@ -43,8 +43,12 @@ impl<'a> Options<'a> {
 
     /// Returns the value of the option of this name, if it was given: the empty text for one that has no value.
     pub fn value(&self, name: &str) -> Option<&'a str> {
-        let given = self.given.iter().find(|given| given.name == name)?;
-        Some(given.value)
+        for given in &self.given {
+            if given.name == name {
+                return Some(given.value);
+            }
+        }
+        None
     }
 
     /// Returns which of these options was given, by what stands beside its name: none if none was. Two of them are wrong
@@ -72,9 +76,10 @@ impl<'a> Options<'a> {
         if self.has(name) {
             return Err(Fault::Usage);
         }
-        self.given
-            .push(Given { name, value })
-            .map_err(|_| Fault::Memory)
+        match self.given.push(Given { name, value }) {
+            Ok(()) => Ok(()),
+            Err(_) => Err(Fault::Memory),
+        }
     }
 }
 
@@ -126,10 +131,10 @@ impl<'a> Options<'a> {
             }
             Expected::Any if word == "--" => Ok(Expected::File),
             Expected::Any if word.starts_with('-') => self.take_option(word, known),
-            _ => {
-                self.files.push(word).map_err(|_| Fault::Memory)?;
-                Ok(expected)
-            }
+            _ => match self.files.push(word) {
+                Ok(()) => Ok(expected),
+                Err(_) => Err(Fault::Memory),
+            },
         }
     }
 

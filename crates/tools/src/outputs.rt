@@ -44,7 +44,8 @@ impl Output {
 
 /// Writes a text on standard output.
 pub fn write_text(rt: &HostRuntime, text: &str) -> Result<(), Fault> {
-    rt.stdout()
-        .write_all(text.as_bytes())
-        .map_err(|_| Fault::Write)
+    match rt.stdout().write_all(text.as_bytes()) {
+        Ok(()) => Ok(()),
+        Err(_) => Err(Fault::Write),
+    }
 }

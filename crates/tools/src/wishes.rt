@@ -32,7 +32,10 @@ pub fn wish<'a>(options: &Options<'a>) -> Result<Settings<'a>, Fault> {
         first: options.value("k"),
         files,
     };
-    settle(given).map_err(|_| Fault::Usage)
+    match settle(given) {
+        Ok(wish) => Ok(wish),
+        Err(_) => Err(Fault::Usage),
+    }
 }
 
 /// Returns the word of the file that a robot of this number, from 0, comes from: a single file is both robots'.
