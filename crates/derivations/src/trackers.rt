@@ -1,4 +1,5 @@
-//! Trackers: the derivation of a source token by token, in memory of fixed size.
+//! Where each instruction comes from: a tracker follows the derivation token by token, in memory of fixed size, and keeps
+//! a place for each instruction of the actions that are emitted.
 
 use crate::addresses::{MOST_PLACES, Place};
 use crate::emissions::{Emission, Origin};

@@ -1,4 +1,5 @@
-//! The nodes of a source's trees in one list: each after those below it, which stand together.
+//! A source's trees as one list of nodes, from which warnings are read. Actions make them from the leaves up: a node
+//! comes after all below it, and these are next to each other.
 
 use crate::constants::operated;
 use crate::walks::{Event, Meaning, Walk};
@@ -206,7 +207,7 @@ impl Nodes {
         self.externals.as_slice()
     }
 
-    /// Takes a name.
+    /// Notes what a name means: a variable or a call for a later node, a function, a parameter, an external.
     fn name(&mut self, token: usize, meaning: Meaning) -> Result<(), AllocError> {
         match meaning {
             Meaning::Mentions(var) => self.variables.push(var)?,
@@ -237,7 +238,7 @@ impl Nodes {
         };
     }
 
-    /// Does what an action says.
+    /// Adds the node of a semantic action. Most take the last roots below it.
     fn make(
         &mut self,
         action: SemanticAction,

@@ -83,12 +83,12 @@ impl<'a> Event<'a> {
     }
 }
 
-/// What is told the events of a match.
+/// Takes the events of a match, one by one.
 pub trait Listener {
-    /// Tells it an event of a robot in a cycle.
+    /// Takes an event of a robot in a cycle.
     fn tell(&mut self, cycle: u32, robot: usize, event: &Event<'_>);
 
-    /// Tells it what the update does that comes next, after this cycle: the bursts, and what each robot loses.
+    /// Takes what the update does that follows this cycle: the bursts, and what each robot loses.
     fn tell_update(&mut self, cycle: u32, arena: &Arena) {
         for burst in &arena.due() {
             self.tell(cycle, burst.robot(), &Event::burst(burst));

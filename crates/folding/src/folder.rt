@@ -1,4 +1,4 @@
-//! A watcher that works out operators on constants while a source is read.
+//! A watcher that finds constant code while a source is read.
 
 ghost use Rattle.std.specs.Prelude.{◌≡◌};
 ghost use Rattle.arith.specs.Op.{value_of};
@@ -40,7 +40,7 @@ impl Folder {
         self.folds
     }
 
-    /// Takes a binary operator: if both sides are known, so is its value.
+    /// Takes a binary operator: two known sides become one value; if only the right one is known, that is a finding.
     fn combine(&mut self, op: Op) {
         let (right, left) = (self.known.pop(), self.known.pop());
         match (left, right) {
@@ -55,7 +55,7 @@ impl Folder {
         }
     }
 
-    /// Keeps a known value. If there is no room, the oldest one is let go: it is found.
+    /// Keeps a known value. Without room the oldest becomes a finding.
     fn remember(&mut self, fold: Fold) {
         if self.known.is_full() {
             let oldest = self.known.remove(0);
@@ -64,7 +64,7 @@ impl Folder {
         let _ = self.known.try_push(fold);
     }
 
-    /// Adds the known values to what was found, and forgets them.
+    /// Turns all known values into findings.
     fn settle(&mut self) {
         for fold in self.known.as_slice() {
             self.folds.add(*fold);

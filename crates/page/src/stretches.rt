@@ -1,4 +1,4 @@
-//! Stretches: some windows of a match, one after another.
+//! A stretch: the windows of a match that a film shows.
 
 ghost use Rattle.std.specs.Prelude.{◌≡◌, ◌+◌, ◌*◌, ◌≤◌, ◌<◌, ◌==◌, ◌&&◌, ◌||◌, nat_lt, nat_le};
 
@@ -15,28 +15,28 @@ pub struct Stretch {
 }
 
 impl Stretch {
-    /// Reports whether it has the window after so many updates.
+    /// Reports whether the window that begins at this update is one of them.
     pub(crate) fn holds(&self, updates: u32) -> bool
         ensures { result ≡ (nat_le self.now.from updates && nat_lt updates (self.now.from + self.now.windows)) }
     {
         self.from <= updates && updates - self.from < self.windows
     }
 
-    /// Reports whether it begins or ends after so many updates.
+    /// Reports whether the stretch begins or ends at this update.
     pub(crate) fn is_bordered(&self, updates: u32) -> bool
         ensures { result ≡ (updates == self.now.from || updates == self.now.from + self.now.windows) }
     {
         updates == self.from || u64::from(updates) == self.end()
     }
 
-    /// Reports whether nothing of it is after so many updates.
+    /// Reports whether it ends at this update or before.
     pub(crate) fn is_past(&self, updates: u32) -> bool
         ensures { result ≡ nat_le (self.now.from + self.now.windows) updates }
     {
         self.end() <= u64::from(updates)
     }
 
-    /// Reports whether its end is not before the end of a cycle.
+    /// Reports whether it lasts at least to the end of this cycle.
     pub(crate) fn reaches(&self, cycle: u32) -> bool
         ensures { result ≡ nat_le cycle ((self.now.from + self.now.windows) * UPDATE_CYCLES) }
     {

@@ -1,4 +1,4 @@
-//! The loop of a match.
+//! Plays a match before a watcher: in each cycle a turn of each live robot, after each 15th cycle an update.
 
 ghost use Rattle.std.specs.Prelude.{◌≡◌, ◌⊎◌, ◌+◌, ◌*◌, ◌/◌, ◌≤◌, ◌<◌, [], List, length, replicate};
 ghost use Rattle.arena.specs.Field.{Field};
@@ -16,7 +16,7 @@ use settings::CYCLES_MAX;
 /// An update follows each cycle whose number is a multiple of this.
 pub const UPDATE_CYCLES: u32 = 15;
 
-/// Where the playing of a match ended.
+/// How far a match was played.
 #[derive(Clone, Copy, Debug, PartialEq, Eq)]
 pub struct Ending {
     /// The number of the last cycle that was played.

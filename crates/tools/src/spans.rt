@@ -1,4 +1,4 @@
-//! Spans: which robots and which cycles are looked at.
+//! A span: the part of a match that a program shows, one robot or all, from a first cycle to a last.
 
 ghost use Rattle.std.specs.Prelude.{◌≡◌, ◌≤◌, ◌↔◌, IfOk, IsTrue, None};
 ghost use Rattle.tools.specs.Span.{IsOfRobot, IsOfRobots};

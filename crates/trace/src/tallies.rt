@@ -1,4 +1,5 @@
-//! What is counted of a robot.
+//! The tally of a robot: the counts of which the sums are made. It gets each cycle, call, restart, loss and burst while
+//! the match is played.
 
 use crate::restarts::{Crowd, crowd_of};
 use arena::MOST_ROBOTS;
@@ -18,9 +19,9 @@ pub struct Spot {
     pub cycles: u64,
     /// How often its instruction led to a restart.
     pub restarts: u64,
-    /// Why it did.
+    /// Why the last restart came.
     pub cause: Option<Cause>,
-    /// The open calls of which there were most the last time.
+    /// The place from which most calls were open at the last restart.
     pub crowd: Option<Crowd>,
 }
 
@@ -84,7 +85,7 @@ fn deed_of(question: &Question) -> Option<Deed> {
     }
 }
 
-/// What is counted of a robot.
+/// The tally of a robot.
 #[derive(Drop)]
 pub struct Tally {
     /// Its addresses.

@@ -1,4 +1,4 @@
-//! What is recorded of a match.
+//! Plays a match and records what the picture shows: each robot's path, damage and death, and the last shots.
 
 ghost use Rattle.std.specs.Prelude.{◌≡◌, ◌/◌, ◌≤◌, ◌<◌, length, nat_lt, Some, if◌then◌else◌};
 ghost use Rattle.std.specs.Option.{option_or};
@@ -13,7 +13,7 @@ use trails::{Path, Place, Shot, Shots};
 /// The most times that a robot's damage grows: each time by a percent at least.
 const MOST_GROWTHS: usize = 100;
 
-/// A robot's damage grows.
+/// A rise of a robot's damage.
 #[derive(Clone, Copy, Default, Drop)]
 pub struct Growth {
     /// The update in which it grows.
@@ -138,7 +138,7 @@ pub fn record(pilots: &mut [Pilot<'_>], wish: &Settings<'_>, view: View) -> Reco
     }
 }
 
-/// What records a match as it is played.
+/// The watcher that makes a recording.
 #[derive(Drop)]
 struct Recorder {
     view: View,

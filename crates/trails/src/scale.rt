@@ -1,4 +1,4 @@
-//! What the picture makes of places and times.
+//! The scales of the picture: where a place or a cycle is drawn, and how faint what is old.
 
 ghost use Rattle.std.specs.Prelude.{◌≡◌, ◌+◌, ◌-◌, ◌*◌, ◌/◌, ◌≤◌, IfSome, min, max};
 
@@ -31,7 +31,7 @@ pub fn row(place: Place) -> u32
     MARGIN + (SIDE - u32::from(place.y / 10))
 }
 
-/// Returns the opacity in percent of what happened after so many of the match's updates: the older, the fainter.
+/// Returns the opacity in percent at an update of the match: the older, the fainter.
 pub fn opacity(update: u32, updates: u32) -> u32
     ensures value { result ≡ FAINTEST + (100 - FAINTEST) * min update updates / max updates 1 }
     ensures least { FAINTEST ≤ result }
