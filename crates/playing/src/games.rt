@@ -17,7 +17,7 @@ use settings::CYCLES_MAX;
 pub const UPDATE_CYCLES: u32 = 15;
 
 /// Where the playing of a match ended.
-#[derive(Clone, Copy, Debug, PartialEq, Eq)]
+#[derive(Clone, Copy)]
 pub struct Ending {
     /// The number of the last cycle that was played.
     pub cycles: u32,
