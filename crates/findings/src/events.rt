@@ -9,7 +9,7 @@ use arrayvec::ArrayVec;
 pub const MOST_FIELDS: usize = 5;
 
 /// A field of an event.
-#[derive(Clone, Copy, Debug)]
+#[derive(Clone, Copy)]
 pub enum Field<'a> {
     /// A number.
     Number(i64),

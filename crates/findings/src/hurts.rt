@@ -9,7 +9,7 @@ use arrayvec::ArrayVec;
 pub const MOST_LOSSES: usize = 1 + MOST_ROBOTS + MOST_BURSTS;
 
 /// What takes damage from a robot.
-#[derive(Clone, Copy, Debug, PartialEq, Eq, Drop)]
+#[derive(Clone, Copy, Drop)]
 pub enum Source {
     /// A wall.
     Wall,
@@ -20,7 +20,7 @@ pub enum Source {
 }
 
 /// What is taken from a robot, in percent, and by what.
-#[derive(Clone, Copy, Debug, PartialEq, Eq, Drop)]
+#[derive(Clone, Copy, Drop)]
 pub struct Loss {
     /// What takes it.
     pub source: Source,

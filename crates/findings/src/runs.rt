@@ -8,7 +8,7 @@ ghost use Rattle.findings.specs.Runs.{is_alike, is_even, stance_of, step_of};
 use arena::Arena;
 
 /// What a film has of a robot after an update.
-#[derive(Clone, Copy, Debug, PartialEq, Eq, Drop)]
+#[derive(Clone, Copy, Drop)]
 pub struct Stance {
     /// The cycle of the update, 0 at the begin.
     pub cycle: u32,
@@ -61,7 +61,7 @@ impl Stance {
 }
 
 /// A way, east and north, in tenths of a metre.
-#[derive(Clone, Copy, Debug, PartialEq, Eq, Drop)]
+#[derive(Clone, Copy, Drop)]
 pub struct Step {
     /// To the east.
     pub east: i32,
@@ -79,7 +79,7 @@ impl Step {
 }
 
 /// The run that a robot is on.
-#[derive(Clone, Copy, Debug, Default, PartialEq, Eq, Drop)]
+#[derive(Clone, Copy, Default, Drop)]
 pub struct Run {
     last: Option<Stance>,
     step: Option<Step>,
@@ -87,7 +87,7 @@ pub struct Run {
 }
 
 /// What a film has to tell of a robot after an update: where the run before ended, and where the robot is.
-#[derive(Clone, Copy, Debug, Default, PartialEq, Eq, Drop)]
+#[derive(Clone, Copy, Default, Drop)]
 pub struct News {
     /// The end of the run before, an update earlier.
     pub end: Option<Stance>,

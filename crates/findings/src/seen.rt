@@ -5,7 +5,7 @@ ghost use Rattle.std.specs.Prelude.{◌≡◌, ◌&&◌, ◌||◌, false, not, t
 use crate::runs::Run;
 
 /// What was seen of a robot.
-#[derive(Clone, Copy, Debug, Default, PartialEq, Eq, Drop)]
+#[derive(Clone, Copy, Default, Drop)]
 pub struct Seen {
     /// The run that it is on.
     pub run: Run,

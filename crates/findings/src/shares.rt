@@ -6,7 +6,7 @@ ghost use Rattle.findings.specs.Purposes.{purpose_of, total_of, share_of};
 use grammar::Intrinsic;
 
 /// What a robot asks the field for.
-#[derive(Clone, Copy, Debug, PartialEq, Eq)]
+#[derive(Clone, Copy)]
 pub enum Purpose {
     /// To move: `drive`, `speed`, `loc_x`, `loc_y`.
     Moving,
@@ -37,7 +37,7 @@ pub fn purpose_of(intrinsic: Intrinsic) -> Purpose
 }
 
 /// A robot's cycles by their purpose, and those since its last question.
-#[derive(Clone, Copy, Debug, Default, PartialEq, Eq, Drop)]
+#[derive(Clone, Copy, Default, Drop)]
 pub struct Shares {
     /// The cycles for moving.
     pub moving: u64,

@@ -6,7 +6,7 @@ ghost use Rattle.findings.specs.Streaks.{streak_of, with_call};
 use grammar::Intrinsic;
 
 /// A call of an intrinsic function, and its reply.
-#[derive(Clone, Copy, Debug, PartialEq, Eq, Drop)]
+#[derive(Clone, Copy, Drop)]
 pub struct Call {
     /// The cycle of the call.
     pub cycle: u32,
@@ -19,7 +19,7 @@ pub struct Call {
 }
 
 /// Calls from one address in a row, with no other call in between.
-#[derive(Clone, Copy, Debug, PartialEq, Eq, Drop)]
+#[derive(Clone, Copy, Drop)]
 pub struct Streak {
     /// The first call.
     pub first: Call,

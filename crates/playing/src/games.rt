@@ -17,7 +17,7 @@ use settings::CYCLES_MAX;
 pub const UPDATE_CYCLES: u32 = 15;
 
 /// How far a match was played.
-#[derive(Clone, Copy, Debug, PartialEq, Eq)]
+#[derive(Clone, Copy)]
 pub struct Ending {
     /// The number of the last cycle that was played.
     pub cycles: u32,

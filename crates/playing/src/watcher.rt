@@ -8,7 +8,7 @@ use code::{Cause, Intrinsic};
 use settings::CYCLES_MAX;
 
 /// A robot's turn in a cycle.
-#[derive(Clone, Copy, Debug, PartialEq, Eq)]
+#[derive(Clone, Copy)]
 pub struct Turn {
     /// The number of the cycle, from 1.
     pub cycle: u32,
@@ -17,7 +17,7 @@ pub struct Turn {
 }
 
 /// A call of an intrinsic function, and its reply.
-#[derive(Clone, Copy, Debug, PartialEq, Eq)]
+#[derive(Clone, Copy)]
 pub struct Question {
     /// The function.
     pub intrinsic: Intrinsic,

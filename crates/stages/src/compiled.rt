@@ -9,7 +9,7 @@ use tools::{Compiled, compile};
 use trees::TreeMaker;
 
 /// Why nothing is made of a source.
-#[derive(Clone, Copy, Debug, PartialEq, Eq)]
+#[derive(Clone, Copy)]
 pub enum CompileFault {
     /// The source has this fault.
     Source(Diagnostic),

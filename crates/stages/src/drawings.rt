@@ -2,31 +2,42 @@
 
 use crate::nodes::Nodes;
 use std::alloc::{AllocError, Global};
+use tools::{Draft, Text};
 
 /// Returns a line for each node, indented by two blanks for each node above it.
 pub fn indented(alloc: Global, nodes: &Nodes) -> Result<String, AllocError> {
-    let mut text = String::new(alloc);
+    let mut text = Draft::new(alloc);
     for node in nodes.as_slice() {
         for _ in 0..node.depth {
-            text.push_str("  ")?;
+            text.add("  ");
         }
-        text.push_str(node.label.as_str())?;
-        text.push('\n')?;
+        text.add(node.label.as_str());
+        text.add("\n");
     }
-    Ok(text)
+    text.finish()
 }
 
 /// Returns a graph of the nodes, in the language of Graphviz. No label has a quote or a backslash.
 pub fn graph(alloc: Global, nodes: &Nodes) -> Result<String, AllocError> {
-    let mut text = String::from_str(alloc, "digraph tree {\n")?;
-    text.push_str("  node [shape=box, fontname=\"monospace\"];\n")?;
+    let mut text = Draft::new(alloc);
+    text.add("digraph tree {\n  node [shape=box, fontname=\"monospace\"];\n");
     for (index, node) in nodes.as_slice().iter().enumerate() {
-        let (label, parent) = (node.label.as_str(), node.parent);
-        write!(text, "  n{index} [label=\"{label}\"];\n")?;
-        if index != parent {
-            write!(text, "  n{parent} -> n{index};\n")?;
+        add_number(&mut text, "  n", index);
+        text.add(" [label=\"");
+        text.add(node.label.as_str());
+        text.add("\"];\n");
+        if index != node.parent {
+            add_number(&mut text, "  n", node.parent);
+            add_number(&mut text, " -> n", index);
+            text.add(";\n");
         }
     }
-    text.push_str("}\n")?;
-    Ok(text)
+    text.add("}\n");
+    text.finish()
+}
+
+/// Adds words, and the number of a node.
+fn add_number(text: &mut Draft, words: &str, number: usize) {
+    text.add(words);
+    text.number(number as u64);
 }

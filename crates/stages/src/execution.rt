@@ -4,9 +4,9 @@ ghost use Rattle.code.specs.Standing.{FitsProgram};
 
 use crate::spelling::{instruction_at, name_at};
 use crate::texts::ascii;
-use code::{Cause, Frame, Intrinsic, Machine, Program, Want};
+use code::{Cause, Frame, Intrinsic, Machine, Want};
 use std::alloc::{AllocError, Global};
-use tools::Compiled;
+use tools::{Compiled, Draft, Text, add_left, add_right, add_signed};
 
 /// The first line.
 const HEAD: &str = " cycle    at instruction       stack, each frame in brackets\n";
@@ -19,81 +19,92 @@ pub fn execution(
     cycles: u32,
     replies: &[i32],
 ) -> Result<String, AllocError> {
-    let mut text = String::from_str(alloc, HEAD)?;
+    let mut text = Draft::new(alloc);
+    text.add(HEAD);
     let mut machine = Machine::new(&made.program);
     let mut asked = 0usize;
     for cycle in 0..cycles {
         let number = cycle.saturating_add(1);
         let reply = replies.get(asked).copied().unwrap_or(0);
-        if add_cycle(&mut text, &mut machine, made, number, reply)? {
+        add_instruction(&mut text, alloc, made, number, machine.address())?;
+        if add_cycle(&mut text, &mut machine, made, reply) {
             asked = asked.saturating_add(1);
         }
     }
-    Ok(text)
+    text.finish()
 }
 
-/// Adds the line of a cycle, and runs it. Reports whether the reply was asked for.
-fn add_cycle(
-    text: &mut String,
-    machine: &mut Machine,
-    made: &Compiled,
-    number: u32,
-    reply: i32,
-) -> Result<bool, AllocError>
+/// Runs a cycle, and adds what came of it to its line. Reports whether the reply was asked for.
+fn add_cycle(text: &mut Draft, machine: &mut Machine, made: &Compiled, reply: i32) -> bool
     requires { FitsProgram machine.old made.now.program }
     ensures { FitsProgram machine.new made.now.program }
 {
     let (program, address) = (&made.program, machine.address());
-    add_instruction(text, program, number, address)?;
     match machine.next(program) {
         Want::Quiet => {
             machine.advance(program, 0);
-            add_stack(text, machine)?;
-            add_name(text, made, address)?;
-            Ok(false)
+            add_stack(text, machine);
+            add_name(text, made, address);
+            false
         }
         Want::Restart => {
             let cause = cause_text(machine.cause(program));
             machine.restart(program);
-            add_stack(text, machine)?;
-            write!(text, "  ; restart: {cause}\n")?;
-            Ok(false)
+            add_stack(text, machine);
+            text.add("  ; restart: ");
+            text.add(cause);
+            text.add("\n");
+            false
         }
         Want::Ask(intrinsic, arguments) => {
             machine.advance(program, reply);
-            add_stack(text, machine)?;
-            add_question(text, intrinsic, arguments)?;
-            write!(text, " replies {reply}\n")?;
-            Ok(true)
+            add_stack(text, machine);
+            add_question(text, intrinsic, arguments);
+            text.add(" replies ");
+            add_signed(text, i64::from(reply));
+            text.add("\n");
+            true
         }
     }
 }
 
-/// Adds a cycle's number and its instruction.
+/// Adds the begin of a cycle's line: its number and its instruction.
 fn add_instruction(
-    text: &mut String,
-    program: &Program,
+    text: &mut Draft,
+    alloc: Global,
+    made: &Compiled,
     number: u32,
     address: usize,
 ) -> Result<(), AllocError> {
-    let found = instruction_at(*text.allocator(), program, address)?;
-    let instruction = found.as_ref().map_or("", |bytes| ascii(bytes.as_slice()));
-    write!(text, "{number:>6} {address:>5} {instruction:<17}")
+    add_right(text, u64::from(number), 6);
+    text.add(" ");
+    add_right(text, address as u64, 5);
+    text.add(" ");
+    match instruction_at(alloc, &made.program, address)? {
+        Some(bytes) => add_left(text, ascii(bytes.as_slice()), 17),
+        None => add_left(text, "", 17),
+    }
+    Ok(())
 }
 
 /// Adds the stack, bottom first: the words of each frame in brackets.
-fn add_stack(text: &mut String, machine: &Machine) -> Result<(), AllocError> {
+fn add_stack(text: &mut Draft, machine: &Machine) {
     let frames = machine.frames();
     for number in 0..frames.len() {
-        let words = words_of(machine.words(), frames, number);
-        text.push_str(" [")?;
-        for (index, word) in words.iter().enumerate() {
-            let blank = if index == 0 { "" } else { " " };
-            write!(text, "{blank}{word}")?;
-        }
-        text.push(']')?;
+        text.add(" [");
+        add_words(text, words_of(machine.words(), frames, number));
+        text.add("]");
     }
-    Ok(())
+}
+
+/// Adds words with blanks between them.
+fn add_words(text: &mut Draft, words: &[i32]) {
+    for (index, word) in words.iter().enumerate() {
+        if index > 0 {
+            text.add(" ");
+        }
+        add_signed(text, i64::from(*word));
+    }
 }
 
 /// Returns the words of the frame of this number: those from its base up to the next frame's.
@@ -110,26 +121,28 @@ fn words_of<'a>(words: &'a [i32], frames: &[Frame], number: usize) -> &'a [i32] 
 }
 
 /// Adds the name that an instruction speaks of, if it speaks of one.
-fn add_name(text: &mut String, made: &Compiled, address: usize) -> Result<(), AllocError> {
-    match name_at(made, address) {
-        Some(name) => write!(text, "  ; {name}\n"),
-        None => text.push('\n'),
+fn add_name(text: &mut Draft, made: &Compiled, address: usize) {
+    if let Some(name) = name_at(made, address) {
+        text.add("  ; ");
+        text.add(name);
     }
+    text.add("\n");
 }
 
 /// Adds a question with the arguments that its function uses.
-fn add_question(
-    text: &mut String,
-    intrinsic: Intrinsic,
-    arguments: [i32; 2],
-) -> Result<(), AllocError> {
-    let name = intrinsic.name();
+fn add_question(text: &mut Draft, intrinsic: Intrinsic, arguments: [i32; 2]) {
+    text.add("  ; ");
+    text.add(intrinsic.name());
+    text.add("(");
     let [first, second] = arguments;
-    match intrinsic.arguments() {
-        0 => write!(text, "  ; {name}()"),
-        1 => write!(text, "  ; {name}({first})"),
-        _ => write!(text, "  ; {name}({first}, {second})"),
+    if intrinsic.arguments() > 0 {
+        add_signed(text, i64::from(first));
     }
+    if intrinsic.arguments() > 1 {
+        text.add(", ");
+        add_signed(text, i64::from(second));
+    }
+    text.add(")");
 }
 
 /// Returns the words for why a machine wants a restart.

@@ -21,7 +21,7 @@ pub const OPTIONS: [Known; 8] = [
 ];
 
 /// What is shown of a source.
-#[derive(Clone, Copy, Debug, PartialEq, Eq)]
+#[derive(Clone, Copy)]
 pub enum Form {
     /// Its tokens.
     Tokens,
@@ -98,8 +98,12 @@ fn replies_of(alloc: Global, options: &Options<'_>) -> Result<Vec<i32>, Fault> {
         return Ok(replies);
     };
     for word in list.split(',') {
-        let reply = reply_of(word).ok_or(Fault::Usage)?;
-        replies.push(reply).map_err(|_| Fault::Memory)?;
+        let Some(reply) = reply_of(word) else {
+            return Err(Fault::Usage);
+        };
+        if replies.push(reply).is_err() {
+            return Err(Fault::Memory);
+        }
     }
     Ok(replies)
 }

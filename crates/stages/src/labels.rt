@@ -2,7 +2,7 @@
 
 use crate::texts::text_of;
 use grammar::{Callee, Function, Name, Pools, StoreOp, Var, operator_punctuator, store_punctuator};
-use std::alloc::{AllocError, Global};
+use tools::{Draft, Text, add_signed};
 use trees::{Expr, Statement};
 
 /// The names that a function's tree speaks of by number.
@@ -27,7 +27,10 @@ impl<'a> Scope<'a> {
             Var::External(number) => self.names.externals().get(usize::from(number)),
             Var::Local(number) => self.variables.get(usize::from(number)),
         };
-        name.map_or("?", text_of)
+        match name {
+            Some(name) => text_of(name),
+            None => "?",
+        }
     }
 
     /// Returns the name of the file's function of this number.
@@ -49,49 +52,55 @@ pub fn statement_label(statement: &Statement) -> &'static str {
     }
 }
 
-/// Returns the label of an expression.
-pub fn expression_label(
-    alloc: Global,
-    scope: &Scope<'_>,
-    expression: &Expr,
-) -> Result<String, AllocError> {
+/// Adds the label of an expression.
+pub fn add_expression(label: &mut Draft, scope: &Scope<'_>, expression: &Expr) {
     match expression {
-        Expr::Constant(value) => format!(in alloc; "constant {value}"),
-        Expr::Variable(variable) => variable_label(alloc, scope, "variable", *variable),
+        Expr::Constant(value) => {
+            label.add("constant ");
+            add_signed(label, i64::from(*value));
+        }
+        Expr::Variable(variable) => add_variable(label, scope, "variable", *variable),
         Expr::Binary(operator, ..) => {
-            format!(in alloc; "operator {}", operator_punctuator(*operator))
+            label.add("operator ");
+            label.add(operator_punctuator(*operator));
         }
         Expr::Assign(operator, variable, _) => {
-            let mut label = variable_label(alloc, scope, "assign", *variable)?;
-            write!(label, " {}", store_punctuator(*operator))?;
-            Ok(label)
+            add_variable(label, scope, "assign", *variable);
+            label.add(" ");
+            label.add(store_punctuator(*operator));
         }
         Expr::Postfix(operator, variable) => {
-            let mut label = variable_label(alloc, scope, "postfix", *variable)?;
-            write!(label, " {}", step_punctuator(*operator))?;
-            Ok(label)
+            add_variable(label, scope, "postfix", *variable);
+            label.add(" ");
+            label.add(step_punctuator(*operator));
         }
         Expr::Call(Callee::Function(number), _) => {
-            format!(in alloc; "call {number} ({})", scope.function(*number))
+            add_named(label, "call ", u64::from(*number), scope.function(*number));
         }
         Expr::Call(Callee::Intrinsic(intrinsic), _) => {
-            format!(in alloc; "call {}", intrinsic.name())
+            label.add("call ");
+            label.add(intrinsic.name());
         }
     }
 }
 
-/// Returns a word, a variable's number and its name.
-pub fn variable_label(
-    alloc: Global,
-    scope: &Scope<'_>,
-    word: &str,
-    variable: Var,
-) -> Result<String, AllocError> {
+/// Adds words, a variable's number and its name.
+pub fn add_variable(label: &mut Draft, scope: &Scope<'_>, words: &str, variable: Var) {
     let name = scope.variable(variable);
+    label.add(words);
     match variable {
-        Var::External(number) => format!(in alloc; "{word} E{number} ({name})"),
-        Var::Local(number) => format!(in alloc; "{word} L{number} ({name})"),
+        Var::External(number) => add_named(label, " E", u64::from(number), name),
+        Var::Local(number) => add_named(label, " L", u64::from(number), name),
     }
+}
+
+/// Adds words, a number, and the name of what has it.
+pub fn add_named(label: &mut Draft, words: &str, number: u64, name: &str) {
+    label.add(words);
+    label.number(number);
+    label.add(" (");
+    label.add(name);
+    label.add(")");
 }
 
 /// Returns the punctuator of a step of a variable, by the operator that steps it.

@@ -1,10 +1,11 @@
 //! The nodes of a file's tree, from the root down.
 
 use crate::compiled::FileTrees;
-use crate::labels::{Scope, expression_label, statement_label, variable_label};
+use crate::labels::{Scope, add_expression, add_named, add_variable, statement_label};
 use crate::texts::text_of;
 use grammar::Var;
 use std::alloc::{AllocError, Global};
+use tools::{Draft, Text};
 use trees::{Expr, Function, Statement};
 
 /// A node of a tree.
@@ -50,9 +51,12 @@ impl Nodes {
             alloc,
             nodes: Vec::new(alloc),
         };
-        let root = nodes.add(0, String::from_str(alloc, "file")?)?;
+        let mut label = Draft::new(alloc);
+        label.add("file");
+        let root = nodes.add(0, label)?;
         for (number, name) in grown.names.externals().iter().enumerate() {
-            let label = format!(in alloc; "external E{number} ({})", text_of(name))?;
+            let mut label = Draft::new(alloc);
+            add_named(&mut label, "external E", number as u64, text_of(name));
             nodes.add(root, label)?;
         }
         for function in grown.maker.functions() {
@@ -67,14 +71,14 @@ impl Nodes {
     }
 
     /// Adds a node below another one. Returns its index.
-    fn add(&mut self, parent: usize, label: String) -> Result<usize, AllocError> {
+    fn add(&mut self, parent: usize, label: Draft) -> Result<usize, AllocError> {
         let depth = match self.nodes.get(parent) {
             Some(above) => above.depth.saturating_add(1),
             None => 0,
         };
         let index = self.nodes.len();
         self.nodes.push(Node {
-            label,
+            label: label.finish()?,
             parent,
             depth,
         })?;
@@ -93,7 +97,13 @@ impl Nodes {
             return Ok(());
         };
         let scope = Scope::new(&grown.names, function);
-        let label = format!(in self.alloc; "function {number} ({})", text_of(function.name()))?;
+        let mut label = Draft::new(self.alloc);
+        add_named(
+            &mut label,
+            "function ",
+            u64::from(number),
+            text_of(function.name()),
+        );
         let node = self.add(root, label)?;
         for variable in 0..tree.variables {
             let word = if variable < tree.parameters {
@@ -101,7 +111,8 @@ impl Nodes {
             } else {
                 "local"
             };
-            let label = variable_label(self.alloc, &scope, word, Var::Local(variable))?;
+            let mut label = Draft::new(self.alloc);
+            add_variable(&mut label, &scope, word, Var::Local(variable));
             self.add(node, label)?;
         }
         self.add_statements(node, &scope, tree.body.as_slice())
@@ -123,7 +134,8 @@ impl Nodes {
             let Some(Pending { part, parent }) = agenda.left.pop() else {
                 break;
             };
-            let label = label_of(self.alloc, scope, part)?;
+            let mut label = Draft::new(self.alloc);
+            add_label(&mut label, scope, part);
             agenda.parent = self.add(parent, label)?;
             agenda.push_below(part)?;
         }
@@ -131,12 +143,12 @@ impl Nodes {
     }
 }
 
-/// Returns the label of a part.
-fn label_of(alloc: Global, scope: &Scope<'_>, part: Part<'_>) -> Result<String, AllocError> {
+/// Adds the label of a part.
+fn add_label(label: &mut Draft, scope: &Scope<'_>, part: Part<'_>) {
     match part {
-        Part::Body(word, _) => String::from_str(alloc, word),
-        Part::Statement(statement) => String::from_str(alloc, statement_label(statement)),
-        Part::Expression(expression) => expression_label(alloc, scope, expression),
+        Part::Body(word, _) => label.add(word),
+        Part::Statement(statement) => label.add(statement_label(statement)),
+        Part::Expression(expression) => add_expression(label, scope, expression),
     }
 }
 

@@ -7,7 +7,7 @@ use crate::origins::Origins;
 use crate::spelling::{beginning_at, instruction_at, name_at};
 use crate::texts::{ascii, lines_of, shown, text_of};
 use std::alloc::{AllocError, Global};
-use tools::Compiled;
+use tools::{Compiled, Draft, Text};
 
 /// How many colours there are.
 const COLOURS: usize = 12;
@@ -21,35 +21,48 @@ pub fn page(
     origins: &Origins,
 ) -> Result<String, AllocError> {
     let name = shown(alloc, name.as_bytes())?;
-    let mut text = String::from_str(alloc, BEFORE_TITLE)?;
-    add_escaped(&mut text, name.as_str())?;
-    text.push_str(LOOK)?;
-    add_colours(&mut text, origins)?;
-    text.push_str(BEFORE_NAME)?;
-    add_escaped(&mut text, name.as_str())?;
-    text.push_str(BEFORE_SOURCE)?;
+    let mut text = Draft::new(alloc);
+    text.add(BEFORE_TITLE);
+    add_escaped(&mut text, name.as_str());
+    text.add(LOOK);
+    add_colours(&mut text, origins);
+    text.add(BEFORE_NAME);
+    add_escaped(&mut text, name.as_str());
+    text.add(BEFORE_SOURCE);
     add_source(&mut text, alloc, source, origins)?;
-    text.push_str(BEFORE_CODE)?;
+    text.add(BEFORE_CODE);
     for address in 0..made.program.instructions().len() {
-        add_begin(&mut text, made, address)?;
-        add_instruction(&mut text, made, origins, address)?;
+        add_begin(&mut text, made, address);
+        add_instruction(&mut text, alloc, made, origins, address)?;
     }
-    text.push_str(TAIL)?;
-    Ok(text)
+    text.add(TAIL);
+    text.finish()
+}
+
+/// Adds words, and a number.
+fn add_number(text: &mut Draft, words: &str, number: usize) {
+    text.add(words);
+    text.number(number as u64);
+}
+
+/// Adds words, and the number of a line.
+fn add_line(text: &mut Draft, words: &str, line: u32) {
+    text.add(words);
+    text.number(u64::from(line));
 }
 
 /// Adds the colours, by their hue, and for each line that its rows are marked together.
-fn add_colours(text: &mut String, origins: &Origins) -> Result<(), AllocError> {
+fn add_colours(text: &mut Draft, origins: &Origins) {
     for colour in 0..COLOURS {
-        write!(text, ".k{colour} {{ --h: {}; }}\n", hue(colour))?;
+        add_number(text, ".k", colour);
+        add_number(text, " { --h: ", hue(colour));
+        text.add("; }\n");
     }
     for line in origins.distinct() {
-        write!(
-            text,
-            "main:has(.l{line}:hover) .l{line} {{ background: hsl(var(--h) 60% var(--strong)); }}\n"
-        )?;
+        add_line(text, "main:has(.l", *line);
+        add_line(text, ":hover) .l", *line);
+        text.add(" { background: hsl(var(--h) 60% var(--strong)); }\n");
     }
-    Ok(())
 }
 
 /// Returns the hue of a colour, in degrees: the next colour is five twelfths of the circle away.
@@ -61,77 +74,90 @@ fn hue(colour: usize) -> usize
 
 /// Adds the lines of the source.
 fn add_source(
-    text: &mut String,
+    text: &mut Draft,
     alloc: Global,
     source: &[u8],
     origins: &Origins,
 ) -> Result<(), AllocError> {
     for (index, line) in lines_of(alloc, source)?.iter().enumerate() {
         let number = u32::try_from(index).unwrap_or(u32::MAX).saturating_add(1);
-        add_number(text, origins, number)?;
-        add_escaped(text, shown(alloc, line)?.as_str())?;
-        text.push_str("</div>\n")?;
+        add_begin_of_line(text, origins, number);
+        add_escaped(text, shown(alloc, line)?.as_str());
+        text.add("</div>\n");
     }
     Ok(())
 }
 
 /// Adds the begin of a line's row: its number, which leads to the first instruction that comes from it.
-fn add_number(text: &mut String, origins: &Origins, number: u32) -> Result<(), AllocError> {
-    let Some((_, address)) = origins.of_line(number).first() else {
-        return write!(text, "<div id=\"s{number}\"><i class=\"n\">{number}</i>");
-    };
-    let colour = origins.rank(number) % COLOURS;
-    write!(
-        text,
-        "<div class=\"k k{colour} l{number}\" id=\"s{number}\"><a href=\"#c{address}\">{number}</a>"
-    )
+fn add_begin_of_line(text: &mut Draft, origins: &Origins, number: u32) {
+    match origins.of_line(number) {
+        [(_, address), ..] => {
+            add_colour(text, origins, number);
+            add_line(text, " id=\"s", number);
+            add_number(text, "\"><a href=\"#c", *address);
+            add_line(text, "\">", number);
+            text.add("</a>");
+        }
+        [] => {
+            add_line(text, "<div id=\"s", number);
+            add_line(text, "\"><i class=\"n\">", number);
+            text.add("</i>");
+        }
+    }
+}
+
+/// Adds the begin of a row in the colour of a line.
+fn add_colour(text: &mut Draft, origins: &Origins, line: u32) {
+    add_number(text, "<div class=\"k k", origins.rank(line) % COLOURS);
+    add_line(text, " l", line);
+    text.add("\"");
 }
 
 /// Adds the name of the function that begins at an address, if one does.
-fn add_begin(text: &mut String, made: &Compiled, address: usize) -> Result<(), AllocError> {
+fn add_begin(text: &mut Draft, made: &Compiled, address: usize) {
     let Some(number) = beginning_at(made.program.addresses(), address) else {
-        return Ok(());
+        return;
     };
-    let Some(function) = made.names.functions().get(number) else {
-        return Ok(());
-    };
-    write!(
-        text,
-        "<div class=\"f\">{}</div>\n",
-        text_of(function.name())
-    )
+    if let Some(function) = made.names.functions().get(number) {
+        text.add("<div class=\"f\">");
+        text.add(text_of(function.name()));
+        text.add("</div>\n");
+    }
 }
 
 /// Adds the row of an instruction: the line that it comes from, its address, itself, and the name that it speaks of.
 fn add_instruction(
-    text: &mut String,
+    text: &mut Draft,
+    alloc: Global,
     made: &Compiled,
     origins: &Origins,
     address: usize,
 ) -> Result<(), AllocError> {
-    let Some(bytes) = instruction_at(*text.allocator(), &made.program, address)? else {
+    let Some(bytes) = instruction_at(alloc, &made.program, address)? else {
         return Ok(());
     };
     let number = origins.line(address).unwrap_or(0);
-    let colour = origins.rank(number) % COLOURS;
-    write!(
-        text,
-        "<div class=\"k k{colour} l{number}\" id=\"c{address}\"><a href=\"#s{number}\">{number}</a><i class=\"n\">{address}</i><b>"
-    )?;
-    add_escaped(text, ascii(bytes.as_slice()))?;
-    let name = name_at(made, address).unwrap_or("");
-    write!(text, "</b><i>{name}</i></div>\n")
+    add_colour(text, origins, number);
+    add_number(text, " id=\"c", address);
+    add_line(text, "\"><a href=\"#s", number);
+    add_line(text, "\">", number);
+    add_number(text, "</a><i class=\"n\">", address);
+    text.add("</i><b>");
+    add_escaped(text, ascii(bytes.as_slice()));
+    text.add("</b><i>");
+    text.add(name_at(made, address).unwrap_or(""));
+    text.add("</i></div>\n");
+    Ok(())
 }
 
 /// Adds a text, with the characters that mean something in HTML replaced.
-fn add_escaped(text: &mut String, plain: &str) -> Result<(), AllocError> {
+fn add_escaped(text: &mut Draft, plain: &str) {
     for character in plain.chars() {
         match character {
-            '&' => text.push_str("&amp;")?,
-            '<' => text.push_str("&lt;")?,
-            '>' => text.push_str("&gt;")?,
-            _ => text.push(character)?,
+            '&' => text.add("&amp;"),
+            '<' => text.add("&lt;"),
+            '>' => text.add("&gt;"),
+            _ => text.push(character),
         }
     }
-    Ok(())
 }

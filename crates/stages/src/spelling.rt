@@ -66,9 +66,12 @@ fn variable_at(made: &Compiled, address: usize, variable: Var) -> Option<&str> {
 
 /// Returns the number of the function that begins at an address.
 pub fn beginning_at(addresses: &[u16], address: usize) -> Option<usize> {
-    addresses
-        .iter()
-        .position(|begin| usize::from(*begin) == address)
+    for (number, begin) in addresses.iter().enumerate() {
+        if usize::from(*begin) == address {
+            return Some(number);
+        }
+    }
+    None
 }
 
 /// Returns the number of the function to which an address belongs: of those that begin there or before, the one that

@@ -1,36 +1,46 @@
 //! Questions: a row for each call of an intrinsic function.
 
 use crate::notes::{Note, place_of};
+use crate::rows::add_turn;
 use playing::{Pilot, Question, Turn};
-use std::alloc::AllocError;
+use tools::{Draft, Text, add_signed};
 
 /// The names of the columns.
 pub const ASK_COLUMNS: &str = "cycle\trobot\tfunction\tline\tcall\treply";
 
 /// Adds the row of a question.
 pub fn add_ask(
-    text: &mut String,
+    text: &mut Draft,
     notes: &[Note],
     turn: Turn,
     pilot: &Pilot<'_>,
     question: &Question,
-) -> Result<(), AllocError> {
-    let (cycle, robot) = (turn.cycle, turn.robot.saturating_add(1));
+) {
     let address = pilot.machine().address();
     let (line, function) = place_of(notes, turn.robot, pilot.program(), address);
-    write!(text, "{cycle}\t{robot}\t{function}\t{line}\t")?;
-    add_call(text, question)?;
-    let reply = question.reply;
-    write!(text, "\t{reply}\n")
+    add_turn(text, turn);
+    text.add(function);
+    text.add("\t");
+    text.number(u64::from(line));
+    text.add("\t");
+    add_call(text, question);
+    text.add("\t");
+    add_signed(text, i64::from(question.reply));
+    text.add("\n");
 }
 
 /// Adds a call with the arguments that are used.
-fn add_call(text: &mut String, question: &Question) -> Result<(), AllocError> {
-    let name = question.intrinsic.name();
+fn add_call(text: &mut Draft, question: &Question) {
     let [first, second] = question.arguments;
-    match question.intrinsic.arguments() {
-        0 => write!(text, "{name}()"),
-        1 => write!(text, "{name}({first})"),
-        _ => write!(text, "{name}({first}, {second})"),
+    let used = question.intrinsic.arguments();
+    text.add(question.intrinsic.name());
+    text.add("(");
+    if used > 0 {
+        add_signed(text, i64::from(first));
     }
+    if used > 1 {
+        text.add(", ");
+        add_signed(text, i64::from(second));
+    }
+    text.add(")");
 }

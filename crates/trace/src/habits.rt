@@ -4,8 +4,9 @@ use crate::items::Items;
 use crate::subjects::Subject;
 use crate::tallies::{Calls, Deed, Tally};
 use code::Intrinsic;
-use findings::{DIRECTION_DEGREES, DIRECTIONS, Streak};
+use findings::{DIRECTION_DEGREES, DIRECTIONS, Streak, largest};
 use std::alloc::AllocError;
+use tools::{Draft, Text, add_left, add_right, add_signed};
 
 /// A streak is told if it took this part of a robot's cycles.
 const TOLD_PART: u64 = 10;
@@ -21,7 +22,7 @@ const DEEDS: [(Deed, &str); 3] = [
 ];
 
 /// Adds the longest streak of calls from one place, if it took much of the robot's time.
-pub fn add_streak(text: &mut String, subject: &Subject<'_>) -> Result<(), AllocError> {
+pub fn add_streak(text: &mut Draft, subject: &Subject<'_>) -> Result<(), AllocError> {
     let tally = subject.tally;
     let Some(streak) = tally.longest else {
         return Ok(());
@@ -31,41 +32,55 @@ pub fn add_streak(text: &mut String, subject: &Subject<'_>) -> Result<(), AllocE
         return Ok(());
     }
     let mut items = Items::new("in a row", text);
-    add_place(items.begin()?, &streak, subject)?;
-    let item = items.begin()?;
-    write!(item, "cycles {} to {}", streak.first.cycle, streak.last)?;
-    add_replies(items.begin()?, "reply ", Some([streak.least, streak.most]))?;
+    add_place(items.begin(), &streak, subject);
+    add_span(items.begin(), streak.first.cycle, streak.last);
+    add_replies(items.begin(), "reply ", Some([streak.least, streak.most]));
     items.end(text)
 }
 
 /// Adds how many calls a streak has, of what, and where.
-fn add_place(text: &mut String, streak: &Streak, subject: &Subject<'_>) -> Result<(), AllocError> {
-    let (count, name) = (streak.count, streak.first.intrinsic.name());
+fn add_place(text: &mut Draft, streak: &Streak, subject: &Subject<'_>) {
     let (line, function) = subject.place(streak.first.address);
-    write!(text, "{count} {name} in line {line} of {function}")
+    text.number(u64::from(streak.count));
+    text.add(" ");
+    text.add(streak.first.intrinsic.name());
+    text.add(" in line ");
+    text.number(u64::from(line));
+    text.add(" of ");
+    text.add(function);
+}
+
+/// Adds the first and the last of some cycles.
+fn add_span(text: &mut Draft, first: u32, last: u32) {
+    text.add("cycles ");
+    text.number(u64::from(first));
+    text.add(" to ");
+    text.number(u64::from(last));
 }
 
 /// Adds a robot's calls of intrinsic functions.
-pub fn add_calls(text: &mut String, tally: &Tally) -> Result<(), AllocError> {
+pub fn add_calls(text: &mut Draft, tally: &Tally) -> Result<(), AllocError> {
     let mut items = Items::new("calls", text);
     for calls in tally.calls.iter() {
         if let Some(intrinsic) = calls.intrinsic {
-            let item = items.begin()?;
-            write!(item, "{} {}", calls.all, intrinsic.name())?;
-            add_answers(item, intrinsic, calls)?;
+            let item = items.begin();
+            item.number(calls.all);
+            item.add(" ");
+            item.add(intrinsic.name());
+            add_answers(item, intrinsic, calls);
         }
     }
     items.end(text)
 }
 
 /// Adds what the field answered calls of a function.
-fn add_answers(text: &mut String, intrinsic: Intrinsic, calls: &Calls) -> Result<(), AllocError> {
+fn add_answers(text: &mut Draft, intrinsic: Intrinsic, calls: &Calls) {
     match intrinsic {
-        Intrinsic::Drive => return Ok(()),
-        Intrinsic::Cannon => write!(text, " ({} refused", calls.zero)?,
+        Intrinsic::Drive => return,
+        Intrinsic::Cannon => add_zero(text, calls, " refused"),
         Intrinsic::Scan => {
-            write!(text, " ({} saw nobody", calls.zero)?;
-            add_replies(text, ", else ", calls.replies)?;
+            add_zero(text, calls, " saw nobody");
+            add_replies(text, ", else ", calls.replies);
         }
         Intrinsic::Damage
         | Intrinsic::Speed
@@ -76,70 +91,75 @@ fn add_answers(text: &mut String, intrinsic: Intrinsic, calls: &Calls) -> Result
         | Intrinsic::Sin
         | Intrinsic::Cos
         | Intrinsic::Tan
-        | Intrinsic::Atan => add_replies(text, " (", calls.replies)?,
+        | Intrinsic::Atan => add_replies(text, " (", calls.replies),
     }
-    text.push(')')
+    text.add(")");
+}
+
+/// Adds how many calls had the reply 0, and what that means.
+fn add_zero(text: &mut Draft, calls: &Calls, what: &str) {
+    text.add(" (");
+    text.number(calls.zero);
+    text.add(what);
 }
 
 /// Adds the least and the greatest reply after some words, one if they are the same: nothing if there are none.
-fn add_replies(
-    text: &mut String,
-    before: &str,
-    replies: Option<[i32; 2]>,
-) -> Result<(), AllocError> {
+fn add_replies(text: &mut Draft, before: &str, replies: Option<[i32; 2]>) {
     let Some(span) = replies else {
-        return Ok(());
+        return;
     };
     let [least, most] = span;
-    write!(text, "{before}{least}")?;
+    text.add(before);
+    add_signed(text, i64::from(least));
     if least < most {
-        write!(text, " to {most}")?;
+        text.add(" to ");
+        add_signed(text, i64::from(most));
     }
-    Ok(())
 }
 
 /// Adds how often a robot saw others, shot and asked to drive in each direction.
-pub fn add_directions(text: &mut String, tally: &Tally) -> Result<(), AllocError> {
+pub fn add_directions(text: &mut Draft, tally: &Tally) {
     let mut has_head = false;
     for (deed, name) in DEEDS {
         let Some(counts) = tally.deeds.get(deed as usize) else {
             continue;
         };
-        if counts.iter().all(|count| *count == 0) {
+        if largest(counts).is_none() {
             continue;
         }
         if !has_head {
-            add_degrees(text)?;
+            add_degrees(text);
             has_head = true;
         }
-        add_counts(text, name, counts)?;
+        add_counts(text, name, counts);
     }
-    Ok(())
 }
 
 /// Adds the degrees of the directions.
-fn add_degrees(text: &mut String) -> Result<(), AllocError> {
-    text.push_str("   degrees    ")?;
+fn add_degrees(text: &mut Draft) {
+    text.add("   degrees    ");
     for direction in 0..DIRECTIONS {
-        write!(text, "{:>8}", direction * DIRECTION_DEGREES)?;
+        add_right(text, (direction * DIRECTION_DEGREES) as u64, 8);
     }
-    text.push('\n')
+    text.add("\n");
 }
 
 /// Adds a count for each direction.
-fn add_counts(text: &mut String, name: &str, counts: &[u64]) -> Result<(), AllocError> {
-    write!(text, "     {name:<9}")?;
+fn add_counts(text: &mut Draft, name: &str, counts: &[u64]) {
+    text.add("     ");
+    add_left(text, name, 9);
     for count in counts {
-        add_count(text, *count)?;
+        add_count(text, *count);
     }
-    text.push('\n')
+    text.add("\n");
 }
 
 /// Adds a count after a blank at least, in eight columns: in thousands if it has no room else.
-fn add_count(text: &mut String, count: u64) -> Result<(), AllocError> {
+fn add_count(text: &mut Draft, count: u64) {
     if count < LEAST_THOUSANDS {
-        write!(text, "{count:>8}")
+        add_right(text, count, 8);
     } else {
-        write!(text, "{:>7}k", count / 1000)
+        add_right(text, count / 1000, 7);
+        text.add("k");
     }
 }

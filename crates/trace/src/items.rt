@@ -1,6 +1,7 @@
 //! The items of a line of a report.
 
 use std::alloc::AllocError;
+use tools::{Draft, Text, add_left};
 
 /// The most characters of a line.
 pub const MOST_COLUMNS: usize = 80;
@@ -16,67 +17,68 @@ const NEXT_LINE: &str = "\n              ";
 pub struct Items {
     label: &'static str,
     /// All items, each but the last with its comma and a line end.
-    all: String,
+    all: Draft,
 }
 
 impl Items {
     /// Makes the items of a line with this label, without any so far. The line belongs to a report.
-    pub fn new(label: &'static str, report: &String) -> Items {
+    pub fn new(label: &'static str, report: &Draft) -> Items {
         Items {
             label,
-            all: String::new(*report.allocator()),
+            all: Draft::new(report.alloc()),
         }
     }
 
     /// Begins an item, and returns the text that it is added to.
-    pub fn begin(&mut self) -> Result<&mut String, AllocError> {
+    pub fn begin(&mut self) -> &mut Draft {
         if !self.all.is_empty() {
-            self.all.push_str(",\n")?;
+            self.all.add(",\n");
         }
-        Ok(&mut self.all)
+        &mut self.all
     }
 
-    /// Adds the line to a report. Nothing is added if it has no items.
-    pub fn end(self, report: &mut String) -> Result<(), AllocError> {
-        if self.all.is_empty() {
+    /// Adds the line to a report. Nothing is added if it has no items. The only error is that memory was refused as an item
+    /// was added.
+    pub fn end(self, report: &mut Draft) -> Result<(), AllocError> {
+        let all = self.all.finish()?;
+        if all.is_empty() {
             return Ok(());
         }
-        let label = self.label;
-        write!(report, "   {label:<11}")?;
+        report.add("   ");
+        add_left(report, self.label, 11);
         let mut column = INDENT;
-        for item in self.all.as_str().split('\n') {
-            column = add_item(report, item, column)?;
+        for item in all.as_str().split('\n') {
+            column = add_item(report, item, column);
         }
-        report.push('\n')
+        report.add("\n");
+        Ok(())
     }
 }
 
 /// Adds an item after this column. One that is too long for any line is cut at its blanks. Returns the column after it.
-fn add_item(report: &mut String, item: &str, column: usize) -> Result<usize, AllocError> {
+fn add_item(report: &mut Draft, item: &str, column: usize) -> usize {
     if item.chars().count() <= MOST_COLUMNS - INDENT {
         return add_piece(report, item, column);
     }
     let mut after = column;
     for word in item.split(' ') {
-        after = add_piece(report, word, after)?;
+        after = add_piece(report, word, after);
     }
-    Ok(after)
+    after
 }
 
 /// Adds a piece after a blank, or in the next line if this one has no room for it. Returns the column after it.
-fn add_piece(report: &mut String, piece: &str, column: usize) -> Result<usize, AllocError> {
+fn add_piece(report: &mut Draft, piece: &str, column: usize) -> usize {
     let width = piece.chars().count();
     let after = column.saturating_add(1).saturating_add(width);
-    if column == INDENT {
-        report.push_str(piece)?;
-        Ok(INDENT.saturating_add(width))
-    } else if after <= MOST_COLUMNS {
-        report.push(' ')?;
-        report.push_str(piece)?;
-        Ok(after)
-    } else {
-        report.push_str(NEXT_LINE)?;
-        report.push_str(piece)?;
-        Ok(INDENT.saturating_add(width))
+    if column != INDENT && after <= MOST_COLUMNS {
+        report.add(" ");
+        report.add(piece);
+        return after;
     }
+    if column != INDENT {
+        report.add(NEXT_LINE);
+    }
+    report.add(piece);
+    INDENT.saturating_add(width)
 }

@@ -50,13 +50,28 @@ impl Note {
 
     /// Returns the bytes of the line of this number, from 1.
     pub fn text_of(&self, line: u32) -> &[u8] {
-        let before = (line as usize).saturating_sub(1);
-        self.text
-            .as_slice()
-            .split(|byte| *byte == b'\n')
-            .nth(before)
-            .unwrap_or(&[])
+        let mut rest = self.text.as_slice();
+        for _ in 1..line {
+            rest = behind_line(rest);
+        }
+        rest.get(..line_length(rest)).unwrap_or(&[])
     }
+}
+
+/// Returns what follows the first line of a text.
+fn behind_line(text: &[u8]) -> &[u8] {
+    text.get(line_length(text).saturating_add(1)..)
+        .unwrap_or(&[])
+}
+
+/// Returns how many bytes the first line of a text has, without its end.
+fn line_length(text: &[u8]) -> usize {
+    for (at, byte) in text.iter().enumerate() {
+        if *byte == b'\n' {
+            return at;
+        }
+    }
+    text.len()
 }
 
 /// Returns the note of a robot's file: a single file is both robots'.

@@ -10,8 +10,8 @@ use crate::tallies::{Tally, add, take_largest};
 use code::Intrinsic;
 use findings::percent;
 use playing::Pilot;
-use std::alloc::AllocError;
-use std::str;
+use std::alloc::{AllocError, Global};
+use tools::{Draft, Text, add_right};
 
 /// How many lines of a source are told.
 const MOST_TOLD: usize = 10;
@@ -21,17 +21,20 @@ const TEXT_COLUMN: usize = 26;
 
 /// Adds the report: the match and how each robot ended, as crobots has it, and then each robot that is looked at.
 pub fn add_report(
-    text: &mut String,
+    text: &mut Draft,
     request: &Request<'_>,
     cycles: u32,
     notes: &[Note],
     pilots: &[Pilot<'_>],
     tallies: &[Tally],
 ) -> Result<(), AllocError> {
-    let number = request.wish.first();
-    write!(text, "Match {number}: cycles = {cycles}\n")?;
+    text.add("Match ");
+    text.number(u64::from(request.wish.first()));
+    text.add(": cycles = ");
+    text.number(u64::from(cycles));
+    text.add("\n");
     for (robot, tally) in tallies.iter().enumerate() {
-        add_end(text, robot, tally, name_of(notes, robot))?;
+        add_end(text, robot, tally, name_of(notes, robot));
     }
     for (robot, tally) in tallies.iter().enumerate() {
         if request.span.has_robot(robot)
@@ -59,24 +62,24 @@ fn name_of(notes: &[Note], robot: usize) -> &str {
 }
 
 /// Adds how a robot ended.
-fn add_end(text: &mut String, robot: usize, tally: &Tally, name: &str) -> Result<(), AllocError> {
-    let state = if tally.death.is_some() {
-        "dead "
+fn add_end(text: &mut Draft, robot: usize, tally: &Tally, name: &str) {
+    text.add("  ");
+    text.number(robot.saturating_add(1) as u64);
+    text.add(if tally.death.is_some() {
+        ") dead  damage "
     } else {
-        "alive"
-    };
-    let (number, damage) = (robot.saturating_add(1), tally.damage);
-    write!(text, "  {number}) {state} damage {damage:>3}% {name}\n")
+        ") alive damage "
+    });
+    add_right(text, u64::from(tally.damage), 3);
+    text.add("% ");
+    text.add(name);
+    text.add("\n");
 }
 
 /// Adds what is told of a robot.
-fn add_robot(text: &mut String, robot: usize, subject: &Subject<'_>) -> Result<(), AllocError> {
-    let (tally, number) = (subject.tally, robot.saturating_add(1));
-    write!(text, "\n{number}) {}", subject.note.name.as_str())?;
-    if let Some(cycle) = tally.death {
-        write!(text, ", dead after cycle {cycle}")?;
-    }
-    text.push('\n')?;
+fn add_robot(text: &mut Draft, robot: usize, subject: &Subject<'_>) -> Result<(), AllocError> {
+    let tally = subject.tally;
+    add_name(text, robot, subject);
     add_losses(text, robot, tally)?;
     add_taken(text, tally)?;
     add_shots(text, tally)?;
@@ -84,114 +87,127 @@ fn add_robot(text: &mut String, robot: usize, subject: &Subject<'_>) -> Result<(
     add_streak(text, subject)?;
     add_time(text, tally)?;
     add_calls(text, tally)?;
-    add_directions(text, tally)?;
+    add_directions(text, tally);
     add_functions(text, subject)?;
     add_lines(text, tally, subject.note)
 }
 
+/// Adds a robot's number and name, and when it was dead.
+fn add_name(text: &mut Draft, robot: usize, subject: &Subject<'_>) {
+    text.add("\n");
+    text.number(robot.saturating_add(1) as u64);
+    text.add(") ");
+    text.add(subject.note.name.as_str());
+    if let Some(cycle) = subject.tally.death {
+        text.add(", dead after cycle ");
+        text.number(u64::from(cycle));
+    }
+    text.add("\n");
+}
+
 /// Adds what was taken from a robot, and by what.
-fn add_losses(text: &mut String, robot: usize, tally: &Tally) -> Result<(), AllocError> {
+fn add_losses(text: &mut Draft, robot: usize, tally: &Tally) -> Result<(), AllocError> {
     let mut items = Items::new("lost", text);
     for (by, percent) in tally.shots.iter().enumerate() {
-        let number = by.saturating_add(1);
-        if *percent == 0 {
-            continue;
-        }
-        let item = items.begin()?;
         if by == robot {
-            write!(item, "{percent}% by its own shots")?;
-        } else {
-            write!(item, "{percent}% by shots of {number}")?;
+            add_share(&mut items, *percent, "% by its own shots");
+        } else if *percent > 0 {
+            let item = items.begin();
+            item.number(*percent);
+            item.add("% by shots of ");
+            item.number(by.saturating_add(1) as u64);
         }
     }
-    add_share(&mut items, tally.walls, "by walls")?;
-    add_share(&mut items, tally.collisions, "by collisions")?;
+    add_share(&mut items, tally.walls, "% by walls");
+    add_share(&mut items, tally.collisions, "% by collisions");
     items.end(text)
 }
 
 /// Adds a share of damage, if there is any.
-fn add_share(items: &mut Items, percent: u64, how: &str) -> Result<(), AllocError> {
-    if percent == 0 {
-        return Ok(());
+fn add_share(items: &mut Items, percent: u64, how: &str) {
+    if percent > 0 {
+        add_part(items, percent, how);
     }
-    let item = items.begin()?;
-    write!(item, "{percent}% {how}")
 }
 
 /// Adds what a robot's shots took from others.
-fn add_taken(text: &mut String, tally: &Tally) -> Result<(), AllocError> {
+fn add_taken(text: &mut Draft, tally: &Tally) -> Result<(), AllocError> {
     let mut items = Items::new("took", text);
     for (from, percent) in tally.taken.iter().enumerate() {
-        let number = from.saturating_add(1);
         if *percent > 0 {
-            let item = items.begin()?;
-            write!(item, "{percent}% from {number}")?;
+            let item = items.begin();
+            item.number(*percent);
+            item.add("% from ");
+            item.number(from.saturating_add(1) as u64);
         }
     }
     items.end(text)
 }
 
 /// Adds a robot's shots.
-fn add_shots(text: &mut String, tally: &Tally) -> Result<(), AllocError> {
+fn add_shots(text: &mut Draft, tally: &Tally) -> Result<(), AllocError> {
     let mut items = Items::new("shots", text);
     let calls = tally.calls_of(Intrinsic::Cannon);
     if calls.all > 0 {
-        add_part(&mut items, calls.all.saturating_sub(calls.zero), "fired")?;
-        add_part(&mut items, calls.zero, "refused")?;
-        add_part(&mut items, tally.bursts, "burst")?;
-        add_part(&mut items, tally.hits, "hit another robot")?;
+        add_part(&mut items, calls.all.saturating_sub(calls.zero), " fired");
+        add_part(&mut items, calls.zero, " refused");
+        add_part(&mut items, tally.bursts, " burst");
+        add_part(&mut items, tally.hits, " hit another robot");
     }
     items.end(text)
 }
 
-/// Adds how many of a robot's shots did what.
-fn add_part(items: &mut Items, count: u64, what: &str) -> Result<(), AllocError> {
-    let item = items.begin()?;
-    write!(item, "{count} {what}")
+/// Adds an item of a number, and of what there are so many.
+fn add_part(items: &mut Items, count: u64, what: &str) {
+    let item = items.begin();
+    item.number(count);
+    item.add(what);
 }
 
 /// Adds what a robot's cycles were for.
-fn add_time(text: &mut String, tally: &Tally) -> Result<(), AllocError> {
+fn add_time(text: &mut Draft, tally: &Tally) -> Result<(), AllocError> {
     let shares = &tally.shares;
     let all = tally.cycles();
     let others = [
-        (shares.scanning, "to scan"),
-        (shares.shooting, "to shoot"),
-        (shares.sums.saturating_add(shares.open_cycles), "else"),
+        (shares.scanning, "% to scan"),
+        (shares.shooting, "% to shoot"),
+        (shares.sums.saturating_add(shares.open_cycles), "% else"),
     ];
     let mut items = Items::new("time", text);
-    let item = items.begin()?;
-    write!(
-        item,
-        "{all} cycles: {}% to move",
-        percent(shares.moving, all)
-    )?;
+    let item = items.begin();
+    item.number(all);
+    item.add(" cycles: ");
+    item.number(percent(shares.moving, all));
+    item.add("% to move");
     for (cycles, what) in others {
-        let item = items.begin()?;
-        write!(item, "{}% {what}", percent(cycles, all))?;
+        add_part(&mut items, percent(cycles, all), what);
     }
     items.end(text)
 }
 
 /// Adds the cycles of each function, and their share in all of the robot's.
-fn add_functions(text: &mut String, subject: &Subject<'_>) -> Result<(), AllocError> {
+fn add_functions(text: &mut Draft, subject: &Subject<'_>) -> Result<(), AllocError> {
     let mut items = Items::new("functions", text);
-    let mut counts = cycles_by_function(text, subject)?;
+    let mut counts = cycles_by_function(text.alloc(), subject)?;
     let all = subject.tally.cycles();
     for _ in subject.program.addresses() {
         let Some((number, cycles)) = take_largest(counts.as_mut_slice()) else {
             break;
         };
-        let (name, share) = (subject.note.function_name(number), percent(cycles, all));
-        let item = items.begin()?;
-        write!(item, "{cycles} {name} ({share}%)")?;
+        let item = items.begin();
+        item.number(cycles);
+        item.add(" ");
+        item.add(subject.note.function_name(number));
+        item.add(" (");
+        item.number(percent(cycles, all));
+        item.add("%)");
     }
     items.end(text)
 }
 
 /// Returns the cycles of each function of a robot's program.
-fn cycles_by_function(text: &String, subject: &Subject<'_>) -> Result<Vec<u64>, AllocError> {
-    let mut counts = Vec::new(*text.allocator());
+fn cycles_by_function(alloc: Global, subject: &Subject<'_>) -> Result<Vec<u64>, AllocError> {
+    let mut counts = Vec::new(alloc);
     for _ in subject.program.addresses() {
         counts.push(0)?;
     }
@@ -206,17 +222,19 @@ fn cycles_by_function(text: &String, subject: &Subject<'_>) -> Result<Vec<u64>, 
 }
 
 /// Adds the lines that took most cycles.
-fn add_lines(text: &mut String, tally: &Tally, note: &Note) -> Result<(), AllocError> {
-    let (lines, mut counts) = cycles_by_line(text, tally, note)?;
+fn add_lines(text: &mut Draft, tally: &Tally, note: &Note) -> Result<(), AllocError> {
+    let (lines, mut counts) = cycles_by_line(text.alloc(), tally, note)?;
     let all = tally.cycles();
-    text.push_str("   line      cycles    %  text\n")?;
+    text.add("   line      cycles    %  text\n");
     for _ in 0..MOST_TOLD {
         let Some((n, cycles)) = take_largest(counts.as_mut_slice()) else {
             break;
         };
         let line = lines.get(n).copied().unwrap_or(0);
-        let share = percent(cycles, all);
-        write!(text, "{line:>7}{cycles:>12}{share:>5}  ")?;
+        add_right(text, u64::from(line), 7);
+        add_right(text, cycles, 12);
+        add_right(text, percent(cycles, all), 5);
+        text.add("  ");
         add_source(text, note.text_of(line))?;
     }
     Ok(())
@@ -224,12 +242,12 @@ fn add_lines(text: &mut String, tally: &Tally, note: &Note) -> Result<(), AllocE
 
 /// Returns the lines that instructions come from, and the cycles of each.
 fn cycles_by_line(
-    text: &String,
+    alloc: Global,
     tally: &Tally,
     note: &Note,
 ) -> Result<(Vec<u32>, Vec<u64>), AllocError> {
-    let mut lines = Vec::new(*text.allocator());
-    let mut counts = Vec::new(*text.allocator());
+    let mut lines = Vec::new(alloc);
+    let mut counts = Vec::new(alloc);
     for (address, spot) in tally.spots.iter().enumerate() {
         let line = note.line(address);
         let n = position(lines.as_slice(), line);
@@ -253,10 +271,11 @@ fn position(lines: &[u32], line: u32) -> usize {
 }
 
 /// Adds the begin of a line of a source, without the blanks before it.
-fn add_source(text: &mut String, bytes: &[u8]) -> Result<(), AllocError> {
-    let line = plain(*text.allocator(), bytes)?;
+fn add_source(text: &mut Draft, bytes: &[u8]) -> Result<(), AllocError> {
+    let line = plain(text.alloc(), bytes)?;
     for c in line.trim().chars().take(MOST_COLUMNS - TEXT_COLUMN) {
-        text.push(c)?;
+        text.push(c);
     }
-    text.push('\n')
+    text.add("\n");
+    Ok(())
 }

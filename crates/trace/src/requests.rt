@@ -13,7 +13,7 @@ pub const FORM_OPTIONS: [Known; 5] = [
 ];
 
 /// In which form a match is told.
-#[derive(Clone, Copy, Debug, PartialEq, Eq)]
+#[derive(Clone, Copy, PartialEq, Eq)]
 pub enum Form {
     /// Sums of each robot.
     Sum,

@@ -5,13 +5,14 @@ use crate::notes::Note;
 use crate::subjects::Subject;
 use crate::tallies::{add, take_largest};
 use code::{Cause, Frame};
-use std::alloc::AllocError;
+use std::alloc::{AllocError, Global};
+use tools::{Draft, Text};
 
 /// How many places of restarts are told.
 const MOST_TOLD: usize = 10;
 
 /// Open calls from one place of a program.
-#[derive(Clone, Copy, Debug, PartialEq, Eq, Drop)]
+#[derive(Clone, Copy, Drop)]
 pub struct Crowd {
     /// The address of the call.
     pub address: usize,
@@ -50,21 +51,21 @@ fn calls_to(frames: &[Frame], back: u16) -> usize {
 
 /// Adds where and why a robot restarted, the most frequent places first. Those in one line of a function for one cause are
 /// one.
-pub fn add_restarts(text: &mut String, subject: &Subject<'_>) -> Result<(), AllocError> {
+pub fn add_restarts(text: &mut Draft, subject: &Subject<'_>) -> Result<(), AllocError> {
     let mut items = Items::new("restarts", text);
-    let mut counts = restarts_by_place(text, subject)?;
+    let mut counts = restarts_by_place(text.alloc(), subject)?;
     for _ in 0..MOST_TOLD {
         let Some((address, count)) = take_largest(counts.as_mut_slice()) else {
             break;
         };
-        add_restart(items.begin()?, address, count, subject)?;
+        add_restart(items.begin(), address, count, subject);
     }
     items.end(text)
 }
 
 /// Returns how often a robot restarted at each address: what is alike counts for the first address of it.
-fn restarts_by_place(text: &String, subject: &Subject<'_>) -> Result<Vec<u64>, AllocError> {
-    let mut counts = Vec::new(*text.allocator());
+fn restarts_by_place(alloc: Global, subject: &Subject<'_>) -> Result<Vec<u64>, AllocError> {
+    let mut counts = Vec::new(alloc);
     for (address, spot) in subject.tally.spots.iter().enumerate() {
         counts.push(0)?;
         if spot.restarts > 0 {
@@ -97,37 +98,32 @@ fn place_and_cause(address: usize, subject: &Subject<'_>) -> (u32, usize, Option
 }
 
 /// Adds so many restarts at an address.
-fn add_restart(
-    item: &mut String,
-    address: usize,
-    count: u64,
-    subject: &Subject<'_>,
-) -> Result<(), AllocError> {
+fn add_restart(item: &mut Draft, address: usize, count: u64, subject: &Subject<'_>) {
     let Some(spot) = subject.tally.spots.get(address) else {
-        return Ok(());
+        return;
     };
-    let why = reason(spot.cause);
     let (line, function) = subject.place(address);
-    write!(item, "{count} in line {line} of {function}: {why}")?;
-    match spot.crowd {
-        Some(crowd) => add_crowd(item, spot.cause, &crowd, subject.note),
-        None => Ok(()),
+    item.number(count);
+    item.add(" in line ");
+    item.number(u64::from(line));
+    item.add(" of ");
+    item.add(function);
+    item.add(": ");
+    item.add(reason(spot.cause));
+    if let Some(crowd) = spot.crowd {
+        add_crowd(item, spot.cause, &crowd, subject.note);
     }
 }
 
 /// Adds how many of the open calls were from one line.
-fn add_crowd(
-    item: &mut String,
-    cause: Option<Cause>,
-    crowd: &Crowd,
-    note: &Note,
-) -> Result<(), AllocError> {
-    let (calls, line) = (crowd.calls, note.line(crowd.address));
-    if cause == Some(Cause::Frames) {
-        write!(item, ", {calls} from line {line}")
-    } else {
-        write!(item, ", {calls} calls open from line {line}")
-    }
+fn add_crowd(item: &mut Draft, cause: Option<Cause>, crowd: &Crowd, note: &Note) {
+    item.add(", ");
+    item.number(crowd.calls as u64);
+    item.add(match cause {
+        Some(Cause::Frames) => " from line ",
+        _ => " calls open from line ",
+    });
+    item.number(u64::from(note.line(crowd.address)));
 }
 
 /// Returns the words for the cause of a restart.

@@ -3,7 +3,7 @@
 use findings::{Event, Field, MOST_FIELDS};
 use playing::Turn;
 use std::alloc::AllocError;
-use tools::{Fault, Output, Span};
+use tools::{Draft, Fault, Output, Span, Text, add_signed};
 
 /// Rows of what is looked at, which are written on standard output. After a fault nothing more is written, and `finish`
 /// answers it.
@@ -13,7 +13,7 @@ pub struct Rows<'a> {
     /// What is looked at.
     pub span: Span,
     output: Output,
-    pending: String,
+    pending: Draft,
     fault: Option<Fault>,
 }
 
@@ -24,11 +24,12 @@ impl<'a> Rows<'a> {
             rt,
             span,
             output: Output::new(rt.alloc()),
-            pending: String::new(rt.alloc()),
+            pending: Draft::new(rt.alloc()),
             fault: None,
         };
-        let added = added_line(rows.output.text(), columns);
-        rows.note(added.map_err(Fault::from));
+        rows.pending.add(columns);
+        rows.pending.add("\n");
+        rows.move_rows();
         rows
     }
 
@@ -39,32 +40,33 @@ impl<'a> Rows<'a> {
 
     /// Adds a row of an event: its cycle, its robot, its kind, and its fields.
     pub fn event(&mut self, cycle: u32, robot: usize, event: &Event<'_>) {
-        let added = added_event(&mut self.pending, Turn { cycle, robot }, event);
-        self.note(added.map_err(Fault::from));
+        add_event(&mut self.pending, Turn { cycle, robot }, event);
     }
 
     /// Adds a row of an event in front of those that were added since the last `pass`.
     pub fn event_before(&mut self, cycle: u32, robot: usize, event: &Event<'_>) {
-        let added = added_event(self.output.text(), Turn { cycle, robot }, event);
-        self.note(added.map_err(Fault::from));
+        let mut row = Draft::new(self.rt.alloc());
+        add_event(&mut row, Turn { cycle, robot }, event);
+        let moved = row.move_behind(self.output.text());
+        self.note(moved);
     }
 
     /// Returns the text that further rows are added to.
-    pub fn text(&mut self) -> &mut String {
+    pub fn text(&mut self) -> &mut Draft {
         &mut self.pending
     }
 
-    /// Passes on a row that was added to the text, if there was memory for it.
-    pub fn end_row(&mut self, added: Result<(), AllocError>) {
-        self.note(added.map_err(Fault::from));
-        self.pass();
+    /// Notes that memory was refused, if it was.
+    pub fn note(&mut self, done: Result<(), AllocError>) {
+        if done.is_err() && self.fault.is_none() {
+            self.fault = Some(Fault::Memory);
+        }
     }
 
-    /// Notes a fault, the first of several.
-    fn note(&mut self, done: Result<(), Fault>) {
-        if let Err(fault) = done {
-            self.fault = self.fault.or(Some(fault));
-        }
+    /// Moves the rows that were added behind those before.
+    fn move_rows(&mut self) {
+        let moved = self.pending.move_behind(self.output.text());
+        self.note(moved);
     }
 
     /// Passes the rows on that were added, and writes them if they are many.
@@ -72,12 +74,11 @@ impl<'a> Rows<'a> {
         if self.fault.is_some() {
             return;
         }
-        let moved = self.output.text().push_str(self.pending.as_str());
-        self.pending.clear();
-        self.note(moved.map_err(Fault::from));
+        self.move_rows();
         let rt = self.rt;
-        let passed = self.output.pass(rt);
-        self.note(passed);
+        if let Err(fault) = self.output.pass(rt) {
+            self.fault = self.fault.or(Some(fault));
+        }
     }
 
     /// Writes what is left, and returns the first fault if there was one.
@@ -91,23 +92,25 @@ impl<'a> Rows<'a> {
     }
 }
 
-/// Adds a line to a text.
-fn added_line(text: &mut String, line: &str) -> Result<(), AllocError> {
-    text.push_str(line)?;
-    text.push('\n')
-}
-
 /// Adds a row of an event to a text. Fields that it doesn't have are empty.
-fn added_event(text: &mut String, turn: Turn, event: &Event<'_>) -> Result<(), AllocError> {
-    let (cycle, number, kind) = (turn.cycle, turn.robot.saturating_add(1), event.kind);
-    write!(text, "{cycle}\t{number}\t{kind}")?;
+fn add_event(text: &mut Draft, turn: Turn, event: &Event<'_>) {
+    add_turn(text, turn);
+    text.add(event.kind);
     for n in 0..MOST_FIELDS {
-        text.push('\t')?;
+        text.add("\t");
         match event.fields.as_slice().get(n) {
-            Some(Field::Number(number)) => write!(text, "{number}")?,
-            Some(Field::Text(field)) => text.push_str(field)?,
+            Some(Field::Number(number)) => add_signed(text, *number),
+            Some(Field::Text(field)) => text.add(*field),
             None => {}
         }
     }
-    text.push('\n')
+    text.add("\n");
+}
+
+/// Adds the first columns of a row: a cycle, and a robot's number.
+pub fn add_turn(text: &mut Draft, turn: Turn) {
+    text.number(u64::from(turn.cycle));
+    text.add("\t");
+    text.number(turn.robot.saturating_add(1) as u64);
+    text.add("\t");
 }

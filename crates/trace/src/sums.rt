@@ -11,7 +11,7 @@ use arena::Arena;
 use code::Cause;
 use findings::{Source, losses};
 use playing::{Pilot, Question, Turn, Watcher};
-use tools::{Fault, Span, write_text};
+use tools::{Draft, Fault, Span, write_text};
 
 /// What counts. The sums are written at once when the match is over.
 #[derive(Drop)]
@@ -33,7 +33,9 @@ impl<'a> Sums<'a> {
         let mut tallies = Vec::new(rt.alloc());
         for pilot in pilots {
             let tally = Tally::new(rt.alloc(), pilot.program().instructions().len())?;
-            tallies.push(tally).map_err(|_| Fault::Memory)?;
+            if tallies.push(tally).is_err() {
+                return Err(Fault::Memory);
+            }
         }
         Ok(Sums {
             rt,
@@ -121,7 +123,7 @@ impl Watcher for Sums<'_> {
 
 impl Teller for Sums<'_> {
     fn finish(self, request: &Request<'_>, cycles: u32, pilots: &[Pilot<'_>]) -> Result<(), Fault> {
-        let mut text = String::new(self.rt.alloc());
+        let mut text = Draft::new(self.rt.alloc());
         add_report(
             &mut text,
             request,
@@ -130,6 +132,6 @@ impl Teller for Sums<'_> {
             pilots,
             self.tallies.as_slice(),
         )?;
-        write_text(self.rt, text.as_str())
+        write_text(self.rt, text.finish()?.as_str())
     }
 }

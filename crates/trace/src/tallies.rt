@@ -13,7 +13,7 @@ use std::mem;
 const INTRINSICS: usize = Intrinsic::ALL.len();
 
 /// What is counted of an address.
-#[derive(Clone, Copy, Debug, Default, Drop)]
+#[derive(Clone, Copy, Default, Drop)]
 pub struct Spot {
     /// The cycles in which its instruction was run.
     pub cycles: u64,
@@ -26,7 +26,7 @@ pub struct Spot {
 }
 
 /// The calls of an intrinsic function.
-#[derive(Clone, Copy, Debug, Default, Drop)]
+#[derive(Clone, Copy, Default, Drop)]
 pub struct Calls {
     /// The function, once it was called.
     pub intrinsic: Option<Intrinsic>,
@@ -55,7 +55,7 @@ impl Calls {
 }
 
 /// What a robot does in a direction.
-#[derive(Clone, Copy, Debug, PartialEq, Eq)]
+#[derive(Clone, Copy)]
 pub enum Deed {
     /// It sees a robot.
     Sees,
@@ -177,11 +177,9 @@ impl Tally {
             streak = Streak::new(call);
         }
         self.streak = Some(streak);
-        if self
-            .longest
-            .is_none_or(|longest| longest.cycles() < streak.cycles())
-        {
-            self.longest = Some(streak);
+        match self.longest {
+            Some(longest) if longest.cycles() >= streak.cycles() => {}
+            _ => self.longest = Some(streak),
         }
     }
 

@@ -8,11 +8,13 @@ use crate::steps::{STEP_COLUMNS, add_step};
 use crate::tellers::Teller;
 use arena::Arena;
 use playing::{Pilot, Question, Turn, Watcher};
+use std::alloc::Global;
 use tools::Fault;
 
 /// What writes questions as they are asked, or steps before they are done.
 #[derive(Drop)]
 pub struct Turns<'a> {
+    alloc: Global,
     rows: Rows<'a>,
     notes: &'a [Note],
     is_stepwise: bool,
@@ -28,6 +30,7 @@ impl<'a> Turns<'a> {
             ASK_COLUMNS
         };
         Turns {
+            alloc: rt.alloc(),
             rows: Rows::new(rt, request.span, columns),
             notes,
             is_stepwise,
@@ -38,15 +41,16 @@ impl<'a> Turns<'a> {
 impl Watcher for Turns<'_> {
     fn turn(&mut self, turn: Turn, pilot: &Pilot<'_>) {
         if self.is_stepwise && self.rows.span.has(turn.cycle, turn.robot) {
-            let added = add_step(self.rows.text(), turn, pilot);
-            self.rows.end_row(added);
+            let added = add_step(self.rows.text(), self.alloc, turn, pilot);
+            self.rows.note(added);
+            self.rows.pass();
         }
     }
 
     fn asked(&mut self, turn: Turn, pilot: &Pilot<'_>, question: Question, _arena: &Arena) {
         if !self.is_stepwise && self.rows.span.has(turn.cycle, turn.robot) {
-            let added = add_ask(self.rows.text(), self.notes, turn, pilot, &question);
-            self.rows.end_row(added);
+            add_ask(self.rows.text(), self.notes, turn, pilot, &question);
+            self.rows.pass();
         }
     }
 

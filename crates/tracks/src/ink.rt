@@ -4,7 +4,7 @@ use crate::matches::Recording;
 use crate::requests::View;
 use arena::MOST_ROBOTS;
 use playing::UPDATE_CYCLES;
-use std::alloc::AllocError;
+use tools::{Draft, Text};
 use trails::opacity;
 
 /// The colours of the robots, in order.
@@ -19,7 +19,7 @@ pub fn colour(robot: usize) -> &'static str {
 }
 
 /// The updates that are drawn.
-#[derive(Clone, Copy, Debug)]
+#[derive(Clone, Copy)]
 pub struct Period {
     /// The first update.
     pub first: u32,
@@ -36,14 +36,18 @@ impl Period {
     }
 
     /// Adds the opacity of what happened in an update as an attribute: the older, the fainter.
-    pub fn add_opacity(self, text: &mut String, update: u32) -> Result<(), AllocError> {
+    pub fn add_opacity(self, text: &mut Draft, update: u32) {
         let (age, all) = (
             update.saturating_sub(self.first),
             self.last.saturating_sub(self.first),
         );
         let percent = opacity(age, all);
-        let (whole, part) = (percent / 100, percent % 100);
-        write!(text, " opacity=\"{whole}.{part:02}\"")
+        text.add(" opacity=\"");
+        text.number(u64::from(percent / 100));
+        text.add(".");
+        text.number(u64::from(percent / 10 % 10));
+        text.number(u64::from(percent % 10));
+        text.add("\"");
     }
 }
 
@@ -53,15 +57,15 @@ pub fn cycle_of(update: u32) -> u32 {
 }
 
 /// Adds a name, cut after its first characters if it is long.
-pub fn add_short_name(text: &mut String, name: &str) -> Result<(), AllocError> {
+pub fn add_short_name(text: &mut Draft, name: &str) {
     let fits = fitting(name, MOST_WIDTH);
     if fits == name.chars().count() {
         return add_name(text, name);
     }
     for c in name.chars().take(fitting(name, MOST_WIDTH - 1)) {
-        add_character(text, c)?;
+        add_character(text, c);
     }
-    text.push_str("&#8230;")
+    text.add("&#8230;");
 }
 
 /// Returns how many of the first characters of a name fit into a width.
@@ -89,19 +93,18 @@ fn width_of(c: char) -> usize {
 }
 
 /// Adds a name, with the characters that mean something in SVG replaced.
-pub fn add_name(text: &mut String, name: &str) -> Result<(), AllocError> {
+pub fn add_name(text: &mut Draft, name: &str) {
     for c in name.chars() {
-        add_character(text, c)?;
+        add_character(text, c);
     }
-    Ok(())
 }
 
 /// Adds a character of a name.
-fn add_character(text: &mut String, c: char) -> Result<(), AllocError> {
+fn add_character(text: &mut Draft, c: char) {
     match c {
-        '&' => text.push_str("&amp;"),
-        '<' => text.push_str("&lt;"),
-        '>' => text.push_str("&gt;"),
+        '&' => text.add("&amp;"),
+        '<' => text.add("&lt;"),
+        '>' => text.add("&gt;"),
         '\0'..='\x1f' => text.push('?'),
         _ => text.push(c),
     }

@@ -5,8 +5,9 @@ use crate::matches::Track;
 use crate::paths::mark_step;
 use crate::requests::View;
 use crate::scenes::{Robot, Scene};
+use crate::svg::{add_number, add_words};
 use arena::MOST_ROBOTS;
-use std::alloc::AllocError;
+use tools::{Draft, Text};
 use trails::Shots;
 
 /// What explains the signs of the picture.
@@ -21,85 +22,96 @@ const SIGNS: &str =
 ";
 
 /// Adds the legend.
-pub fn add_legend(text: &mut String, scene: &Scene<'_>) -> Result<(), AllocError> {
-    let (number, cycles) = (scene.request.wish.first(), scene.recording.cycles);
-    write!(
-        text,
-        "<g fill=\"#222222\">\n<text x=\"1080\" y=\"70\" font-size=\"22\">Match {number}: cycles = {cycles}</text>\n"
-    )?;
-    add_view(text, scene.request.view, cycles)?;
-    add_share(text, &scene.recording.shots)?;
+pub fn add_legend(text: &mut Draft, scene: &Scene<'_>) {
+    text.add("<g fill=\"#222222\">\n");
+    add_heading(text, scene);
+    add_view(text, scene.request.view, scene.recording.cycles);
+    add_share(text, &scene.recording.shots);
     for (index, track) in scene.recording.tracks.as_slice().iter().enumerate() {
-        add_entry(text, &scene.robot(index, track))?;
+        add_entry(text, &scene.robot(index, track));
     }
-    let step = mark_step(scene.period);
-    write!(
-        text,
-        "<text x=\"1116\" y=\"936\">each {step} cycles</text>\n</g>\n"
-    )?;
-    text.push_str(SIGNS)
+    text.add("<text x=\"1116\" y=\"936\">each ");
+    text.number(u64::from(mark_step(scene.period)));
+    text.add(" cycles</text>\n</g>\n");
+    text.add(SIGNS);
+}
+
+/// Adds which match it is, and how many cycles it had.
+fn add_heading(text: &mut Draft, scene: &Scene<'_>) {
+    text.add("<text x=\"1080\" y=\"70\" font-size=\"22\">Match ");
+    text.number(u64::from(scene.request.wish.first()));
+    text.add(": cycles = ");
+    text.number(u64::from(scene.recording.cycles));
+    text.add("</text>\n");
 }
 
 /// Adds which cycles and which robot are drawn, if not all.
-fn add_view(text: &mut String, view: View, cycles: u32) -> Result<(), AllocError> {
+fn add_view(text: &mut Draft, view: View, cycles: u32) {
     let (from, to) = (view.span.from.min(cycles), view.span.to.min(cycles));
     if view.is_whole(cycles) {
-        return Ok(());
+        return;
     }
-    write!(
-        text,
-        "<text x=\"1080\" y=\"94\" font-size=\"14\">drawn: cycles {from} to {to}"
-    )?;
+    text.add("<text x=\"1080\" y=\"94\" font-size=\"14\">drawn: cycles ");
+    text.number(u64::from(from));
+    text.add(" to ");
+    text.number(u64::from(to));
     if let Some(robot) = view.span.robot {
-        write!(text, ", robot {}", robot.saturating_add(1))?;
+        text.add(", robot ");
+        text.number(robot.saturating_add(1) as u64);
     }
     if !view.has_shots {
-        text.push_str(", no shots")?;
+        text.add(", no shots");
     }
-    text.push_str("</text>\n")
+    text.add("</text>\n");
 }
 
 /// Adds how many of the shots are drawn, if not all.
-fn add_share(text: &mut String, shots: &Shots) -> Result<(), AllocError> {
+fn add_share(text: &mut Draft, shots: &Shots) {
     let (drawn, count) = (shots.as_slice().len() as u64, shots.count());
     if drawn == count {
-        return Ok(());
+        return;
     }
-    write!(
-        text,
-        "<text x=\"1080\" y=\"114\" font-size=\"14\">the last {drawn} of {count} shots are drawn</text>\n"
-    )
+    text.add("<text x=\"1080\" y=\"114\" font-size=\"14\">the last ");
+    text.number(drawn);
+    text.add(" of ");
+    text.number(count);
+    text.add(" shots are drawn</text>\n");
 }
 
 /// Adds a robot's entry: its colour, its name, and how it ended.
-fn add_entry(text: &mut String, robot: &Robot<'_>) -> Result<(), AllocError> {
-    let y = 150 + (robot.index % MOST_ROBOTS) * 64;
-    let (number, colour) = (robot.number(), robot.colour());
-    text.push_str("<g><title>")?;
-    add_name(text, robot.name)?;
-    write!(
-        text,
-        "</title><rect x=\"1080\" y=\"{}\" width=\"24\" height=\"24\" fill=\"{colour}\"/>",
-        y - 20
-    )?;
-    write!(
-        text,
-        "<text x=\"1116\" y=\"{y}\" font-weight=\"bold\">{number}) "
-    )?;
-    add_short_name(text, robot.name)?;
-    text.push_str("</text>")?;
-    add_state(text, robot.track, y + 24)?;
-    text.push_str("</g>\n")
+fn add_entry(text: &mut Draft, robot: &Robot<'_>) {
+    let y = 150 + (robot.index % MOST_ROBOTS) as u32 * 64;
+    text.add("<g><title>");
+    add_name(text, robot.name);
+    text.add("</title><rect x=\"1080\"");
+    add_number(text, "y", y - 20);
+    text.add(" width=\"24\" height=\"24\"");
+    add_words(text, "fill", robot.colour());
+    text.add("/><text x=\"1116\"");
+    add_number(text, "y", y);
+    text.add(" font-weight=\"bold\">");
+    text.number(robot.number());
+    text.add(") ");
+    add_short_name(text, robot.name);
+    text.add("</text>");
+    add_state(text, robot.track, y + 24);
+    text.add("</g>\n");
 }
 
 /// Adds how a robot ended, in this row.
-fn add_state(text: &mut String, track: &Track, y: usize) -> Result<(), AllocError> {
-    let (state, damage) = (state_of(track), track.damage);
-    write!(text, "<text x=\"1116\" y=\"{y}\">{state} damage {damage}%")?;
+fn add_state(text: &mut Draft, track: &Track, y: u32) {
+    text.add("<text x=\"1116\"");
+    add_number(text, "y", y);
+    text.add(">");
+    text.add(state_of(track));
+    text.add(" damage ");
+    text.number(u64::from(track.damage));
+    text.add("%");
     if let Some(update) = track.death {
-        write!(text, " after cycle {}", cycle_of(update))?;
+        text.add(" after cycle ");
+        text.number(u64::from(cycle_of(update)));
     }
-    text.push_str("</text>")
+    text.add("</text>");
 }
 
 /// Returns the word for how a robot ended.

@@ -12,6 +12,7 @@ mod requests;
 mod scenes;
 mod shots;
 mod strip;
+mod svg;
 
 use crate::matches::{Recording, record};
 use crate::picture::drawn;

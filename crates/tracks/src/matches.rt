@@ -62,7 +62,10 @@ impl Track {
 
     /// Reports whether the robot is dead after the update of this number.
     pub fn is_dead_after(&self, update: u32) -> bool {
-        self.death.is_some_and(|death| death <= update)
+        match self.death {
+            Some(death) => death <= update,
+            None => false,
+        }
     }
 
     /// Records the robot's damage after the update of this number. Its death is in the first update after which it isn't

@@ -9,6 +9,7 @@ use crate::scenes::Scene;
 use crate::shots::add_shots;
 use crate::strip::add_strip;
 use std::alloc::{AllocError, Global};
+use tools::{Draft, Text};
 
 /// What comes before the field: the picture's size, the field's border, by which bursts are cut, and a burst, whose three
 /// rings are 40, 20 and 5 metres from it.
@@ -24,41 +25,45 @@ const HEAD: &str =
 const ENDS: &str =
     "<g font-weight=\"bold\" font-size=\"22\" stroke=\"#ffffff\" stroke-width=\"5\" paint-order=\"stroke\">\n";
 
-/// Draws what is asked for of the match that was recorded.
+/// Draws what is asked for of the match that was recorded. The only error is that memory is refused.
 pub fn drawn(
     alloc: Global,
     request: &Request<'_>,
     recording: &Recording,
 ) -> Result<String, AllocError> {
-    let scene = Scene::of(request, recording);
-    let mut text = String::from_str(alloc, HEAD)?;
-    add_field(&mut text)?;
-    add_shots(&mut text, recording.shots.as_slice(), scene.period)?;
-    add_tracks(&mut text, &scene)?;
-    add_ends(&mut text, &scene)?;
-    add_legend(&mut text, &scene)?;
-    add_strip(&mut text, &scene)?;
-    text.push_str("</svg>\n")?;
-    Ok(text)
+    let mut text = Draft::new(alloc);
+    add_picture(&mut text, &Scene::of(request, recording));
+    text.finish()
+}
+
+/// Adds the whole picture.
+fn add_picture(text: &mut Draft, scene: &Scene<'_>) {
+    text.add(HEAD);
+    add_field(text);
+    add_shots(text, scene.recording.shots.as_slice(), scene.period);
+    add_tracks(text, scene);
+    add_ends(text, scene);
+    add_legend(text, scene);
+    add_strip(text, scene);
+    text.add("</svg>\n");
 }
 
 /// Adds the paths of the robots that are drawn.
-fn add_tracks(text: &mut String, scene: &Scene<'_>) -> Result<(), AllocError> {
+fn add_tracks(text: &mut Draft, scene: &Scene<'_>) {
     for (index, track) in scene.recording.tracks.as_slice().iter().enumerate() {
         if scene.request.view.span.has_robot(index) {
-            add_track(text, &scene.robot(index, track), scene.period)?;
+            add_track(text, &scene.robot(index, track), scene.period);
         }
     }
-    Ok(())
 }
 
 /// Adds the ends of the robots that are drawn, above all paths.
-fn add_ends(text: &mut String, scene: &Scene<'_>) -> Result<(), AllocError> {
-    text.push_str(ENDS)?;
+fn add_ends(text: &mut Draft, scene: &Scene<'_>) {
+    text.add(ENDS);
     for (index, track) in scene.recording.tracks.as_slice().iter().enumerate() {
         if scene.request.view.span.has_robot(index) {
-            add_end(text, &scene.robot(index, track), scene.period)?;
+            add_end(text, &scene.robot(index, track), scene.period);
         }
     }
-    text.push_str("</g>\n")
+    text.add("</g>\n");
 }

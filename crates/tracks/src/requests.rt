@@ -27,7 +27,7 @@ impl<'a> Request<'a> {
 }
 
 /// What of a match is drawn: the paths and the shots of these robots in these cycles.
-#[derive(Clone, Copy, Debug)]
+#[derive(Clone, Copy)]
 pub struct View {
     /// The robots, and the cycles.
     pub span: Span,

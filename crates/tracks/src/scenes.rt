@@ -3,8 +3,7 @@
 use crate::ink::{Period, add_name, colour};
 use crate::matches::{Recording, Track};
 use crate::requests::Request;
-use std::alloc::AllocError;
-use tools::{file_of, name_of};
+use tools::{Draft, Text, file_of, name_of};
 
 /// A match that was recorded, with what is asked for of it and the updates that are drawn.
 #[derive(Clone, Copy)]
@@ -50,8 +49,8 @@ pub struct Robot<'a> {
 
 impl Robot<'_> {
     /// Returns its number as texts have it, from 1.
-    pub fn number(&self) -> usize {
-        self.index.saturating_add(1)
+    pub fn number(&self) -> u64 {
+        self.index.saturating_add(1) as u64
     }
 
     /// Returns its colour.
@@ -60,9 +59,11 @@ impl Robot<'_> {
     }
 
     /// Adds its number and its name as a title.
-    pub fn add_title(&self, text: &mut String) -> Result<(), AllocError> {
-        write!(text, "<title>{}) ", self.number())?;
-        add_name(text, self.name)?;
-        text.push_str("</title>")
+    pub fn add_title(&self, text: &mut Draft) {
+        text.add("<title>");
+        text.number(self.number());
+        text.add(") ");
+        add_name(text, self.name);
+        text.add("</title>");
     }
 }

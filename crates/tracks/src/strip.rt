@@ -2,8 +2,9 @@
 
 use crate::ink::{Period, cycle_of};
 use crate::scenes::{Robot, Scene};
+use crate::svg::{add_length, add_number, add_step, add_words};
 use arena::MOST_ROBOTS;
-use std::alloc::AllocError;
+use tools::{Draft, Text};
 use trails::{STRIP_LEFT, STRIP_PERCENT, STRIP_TOP, STRIP_WIDTH, step_of, strip_column, strip_row};
 
 /// The most marks of the axis of time, beside the one at 0.
@@ -16,95 +17,96 @@ const HEIGHT: u32 = 100 * STRIP_PERCENT;
 const MILLION: u32 = 1_000_000;
 
 /// How much higher the line of each robot lies than that of the one before.
-const LIFT: usize = 2;
+const LIFT: u64 = 2;
 
 /// Adds the strip: its axes, the cycles that are drawn in the field, and the damage of each robot.
-pub fn add_strip(text: &mut String, scene: &Scene<'_>) -> Result<(), AllocError> {
+pub fn add_strip(text: &mut Draft, scene: &Scene<'_>) {
     let cycles = scene.recording.cycles;
-    text.push_str("<g font-size=\"14\" fill=\"#777777\">\n")?;
-    add_period(text, cycles, scene.period)?;
-    add_percents(text)?;
-    add_cycles(text, cycles)?;
-    text.push_str("</g>\n<g fill=\"none\" stroke-width=\"3\">\n")?;
+    text.add("<g font-size=\"14\" fill=\"#777777\">\n");
+    add_period(text, cycles, scene.period);
+    add_percents(text);
+    add_cycles(text, cycles);
+    text.add("</g>\n<g fill=\"none\" stroke-width=\"3\">\n");
     for (index, track) in scene.recording.tracks.as_slice().iter().enumerate() {
-        add_damage(text, &scene.robot(index, track), cycles)?;
+        add_damage(text, &scene.robot(index, track), cycles);
     }
-    text.push_str("</g>\n")
+    text.add("</g>\n");
 }
 
 /// Adds the shade behind the cycles that are drawn in the field, and the strip's name.
-fn add_period(text: &mut String, cycles: u32, period: Period) -> Result<(), AllocError> {
+fn add_period(text: &mut Draft, cycles: u32, period: Period) {
     let first = strip_column(cycle_of(period.first), cycles);
     let last = strip_column(cycle_of(period.last), cycles);
-    let width = last.saturating_sub(first);
-    write!(
-        text,
-        "<rect x=\"{first}\" y=\"{STRIP_TOP}\" width=\"{width}\" height=\"{HEIGHT}\" fill=\"#f3f3f3\"/>\n"
-    )?;
-    write!(
-        text,
-        "<text x=\"{STRIP_LEFT}\" y=\"{}\" fill=\"#222222\">Damage in percent over cycles</text>\n",
-        STRIP_TOP - 14
-    )
+    text.add("<rect");
+    add_number(text, "x", first);
+    add_number(text, "y", STRIP_TOP);
+    add_number(text, "width", last.saturating_sub(first));
+    add_number(text, "height", HEIGHT);
+    text.add(" fill=\"#f3f3f3\"/>\n<text");
+    add_number(text, "x", STRIP_LEFT);
+    add_number(text, "y", STRIP_TOP - 14);
+    text.add(" fill=\"#222222\">Damage in percent over cycles</text>\n");
 }
 
 /// Adds the lines of 0, 25, 50, 75 and 100 percent.
-fn add_percents(text: &mut String) -> Result<(), AllocError> {
+fn add_percents(text: &mut Draft) {
     for line in 0..=4u8 {
         let percent = 25 * line;
         let y = strip_row(percent);
-        write!(
-            text,
-            "<path stroke=\"#dddddd\" d=\"M{STRIP_LEFT} {y}h{STRIP_WIDTH}\"/><text x=\"{}\" y=\"{}\" text-anchor=\"end\">{percent}</text>\n",
-            STRIP_LEFT - 8,
-            y + 5
-        )?;
+        text.add("<path stroke=\"#dddddd\" d=\"");
+        add_step(text, "M", STRIP_LEFT, y);
+        add_length(text, "h", STRIP_WIDTH);
+        text.add("\"/><text");
+        add_number(text, "x", STRIP_LEFT - 8);
+        add_number(text, "y", y + 5);
+        text.add(" text-anchor=\"end\">");
+        text.number(u64::from(percent));
+        text.add("</text>\n");
     }
-    Ok(())
 }
 
 /// Adds the marks of the axis of time.
-fn add_cycles(text: &mut String, cycles: u32) -> Result<(), AllocError> {
+fn add_cycles(text: &mut Draft, cycles: u32) {
     let step = step_of(cycles, MOST_MARKS);
     for mark in 0..=cycles / step {
         let cycle = mark.saturating_mul(step);
         let x = strip_column(cycle, cycles);
-        write!(
-            text,
-            "<path stroke=\"#777777\" d=\"M{x} {}v6\"/><text x=\"{x}\" y=\"{}\" font-size=\"12\" text-anchor=\"middle\">",
-            STRIP_TOP + HEIGHT,
-            STRIP_TOP + HEIGHT + 22
-        )?;
-        add_short_cycle(text, cycle, step)?;
-        text.push_str("</text>\n")?;
+        text.add("<path stroke=\"#777777\" d=\"");
+        add_step(text, "M", x, STRIP_TOP + HEIGHT);
+        text.add("v6\"/><text");
+        add_number(text, "x", x);
+        add_number(text, "y", STRIP_TOP + HEIGHT + 22);
+        text.add(" font-size=\"12\" text-anchor=\"middle\">");
+        add_short_cycle(text, cycle, step);
+        text.add("</text>\n");
     }
-    Ok(())
 }
 
 /// Adds a cycle at a mark: in millions, if the marks are whole millions apart.
-fn add_short_cycle(text: &mut String, cycle: u32, step: u32) -> Result<(), AllocError> {
+fn add_short_cycle(text: &mut Draft, cycle: u32, step: u32) {
     if cycle > 0 && step % MILLION == 0 {
-        write!(text, "{}M", cycle / MILLION)
+        text.number(u64::from(cycle / MILLION));
+        text.add("M");
     } else {
-        write!(text, "{cycle}")
+        text.number(u64::from(cycle));
     }
 }
 
 /// Adds the damage of a robot: a line that goes up a step whenever it grows. It lies a little above that of the robot
 /// before, so that equal ones are all seen.
-fn add_damage(text: &mut String, robot: &Robot<'_>, cycles: u32) -> Result<(), AllocError> {
-    let colour = robot.colour();
-    let lift = LIFT * (robot.index % MOST_ROBOTS);
-    write!(
-        text,
-        "<path stroke=\"{colour}\" transform=\"translate(0 -{lift})\" d=\"M{STRIP_LEFT} {}",
-        strip_row(0)
-    )?;
+fn add_damage(text: &mut Draft, robot: &Robot<'_>, cycles: u32) {
+    text.add("<path");
+    add_words(text, "stroke", robot.colour());
+    text.add(" transform=\"translate(0 -");
+    text.number(LIFT * (robot.index % MOST_ROBOTS) as u64);
+    text.add(")\" d=\"");
+    add_step(text, "M", STRIP_LEFT, strip_row(0));
     for growth in robot.track.growths.as_slice() {
-        let x = strip_column(cycle_of(growth.update), cycles);
-        write!(text, "H{x}V{}", strip_row(growth.damage))?;
+        add_length(text, "H", strip_column(cycle_of(growth.update), cycles));
+        add_length(text, "V", strip_row(growth.damage));
     }
-    write!(text, "H{}\">", strip_column(cycles, cycles))?;
-    robot.add_title(text)?;
-    text.push_str("</path>\n")
+    add_length(text, "H", strip_column(cycles, cycles));
+    text.add("\">");
+    robot.add_title(text);
+    text.add("</path>\n");
 }
