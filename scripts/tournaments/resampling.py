@@ -24,8 +24,9 @@ ONE = 1 << 20
 SHORTER, STEPS = 0.7, 20
 # What is left after a step is taken for so much of what a sequence leaves whose steps get shorter by the same factor.
 SAFE, FASTEST = 3.0, 0.1
-# Rounds of fewer robots, or of strengths that are known less well than with this deviation, are fitted each by its own curvature.
-MANY, SHARP = 20, 0.2
+# Of few robots, or of strengths that are known less well than with this deviation, what is left can't be told from the first
+# steps: a way on which steps hardly get shorter shows itself when the others are at their end.
+MANY, SHARP, FINE = 20, 0.2, 1e-6
 # A robot's expected score is so much at least, and so much below all.
 LEAST = 0.01
 
@@ -41,9 +42,9 @@ class Whole:
         self.strengths = self._fit.strengths
 
     def is_firm(self) -> bool:
-        """Reports whether its curvature leads to the fit of each round: there are many robots, whose strengths are known well."""
+        """Reports whether the first steps of a round tell what is left: there are many robots, whose strengths are known well."""
         robots = range(len(self.strengths))
-        if len(robots) < MANY:
+        if len(robots) < MANY or not all(self.opponents.met):
             return False
         of_mean = matrices.solved(self._fit.factors, [1 / len(robots)] * len(robots))
         own = (matrices.solved(self._fit.factors, [float(at == robot) for at in robots])[robot] for robot in robots)
@@ -98,15 +99,16 @@ class Round:
         self._go(self._those.slope(self.strengths))
 
     def finish(self) -> None:
-        """Goes to the fit itself."""
-        self.strengths, self.left = self._those.fitted(self._whole.strengths).strengths, 0.0
+        """Goes on until hardly anything is left."""
+        while self.left > FINE:
+            self.go_on()
 
     def _go(self, slope: list[float]) -> None:
         """Goes a step from this slope, or to the fit itself if steps don't get shorter fast."""
         step = self._whole.step(self._those, slope)
         self._lengths.append(length(step))
         if is_slow(self._lengths):
-            self.finish()
+            self.strengths, self.left = self._those.fitted(self._whole.strengths).strengths, 0.0
         else:
             self.strengths, self.left = self._mixing.after(self.strengths, step), left(self._lengths)
 
