@@ -32,7 +32,8 @@ This is an archive of a league of CROBOTS robots, as it was on {day}.
 sources/HASH.r   the robots' sources, each named by the SHA-256 of its bytes
 robot.csv        the robots that ever joined, by their ids
 entry.csv        who joined, got other bytes, or left, on which day; copy numbers robots with the same bytes
-season.csv       the seasons with their rules (JSON); the last one goes on if it has no end
+season.csv       the seasons with their rules (JSON), in which program is the SHA-256 of the program's file; the last
+                 one goes on if it has no end
 member.csv       in which division a robot began a season
 seating.csv      robots in the order of their seats, by their bytes, and the seed of their matches
 battle.csv       the matches: in how many cycles each ended, and with which damage the robot of each seat

@@ -4,7 +4,6 @@ from __future__ import annotations
 
 import argparse
 import os
-from dataclasses import replace
 
 from tournaments.faults import Fault
 from tournaments.output import show
@@ -13,14 +12,14 @@ from tournaments.robots import Robot, compiled, private
 
 from . import entries, seasons
 from .days import today
-from .rules import Rules
+from .rules import Rules, played_by
 from .store import Store, made, opened
 from .words import ruled
 
 
 def init(given: argparse.Namespace) -> None:
     """Makes a league with its first season."""
-    by = replace(ruled(Rules(), given), program=program(given.crobots).sha256)
+    by = played_by(ruled(Rules(), given), program(given.crobots))
     with made(given.league) as store, store.change():
         seasons.begin(store, given.season, given.day or today(), by, {})
     show([f"{given.league} is a league now\n"])
@@ -32,7 +31,7 @@ def rules(given: argparse.Namespace) -> None:
         season = seasons.running(store)
         by = ruled(season.rules, given)
         if given.crobots:
-            by = replace(by, program=program(given.crobots).sha256)
+            by = played_by(by, program(given.crobots))
         named(store, by)
         seasons.settle(store, season, by)
     show(f"{name}: {value}\n" for name, value in by.said())

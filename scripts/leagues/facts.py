@@ -43,7 +43,7 @@ def facts_of_league(store: Store, field: Field, standings: Sequence[LeagueStandi
     gathering, lost = gathered(Schedule(field), Results(store, rules), ranks)
     settings = Settings(rules.matches, rules.cycles, rules.seed, rules.profile, rules.sizes, tuple(more(field.season)))
     return Facts(
-        words.title, settings, Program("", rules.program), tuple(robots(store, field, lost, words.sums)),
+        words.title, settings, Program(rules.version, rules.program), tuple(robots(store, field, lost, words.sums)),
         tuple(rows(standings)), tuple(gathering.pairs()), words.day, tuple(earlier(store, words.day)),
         "points a match", words.archive, words.verify, words.page)
 
@@ -58,8 +58,10 @@ def more(season: Season) -> Iterator[tuple[str, str]]:
 
 
 def rows(standings: Sequence[LeagueStanding]) -> Iterator[Standing]:
-    """The rows of the table; lower divisions go on where higher ones end."""
+    """The rows of the table, of robots that have played; lower divisions go on where higher ones end."""
     for it in standings:
+        if not it.score.played:
+            continue
         above = sum(other.division < it.division for other in standings)
         score = Score(it.score.won, it.score.tied, it.score.lost)
         rating = it.rating.value, it.rating.low, it.rating.high

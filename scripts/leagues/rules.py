@@ -3,9 +3,11 @@
 from __future__ import annotations
 
 import json
-from dataclasses import asdict, dataclass, fields
+from dataclasses import asdict, dataclass, fields, replace
 from decimal import Decimal
 from typing import Any
+
+from tournaments.programs import Program, version
 
 PAIRS, THREES, FOURS, SIZES, LADDER, GAUNTLET = "pairs", "threes", "fours", "sizes", "ladder", "gauntlet"
 SIZE_OF = {PAIRS: 2, THREES: 3, FOURS: 4, LADDER: 2, GAUNTLET: 2}
@@ -20,7 +22,9 @@ class Rules:
     cycles: int = 500_000
     seed: int = 1
     profile: int = 1
+    # the hash of the program, and its version if that was known
     program: str = ""
+    version: str = ""
     win: str = "3"
     tie: str = "1"
     # the weights of pairs, threes and fours, if all sizes are played
@@ -64,6 +68,11 @@ class Rules:
     def _mode(self) -> str:
         more = {SIZES: f", weights {', '.join(self.weights)}", GAUNTLET: f" of {self.champion}"}
         return self.mode + more.get(self.mode, "")
+
+
+def played_by(it: Rules, program: Program) -> Rules:
+    """The rules with another program."""
+    return replace(it, program=program.sha256, version=version(program.sha256))
 
 
 def rules(text: str) -> Rules:

@@ -21,7 +21,9 @@ from .verdicts import Verdicts
 
 @dataclass(frozen=True)
 class Standing:
-    """A robot's place in the table of its division. It is close if its interval overlaps that of the robot above."""
+    """A robot's place in the table of its division. It is close if its interval overlaps that of the robot above.
+
+    The rating of one that hasn't played says nothing, and isn't shown."""
 
     division: int
     rank: int
@@ -55,7 +57,7 @@ def placed(above: Sequence[Standing], it: Standing) -> Standing:
     """A robot below others: equal points have an equal rank, unless it has a rung."""
     same = [other for other in above if other.division == it.division]
     rank = it.rank or (same[-1].rank if same and same[-1].points == it.points else len(same) + 1)
-    close = bool(same) and same[-1].rating.meets(it.rating)
+    close = bool(same) and bool(it.score.played and same[-1].score.played) and same[-1].rating.meets(it.rating)
     return Standing(it.division, rank, it.robot, it.sha256, it.score, it.points, it.rating, close)
 
 

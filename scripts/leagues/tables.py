@@ -11,6 +11,7 @@ from .seasons import Season
 from .standings import Standing
 
 CLOSE = "close"
+RATED = {"rating": "value", "low": "low", "high": "high"}
 HEAD = ["rank", "robot", "played", "won", "tied", "lost", "points", "rating", "low", "high", CLOSE]
 
 
@@ -18,7 +19,7 @@ def cells(it: Standing) -> list[str]:
     """A row of the table."""
     score, rating = it.score, it.rating
     counts = map(str, (score.played, score.won, score.tied, score.lost))
-    rated = (str(round(value)) for value in (rating.value, rating.low, rating.high))
+    rated = (str(round(value)) if score.played else "" for value in (rating.value, rating.low, rating.high))
     return [str(it.rank), it.robot, *counts, rounded(it.points), *rated, CLOSE if it.close else ""]
 
 
@@ -48,4 +49,4 @@ def values(it: Standing) -> dict[str, Any]:
     score, rating = it.score, it.rating
     return {"division": it.division, "rank": it.rank, "robot": it.robot, "sha256": it.sha256, "played": score.played,
             "won": score.won, "tied": score.tied, "lost": score.lost, "points": float(it.points),
-            "rating": rating.value, "low": rating.low, "high": rating.high, CLOSE: it.close}
+            **{name: getattr(rating, at) if score.played else None for name, at in RATED.items()}, CLOSE: it.close}

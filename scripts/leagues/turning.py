@@ -16,7 +16,7 @@ from .days import today
 from .entries import entries, playing
 from .missing import missing
 from .results import Results
-from .rules import Rules
+from .rules import Rules, played_by
 from .schedules import Schedule
 from .seasons import Season
 from .standings import Standing, standings
@@ -65,7 +65,7 @@ def begin(store: Store, given: argparse.Namespace) -> None:
     by = replace(last.rules, seed=seed, divisions=given.divisions or last.rules.divisions)
     by = checked(ruled(by, given))
     if given.crobots:
-        by = replace(by, program=program(given.crobots).sha256)
+        by = played_by(by, program(given.crobots))
     seasons.begin(store, given.name, day, by, divided(store, last, by, given.move))
 
 

@@ -14,7 +14,7 @@ from tournaments import seats
 from tournaments.faults import FAULTY, Fault
 from tournaments.output import show, tell
 from tournaments.playing import Player
-from tournaments.programs import Program, program
+from tournaments.programs import Program, program, version
 from tournaments.progress import Progress
 from tournaments.records import Match, Record, Series
 from tournaments.robots import Robot, private
@@ -128,8 +128,9 @@ def replayed(store: Store, found: Program, given: argparse.Namespace, runs: list
     """The matches of these runs that end otherwise now."""
     records = [record(store, run) for run in runs]
     by_series = {(it.robots, it.series): run for it, run in zip(records, runs)}
-    if any(it.settings.program != found.sha256 for it in records):
-        tell(f"{given.script}: {found.path} is not the program of the archive: its hash is {found.sha256[:16]}\n")
+    for by in sorted({it.settings.program for it in records} - {found.sha256}):
+        ours, theirs = named(version(found.sha256), found.sha256), named(versions(store).get(by, ""), by)
+        tell(f"{given.script}: {found.path} is {ours}, and matches of the archive are by {theirs}\n")
     progress = Progress(len(records), given.quiet, given.script)
     with private() as folder, watch() as stop:
         for sha256, source in store.rows("SELECT sha256, bytes FROM source"):
@@ -144,6 +145,16 @@ def replayed(store: Store, found: Program, given: argparse.Namespace, runs: list
                 progress.count(it.series.count)
                 yield from changed(it, by_series[it.robots, it.series])
     progress.clear()
+
+
+def versions(store: Store) -> dict[str, str]:
+    """The versions of the programs that played, by their hashes, if they are known."""
+    return {it.rules.program: it.rules.version for it in seasons(store)}
+
+
+def named(known: str, sha256: str) -> str:
+    """A program as it is told: its version, if that is known, and the beginning of its hash."""
+    return archives.shown(f"{known or 'a program'} with the hash {sha256[:16]}")
 
 
 def changed(now: Record, run: Run) -> Iterator[str]:

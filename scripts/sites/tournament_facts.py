@@ -6,6 +6,7 @@ import hashlib
 import os
 from typing import Iterable, Iterator, Mapping, Sequence
 
+from tournaments.programs import version
 from tournaments.records import Record
 from tournaments.robots import Robot
 from tournaments.settings import SIZE_NAMES
@@ -34,7 +35,7 @@ def facts_of_tournament(
     robots = [SiteRobot(names[at], names[at], (it,), lost=gathering.lost(names[at], LOST))
               for at, it in enumerate(versions)]
     return Facts(
-        title, rules(settings, scoring), Program("", settings.program), tuple(robots), tuple(map(standing, standings)),
+        title, rules(settings, scoring), Program(version(settings.program), settings.program), tuple(robots), tuple(map(standing, standings)),
         tuple(gathering.pairs()), points="points" if scoring.weights else "points a match", page=page)
 
 

@@ -7,11 +7,14 @@ what the bootstrap says depends on the matches alone, and not on the order in wh
 from __future__ import annotations
 
 import bisect
+import functools
 import itertools
 import math
+import operator
 import random
 import sys
-from typing import Iterable, Iterator
+from array import array
+from typing import Iterable, Iterator, Sequence
 
 Packed = int
 ROUNDS = 200
@@ -22,12 +25,15 @@ BYTES = 8
 HALF = 1 << 8 * BYTES - 1
 HALVES = sum(HALF << 8 * BYTES * at for at in range(ROUNDS))
 POISSON = list(itertools.accumulate(math.exp(-1) / math.factorial(k) for k in range(20)))
+# Numbers of 1, 2, 4 and 8 bytes.
+FORMATS = {1: "B", 2: "H", 4: "I", 8: "Q"}
 
 
 def drawn(index: int) -> Packed:
     """Draws how often a match counts in each round."""
     chance = random.Random(f"{SEED} {index}").random
-    return sum(bisect.bisect(POISSON, chance()) << 8 * BYTES * at for at in range(ROUNDS))
+    numbers = array("Q", [bisect.bisect(POISSON, chance()) for _ in range(ROUNDS)])
+    return int.from_bytes(numbers.tobytes(), sys.byteorder)
 
 
 def rounds(sums: Iterable[Packed], signed: bool = False) -> Iterator[list[int]]:
@@ -39,6 +45,30 @@ def rounds(sums: Iterable[Packed], signed: bool = False) -> Iterator[list[int]]:
     if signed:
         return ([it - HALF for it in parts[at::ROUNDS].tolist()] for at in range(ROUNDS))
     return (parts[at::ROUNDS].tolist() for at in range(ROUNDS))
+
+
+def narrowed(it: Packed, size: int) -> bytes:
+    """A sum with so many bytes a round."""
+    wide = it.to_bytes(BYTES * ROUNDS, sys.byteorder)
+    begin = 0 if sys.byteorder == "little" else BYTES - size
+    if size == 1:
+        return wide[begin::BYTES]
+    narrow = bytearray(size * ROUNDS)
+    for at in range(size):
+        narrow[at::size] = wide[begin + at::BYTES]
+    return bytes(narrow)
+
+
+def counts(sums: Sequence[Packed], order: Sequence[int]) -> list[Sequence[int]]:
+    """Of each round its part of each sum, the sums in this order, in as few bytes as they need."""
+    most = max(number for number, in rounds([functools.reduce(operator.or_, sums, 0)]))
+    size = next(it for it in FORMATS if most >> 8 * it == 0)
+    narrow = [narrowed(it, size) for it in sums]
+    packed = b"".join([narrow[at] for at in order])
+    if size == 1:
+        return [packed[at::ROUNDS] for at in range(ROUNDS)]
+    parts = memoryview(packed).cast(FORMATS[size])
+    return [array(FORMATS[size], parts[at::ROUNDS].tolist()) for at in range(ROUNDS)]
 
 
 class Weights:

@@ -2,6 +2,7 @@
 
 from __future__ import annotations
 
+import contextlib
 import hashlib
 import os
 import shutil
@@ -39,16 +40,29 @@ def program(given: str | None) -> Program:
     return it
 
 
+HERE = os.path.dirname(os.path.realpath(__file__))
+# Where the program is that was built with this script, and the one that was installed with it; both have this version.
+OURS = [os.path.normpath(os.path.join(HERE, *way, "crobots")) for way in (
+    ("..", "..", "crates", "crobots", "out"), ("..", "..", "..", "..", "bin"))]
+VERSION = os.path.normpath(os.path.join(HERE, "..", "..", "VERSION"))
+
+
 def found(given: str | None) -> str:
     """The path of the program."""
-    here = os.path.dirname(os.path.realpath(__file__))
-    built = os.path.normpath(os.path.join(here, "..", "..", "crates", "crobots", "out", "crobots"))
-    installed = os.path.normpath(os.path.join(here, "..", "..", "..", "..", "bin", "crobots"))
-    places = [given] if given else ["crobots", built, installed]
+    places = [given] if given else ["crobots", *OURS]
     path = next((path for place in places if (path := shutil.which(place))), None)
     if not path:
         raise Fault(f"{given or 'crobots'} is not there, or is no program; README.md says how it is built")
     return path
+
+
+def version(sha256: str) -> str:
+    """The version of the program with this hash, if it is the one that was built or installed with this script."""
+    with contextlib.suppress(OSError, UnicodeDecodeError, Fault):
+        if any(program(path).sha256 == sha256 for path in OURS if shutil.which(path)):
+            with open(VERSION, encoding="utf-8") as file:
+                return f"crobots {file.readline().strip()}"
+    return ""
 
 
 def stamp(path: str) -> Stamp | None:

@@ -5,7 +5,7 @@ from __future__ import annotations
 import json
 from collections import Counter
 
-from .base import DAY, Base, League
+from .base import DAY, Base, League, read
 
 # a's wins, ties and losses in four robots' pairs of four matches: it loses all; b, c and d tie among each other.
 TABLE = """\
@@ -48,6 +48,20 @@ class Playing(Base):
             wrong.append(f"as JSON: {found['table']}")
         days = it.rows("SELECT DISTINCT day FROM battle")
         return wrong + ([] if days == [("2026-03-01",)] else [f"played on {days}"])
+
+    def one_that_has_not_played(self) -> list[str]:
+        """Nothing is known of its strength, so its rating isn't shown, in no form; it has its place by its points."""
+        it = League(self, "waiting", "-m4", robots=("a.r", "b.r", "r50.r"))
+        it.run("play", "-j1")
+        it.run("rules", "--anchor=b=1000")
+        it.run("add", "d.r")
+        row = it.table()[-1]
+        wrong = [] if [row[name] for name in ("robot", "played", "rating", "low", "high", "close")] == ["d", "0", *[""] * 4] else [f"{row}"]
+        found = json.loads(it.run("table", "--json"))["table"][-1]
+        wrong += [] if (found["robot"], found["rating"], found["low"], found["high"]) == ("d", None, None, None) else [f"{found}"]
+        it.run("publish", self.at("waiting-site"), DAY, "--replays=0", "--sums=0")
+        said = read(self.at("waiting-site/index.html")).partition("Robots that are not in the table")
+        return wrong + ([] if ">d<" in said[2] and ">d<" not in said[0] else ["the site has it in its table"])
 
     def plays_only_what_is_new(self) -> list[str]:
         program = f"--crobots={self._counting}"

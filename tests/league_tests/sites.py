@@ -7,12 +7,14 @@ import io
 import os
 import random
 import re
+import shutil
+import subprocess
 import zipfile
 from typing import Callable
 
 from leagues.words import Words
 
-from .base import HERE, Base, League, read
+from .base import HERE, LEAGUE, Base, League, read, write
 
 PAGE = os.path.join(HERE, "..", "..", "man", "crobots-league.6")
 
@@ -43,6 +45,35 @@ class Sites(Base):
         if it.rows("SELECT day FROM publication ORDER BY number") != [("2026-03-02",), ("2026-03-03",)]:
             wrong.append("a table of one day is kept twice, or none is")
         return wrong + self._tampered(kept)
+
+    def the_version_of_the_program(self) -> list[str]:
+        """It is that of the file beside the installed scripts, of the program that was installed with them alone."""
+        top, scripts = self.at("installed"), os.path.join(HERE, "..", "..", "scripts")
+        for package in ("leagues", "tournaments", "sites", "replays"):
+            shutil.copytree(os.path.join(scripts, package), f"{top}/share/crobots/lib/{package}")
+        os.makedirs(f"{top}/bin")
+        for name, path in (("crobots", self._program), ("crobots-league", LEAGUE),
+                           ("crobots-tournament", os.path.join(scripts, "tournament"))):
+            shutil.copy(path, f"{top}/bin/{name}")
+        write(f"{top}/share/crobots/VERSION", "9.8.7\n")
+        quiet = "play v --quiet; crobots-league publish v v-site --replays=0 --sums=0 --day="
+        ran = self._sh(f"""PATH={top}/bin:$PATH; exec 2>&1
+            crobots-league init v -l300 -m2 && crobots-league add v a.r b.r && crobots-league {quiet}2026-03-02
+            cp v-site/settings.html ours.html
+            crobots-league verify v-site/archive/v-2026-03-02.zip --quiet --crobots {self._counting}
+            crobots-league rules v --crobots {self._counting}; crobots-league {quiet}2026-03-03
+            crobots-tournament --quiet -m2 -l300 --html t-site a.r b.r
+            crobots-tournament --quiet -m2 -l300 --html o-site --crobots {self._counting} a.r b.r""")
+        wrong = [] if "matches of the archive are by crobots 9.8.7 with the hash " in ran else [f"verify says {ran}"]
+        for path, has in (("ours", True), ("v-site/settings", False), ("t-site/settings", True), ("o-site/settings", False)):
+            if ("crobots 9.8.7" in read(self.at(f"{path}.html"))) != has:
+                wrong.append(f"{path}: the version is there, or is not: {ran}")
+        return wrong
+
+    def _sh(self, command: str) -> str:
+        """What a command of a shell writes."""
+        return subprocess.run(["sh", "-c", command], cwd=self._folder, env=self._environment, stdin=subprocess.DEVNULL,
+                              stdout=subprocess.PIPE, text=True, check=False).stdout
 
     def _tampered(self, archive: str) -> list[str]:
         """Each change of an archive is told."""

@@ -9,7 +9,7 @@ import random
 import statistics
 from collections import defaultdict
 
-from tournaments import bootstrap, ratings, tallies
+from tournaments import bootstrap, ratings, resampling, tallies
 from tournaments.records import Record, Series
 from tournaments.settings import Settings
 
@@ -60,17 +60,24 @@ class Rated(Base):
         return [] if abs(one.value - wanted) < 0.001 and abs(other.value + wanted) < 0.001 else [f"{one} {other}, not {wanted}"]
 
     def intervals_fitted_in_another_way(self) -> list[str]:
-        """Each round of the bootstrap is fitted with its own matrix: of all pairs of seven, of some pairs, and of robots of
-        which one lost all."""
+        """Each round of the bootstrap is fitted with its own matrix: the whole numbers of a table are the same. Of all
+        pairs, of some pairs, of robots of which one lost all, of a chain, and of many robots, whose rounds aren't fitted further
+        than it takes; also with an anchor."""
         source = random.Random(3)
-        every = [*itertools.combinations(range(7), 2)]
+        every, many = [*itertools.combinations(range(7), 2)], [*itertools.combinations(range(24), 2)]
         few = [(i, j) for i, j in every if (i + j) % 3 == 0 or (i, j) == (0, 1)]
+        chain = [(i, i + 1) for i in range(9)]
         wrong = []
-        for pairs, letters in ((every, "wtl"), (few, "wwwwwtl"), (every, "w")):
-            tally = tally_of({pair: "".join(source.choice(letters) for _ in range(6)) for pair in pairs})
-            for one, other in zip(ratings.ratings(tally, 7), by_elimination(tally, 7)):
-                far = max(abs(one.low - other.low), abs(one.high - other.high))
-                wrong += [f"{len(pairs)} of {letters}: {one} and not {other}"] if far > 0.5 or abs(one.value - other.value) > 0.001 else []
+        for pairs, letters, matches, anchor in (
+                (every, "wtl", 6, None), (few, "wwwwwtl", 6, None), (every, "w", 6, None), (chain, "wwtl", 20, None),
+                (many, "wwtll", 6, None), (many, "wwtll", 6, 3), (every, "wtl", 300, None), (few, "wtl", 6, 2)):
+            tally = tally_of({pair: "".join(source.choice(letters) for _ in range(matches)) for pair in pairs})
+            robots = 1 + max(robot for pair in pairs for robot in pair)
+            if resampling.Whole(tally, robots).is_firm() != (robots > 20):
+                wrong.append(f"{len(pairs)} of {letters} are fitted in the other way")
+            for one, other in zip(ratings.ratings(tally, robots, anchor), by_elimination(tally, robots, anchor)):
+                if shown(one) != shown(other):
+                    wrong.append(f"{len(pairs)} of {letters}: {one} and not {other}")
         return wrong
 
     def intervals_hold_the_truth(self) -> list[str]:
@@ -104,7 +111,12 @@ class Rated(Base):
         return [] if found == (True, True, False) else [f"{found}"]
 
 
-def by_elimination(tally: tallies.Tally, robots: int) -> list[ratings.Rating]:
+def shown(it: ratings.Rating) -> tuple[int, int, int]:
+    """A rating as a table has it."""
+    return round(it.value), round(it.low), round(it.high)
+
+
+def by_elimination(tally: tallies.Tally, robots: int, anchor: int | None) -> list[ratings.Rating]:
     """The ratings of all matches, and of each round."""
     places = sorted(tally.pairs)
     whole = [0.0] * robots
@@ -117,6 +129,8 @@ def by_elimination(tally: tallies.Tally, robots: int) -> list[ratings.Rating]:
         for played, twice in zip(bootstrap.rounds(tally.pairs[it].rounds for it in places),
                                  bootstrap.rounds(tally.rounds[at] for at in range(robots)))
     ]
+    if anchor is not None:
+        value, *rounds = ([it - found[anchor] for it in found] for found in (value, *rounds))
     return [ratings.Rating(it, sorted(column)[5], sorted(column)[-6]) for it, column in zip(value, zip(*rounds))]
 
 
