@@ -3,3 +3,4 @@ pub mod Stacks
 pub mod Opened
 pub mod Standing
 pub mod Replaying
+pub mod Laws

@@ -1,0 +1,5 @@
+pub mod KnownNeeds
+pub mod Fitting
+pub mod Enough
+pub mod SameCode
+pub mod AtReturn

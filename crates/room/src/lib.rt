@@ -1,0 +1,8 @@
+//! How much room a robot needs: the words of its stack, and the frames that are open at once.
+#![tactic(auto)]
+
+mod laws;
+mod room;
+
+pub use laws::{known_needs, restarts_at_return, room_is_enough};
+pub use room::Room;

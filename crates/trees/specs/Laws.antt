@@ -1,0 +1,39 @@
+-- A law of trees: what is reported of a file determines its trees.
+use Rattle.std.specs.Prelude.{ℕ, ◌≡◌, List, [], ◌∷◌, ◌++◌, length, map, Option, Some, None, slice_get}
+use Rattle.grammar.specs.Actions.{actions}
+use Rattle.grammar.specs.Tree.{Body, File}
+use Rattle.grammar.specs.Tree as tree
+use Rattle.trees.specs.Trees.{function_tree, made_actions}
+use Rattle.trees.specs.declared.tree.Function.{Function}
+
+-- what actions tell of a function: all but names
+pub record Told : Type 0 where
+  pub number : ℕ
+  pub parameters : ℕ
+  pub variables : ℕ
+  pub body : Body
+
+abbrev pub told : ℕ → tree.Function → Told
+told number f = record {
+  number = number;
+  parameters = f.parameters;
+  variables = length f.variables;
+  body = f.body;
+}
+
+abbrev pub told_numbered : ℕ → Option tree.Function → List Told
+told_numbered number None = []
+told_numbered number (Some f) = told number f ∷ []
+
+-- of the functions of these numbers, one after another
+abbrev pub told_functions : List tree.Function → List ℕ → List Told
+told_functions functions [] = []
+told_functions functions (k ∷ ks) = told_numbered k (slice_get functions k) ++ told_functions functions ks
+
+abbrev pub told_trees : List Function → List Told
+told_trees made = map (λ (f : Function). told f.number (function_tree f)) made
+
+-- Trees whose actions are those of a file are the file's, in the order of its definitions.
+abbrev pub ActionsDetermineTrees : Type 0
+ActionsDetermineTrees = (file : File) (made : List Function) → actions file ≡ made_actions made
+    → told_functions file.functions file.order ≡ told_trees made
