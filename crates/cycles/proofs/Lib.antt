@@ -1,0 +1,6 @@
+pub mod Numbers
+pub mod Spending
+pub mod Ways
+pub mod TurnLaws
+pub mod Laws
+pub mod KnownSpans
