@@ -2,5 +2,5 @@ pub mod Numbers
 pub mod Spending
 pub mod Ways
 pub mod TurnLaws
-pub mod Laws
+pub mod SpanLaws
 pub mod KnownSpans

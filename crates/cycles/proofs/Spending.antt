@@ -51,7 +51,7 @@ module _ {A : Type 0} (u : Counted) where
   }
 
   -- nothing is ever given
-  pub spends_never : (want : Want) (s : A → Option Span) → Spends u (λ (t : List ℤ). Awaits {A = A} want) s
+  pub spends_never : (want : Want) (s : A → Option Span) → Spends u (λ (t : List ℤ). Awaits want) s
   spends_never want s = record { each = λ trace x after rest e. absurd (cc) }
 
   -- a value at once

@@ -25,7 +25,7 @@ use Rattle.cycles.specs.Expressions.{arguments_span, binary_span, callee_span, c
 use Rattle.cycles.specs.Statements.{choice_ends, ends_of, if_ends, loop_ends, return_ends, taken}
 use Rattle.cycles.specs.Runs.{body_at, run_of, run_span, run_within}
 use Rattle.cycles.specs.Turns.{TurnEnd, Begins, Leaves, GivesBack, turn, turn_of, turned}
-use Rattle.cycles.proofs.Numbers.{anything_takes, before_takes, behind_takes, end_after, end_before, end_endless, end_endless_after, end_followed, end_later, end_of_first, end_of_second, first_takes, second_takes, takes_none, within_all, within_anything, within_exactly, within_first, within_none, within_second, without_most_takes}
+use Rattle.cycles.proofs.Numbers.{anything_takes, before_both, before_takes, behind_takes, end_after, end_before, end_endless, end_endless_after, end_followed, end_later, end_of_first, end_of_second, first_takes, second_takes, takes_none, within_all, within_anything, within_exactly, within_first, within_none, within_second, without_most_takes}
 use Rattle.cycles.proofs.Spending.{Spends, spends_both, spends_either, spends_given, spends_never, spends_then, spends_tick, spends_wider}
 
 -- Single cycles.

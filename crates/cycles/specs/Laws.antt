@@ -13,7 +13,7 @@ use Rattle.cycles.specs.Ends.{end_of}
 use Rattle.cycles.specs.Expressions.{span_of}
 use Rattle.cycles.specs.Statements.{ends_of}
 use Rattle.cycles.specs.Runs.{run_span}
-use Rattle.cycles.specs.Turns.{Begins, after_turn, turn, turn_of}
+use Rattle.cycles.specs.Turns.{TurnEnd, Begins, after_turn, turn, turn_of}
 
 -- a run took the first of these replies and left the rest, and what it counted is within the span
 pub record Takes {A : Type 0} (u : Counted) (run : List ℤ → Evaluated A) (s : Option Span) (trace rest : List ℤ) : Type 0 where
@@ -60,7 +60,11 @@ LoopsAreTurns = (p : Profile) (file : File) (n : ℕ) (c : Expr) (s next : Body)
     effect p file again (While c s next) vars depth frames trace ≡
     and_then (turn p file again c s vars depth frames trace) (after_turn p file again c s next depth frames)
 
--- Each reply is a cycle.
-abbrev pub CyclesAreReplies : Type 0
-CyclesAreReplies = {A : Type 0} (run : List ℤ → Evaluated A) (replies : List ℤ)
-    → spent Cycles run replies ≡ length replies
+abbrev pub AreReplies : {A : Type 0} → (List ℤ → Evaluated A) → Type 0
+AreReplies run = (replies : List ℤ) → spent Cycles run replies ≡ length replies
+
+-- Each reply is a cycle: of a value, of statements, and of a turn.
+pub record CyclesAreReplies : Type 0 where
+  pub of_value : (run : List ℤ → Evaluated ℤ) → AreReplies run
+  pub of_statements : (run : List ℤ → Evaluated Flow) → AreReplies run
+  pub of_turn : (run : List ℤ → Evaluated TurnEnd) → AreReplies run

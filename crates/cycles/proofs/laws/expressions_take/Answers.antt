@@ -1,4 +1,4 @@
-use Rattle.cycles.proofs.Laws.{expressions_take}
+use Rattle.cycles.proofs.SpanLaws.{expressions_take}
 use Rattle.cycles.proofs.laws.expressions_take.Goals as goal
 
 pub returns : goal.returns

@@ -1,4 +1,4 @@
-use Rattle.cycles.proofs.Laws.{loops_are_turns}
+use Rattle.cycles.proofs.SpanLaws.{loops_are_turns}
 use Rattle.cycles.proofs.laws.loops_are_turns.Goals as goal
 
 pub returns : goal.returns

@@ -1,4 +1,4 @@
-use Rattle.cycles.proofs.Laws.{runs_take}
+use Rattle.cycles.proofs.SpanLaws.{runs_take}
 use Rattle.cycles.proofs.laws.runs_take.Goals as goal
 
 pub returns : goal.returns

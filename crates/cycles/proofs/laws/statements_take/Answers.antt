@@ -1,4 +1,4 @@
-use Rattle.cycles.proofs.Laws.{statements_take}
+use Rattle.cycles.proofs.SpanLaws.{statements_take}
 use Rattle.cycles.proofs.laws.statements_take.Goals as goal
 
 pub returns : goal.returns

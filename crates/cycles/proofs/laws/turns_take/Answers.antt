@@ -1,4 +1,4 @@
-use Rattle.cycles.proofs.Laws.{turns_take}
+use Rattle.cycles.proofs.SpanLaws.{turns_take}
 use Rattle.cycles.proofs.laws.turns_take.Goals as goal
 
 pub returns : goal.returns

@@ -57,4 +57,8 @@ all_count run (reply ∷ replies) =
     omega (arith, each_counts (run []), all_count (λ (rest : List ℤ). run (reply ∷ rest)) replies)
 
 pub cycles_are_replies : CyclesAreReplies
-cycles_are_replies run replies = all_count run replies
+cycles_are_replies = record {
+  of_value = λ run replies. all_count run replies;
+  of_statements = λ run replies. all_count run replies;
+  of_turn = λ run replies. all_count run replies;
+}
