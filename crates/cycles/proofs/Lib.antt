@@ -4,3 +4,6 @@ pub mod Ways
 pub mod TurnLaws
 pub mod SpanLaws
 pub mod KnownSpans
+pub mod Tables
+pub mod TreeSpans
+pub mod Rows

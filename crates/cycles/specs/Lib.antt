@@ -6,4 +6,7 @@ pub mod Statements
 pub mod Runs
 pub mod Turns
 pub mod Laws
+pub mod Told
+pub mod Tables
+pub mod Loops
 pub mod KnownSpans

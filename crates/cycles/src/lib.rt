@@ -2,9 +2,14 @@
 #![tactic(auto)]
 
 mod counted;
+mod ends;
+mod expressions;
 mod known;
 mod laws;
+mod runs;
 mod spans;
+mod statements;
+mod loops;
 
 pub use counted::Counted;
 pub use grammar::{Intrinsic, Profile};
@@ -12,4 +17,6 @@ pub use known::known_spans;
 pub use laws::{
     cycles_are_replies, expressions_take, loops_are_turns, runs_take, statements_take, turns_take,
 };
+pub use runs::Runs;
 pub use spans::{Ends, Span};
+pub use loops::{Turn, turns};
