@@ -113,7 +113,8 @@ module _ (c q : Runs) (cycles questions : ℕ → Span) (number : ℕ) where
       old ≡ old ++ rows (statement_tree s Done)
   return_rows s e old is =
       sym
-      (ap (λ s. old ++ rows (statement_tree s Done)) is ∙ ap (λ f. old ++ rows (f Done)) (tree-Return e) ∙ append-nil old)
+      (ap (λ s. old ++ rows (statement_tree s Done)) is ∙ ap (λ f. old ++ rows (f Done)) (tree-Return e) ∙
+      append-nil old)
 
 -- The rows of functions.
 

@@ -47,7 +47,9 @@ module _ {A : Type 0} (u : Counted) where
   pub spends_wider : (run : List ℤ → Evaluated A) (s h : A → Option Span) →
       ((x : A) (n : ℕ) → MayTake (s x) n → MayTake (h x) n) → Spends u run s → Spends u run h
   spends_wider run s h wider spends = record {
-    each = λ trace x after rest e. wider_at run (s x) (h x) x after trace rest (wider x) (spends.each trace x after rest e);
+    each =
+        λ trace x after rest e. wider_at run (s x) (h x) x after trace rest (wider x)
+        (spends.each trace x after rest e);
   }
 
   -- nothing is ever given
@@ -112,9 +114,10 @@ module _ {A B : Type 0} (u : Counted) where
       let same : (λ (t : List ℤ). go x vars t) ≡ (λ (t : List ℤ). and_then (run t) go) =
       λ i t. and_then (sym (first t) i) go in
       subst (λ (r : List ℤ → Evaluated B). HasRun r more y after) same second
-  run_then run go (reply ∷ replies) x vars more y after first second =
-      ((first.0.0, ap (λ (o : Evaluated A). and_then o go) first.0.1),
-      run_then (λ t. run (reply ∷ t)) go replies x vars more y after first.1 second)
+  run_then run go (reply ∷ replies) x vars more y after first second = (
+    (first.0.0, ap (λ (o : Evaluated A). and_then o go) first.0.1),
+    run_then (λ t. run (reply ∷ t)) go replies x vars more y after first.1 second,
+  )
 
   -- where the first run waits, both count the same
   waiting_counts : (o : Evaluated A) (go : A → Vars → List ℤ → Evaluated B) → IsWaiting o →
@@ -133,9 +136,11 @@ module _ {A B : Type 0} (u : Counted) where
       ap (λ (r : List ℤ → Evaluated B). spent u r more) same in
       omega (arith, equal)
   spent_then run go (reply ∷ replies) x vars more first =
-      omega
-      (arith, waiting_counts (run []) go first.0,
-      spent_then (λ t. run (reply ∷ t)) go replies x vars more first.1)
+      omega (
+        arith,
+        waiting_counts (run []) go first.0,
+        spent_then (λ t. run (reply ∷ t)) go replies x vars more first.1,
+      )
 
   both_ran : (run : List ℤ → Evaluated A) (go : A → Vars → List ℤ → Evaluated B) (f : A → Option Span)
       (g : A → B → Option Span) (h : B → Option Span) →
@@ -146,7 +151,8 @@ module _ {A B : Type 0} (u : Counted) where
   both_ran run go f g h first second fits trace y after rest (Awaits want) is e = absurd (cc)
   both_ran run go f g h first second fits trace y after rest (Gives x vars middle) is e =
       let a : Ran u run (f x) x vars trace middle = first.each trace x vars middle is in
-      let b : Ran u (λ (t : List ℤ). go x vars t) (g x y) y after middle rest = (second x vars).each middle y after rest e
+      let b : Ran u (λ (t : List ℤ). go x vars t) (g x y) y after middle rest =
+      (second x vars).each middle y after rest e
       in
       record {
         replies = a.replies ++ b.replies;
@@ -167,7 +173,8 @@ module _ {A B : Type 0} (u : Counted) where
   }
 
   -- a value, and what comes behind it
-  pub spends_then : (run : List ℤ → Evaluated A) (go : A → Vars → List ℤ → Evaluated B) (s : Span) (g : B → Option Span) →
+  pub spends_then : (run : List ℤ → Evaluated A) (go : A → Vars → List ℤ → Evaluated B) (s : Span) (g : B → Option Span)
+      →
       Spends u run (λ x. Some s) → ((x : A) (vars : Vars) → Spends u (λ (t : List ℤ). go x vars t) g) →
       Spends u (λ (t : List ℤ). and_then (run t) go) (λ y. before s (g y))
   spends_then run go s g first second =

@@ -69,7 +69,8 @@ module _ {A : Type 0} (u : Counted) where
 
 module _ {A B : Type 0} (u : Counted) where
   -- a value, the cycle that takes it, and what comes behind that
-  pub behind_taken : (run : List ℤ → Evaluated A) (go : A → Vars → List ℤ → Evaluated B) (s : Span) (g : B → Option Span) →
+  pub behind_taken : (run : List ℤ → Evaluated A) (go : A → Vars → List ℤ → Evaluated B) (s : Span)
+      (g : B → Option Span) →
       Spends u run (λ x. Some s) → ((x : A) (vars : Vars) → Spends u (λ (t : List ℤ). go x vars t) g) →
       Spends u (λ (t : List ℤ). and_then (run t) (λ x vars rest. pass rest (λ rest. go x vars rest)))
       (λ y. before (s ⊕ cycle u) (g y))
@@ -82,7 +83,8 @@ module _ {A B : Type 0} (u : Counted) where
 
 -- Operators.
 
-module _ (u : Counted) (p : Profile) (left : List ℤ → Evaluated ℤ) (right : Vars → ℕ → List ℤ → Evaluated ℤ) (s t : Span)
+module _ (u : Counted) (p : Profile) (left : List ℤ → Evaluated ℤ) (right : Vars → ℕ → List ℤ → Evaluated ℤ)
+    (s t : Span)
     (first : Spends u left (λ x. Some s))
     (second : (vars : Vars) (depth : ℕ) → Spends u (λ (rest : List ℤ). right vars depth rest) (λ x. Some t)) where
   full_takes : (o : Op) (depth : ℕ) →
@@ -199,7 +201,8 @@ module _ (u : Counted) (ends : Ends) (g h : Flow → Option Span) where
       (on_goes go second) (on_fits through returns)
 
 -- the next statements
-pub next_takes : (u : Counted) (run : List ℤ → Evaluated Flow) (go : Vars → List ℤ → Evaluated Flow) (ends next : Ends) →
+pub next_takes : (u : Counted) (run : List ℤ → Evaluated Flow) (go : Vars → List ℤ → Evaluated Flow) (ends next : Ends)
+    →
     Spends u run (end_of ends) → ((vars : Vars) → Spends u (λ (t : List ℤ). go vars t) (end_of next)) →
     Spends u (λ (t : List ℤ). and_on (run t) go) (end_of (followed ends next))
 next_takes u run go ends next first second =

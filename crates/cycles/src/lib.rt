@@ -6,10 +6,10 @@ mod ends;
 mod expressions;
 mod known;
 mod laws;
+mod loops;
 mod runs;
 mod spans;
 mod statements;
-mod loops;
 
 pub use counted::Counted;
 pub use grammar::{Intrinsic, Profile};
@@ -17,6 +17,6 @@ pub use known::known_spans;
 pub use laws::{
     cycles_are_replies, expressions_take, loops_are_turns, runs_take, statements_take, turns_take,
 };
+pub use loops::{Turn, turns};
 pub use runs::Runs;
 pub use spans::{Ends, Span};
-pub use loops::{Turn, turns};

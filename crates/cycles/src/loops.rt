@@ -40,7 +40,13 @@ pub fn turns(
 {
     let mut turns = Vec::new(alloc);
     for function in maker.functions() {
-        add_turns(&function.body, function.number, cycles, questions, &mut turns)?;
+        add_turns(
+            &function.body,
+            function.number,
+            cycles,
+            questions,
+            &mut turns,
+        )?;
     }
     Ok(turns)
 }
