@@ -126,15 +126,16 @@ module _ {A B : Type 0} (u : Counted) where
       ap (λ (o : Evaluated A). counts u (and_then o go)) waits.1 ∙
       sym (ap (λ (o : Evaluated A). counts u o) waits.1)
 
+  -- what comes behind a run that is over at once
+  spent_at_once : (run : List ℤ → Evaluated A) (go : A → Vars → List ℤ → Evaluated B) (x : A) (vars : Vars)
+      (more : List ℤ) → HasRun run [] x vars →
+      spent u (λ t. and_then (run t) go) more ≡ spent u (λ t. go x vars t) more
+  spent_at_once run go x vars more first = λ i. spent u (λ (t : List ℤ). and_then (first t i) go) more
+
   pub spent_then : (run : List ℤ → Evaluated A) (go : A → Vars → List ℤ → Evaluated B) (replies : List ℤ) (x : A)
       (vars : Vars) (more : List ℤ) → HasRun run replies x vars →
       spent u (λ t. and_then (run t) go) (replies ++ more) ≡ spent u run replies + spent u (λ t. go x vars t) more
-  spent_then run go [] x vars more first =
-      let same : (λ (t : List ℤ). and_then (run t) go) ≡ (λ (t : List ℤ). go x vars t) =
-      λ i t. and_then (first t i) go in
-      let equal : spent u (λ (t : List ℤ). and_then (run t) go) more ≡ spent u (λ (t : List ℤ). go x vars t) more =
-      ap (λ (r : List ℤ → Evaluated B). spent u r more) same in
-      omega (arith, equal)
+  spent_then run go [] x vars more first = omega (arith, spent_at_once run go x vars more first)
   spent_then run go (reply ∷ replies) x vars more first =
       omega (
         arith,
@@ -173,9 +174,8 @@ module _ {A B : Type 0} (u : Counted) where
   }
 
   -- a value, and what comes behind it
-  pub spends_then : (run : List ℤ → Evaluated A) (go : A → Vars → List ℤ → Evaluated B) (s : Span) (g : B → Option Span)
-      →
-      Spends u run (λ x. Some s) → ((x : A) (vars : Vars) → Spends u (λ (t : List ℤ). go x vars t) g) →
+  pub spends_then : (run : List ℤ → Evaluated A) (go : A → Vars → List ℤ → Evaluated B) (s : Span)
+      (g : B → Option Span) → Spends u run (λ x. Some s) → ((x : A) (vars : Vars) → Spends u (λ (t : List ℤ). go x vars t) g) →
       Spends u (λ (t : List ℤ). and_then (run t) go) (λ y. before s (g y))
   spends_then run go s g first second =
       spends_both run go (λ x. Some s) (λ x y. g y) (λ y. before s (g y)) first second

@@ -201,9 +201,8 @@ module _ (u : Counted) (ends : Ends) (g h : Flow → Option Span) where
       (on_goes go second) (on_fits through returns)
 
 -- the next statements
-pub next_takes : (u : Counted) (run : List ℤ → Evaluated Flow) (go : Vars → List ℤ → Evaluated Flow) (ends next : Ends)
-    →
-    Spends u run (end_of ends) → ((vars : Vars) → Spends u (λ (t : List ℤ). go vars t) (end_of next)) →
+pub next_takes : (u : Counted) (run : List ℤ → Evaluated Flow) (go : Vars → List ℤ → Evaluated Flow)
+    (ends next : Ends) → Spends u run (end_of ends) → ((vars : Vars) → Spends u (λ (t : List ℤ). go vars t) (end_of next)) →
     Spends u (λ (t : List ℤ). and_on (run t) go) (end_of (followed ends next))
 next_takes u run go ends next first second =
     behind_on u ends (end_of next) (end_of (followed ends next)) run go first second

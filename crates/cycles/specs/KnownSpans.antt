@@ -80,8 +80,8 @@ pub record ByBoth (holds : Profile → Type 0) : Type 0 where
   pub second : holds second_profile
 
 -- the run of a function takes this
-abbrev pub Takes : Counted → File → ℕ → Span → Profile → Type 0
-Takes u file k s p = run_span u p file k ≡ s
+abbrev pub RunTakes : Counted → File → ℕ → Span → Profile → Type 0
+RunTakes u file k s p = run_span u p file k ≡ s
 
 -- the turn of a loop whose test is 1 takes this
 abbrev pub TurnTakes : Counted → File → Body → Option Span → Profile → Type 0
@@ -89,22 +89,22 @@ TurnTakes u file body s p = turn_of u p (run_span u p file) (constant 1) body �
 
 -- The runs of functions, in cycles.
 pub record KnownRuns : Type 0 where
-  pub callee : ByBoth (Takes Cycles asking_file 0 (from_to 6 6))
-  pub caller : ByBoth (Takes Cycles asking_file 1 (from_to 12 12))
-  pub loop : ByBoth (Takes Cycles shooting_file 0 (from 5))
-  pub one_branch : ByBoth (Takes Cycles set_file 0 (from_to 5 8))
-  pub two_branches : ByBoth (Takes Cycles step_file 0 (from_to 5 12))
-  pub both_sides_of_and : Takes Cycles (either_or_shot op.And 0) 0 (from_to 10 10) first_profile
-  pub both_sides_of_or : Takes Cycles (either_or_shot op.Or 0) 0 (from_to 10 10) first_profile
-  pub one_side_of_and : Takes Cycles (either_or_shot op.And 0) 0 (from_to 7 13) second_profile
-  pub one_side_of_or : Takes Cycles (either_or_shot op.Or 0) 0 (from_to 9 11) second_profile
-  pub calls_itself : ByBoth (Takes Cycles (calls_f 0 statement_of_call) 0 (from 10))
-  pub calls_what_calls_itself : ByBoth (Takes Cycles (calls_f 0 statement_of_call) 1 (from 10))
-  pub begins_winding : ByBoth (Takes Cycles winding_file 0 (from 15))
-  pub winds : ByBoth (Takes Cycles winding_file 1 (from 10))
-  pub winds_back : ByBoth (Takes Cycles winding_file 2 (from 5))
-  pub early_return : ByBoth (Takes Cycles early_file 0 (from_to 3 3))
-  pub return_from_loop : ByBoth (Takes Cycles waiting_file 0 (from 5))
+  pub callee : ByBoth (RunTakes Cycles asking_file 0 (from_to 6 6))
+  pub caller : ByBoth (RunTakes Cycles asking_file 1 (from_to 12 12))
+  pub loop : ByBoth (RunTakes Cycles shooting_file 0 (from 5))
+  pub one_branch : ByBoth (RunTakes Cycles set_file 0 (from_to 5 8))
+  pub two_branches : ByBoth (RunTakes Cycles step_file 0 (from_to 5 12))
+  pub both_sides_of_and : RunTakes Cycles (either_or_shot op.And 0) 0 (from_to 10 10) first_profile
+  pub both_sides_of_or : RunTakes Cycles (either_or_shot op.Or 0) 0 (from_to 10 10) first_profile
+  pub one_side_of_and : RunTakes Cycles (either_or_shot op.And 0) 0 (from_to 7 13) second_profile
+  pub one_side_of_or : RunTakes Cycles (either_or_shot op.Or 0) 0 (from_to 9 11) second_profile
+  pub calls_itself : ByBoth (RunTakes Cycles (calls_f 0 statement_of_call) 0 (from 10))
+  pub calls_what_calls_itself : ByBoth (RunTakes Cycles (calls_f 0 statement_of_call) 1 (from 10))
+  pub begins_winding : ByBoth (RunTakes Cycles winding_file 0 (from 15))
+  pub winds : ByBoth (RunTakes Cycles winding_file 1 (from 10))
+  pub winds_back : ByBoth (RunTakes Cycles winding_file 2 (from 5))
+  pub early_return : ByBoth (RunTakes Cycles early_file 0 (from_to 3 3))
+  pub return_from_loop : ByBoth (RunTakes Cycles waiting_file 0 (from 5))
 
 -- The turns of loops, in cycles.
 pub record KnownTurns : Type 0 where
@@ -115,11 +115,11 @@ pub record KnownTurns : Type 0 where
 
 -- The questions of runs and turns.
 pub record KnownQuestions : Type 0 where
-  pub of_callee : ByBoth (Takes Questions asking_file 1 (from_to 1 1))
-  pub of_its_kind : ByBoth (Takes (QuestionsOf intrinsic.Damage) asking_file 1 (from_to 1 1))
-  pub of_other_kind : ByBoth (Takes (QuestionsOf intrinsic.Scan) asking_file 1 (from_to 0 0))
-  pub of_both_sides : Takes Questions (either_or_shot op.And 0) 0 (from_to 1 1) first_profile
-  pub of_one_side : Takes Questions (either_or_shot op.And 0) 0 (from_to 0 1) second_profile
+  pub of_callee : ByBoth (RunTakes Questions asking_file 1 (from_to 1 1))
+  pub of_its_kind : ByBoth (RunTakes (QuestionsOf intrinsic.Damage) asking_file 1 (from_to 1 1))
+  pub of_other_kind : ByBoth (RunTakes (QuestionsOf intrinsic.Scan) asking_file 1 (from_to 0 0))
+  pub of_both_sides : RunTakes Questions (either_or_shot op.And 0) 0 (from_to 1 1) first_profile
+  pub of_one_side : RunTakes Questions (either_or_shot op.And 0) 0 (from_to 0 1) second_profile
   pub of_turn : ByBoth (TurnTakes (QuestionsOf intrinsic.Cannon) shooting_file shot_tree (Some (from_to 1 1)))
-  pub of_loop : ByBoth (Takes Questions shooting_file 0 (from 0))
-  pub of_branch : ByBoth (Takes Questions set_file 0 (from_to 0 0))
+  pub of_loop : ByBoth (RunTakes Questions shooting_file 0 (from 0))
+  pub of_branch : ByBoth (RunTakes Questions set_file 0 (from_to 0 0))

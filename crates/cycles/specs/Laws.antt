@@ -16,8 +16,8 @@ use Rattle.cycles.specs.Runs.{run_span}
 use Rattle.cycles.specs.Turns.{TurnEnd, Begins, after_turn, turn, turn_of}
 
 -- a run took the first of these replies and left the rest, and what it counted is within the span
-pub record Takes {A : Type 0} (u : Counted) (run : List ℤ → Evaluated A) (s : Option Span) (trace rest : List ℤ) : Type
-    0 where
+pub record Takes {A : Type 0} (u : Counted) (run : List ℤ → Evaluated A) (s : Option Span)
+    (trace rest : List ℤ) : Type 0 where
   pub replies : List ℤ
   pub took : trace ≡ replies ++ rest
   pub within : MayTake s (spent u run replies)
