@@ -1,0 +1,9 @@
+pub mod Numbers
+pub mod Spending
+pub mod Ways
+pub mod TurnLaws
+pub mod SpanLaws
+pub mod KnownSpans
+pub mod Tables
+pub mod TreeSpans
+pub mod Rows

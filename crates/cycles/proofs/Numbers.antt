@@ -1,0 +1,169 @@
+-- Numbers within spans.
+use Rattle.std.specs.Prelude.{◌≡◌, ℕ, ◌+◌, ◌≤◌, min, max, Option, Some, None, IfSome, unwrap_or}
+use Rattle.std.proofs.Common.{arith, subst, sym}
+use Rattle.code.specs.Meaning.{Flow, Through, Returns}
+use Rattle.cycles.specs.declared.spans.Span.{Span}
+use Rattle.cycles.specs.declared.spans.Ends.{Ends}
+use Rattle.cycles.specs.Spans.{IsWithin, MayTake, ◌⊕◌, anything, either, exactly, most_of_both, most_of_either, unbounded}
+use Rattle.cycles.specs.Ends.{after, before, behind, end_of, endless, followed, one_branch, one_of, without_most}
+
+-- One after the other.
+
+most_of_sum : (a b : Option ℕ) (m n : ℕ) → IfSome a (λ k. m ≤ k) → IfSome b (λ k. n ≤ k) →
+    IfSome (most_of_both a b) (λ k. m + n ≤ k)
+most_of_sum (Some j) (Some k) m n first second = omega (arith, first, second)
+most_of_sum (Some j) None m n first second = tt
+most_of_sum None b m n first second = tt
+
+pub within_sum : (s t : Span) (m n : ℕ) → IsWithin s m → IsWithin t n → IsWithin (s ⊕ t) (m + n)
+within_sum s t m n first second = record {
+  least = omega (arith, first.least, second.least);
+  most = most_of_sum s.most t.most m n first.most second.most;
+}
+
+pub before_takes : (s : Span) (o : Option Span) (m n : ℕ) → IsWithin s m → MayTake o n → MayTake (before s o) (m + n)
+before_takes s None m n first second = absurd second
+before_takes s (Some t) m n first second = within_sum s t m n first second
+
+pub behind_takes : (a o : Option Span) (m n : ℕ) → MayTake a m → MayTake o n → MayTake (behind a o) (m + n)
+behind_takes None o m n first second = absurd first
+behind_takes (Some s) o m n first second = before_takes s o m n first second
+
+-- nothing more
+pub within_none : (n : ℕ) → n ≡ 0 → IsWithin (exactly 0) n
+within_none n none = record { least = omega (arith, none); most = omega (arith, none) }
+
+pub takes_none : (o : Option Span) (m n : ℕ) → MayTake o m → IsWithin (exactly 0) n → MayTake o (m + n)
+takes_none o m n first second =
+    let same : m ≡ m + n = omega (arith, second.most) in
+    subst (λ (k : ℕ). MayTake o k) same first
+
+pub within_exactly : (n : ℕ) → IsWithin (exactly n) n
+within_exactly n = record { least = omega arith; most = omega arith }
+
+-- three, one after the other
+most_of_three : (a b c : Option ℕ) (n : ℕ) → IfSome (most_of_both a (most_of_both b c)) (λ k. n ≤ k) →
+    IfSome (most_of_both (most_of_both a b) c) (λ k. n ≤ k)
+most_of_three (Some i) (Some j) (Some k) n h = omega (arith, h)
+most_of_three (Some i) (Some j) None n h = tt
+most_of_three (Some i) None c n h = tt
+most_of_three None b c n h = tt
+
+within_three : (s t r : Span) (n : ℕ) → IsWithin (s ⊕ (t ⊕ r)) n → IsWithin ((s ⊕ t) ⊕ r) n
+within_three s t r n h =
+    record { least = omega (arith, h.least); most = most_of_three s.most t.most r.most n h.most }
+
+pub before_both : (s t : Span) (o : Option Span) (n : ℕ) → MayTake (before s (before t o)) n →
+    MayTake (before (s ⊕ t) o) n
+before_both s t None n h = absurd h
+before_both s t (Some r) n h = within_three s t r n h
+
+-- One or the other.
+
+most_of_first : (a b : Option ℕ) (n : ℕ) → IfSome a (λ k. n ≤ k) → IfSome (most_of_either a b) (λ k. n ≤ k)
+most_of_first (Some j) (Some k) n h = omega (arith, h)
+most_of_first (Some j) None n h = tt
+most_of_first None b n h = tt
+
+most_of_second : (a b : Option ℕ) (n : ℕ) → IfSome b (λ k. n ≤ k) → IfSome (most_of_either a b) (λ k. n ≤ k)
+most_of_second (Some j) (Some k) n h = omega (arith, h)
+most_of_second (Some j) None n h = tt
+most_of_second None b n h = tt
+
+pub within_first : (s t : Span) (n : ℕ) → IsWithin s n → IsWithin (either s t) n
+within_first s t n h =
+    record { least = omega (arith, h.least); most = most_of_first s.most t.most n h.most }
+
+pub within_second : (s t : Span) (n : ℕ) → IsWithin t n → IsWithin (either s t) n
+within_second s t n h =
+    record { least = omega (arith, h.least); most = most_of_second s.most t.most n h.most }
+
+pub first_takes : (a b : Option Span) (n : ℕ) → MayTake a n → MayTake (one_of a b) n
+first_takes None b n h = absurd h
+first_takes (Some s) None n h = h
+first_takes (Some s) (Some t) n h = within_first s t n h
+
+pub second_takes : (a b : Option Span) (n : ℕ) → MayTake b n → MayTake (one_of a b) n
+second_takes None b n h = h
+second_takes (Some s) None n h = absurd h
+second_takes (Some s) (Some t) n h = within_second s t n h
+
+-- No most.
+
+pub within_unbounded : (s : Span) (n : ℕ) → IsWithin s n → IsWithin (unbounded s) n
+within_unbounded s n h = record { least = h.least; most = tt }
+
+pub without_most_takes : (o : Option Span) (n : ℕ) → MayTake o n → MayTake (without_most o) n
+without_most_takes None n h = absurd h
+without_most_takes (Some s) n h = within_unbounded s n h
+
+-- a span and an end with no most, as one with no most
+pub before_without_most : (s : Span) (o : Option Span) (n : ℕ) → MayTake (before s (without_most o)) n →
+    MayTake (without_most (before s o)) n
+before_without_most s None n h = absurd h
+before_without_most s (Some t) n h = record { least = h.least; most = tt }
+
+-- an end with no most is reached later too
+pub later_takes : (s t : Span) (o : Option Span) (m n : ℕ) → MayTake (before s (without_most (before t o))) n →
+    MayTake (without_most o) (m + n)
+later_takes s t None m n h = absurd h
+later_takes s t (Some r) m n h = record { least = omega (arith, h.least); most = tt }
+
+pub anything_takes : (o : Option Span) (n : ℕ) → MayTake o n → IsWithin (unwrap_or o anything) n
+anything_takes None n h = absurd h
+anything_takes (Some s) n h = h
+
+pub within_anything : (n : ℕ) → IsWithin anything n
+within_anything n = record { least = omega arith; most = tt }
+
+-- with nothing behind it
+most_of_all : (a : Option ℕ) (n : ℕ) → IfSome (most_of_both a (Some 0)) (λ k. n ≤ k) → IfSome a (λ k. n ≤ k)
+most_of_all (Some j) n h = omega (arith, h)
+most_of_all None n h = tt
+
+pub within_all : (s : Span) (n : ℕ) → IsWithin (s ⊕ exactly 0) n → IsWithin s n
+within_all s n h = record { least = omega (arith, h.least); most = most_of_all s.most n h.most }
+
+-- The ends of statements.
+
+pub end_after : (s : Span) (ends : Ends) (flow : Flow) (n : ℕ) → MayTake (before s (end_of ends flow)) n →
+    MayTake (end_of (after s ends) flow) n
+end_after s ends Through n h = h
+end_after s ends (Returns x) n h = h
+
+pub end_before : (s : Span) (ends : Ends) (flow : Flow) (n : ℕ) → MayTake (end_of (after s ends) flow) n →
+    MayTake (before s (end_of ends flow)) n
+end_before s ends Through n h = h
+end_before s ends (Returns x) n h = h
+
+pub end_followed : (ends next : Ends) (flow : Flow) (m n : ℕ) → MayTake ends.through m → MayTake (end_of next flow) n →
+    MayTake (end_of (followed ends next) flow) (m + n)
+end_followed ends next Through m n first second = behind_takes ends.through next.through m n first second
+end_followed ends next (Returns x) m n first second =
+    second_takes ends.returns (behind ends.through next.returns) (m + n)
+    (behind_takes ends.through next.returns m n first second)
+
+pub end_of_first : (first second : Ends) (flow : Flow) (n : ℕ) → MayTake (end_of first flow) n →
+    MayTake (end_of (one_branch first second) flow) n
+end_of_first first second Through n h = first_takes first.through second.through n h
+end_of_first first second (Returns x) n h = first_takes first.returns second.returns n h
+
+pub end_of_second : (first second : Ends) (flow : Flow) (n : ℕ) → MayTake (end_of second flow) n →
+    MayTake (end_of (one_branch first second) flow) n
+end_of_second first second Through n h = second_takes first.through second.through n h
+end_of_second first second (Returns x) n h = second_takes first.returns second.returns n h
+
+pub end_endless : (ends : Ends) (flow : Flow) (n : ℕ) → MayTake (end_of ends flow) n →
+    MayTake (end_of (endless ends) flow) n
+end_endless ends Through n h = without_most_takes ends.through n h
+end_endless ends (Returns x) n h = without_most_takes ends.returns n h
+
+pub end_endless_after : (s : Span) (ends : Ends) (flow : Flow) (n : ℕ) →
+    MayTake (before s (end_of (endless ends) flow)) n → MayTake (end_of (endless (after s ends)) flow) n
+end_endless_after s ends Through n h = before_without_most s ends.through n h
+end_endless_after s ends (Returns x) n h = before_without_most s ends.returns n h
+
+pub end_later : (s t : Span) (ends : Ends) (flow : Flow) (m n : ℕ) →
+    MayTake (before s (end_of (endless (after t ends)) flow)) n → MayTake (end_of (endless ends) flow) (m + n)
+end_later s t ends Through m n h = later_takes s t ends.through m n h
+end_later s t ends (Returns x) m n h = later_takes s t ends.returns m n h

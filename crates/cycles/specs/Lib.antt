@@ -1,0 +1,12 @@
+pub mod Counting
+pub mod Spans
+pub mod Ends
+pub mod Expressions
+pub mod Statements
+pub mod Runs
+pub mod Turns
+pub mod Laws
+pub mod Told
+pub mod Tables
+pub mod Loops
+pub mod KnownSpans

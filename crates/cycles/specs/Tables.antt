@@ -1,0 +1,27 @@
+-- What is known of functions' runs while trees are gone through.
+use Rattle.std.specs.Prelude.{◌≡◌, ℕ, List, [], ◌∷◌, Bool, length, nat_lt, slice_index_or, if◌then◌else◌, ◌==◌}
+use Rattle.grammar.specs.Tree.{Body, Done}
+use Rattle.trees.specs.Trees.{body_tree}
+use Rattle.trees.specs.declared.tree.Function.{Function}
+use Rattle.cycles.specs.declared.runs.Runs.{Runs}
+use Rattle.cycles.specs.declared.spans.Span.{Span}
+use Rattle.cycles.specs.Told.{told}
+use Rattle.cycles.specs.Runs.{run_within}
+
+-- the run that a table has for a number
+abbrev pub run_in : Runs → ℕ → Span
+run_in table k = slice_index_or table.spans k table.other
+
+-- the table has what is told of these runs
+pub record HasRuns (table : Runs) (runs : ℕ → Span) : Type 0 where
+  pub each : (k : ℕ) → run_in table k ≡ told (runs k)
+
+-- the statements of the first function of this number
+abbrev pub first_numbered : List Function → ℕ → Body
+first_numbered [] k = Done
+first_numbered (f ∷ fs) k = if f.number == k then body_tree f.body.items else first_numbered fs k
+
+-- The statements of the function of this number, which is a byte. A number that no function has stands for no
+-- statements.
+abbrev pub body_numbered : List Function → ℕ → Body
+body_numbered functions k = if nat_lt k 256 then first_numbered functions k else Done
