@@ -65,7 +65,8 @@ def script_of(name: str) -> str:
 def samples() -> list[dict[str, str | int]]:
     """The robots to choose from, in the order of the ladder."""
     ladder = LADDER.findall(text_of(TOP, "robots", "README.md"))
-    assert sorted(name for _, name in ladder) == sorted(map(os.path.basename, glob.glob(os.path.join(TOP, "robots", "*.r")))), ladder
+    there = {name for name in os.listdir(os.path.join(TOP, "robots")) if name.endswith(".r")}
+    assert {name for _, name in ladder} == there and len(ladder) == len(there), ladder
     return [{"name": name, "level": int(level), "source": text_of(TOP, "robots", name)} for level, name in ladder]
 
 
