@@ -1,5 +1,5 @@
 """Makes HTML of pages in Markdown, as far as the pages of this repository use it: headings, paragraphs, lists, tables, code, and in
-a line code, strong and stressed words, links and pictures."""
+a line code, strong and stressed words, and links. Pictures are left out."""
 
 from __future__ import annotations
 
@@ -43,7 +43,7 @@ def styled(found: re.Match[str], leading: Leading) -> str:
     if kind == "escaped":
         return found["escaped"]
     if kind == "picture":
-        return f"<em>{html.escape(found['picture'])}</em>"
+        return ""
     place, text = leading(found["link"]), inline(found["text"], leading)
     return f'<a href="{html.escape(place)}">{text}</a>' if place else text
 
@@ -85,11 +85,16 @@ class Reader:
             elif line.startswith("- ") or ORDERED.match(line):
                 yield self.list_()
             else:
-                yield f"<p>{self.said(' '.join(self.while_(is_text)))}</p>\n"
+                yield self.paragraph()
 
     def said(self, text: str) -> str:
         """The HTML of a line."""
         return inline(text, self.leading)
+
+    def paragraph(self) -> str:
+        """A paragraph; nothing if it is a picture alone."""
+        said = self.said(" ".join(self.while_(is_text)))
+        return f"<p>{said}</p>\n" if said else ""
 
     def heading(self) -> str:
         """A heading, with its name."""

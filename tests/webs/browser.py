@@ -82,11 +82,12 @@ def marks(page: Page) -> list[str]:
     return wrong + ([] if len(found) == len(advice) == 16 else [f"{len(found)} diagnostics, {len(advice)} pieces of advice"])
 
 
-def alive(page: Page, crobots: str) -> list[str]:
-    """After hostile sources the page runs a battle as ever."""
+def alive(page: Page, crobots: str, most: int = 1_048_577) -> list[str]:
+    """After hostile sources, of at most so many bytes, the page runs a battle as ever."""
     battle = Battle(samples()[:2], Settings(limit=5_000))
     wrong = []
-    for source in (b"main(){" + b"(" * (1_048_576 - 7), b"main(){}\x1a(((", b"", b"/*" * 10_000, b"main(){" + b"1;" * 100_000, b"(" * 1_048_577):
+    hostile = (b"main(){" + b"(" * (1_048_576 - 7), b"main(){}\x1a(((", b"", b"/*" * 10_000, b"main(){" + b"1;" * 100_000, b"(" * 1_048_577)
+    for source in (it for it in hostile if len(it) <= most):
         page.show(Battle([("a.r", source)]))
         report = page.run()
         if source == b"main(){}\x1a(((" and not report.startswith("Match 1: cycles = 500000\n"):
