@@ -353,6 +353,6 @@ def results(crobots: str, _stages: str, folder: str) -> Iterator[tuple[str, list
         yield from helping.results(page, crobots, folder)
         yield from robust.results(page, folder)
         yield from everyone.results(page)
-        yield from paths.results(page)
+        yield from paths.results(page, folder)
         yield "an older browser", older(page, folder)
         yield "console", console(page)

@@ -83,6 +83,6 @@ def results(crobots: str, _stages: str, folder: str) -> Iterator[tuple[str, list
         yield "a stopped series", browser.stopped(page, crobots)
         yield "widths", everyone.widths(page)
         yield "keys", browser.keys(page)
-        yield from paths.results(page)
+        yield from paths.results(page, folder)
         yield "the page as a file", browser.story(page, crobots, folder, webkit)
         yield "a plain text field", robust.plain(page, folder)
