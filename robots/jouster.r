@@ -5,8 +5,9 @@
    is shot at itself comes down behind it. Turning takes braking, so it turns
    only where the target is far, or where it must.
 
-   How it is beaten: it comes in a straight line, ten metres an update, and
-   shots at where it will be would hit it. Before a wall it is slow, too.
+   How it is beaten: it shoots at where its target is, and never ahead. Who
+   drives across its way at full speed isn't hit, and sees it come in a straight
+   line. The last robot of the page's five steps does so (web/steps/5.r).
    To learn: the difference of two degrees round the circle. */
 
 int angle, range;                       /* where the target was seen last */
@@ -29,13 +30,13 @@ look()
     angle = angle + 20;
 }
 
-/* Whether the field ends 111 metres ahead. */
+/* Whether the field ends 167 metres ahead. */
 is_at_wall()
 {
   int x, y;
 
-  x = loc_x() + cos(course) / 900;
-  y = loc_y() + sin(course) / 900;
+  x = loc_x() + cos(course) / 600;
+  y = loc_y() + sin(course) / 600;
   return x < 0 || x > 999 || y < 0 || y > 999;
 }
 
