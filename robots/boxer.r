@@ -14,13 +14,13 @@ int course;                             /* the way it drives */
 /* Finds the target: near the last degree first, then all round. */
 look()
 {
-  if (range = scan(angle, 3))
+  if ((range = scan(angle, 3)))
     return;
-  if (range = scan(angle - 6, 3)) {
+  if ((range = scan(angle - 6, 3))) {
     angle = angle - 6;
     return;
   }
-  if (range = scan(angle + 6, 3)) {
+  if ((range = scan(angle + 6, 3))) {
     angle = angle + 6;
     return;
   }

@@ -16,13 +16,13 @@ int course;                             /* the way it rides */
 /* Finds the target: near the last degree first, then all round. */
 look()
 {
-  if (range = scan(angle, 3))
+  if ((range = scan(angle, 3)))
     return;
-  if (range = scan(angle - 7, 4)) {
+  if ((range = scan(angle - 7, 4))) {
     angle = angle - 7;
     return;
   }
-  if (range = scan(angle + 7, 4)) {
+  if ((range = scan(angle + 7, 4))) {
     angle = angle + 7;
     return;
   }
@@ -40,14 +40,14 @@ is_at_wall()
   return x < 0 || x > 999 || y < 0 || y > 999;
 }
 
-/* Whether the target isn't ahead, to within 20 degrees. */
-is_past()
+/* Whether the target is far, and not ahead to within 20 degrees. */
+is_far_behind()
 {
   int off;
 
   off = (angle - course) % 360;         /* from -359 to 359 */
   off = (off + 540) % 360 - 180;        /* from -180 to 179 */
-  return off < -20 || off > 20;
+  return range > 300 && (off < -20 || off > 20);
 }
 
 main()
@@ -56,7 +56,9 @@ main()
     look();
     if (range > 40)
       cannon(angle, range);
-    if (is_at_wall() || (range > 300 && is_past()))
+    if (is_at_wall())
+      course = angle;
+    else if (is_far_behind())
       course = angle;
     drive(course, 100);                 /* brakes first, if it has to turn */
   }

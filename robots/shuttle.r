@@ -39,7 +39,8 @@ begin()
 {
   course = 180 * (loc_x() > 500);
   drive(course, 100);
-  while (loc_x() < 440 || loc_x() > 560) ;
+  while (loc_x() < 440) ;
+  while (loc_x() > 560) ;
   drive(course, 0);
   while (speed() > 50) ;
   course = 90;
