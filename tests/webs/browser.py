@@ -14,6 +14,8 @@ from .battles import Battle, Settings, outcome, random_battles, sample_battles, 
 from .pages import Page, chromium, console, served, without
 
 DEBIAN = "/usr/lib/python3/dist-packages"
+# of a source
+MOST_BYTES = 1_048_576
 
 
 def has_selenium() -> bool:
@@ -55,7 +57,13 @@ def diagnostics() -> dict[str, tuple[bytes, int]]:
             known = found.get(text.strip())
             if not known or (1 < int(line) < 1000, -len(case.source)) > (1 < known[1] < 1000, -len(known[0])):
                 found[text.strip()] = (case.source, int(line))
-    return found
+    return {text: in_lines(*it) for text, it in found.items()}
+
+
+def in_lines(source: bytes, line: int) -> tuple[bytes, int]:
+    """A source with its line, and no blanks for more than a thousand bytes of a line: WebKit takes minutes for a megabyte of them."""
+    cut = source.replace(b" " * 1000, b" " * 999 + b"\n")
+    return cut, line + cut[:MOST_BYTES].count(b"\n") - source[:MOST_BYTES].count(b"\n")
 
 
 def marked(page: Page) -> tuple[str, list[str]]:
