@@ -38,7 +38,7 @@ export function checked(battle) {
 
 /** Returns the battle to begin with: two samples, or the smallest robot if there are none. */
 export function firstBattle(samples, other) {
-    const robots = samples.filter(({name}) => FIRST_ROBOTS.includes(name)).map(it => ({...it}));
+    const robots = FIRST_ROBOTS.map(name => samples.find(it => it.name === name)).filter(it => it).map(({name, source}) => ({name, source}));
     return {robots: robots.length ? robots : [other], settings: {...USUAL}};
 }
 

@@ -17,6 +17,16 @@ const MOST_MODULE_BYTES = 4 * 1024 * 1024;
 
 const byId = id => document.getElementById(id);
 
+/** Returns the samples as choices, those of a level together, the easiest first. */
+function levels(samples) {
+    const numbers = [...new Set(samples.map(({level}) => level))];
+    return numbers.map(number => {
+        const group = Object.assign(document.createElement("optgroup"), {label: `Level ${number}`});
+        group.append(...samples.filter(({level}) => level === number).map(({name}) => new Option(name)));
+        return group;
+    });
+}
+
 class Page {
     constructor(newCaller, data, editor) {
         this.data = data;
@@ -28,9 +38,9 @@ class Page {
     }
 
     listen() {
-        byId("sample").append(...this.data.robots.map(({name}) => new Option(name)));
+        byId("sample").append(...levels(this.data.robots));
         const presses = {
-            "add-sample": () => this.workbench.add([{...this.sample}]), replace: () => this.replace(), remove: () => this.remove(),
+            "add-sample": () => this.workbench.add([this.sample]), replace: () => this.replace(), remove: () => this.remove(),
             save: () => save(this.workbench.robot), open: () => byId("files").click(), link: () => this.copyLink(),
         };
         Object.entries(presses).forEach(([id, call]) => byId(id).addEventListener("click", call));
@@ -39,7 +49,8 @@ class Page {
     }
 
     get sample() {
-        return this.data.robots[byId("sample").selectedIndex];
+        const {name, source} = this.data.robots[byId("sample").selectedIndex];
+        return {name, source};
     }
 
     show(battle, shown) {

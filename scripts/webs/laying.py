@@ -17,6 +17,7 @@ from string import Template
 
 from .helping import functions, panel, steps, text_of, whole
 from .manuals import Page
+from .texts import pages
 
 TOP = os.path.normpath(os.path.join(os.path.dirname(os.path.abspath(__file__)), "..", ".."))
 WEB = os.path.join(TOP, "web")
@@ -35,6 +36,8 @@ POLICY = ("default-src 'none'; script-src 'self' blob: 'wasm-unsafe-eval' 'sha25
 # Each file of the zip has this time, so that the same page makes the same bytes.
 TIME = (1980, 1, 1, 0, 0, 0)
 
+# A row of the ladder of sample robots: a level, and a robot with a link.
+LADDER = re.compile(r"^\| (\d+) \| \[(\w+\.r)\]", re.MULTILINE)
 IMPORT = re.compile(r'^import (\{.*\}) from "\./(\w+)\.js";$', re.MULTILINE)
 EXPORT = re.compile(r"^export ((?:async )?(?:const|function|class) (\w+))", re.MULTILINE)
 
@@ -59,9 +62,12 @@ def script_of(name: str) -> str:
     return '"use strict";\n(() => {\nconst modules = {};\n' + "".join(map(wrapped, in_order(name))) + "})();\n"
 
 
-def samples() -> list[dict[str, str]]:
-    """The robots to choose from, by their names."""
-    return [{"name": os.path.basename(path), "source": text_of(path)} for path in sorted(glob.glob(os.path.join(TOP, "robots", "*.r")))]
+def samples() -> list[dict[str, str | int]]:
+    """The robots to choose from, in the order of the ladder."""
+    ladder = LADDER.findall(text_of(TOP, "robots", "README.md"))
+    there = {name for name in os.listdir(os.path.join(TOP, "robots")) if name.endswith(".r")}
+    assert {name for _, name in ladder} == there and len(ladder) == len(there), ladder
+    return [{"name": name, "level": int(level), "source": text_of(TOP, "robots", name)} for level, name in ladder]
 
 
 def player_script() -> str:
@@ -146,6 +152,9 @@ def lay(folder: str, module: str) -> None:
     put(folder, "index.html", Template(text_of(WEB, "index.html")).substitute(policy=policy(), language=panel(manuals[0], WEB)))
     put(folder, "manual.html", Template(text_of(WEB, "manual.html")).substitute(text=whole(manuals)))
     put(folder, "about.html", about(module))
+    os.makedirs(os.path.join(folder, "pages"))
+    for name, text in pages(TOP, WEB).items():
+        put(os.path.join(folder, "pages"), name, text)
     for name in ("page.css", "text.css"):
         shutil.copy(os.path.join(WEB, name), folder)
     if licence():

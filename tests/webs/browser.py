@@ -14,6 +14,8 @@ from .battles import Battle, Settings, outcome, random_battles, sample_battles, 
 from .pages import Page, chromium, console, served, without
 
 DEBIAN = "/usr/lib/python3/dist-packages"
+# of a source
+MOST_BYTES = 1_048_576
 
 
 def has_selenium() -> bool:
@@ -55,7 +57,13 @@ def diagnostics() -> dict[str, tuple[bytes, int]]:
             known = found.get(text.strip())
             if not known or (1 < int(line) < 1000, -len(case.source)) > (1 < known[1] < 1000, -len(known[0])):
                 found[text.strip()] = (case.source, int(line))
-    return found
+    return {text: in_lines(*it) for text, it in found.items()}
+
+
+def in_lines(source: bytes, line: int) -> tuple[bytes, int]:
+    """A source with its line, and no blanks for more than a thousand bytes of a line: WebKit takes minutes for a megabyte of them."""
+    cut = source.replace(b" " * 1000, b" " * 999 + b"\n")
+    return cut, line + cut[:MOST_BYTES].count(b"\n") - source[:MOST_BYTES].count(b"\n")
 
 
 def marked(page: Page) -> tuple[str, list[str]]:
@@ -82,11 +90,12 @@ def marks(page: Page) -> list[str]:
     return wrong + ([] if len(found) == len(advice) == 16 else [f"{len(found)} diagnostics, {len(advice)} pieces of advice"])
 
 
-def alive(page: Page, crobots: str) -> list[str]:
-    """After hostile sources the page runs a battle as ever."""
+def alive(page: Page, crobots: str, most: int = 1_048_577) -> list[str]:
+    """After hostile sources, of at most so many bytes, the page runs a battle as ever."""
     battle = Battle(samples()[:2], Settings(limit=5_000))
     wrong = []
-    for source in (b"main(){" + b"(" * (1_048_576 - 7), b"main(){}\x1a(((", b"", b"/*" * 10_000, b"main(){" + b"1;" * 100_000, b"(" * 1_048_577):
+    hostile = (b"main(){" + b"(" * (1_048_576 - 7), b"main(){}\x1a(((", b"", b"/*" * 10_000, b"main(){" + b"1;" * 100_000, b"(" * 1_048_577)
+    for source in (it for it in hostile if len(it) <= most):
         page.show(Battle([("a.r", source)]))
         report = page.run()
         if source == b"main(){}\x1a(((" and not report.startswith("Match 1: cycles = 500000\n"):
@@ -352,6 +361,6 @@ def results(crobots: str, _stages: str, folder: str) -> Iterator[tuple[str, list
         yield from helping.results(page, crobots, folder)
         yield from robust.results(page, folder)
         yield from everyone.results(page)
-        yield from paths.results(page)
+        yield from paths.results(page, folder)
         yield "an older browser", older(page, folder)
         yield "console", console(page)

@@ -71,7 +71,7 @@ def contrast(page: Page) -> list[str]:
             probe(page)
             found = page.js(f"return probe({view})")
             wrong += [f"{theme}, {name}: {it}" for it in found["texts"] + found["borders"]]
-        for other in ("manual.html", "about.html"):
+        for other in ("manual.html", "about.html", "pages/language.html"):
             page.driver.get(page.address + other)
             probe(page)
             wrong += [f"{theme}, {other}: {it}" for it in page.js("return probe(window).texts")]

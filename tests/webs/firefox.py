@@ -27,7 +27,7 @@ def results(crobots: str, _stages: str, folder: str) -> Iterator[tuple[str, list
         yield "links", browser.links(page, crobots)
         yield "watched matches", browser.watched(page, crobots)
         yield "widths", everyone.widths(page)
-        yield from paths.results(page)
+        yield from paths.results(page, folder)
         other = Page(driver, "file://" + os.path.join(os.path.abspath(folder), "index.html"))
         other.open()
         yield "the page as a file", browser.reports(other, crobots, sample_battles()[20:21])

@@ -2,6 +2,7 @@
 
 from __future__ import annotations
 
+import glob
 import html
 import json
 import os
@@ -16,6 +17,9 @@ MANUAL = os.path.join(os.path.dirname(os.path.abspath(__file__)), "..", "..", "m
 # as docs/field.md has them
 PARAMETERS: dict[str, list[str]] = {"scan": ["degree", "resolution"], "cannon": ["degree", "range"], "drive": ["degree", "speed"], "damage": [], "speed": [],
               "loc_x": [], "loc_y": [], "rand": ["n"], "sqrt": ["n"], "sin": ["degree"], "cos": ["degree"], "tan": ["degree"], "atan": ["ratio"]}
+LADDER = os.path.join(os.path.dirname(os.path.abspath(__file__)), "..", "..", "robots", "README.md")
+# the pages to read to which the page links
+READ = ("robots", "exercises", "mistakes", "language", "field", "web")
 # sentences of the manual, one for each thing that the panel tells of
 SENTENCES = ("A robot wins a match if it is the only one that is left alive.", "A condition holds if it isn't 0.",
              "The second profile leaves out the right side if the left side decides, as C does.", "A robot never fails: it restarts.",
@@ -88,12 +92,38 @@ def steps(page: Page, crobots: str, folder: str) -> list[str]:
     return wrong + ([] if page.names == ["step5.r", found[4]["against"]] and f"won {won[4][0]} " in report else [f"{page.names} {report[-200:]}"])
 
 
+def lost_links(folder: str) -> list[str]:
+    """The links of the pages to read that lead to no page, or to no heading of one."""
+    texts = {}
+    for path in glob.glob(os.path.join(folder, "pages", "*.html")):
+        with open(path, encoding="utf-8") as file:
+            texts[os.path.basename(path)] = file.read()
+    names = {page: set(re.findall(r' id="([^"]*)"', text)) | {""} for page, text in texts.items()}
+    names |= {f"../{page}": {""} for page in ("index.html", "manual.html")}
+    links = [(page, *link.partition("#")[::2]) for page, text in texts.items() for link in re.findall(r'<a href="([^"]*)"', text)]
+    return [f"{page} leads to {to}#{name}" for page, to, name in links if name not in names.get(to, ())]
+
+
+def levels(page: Page) -> list[str]:
+    """The samples stand by levels, the easiest first, as the ladder of robots/README.md has them; each can be added."""
+    page.fresh()
+    with open(LADDER, encoding="utf-8") as file:
+        rows = re.findall(r"^\| (\d) \| \[(\w+\.r)\]", file.read(), re.MULTILINE)
+    shown = page.js("return [...document.querySelectorAll('#sample option')].map(it => [it.parentElement.label, it.value])")
+    wrong = [] if shown == [[f"Level {level}", name] for level, name in rows] and len(shown) == len(samples()) else [f"{shown}"]
+    page.js("document.getElementById('sample').value = 'jouster.r'")
+    page.click("add-sample")
+    page.wait("return document.querySelector('.CodeMirror').CodeMirror.getValue().startsWith('/* jouster: ')")
+    return wrong + ([] if page.names[-1] == "jouster.r" else [f"{page.names}"])
+
+
 def other_pages(page: Page, folder: str) -> list[str]:
     """The page links to the manual and to what it is; both are there, and say what they have to."""
     page.fresh()
     links = page.js("return [...document.querySelectorAll('a[href]')].map(it => it.getAttribute('href'))")
     wrong = [f"no file {link}" for link in links if not os.path.isfile(os.path.join(folder, link))]
-    wrong += [] if {"manual.html", "about.html"} <= set(links) else [f"links: {links}"]
+    wrong += [] if {"manual.html", "about.html", *(f"pages/{name}.html" for name in READ)} <= set(links) else [f"links: {links}"]
+    wrong += lost_links(folder)
     with open(os.path.join(folder, "manual.html"), encoding="utf-8") as file:
         text = " ".join(html.unescape(re.sub("<[^>]*>", "", file.read())).split())
     with open(MANUAL, encoding="utf-8") as file:
@@ -104,6 +134,7 @@ def other_pages(page: Page, folder: str) -> list[str]:
 def results(page: Page, crobots: str, folder: str) -> Iterator[tuple[str, list[str]]]:
     """The tests' names, and what is wrong."""
     tests: dict[str, Any] = {"panel": lambda: panel(page, crobots), "arguments": lambda: arguments(page), "completion": lambda: completion(page),
-                             "steps": lambda: steps(page, crobots, folder), "other pages": lambda: other_pages(page, folder)}
+                             "steps": lambda: steps(page, crobots, folder), "levels": lambda: levels(page),
+                             "other pages": lambda: other_pages(page, folder)}
     for name, test in tests.items():
         yield f"help: {name}", test()

@@ -2,7 +2,8 @@
 
 The sample is changed and broken, the advice is read, the fault is mended. The robot is watched at the moment it is hit. A
 better one wins. It is saved, a link is made, a friend's link is opened and changed, and the next day one's own robots are
-there. CROBOTS_PATHS=all walks it in all ways at all sizes; else each way has a size of its own."""
+there. CROBOTS_PATHS=all walks it in all ways at all sizes, and once as a file: thirty ways in the three browsers. Else each way has
+a size of its own."""
 
 from __future__ import annotations
 
@@ -186,12 +187,19 @@ def path(page: Page, kind: str, width: int, height: int) -> list[str]:
     return []
 
 
-def results(page: Page) -> Iterator[tuple[str, list[str]]]:
-    """The tests' names, and what is wrong."""
+def walked(page: Page, kind: str, width: int, height: int, place: str = "") -> tuple[str, list[str]]:
+    """The name of a way, and what is wrong with it; how long it took is printed."""
+    begun, name = time.monotonic(), f"a first way by {kind} at {width} by {height}{place}"
+    wrong = path(page, kind, width, height)
+    print(f"{name} in {page.driver.name} took {time.monotonic() - begun:.1f} s")
+    return name, wrong
+
+
+def results(page: Page, folder: str) -> Iterator[tuple[str, list[str]]]:
+    """The tests' names, and what is wrong. If all ways are walked, one more is with the page as a file."""
     every = os.environ.get("CROBOTS_PATHS") == "all"
     for at, kind in enumerate(KINDS):
         for width, height in SIZES if every else (SIZES[at],):
-            begun = time.monotonic()
-            wrong = path(page, kind, width, height)
-            print(f"a first way by {kind} at {width} by {height} in {page.driver.name} took {time.monotonic() - begun:.1f} s")
-            yield f"a first way by {kind} at {width} by {height}", wrong
+            yield walked(page, kind, width, height)
+    if every:
+        yield walked(Page(page.driver, "file://" + os.path.join(os.path.abspath(folder), "index.html")), "mouse", *SIZES[1], ", as a file")

@@ -17,7 +17,9 @@ FIELD = "document.querySelector('#writing textarea:not([style*=none])')"
 # a link of 78 KB that unpacks to 60 MB
 BOMB = 60_000_000
 DISGUISED = "live.r\n  1) won 9 tied 0 lost 0 \u202egnp.evil\u2066\x07"
+# what a browser loads to play, and what else lies beside it to be read
 MOST_BYTES, MOST_PACKED = 800_000, 240_000
+MOST_READ, MOST_READ_PACKED = 200_000, 70_000
 LOST = ("codemirror/codemirror.js", "codemirror/matchbrackets.js", "codemirror/show-hint.js", "codemirror/show-hint.css")
 
 
@@ -125,14 +127,17 @@ def policy(page: Page, folder: str) -> list[str]:
 
 
 def size(folder: str) -> list[str]:
-    """What a browser loads is small, and the zip has all of the folder."""
+    """What a browser loads is small, so are the pages beside it, and the zip has all of the folder."""
     paths = [os.path.join(place, name) for place, _, names in os.walk(folder) for name in names]
-    count, zipped = sum(map(os.path.getsize, paths)), os.path.getsize(f"{folder}.zip")
     with zipfile.ZipFile(f"{folder}.zip") as pack:
-        names = {os.path.join(folder, name) for name in pack.namelist()}
-    print(f"the page has {count:,} bytes, and its zip {zipped:,}")
-    wrong = [] if names == set(paths) else [f"the zip lacks {set(paths) - names}"]
-    return wrong + ([] if count <= MOST_BYTES and zipped <= MOST_PACKED else [f"{count} bytes, {zipped} packed"])
+        files = pack.infolist()
+    wrong = [] if {os.path.join(folder, it.filename) for it in files} == set(paths) else ["the zip has other files than the folder"]
+    for name, is_read, most in (("page", False, (MOST_BYTES, MOST_PACKED)), ("pages to read", True, (MOST_READ, MOST_READ_PACKED))):
+        part = [it for it in files if it.filename.startswith("pages/") == is_read]
+        sizes = sum(it.file_size for it in part), sum(it.compress_size for it in part)
+        print(f"{name}: {sizes[0]:,} bytes, and {sizes[1]:,} packed")
+        wrong += [] if sizes[0] <= most[0] and sizes[1] <= most[1] else [f"{name}: {sizes[0]} bytes, {sizes[1]} packed"]
+    return wrong
 
 
 def about(folder: str) -> list[str]:

@@ -10,13 +10,15 @@ import shutil
 import subprocess
 from typing import Any, Iterator
 
-from . import browser, everyone, robust
+from . import browser, everyone, paths, robust
 from .battles import random_battles, sample_battles
 from .pages import Page, served
 
 BROWSERS = "/usr/lib/*/webkit2gtk-4.*/MiniBrowser"
 DRIVER, DISPLAY = "WebKitWebDriver", "Xvfb"
 SCREEN = "1400x1100x24"
+# WebKit lays out a line of a megabyte of brackets for a minute; what the engine says of such sources is no matter of WebKit
+MOST_HOSTILE = 50_000
 
 
 def mini_browser() -> str:
@@ -71,7 +73,7 @@ def results(crobots: str, _stages: str, folder: str) -> Iterator[tuple[str, list
         yield "samples", browser.reports(page, crobots, sample_battles())
         yield "random robots", browser.reports(page, crobots, random_battles(30, 7))
         yield "diagnostics", browser.marks(page)
-        yield "hostile sources", browser.alive(page, crobots)
+        yield "hostile sources", browser.alive(page, crobots, MOST_HOSTILE)
         yield "listing", browser.listing(page)
         yield "links", browser.links(page, crobots)
         yield "a link from the second tab", browser.second_tab(page)
@@ -81,5 +83,6 @@ def results(crobots: str, _stages: str, folder: str) -> Iterator[tuple[str, list
         yield "a stopped series", browser.stopped(page, crobots)
         yield "widths", everyone.widths(page)
         yield "keys", browser.keys(page)
+        yield from paths.results(page, folder)
         yield "the page as a file", browser.story(page, crobots, folder, webkit)
         yield "a plain text field", robust.plain(page, folder)
