@@ -58,9 +58,9 @@ def more(season: Season) -> Iterator[tuple[str, str]]:
 
 
 def rows(standings: Sequence[LeagueStanding]) -> Iterator[Standing]:
-    """The rows of the table, of robots that have played; lower divisions go on where higher ones end."""
+    """The rows of the table, of robots that have a rating; lower divisions go on where higher ones end."""
     for it in standings:
-        if not it.score.played:
+        if not it.is_rated:
             continue
         above = sum(other.division < it.division for other in standings)
         score = Score(it.score.won, it.score.tied, it.score.lost)

@@ -19,11 +19,13 @@ from .scores import points, scores, total
 from .verdicts import Verdicts
 
 
+# The rating of a robot that hasn't played: its interval ends before it begins.
+NOTHING = Rating(0.0, 1.0, -1.0)
+
+
 @dataclass(frozen=True)
 class Standing:
-    """A robot's place in the table of its division. It is close if its interval overlaps that of the robot above.
-
-    The rating of one that hasn't played says nothing, and isn't shown."""
+    """A robot's place in the table of its division. It is close if its interval overlaps that of the robot above."""
 
     division: int
     rank: int
@@ -34,6 +36,11 @@ class Standing:
     rating: Rating
     close: bool = False
 
+    @property
+    def is_rated(self) -> bool:
+        """Reports whether it has played, also if only against the robot with the fixed rating. Else it has no rating."""
+        return self.rating.low <= self.rating.high
+
 
 def standings(schedule: Schedule, results: Results) -> list[Standing]:
     """The robots of each division, best first. In a ladder that is from the top to the bottom."""
@@ -41,7 +48,7 @@ def standings(schedule: Schedule, results: Results) -> list[Standing]:
     parts = {group: it for group, it in scores(schedule, results).items() if schedule.is_of_a_division(group)}
     played, worth = total(parts, len(field.robots)), points(parts, len(field.robots), field.rules)
     tally = tallied(schedule, results)
-    rated = rating(schedule, tally) if tally.pairs else [Rating(0, 0, 0)] * len(field.robots)
+    rated = rating(schedule, tally) if tally.pairs else [NOTHING] * len(field.robots)
     rungs = on_ladder(schedule, results) if field.rules.mode == LADDER else {}
     found: list[Standing] = []
     order = sorted(range(len(field.robots)), key=lambda at: (
@@ -57,7 +64,7 @@ def placed(above: Sequence[Standing], it: Standing) -> Standing:
     """A robot below others: equal points have an equal rank, unless it has a rung."""
     same = [other for other in above if other.division == it.division]
     rank = it.rank or (same[-1].rank if same and same[-1].points == it.points else len(same) + 1)
-    close = bool(same) and bool(it.score.played and same[-1].score.played) and same[-1].rating.meets(it.rating)
+    close = bool(same) and it.is_rated and same[-1].is_rated and same[-1].rating.meets(it.rating)
     return Standing(it.division, rank, it.robot, it.sha256, it.score, it.points, it.rating, close)
 
 
@@ -86,5 +93,7 @@ def rating(schedule: Schedule, tally: Tally) -> list[Rating]:
     """The ratings of all robots. If one has a fixed rating, the others have theirs above it or below it."""
     rules = schedule.field.rules
     anchor = schedule.place(rules.anchor) if rules.anchor else None
+    known = {robot for pair in tally.pairs for robot in pair}
     rated = ratings(tally, len(schedule.keys), anchor)
-    return [Rating(it.value + rules.anchored, it.low + rules.anchored, it.high + rules.anchored) for it in rated]
+    return [Rating(it.value + rules.anchored, it.low + rules.anchored, it.high + rules.anchored) if at in known else NOTHING
+            for at, it in enumerate(rated)]

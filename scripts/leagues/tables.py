@@ -19,7 +19,7 @@ def cells(it: Standing) -> list[str]:
     """A row of the table."""
     score, rating = it.score, it.rating
     counts = map(str, (score.played, score.won, score.tied, score.lost))
-    rated = (str(round(value)) if score.played else "" for value in (rating.value, rating.low, rating.high))
+    rated = (str(round(value)) if it.is_rated else "" for value in (rating.value, rating.low, rating.high))
     return [str(it.rank), it.robot, *counts, rounded(it.points), *rated, CLOSE if it.close else ""]
 
 
@@ -49,4 +49,4 @@ def values(it: Standing) -> dict[str, Any]:
     score, rating = it.score, it.rating
     return {"division": it.division, "rank": it.rank, "robot": it.robot, "sha256": it.sha256, "played": score.played,
             "won": score.won, "tied": score.tied, "lost": score.lost, "points": float(it.points),
-            **{name: getattr(rating, at) if score.played else None for name, at in RATED.items()}, CLOSE: it.close}
+            **{name: getattr(rating, at) if it.is_rated else None for name, at in RATED.items()}, CLOSE: it.close}
