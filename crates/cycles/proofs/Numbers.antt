@@ -1,6 +1,6 @@
 -- Numbers within spans.
-use Rattle.std.specs.Prelude.{◌≡◌, ℕ, ◌+◌, ◌≤◌, min, max, Option, Some, None, IfSome, unwrap_or}
-use Rattle.std.proofs.Common.{arith, subst, sym}
+use Rattle.std.specs.Prelude.{◌≡◌, ℕ, ◌+◌, ◌≤◌, Option, Some, None, IfSome, unwrap_or}
+use Rattle.std.proofs.Common.{arith, subst}
 use Rattle.code.specs.Meaning.{Flow, Through, Returns}
 use Rattle.cycles.specs.declared.spans.Span.{Span}
 use Rattle.cycles.specs.declared.spans.Ends.{Ends}

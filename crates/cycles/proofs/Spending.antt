@@ -1,17 +1,14 @@
 -- What runs take: a law for each way in which runs are put together.
-use Rattle.std.specs.Prelude.{◌≡◌, ℕ, ℤ, ◌+◌, List, [], ◌∷◌, ◌++◌, Bool, true, false, Option, Some, None, if◌then◌else◌}
+use Rattle.std.specs.Prelude.{◌≡◌, ℕ, ℤ, ◌+◌, List, [], ◌∷◌, ◌++◌, Bool, true, false, Option, Some, if◌then◌else◌}
 use Rattle.std.proofs.Common.{refl, sym, ap, subst, ◌∙◌, arith, append_assoc}
-use Rattle.code.specs.Meaning.{Vars, Evaluated, Gives, Awaits, Flow, Through, Returns, and_on, and_then, on_through, tick}
+use Rattle.code.specs.Meaning.{Vars, Evaluated, Gives, Awaits, and_then, tick}
 use Rattle.code.specs.declared.want.Want.{Want}
-use Rattle.code.specs.declared.want.Want.TheVariants.{Quiet}
 use Rattle.cycles.specs.declared.counted.Counted.{Counted}
 use Rattle.cycles.specs.declared.spans.Span.{Span}
-use Rattle.cycles.specs.declared.spans.Ends.{Ends}
-use Rattle.cycles.specs.Counting.{counted, counts, quiet, spent}
-use Rattle.cycles.specs.Spans.{IsWithin, MayTake, ◌⊕◌, exactly}
-use Rattle.cycles.specs.Ends.{before, end_of}
-use Rattle.cycles.specs.Expressions.{cycle, two_cycles}
-use Rattle.cycles.proofs.Numbers.{before_takes, takes_none, within_all, within_exactly}
+use Rattle.cycles.specs.Counting.{counted, counts, spent}
+use Rattle.cycles.specs.Spans.{MayTake, exactly}
+use Rattle.cycles.specs.Ends.{before}
+use Rattle.cycles.proofs.Numbers.{before_takes, within_exactly}
 
 abbrev pub IsWaiting : {A : Type 0} → Evaluated A → Type 0
 IsWaiting o = (want : Want) × (o ≡ Awaits want)
@@ -175,7 +172,8 @@ module _ {A B : Type 0} (u : Counted) where
 
   -- a value, and what comes behind it
   pub spends_then : (run : List ℤ → Evaluated A) (go : A → Vars → List ℤ → Evaluated B) (s : Span)
-      (g : B → Option Span) → Spends u run (λ x. Some s) → ((x : A) (vars : Vars) → Spends u (λ (t : List ℤ). go x vars t) g) →
+      (g : B → Option Span) → Spends u run (λ x. Some s) →
+      ((x : A) (vars : Vars) → Spends u (λ (t : List ℤ). go x vars t) g) →
       Spends u (λ (t : List ℤ). and_then (run t) go) (λ y. before s (g y))
   spends_then run go s g first second =
       spends_both run go (λ x. Some s) (λ x y. g y) (λ y. before s (g y)) first second

@@ -1,5 +1,5 @@
 -- The spans of each kind of tree that the code goes through.
-use Rattle.std.proofs.Common.{◌≡◌, ℕ, ◌∙◌, Box, Global, Vec, ap, map}
+use Rattle.std.proofs.Common.{◌≡◌, ℕ, ◌∙◌, Global, Vec, ap, map}
 use Rattle.grammar.specs.declared.names.Callee.{Callee}
 use Rattle.grammar.specs.Profile.{Profile}
 use Rattle.grammar.specs.Tree.{Body}

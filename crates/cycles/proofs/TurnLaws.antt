@@ -14,7 +14,7 @@ use Rattle.cycles.specs.Ends.{before, behind, end_of}
 use Rattle.cycles.specs.Expressions.{span_of, two_cycles}
 use Rattle.cycles.specs.Statements.{ends_of, taken}
 use Rattle.cycles.specs.Runs.{body_at, run_within}
-use Rattle.cycles.specs.Turns.{TurnEnd, Begins, Leaves, GivesBack, after_turn, turn, turn_of, turned}
+use Rattle.cycles.specs.Turns.{TurnEnd, Begins, Leaves, GivesBack, after_turn, turn, turned}
 use Rattle.cycles.proofs.Numbers.{behind_takes, within_all, within_anything, within_exactly}
 use Rattle.cycles.proofs.Spending.{Spends, spends_both, spends_either, spends_given, spends_wider}
 use Rattle.cycles.proofs.Ways.{BodiesTake, behind_taken, behind_two, effect_takes, value_takes}

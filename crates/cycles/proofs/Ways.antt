@@ -1,31 +1,27 @@
 -- What expressions, statements, calls and turns take.
-use Rattle.std.specs.Prelude.{◌≡◌, ℕ, ℤ, pos, zero, suc, ◌+◌, List, [], ◌∷◌, Bool, true, false, length, Option, Some, None, nat_le, nat_lt, if◌then◌else◌, unwrap_or}
-use Rattle.std.proofs.Common.{refl, arith}
+use Rattle.std.specs.Prelude.{ℕ, ℤ, pos, zero, suc, ◌+◌, List, [], ◌∷◌, Bool, true, false, length, Option, Some, None, nat_le, nat_lt, if◌then◌else◌, unwrap_or}
 use Rattle.arith.specs.Op.{holds, truth, value_of}
 use Rattle.arith.specs.declared.operators.Op.{Op}
 use Rattle.arith.specs.declared.operators.Op.TheVariants as op
 use Rattle.grammar.specs.declared.names.Callee.{Callee}
 use Rattle.grammar.specs.declared.names.Callee.TheVariants as callee
-use Rattle.grammar.specs.declared.names.Var.{Var}
-use Rattle.grammar.specs.declared.operators.StoreOp.{StoreOp}
 use Rattle.grammar.specs.Profile.{Profile}
 use Rattle.grammar.specs.Tree.{Expr, Constant, Variable, Binary, Assign, Postfix, Call, Args, NoMore, Argument, Body, Done, ExpressionStatement, IfStatement, IfElseStatement, While, Return, Function, File}
 use Rattle.code.specs.Functions.{function_at}
-use Rattle.code.specs.Meaning.{Vars, Evaluated, Gives, Awaits, Flow, Through, Returns, Again, and_on, and_then, assigned, binary, called, closed, effect, effect_within, first_locals, full, on_through, over, pass, push, returned, short, tick, value, value_of_variable, values}
+use Rattle.code.specs.Meaning.{Vars, Evaluated, Gives, Flow, Through, Returns, Again, and_on, and_then, assigned, binary, called, closed, effect, effect_within, first_locals, full, on_through, over, pass, push, returned, short, tick, value, value_of_variable, values}
 use Rattle.code.specs.Values.{stored, asked}
-use Rattle.code.specs.declared.want.Want.{Want}
 use Rattle.code.specs.declared.want.Want.TheVariants.{Quiet, Ask, Restart}
 use Rattle.cycles.specs.declared.counted.Counted.{Counted}
 use Rattle.cycles.specs.declared.spans.Span.{Span}
 use Rattle.cycles.specs.declared.spans.Ends.{Ends}
-use Rattle.cycles.specs.Counting.{asking, quiet}
+use Rattle.cycles.specs.Counting.{asking}
 use Rattle.cycles.specs.Spans.{IsWithin, MayTake, ◌⊕◌, anything, either, exactly}
 use Rattle.cycles.specs.Ends.{after, before, behind, end_of, endless, followed, one_branch, one_of, passed}
 use Rattle.cycles.specs.Expressions.{arguments_span, binary_span, callee_span, cycle, full_span, short_span, span_of, two_cycles}
-use Rattle.cycles.specs.Statements.{choice_ends, ends_of, if_ends, loop_ends, return_ends, taken}
-use Rattle.cycles.specs.Runs.{body_at, run_of, run_span, run_within}
-use Rattle.cycles.specs.Turns.{TurnEnd, Begins, Leaves, GivesBack, turn, turn_of, turned}
-use Rattle.cycles.proofs.Numbers.{anything_takes, before_both, before_takes, behind_takes, end_after, end_before, end_endless, end_endless_after, end_followed, end_later, end_of_first, end_of_second, first_takes, second_takes, takes_none, within_all, within_anything, within_exactly, within_first, within_none, within_second, without_most_takes}
+use Rattle.cycles.specs.Statements.{ends_of, loop_ends, return_ends, taken}
+use Rattle.cycles.specs.Runs.{body_at, run_of, run_within}
+use Rattle.cycles.specs.Turns.{turn}
+use Rattle.cycles.proofs.Numbers.{anything_takes, before_both, behind_takes, end_after, end_endless, end_endless_after, end_followed, end_later, end_of_first, end_of_second, first_takes, second_takes, takes_none, within_all, within_anything, within_exactly, within_first, within_second, without_most_takes}
 use Rattle.cycles.proofs.Spending.{Spends, spends_both, spends_either, spends_given, spends_never, spends_then, spends_tick, spends_wider}
 
 -- Single cycles.
@@ -202,7 +198,8 @@ module _ (u : Counted) (ends : Ends) (g h : Flow → Option Span) where
 
 -- the next statements
 pub next_takes : (u : Counted) (run : List ℤ → Evaluated Flow) (go : Vars → List ℤ → Evaluated Flow)
-    (ends next : Ends) → Spends u run (end_of ends) → ((vars : Vars) → Spends u (λ (t : List ℤ). go vars t) (end_of next)) →
+    (ends next : Ends) → Spends u run (end_of ends) →
+    ((vars : Vars) → Spends u (λ (t : List ℤ). go vars t) (end_of next)) →
     Spends u (λ (t : List ℤ). and_on (run t) go) (end_of (followed ends next))
 next_takes u run go ends next first second =
     behind_on u ends (end_of next) (end_of (followed ends next)) run go first second

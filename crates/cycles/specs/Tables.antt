@@ -1,12 +1,11 @@
 -- What is known of functions' runs while trees are gone through.
-use Rattle.std.specs.Prelude.{◌≡◌, ℕ, List, [], ◌∷◌, Bool, length, nat_lt, slice_index_or, if◌then◌else◌, ◌==◌}
+use Rattle.std.specs.Prelude.{◌≡◌, ℕ, List, [], ◌∷◌, nat_lt, slice_index_or, if◌then◌else◌, ◌==◌}
 use Rattle.grammar.specs.Tree.{Body, Done}
 use Rattle.trees.specs.Trees.{body_tree}
 use Rattle.trees.specs.declared.tree.Function.{Function}
 use Rattle.cycles.specs.declared.runs.Runs.{Runs}
 use Rattle.cycles.specs.declared.spans.Span.{Span}
 use Rattle.cycles.specs.Told.{told}
-use Rattle.cycles.specs.Runs.{run_within}
 
 -- the run that a table has for a number
 abbrev pub run_in : Runs → ℕ → Span

@@ -1,5 +1,5 @@
 -- One turn of a loop, and what it takes.
-use Rattle.std.specs.Prelude.{ℕ, ℤ, List, Option, Some, None, if◌then◌else◌}
+use Rattle.std.specs.Prelude.{ℕ, ℤ, List, Option, Some, if◌then◌else◌}
 use Rattle.arith.specs.Op.{holds}
 use Rattle.grammar.specs.Profile.{Profile}
 use Rattle.grammar.specs.Tree.{Expr, Body, File, While}
