@@ -177,10 +177,12 @@ impl Tally {
             streak = Streak::new(call);
         }
         self.streak = Some(streak);
-        match self.longest {
-            Some(longest) if longest.cycles() >= streak.cycles() => {}
-            _ => self.longest = Some(streak),
-        }
+        let longest = self.longest.unwrap_or(streak);
+        self.longest = Some(if longest.cycles() < streak.cycles() {
+            streak
+        } else {
+            longest
+        });
     }
 
     /// Counts a restart at an address, with these frames open.
