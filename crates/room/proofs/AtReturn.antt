@@ -1,5 +1,5 @@
--- A robot that has the room that it needs restarts only where main returns: a machine with more room than the state that
--- was reached takes up wants the same, so what it is refused isn't room.
+-- A robot that has the room that it needs restarts only where main returns: a machine with more room than the state
+-- that was reached takes up wants the same, so what it is refused isn't room.
 use Rattle.std.specs.Prelude.{ℕ, ℤ, ◌+◌, ◌≡◌, ◌<◌, ◌≤◌, max, List, [], ◌∷◌, ◌++◌, Bool, true, false, Option, Some, None, length, nat_lt, nat_le, if◌then◌else◌}
 use Rattle.std.proofs.Common.{refl, ap, sym, ◌∙◌, subst, arith}
 use Rattle.std.proofs.lemmas.Bool.Decides.{nat_tests}
@@ -57,7 +57,8 @@ same_fitting s i false true same = absurd (never_restart s i (sym same))
 
 -- machines that want the same along all replies stand at the same place
 same_reached : (code : ObjectCode) (q : Profile) (s : State) (trace : List ℤ) →
-    ((t : List ℤ) → want_next code (reached code s t) ≡ want_next (by_profile code q) (reached (by_profile code q) s t)) →
+    ((t : List ℤ) → want_next code (reached code s t) ≡ want_next (by_profile code q) (reached (by_profile code q) s t))
+    →
     reached code s trace ≡ reached (by_profile code q) s trace
 same_reached code q s [] alike = refl
 same_reached code q s (reply ∷ rest) alike =

@@ -35,7 +35,8 @@ module _ (s : Bool) (calls : ℕ → Option Room) where
       CountsAs r (binary_need s op x y) → CountsAs r (expr_need s calls (expr_tree e))
   need-Binary r x y e op a b is one other counts =
       of_expr r e (tree.Binary op (expr_tree a.value) (expr_tree b.value)) (ap expr_tree is ∙ tree-Binary op a b)
-      (counts ∙ counts_sides s op x y (expr_need s calls (expr_tree a.value)) (expr_need s calls (expr_tree b.value)) one
+      (counts ∙
+      counts_sides s op x y (expr_need s calls (expr_tree a.value)) (expr_need s calls (expr_tree b.value)) one
       other)
 
   pub need-Assign : (r : Option Room) (e : Expr) (op : StoreOp) (v : Var) (a : Box Expr Global) →

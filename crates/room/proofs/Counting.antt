@@ -97,7 +97,8 @@ module _ (s : Bool) (x l n : ℕ) (c d : ℕ → Option Room) (same : (k : ℕ) 
         CountsAs (args_need s c arguments) (args_need s d arguments)
     counts_args NoMore there = refl
     counts_args (Argument e rest) there =
-        counts_both (expr_need s c e) (above 1 0 (args_need s c rest)) (expr_need s d e) (above 1 0 (args_need s d rest))
+        counts_both (expr_need s c e) (above 1 0 (args_need s c rest)) (expr_need s d e)
+        (above 1 0 (args_need s d rest))
         (counts_expr e there.0)
         (counts_higher 1 0 (args_need s c rest) (args_need s d rest) (counts_args rest there.1))
 

@@ -180,7 +180,8 @@ module _ (w f : ℕ) (p q : Profile) (first : Grants w f p) (second : Grants w f
     same_called (callee.Function k) arguments vars depth frames trace fits =
         same_call k arguments vars depth frames trace fits
     same_called (callee.Intrinsic i) arguments vars depth frames trace fits =
-        same_tick (nat_le (depth + 1) p.words) (nat_le (depth + 1) q.words) _ trace (λ reply rest. Gives reply vars rest)
+        same_tick (nat_le (depth + 1) p.words) (nat_le (depth + 1) q.words) _ trace
+        (λ reply rest. Gives reply vars rest)
         (λ reply rest. Gives reply vars rest)
         (le_test (depth + 1) p.words (omega (arith, fits.0, first.words_are)) ∙
         sym (le_test (depth + 1) q.words (omega (arith, fits.0, second.words_are)))) (λ reply rest. refl)
@@ -190,7 +191,8 @@ module _ (w f : ℕ) (p q : Profile) (first : Grants w f p) (second : Grants w f
           Fits w f depth frames (expr_need s calls e) →
           value p file again e vars depth frames trace ≡ value q file more e vars depth frames trace
       same_value (Constant n) vars depth frames trace fits =
-          same_push depth trace (λ rest. Gives n vars rest) (λ rest. Gives n vars rest) (omega (arith, fits.0)) (λ rest. refl)
+          same_push depth trace (λ rest. Gives n vars rest) (λ rest. Gives n vars rest) (omega (arith, fits.0))
+          (λ rest. refl)
       same_value (Variable v) vars depth frames trace fits =
           same_push depth trace _ _ (omega (arith, fits.0)) (λ rest. refl)
       same_value (Binary o a b) vars depth frames trace fits =
@@ -211,7 +213,8 @@ module _ (w f : ℕ) (p q : Profile) (first : Grants w f p) (second : Grants w f
           same_push depth trace _ _ (omega (arith, fits.0))
           (λ rest. same_push (depth + 1) rest _ _ (omega (arith, fits.0)) (λ rest. refl))
       same_value (Call g arguments) vars depth frames trace fits =
-          let inside = fits_left w f depth frames (above 0 1 (args_need s calls arguments)) (callee_need calls g) fits in
+          let inside =
+          fits_left w f depth frames (above 0 1 (args_need s calls arguments)) (callee_need calls g) fits in
           let room_left = open_frame depth frames (args_need s calls arguments) inside in
           same_tick (nat_lt frames p.frames) (nat_lt frames q.frames) Quiet trace _ _
           (lt_test frames p.frames (omega (arith, room_left, first.frames_are)) ∙

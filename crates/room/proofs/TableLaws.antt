@@ -52,7 +52,8 @@ module _ (s : Bool) (file : File) (calls : ℕ → Option Room) where
   in_table [] table k few (inr is) = is
   in_table (j ∷ ks) table k few there =
       let longer : k < length (set table j (here j)) = omega (arith, few, length-set table j (here j)) in
-      in_table ks (set table j (here j)) k longer (elim (cases_eq k j) [ inl same ↦ inr (now same) | inr other ↦ later other there ])
+      in_table ks (set table j (here j)) k longer
+      (elim (cases_eq k j) [ inl same ↦ inr (now same) | inr other ↦ later other there ])
     where
       now : k ≡ j → needs_in (set table j (here j)) k ≡ here k
       now same =

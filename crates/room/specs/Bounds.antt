@@ -17,8 +17,8 @@ use Rattle.room.specs.Laws.{NeverLacks}
 abbrev pub goes_by : Profile → Meaning
 goes_by profile p acts = p ≡ profile
 
--- The need is a resolved file's, as it is counted, and there is room exactly if the file has it: then the robot restarts
--- only where main returns. Where the device tells its bytes, they are that file.
+-- The need is a resolved file's, as it is counted, and there is room exactly if the file has it: then the robot
+-- restarts only where main returns. Where the device tells its bytes, they are that file.
 pub record AreBoundsOf (profile : Profile) (told : Option (List ℕ)) (bound : Bound) : Type 0 where
   pub file : File
   pub resolved : IsResolved file

@@ -32,11 +32,7 @@ pub struct Bound {
 /// # Errors
 /// Those of `parse`. `Memory` where the trees of the source were refused memory.
 #[inline(never)]
-pub fn bounds<F: Feed>(
-    alloc: Global,
-    feed: &mut F,
-    profile: Profile,
-) -> Result<Bound, ParseFault>
+pub fn bounds<F: Feed>(alloc: Global, feed: &mut F, profile: Profile) -> Result<Bound, ParseFault>
     requires { MayRead (F.device feed.old) }
     ensures bounds { IfOk result (AreBoundsOf profile (F.device feed.old).to_come) }
     ensures refused { IfErr result (IsRefusedSource profile (F.device feed.old).to_come) }

@@ -14,6 +14,7 @@ use crate::room::Room;
 use grammar::Profile;
 use trees::{Function, TreeMaker};
 
+#[tactic(auto, using(crate::proofs::TableLaws::need_read))]
 /// Returns what the function of a number needs as `main`: no room is enough where it can come back to itself.
 ///
 /// It is counted up to 65,535 words, far more than any profile gives.

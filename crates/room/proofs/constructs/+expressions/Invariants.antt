@@ -11,7 +11,8 @@ invariant-arguments_need-loop-left l =
     record {
       within : l.left ≤ length l.exprs;
       counts :
-          CountsAs l.need (args_need l.calls.short (needs_in l.calls.needs) (arguments (map expr_tree (drop l.left l.exprs))));
+          CountsAs l.need
+          (args_need l.calls.short (needs_in l.calls.needs) (arguments (map expr_tree (drop l.left l.exprs))));
     }
 
 abbrev pub decreases-arguments_need-loop-left : goal.decreases-arguments_need-loop-left

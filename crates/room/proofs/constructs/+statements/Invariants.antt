@@ -10,7 +10,8 @@ abbrev pub invariant-body_need-loop-left : goal.invariant-body_need-loop-left
 invariant-body_need-loop-left l =
     record {
       within : l.left ≤ length l.statements;
-      counts : CountsAs l.need (body_need l.calls.short (needs_in l.calls.needs) (body_tree (drop l.left l.statements)));
+      counts : CountsAs l.need
+          (body_need l.calls.short (needs_in l.calls.needs) (body_tree (drop l.left l.statements)));
     }
 
 abbrev pub decreases-body_need-loop-left : goal.decreases-body_need-loop-left
