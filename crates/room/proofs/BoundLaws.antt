@@ -1,9 +1,8 @@
 -- From the trees of a source to its bounds.
-use Rattle.std.specs.Prelude.{ℕ, ◌≡◌, ◌<◌, ◌≤◌, min, List, [], map, unwrap_or, Bool, true, Option, Some, None, Result, Ok, Err}
-use Rattle.std.proofs.Common.{refl, ap, sym, ◌∙◌, subst, arith, inl, inr}
+use Rattle.std.specs.Prelude.{ℕ, ◌≡◌, List, [], map, unwrap_or, Bool, true, Option, Some, None, Result, Ok, Err}
+use Rattle.std.proofs.Common.{ap, sym, ◌∙◌, subst, arith}
 use Rattle.grammar.specs.declared.diagnostics.ParseFault.{ParseFault}
 use Rattle.grammar.specs.declared.diagnostics.ParseFault.TheVariants as refusal
-use Rattle.grammar.specs.declared.actions.Action.{Action}
 use Rattle.grammar.specs.Actions.{actions}
 use Rattle.grammar.specs.Building.{Meaning, StandsOpen}
 use Rattle.grammar.specs.Profile.{Profile, IsProfile}

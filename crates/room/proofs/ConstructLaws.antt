@@ -1,5 +1,5 @@
 -- The needs of each kind of expression and statement, by those of its parts, as they are counted.
-use Rattle.std.proofs.Common.{◌≡◌, ◌<◌, ◌+◌, ℕ, List, [], ◌∷◌, Bool, map, drop, length, get_or, Vec, Box, Global, sym, ap, ◌∙◌, refl, subst}
+use Rattle.std.proofs.Common.{◌≡◌, ◌<◌, ◌+◌, ℕ, List, ◌∷◌, Bool, map, drop, length, get_or, Vec, Box, Global, sym, ap, ◌∙◌, refl}
 use Rattle.std.specs.Prelude.{Option}
 use Rattle.std.proofs.lemmas.List.{drop_more}
 use Rattle.arith.specs.declared.operators.Op.{Op}

@@ -5,22 +5,22 @@ use Rattle.std.proofs.Common.{refl, ap, sym, ◌∙◌, subst, arith}
 use Rattle.std.proofs.lemmas.Bool.Decides.{nat_tests}
 use Rattle.arith.specs.declared.operators.Op.{Op}
 use Rattle.arith.specs.declared.operators.Op.TheVariants as op
-use Rattle.arith.specs.Op.{holds, truth, value_of}
+use Rattle.arith.specs.Op.{holds, value_of}
 use Rattle.grammar.specs.declared.names.Callee.{Callee}
 use Rattle.grammar.specs.declared.names.Callee.TheVariants as callee
 use Rattle.grammar.specs.Profile.{Profile}
 use Rattle.grammar.specs.Tree.{Expr, Constant, Variable, Binary, Assign, Postfix, Call, Args, NoMore, Argument, Body}
-use Rattle.grammar.specs.Tree.{Done, ExpressionStatement, IfStatement, IfElseStatement, While, Return, Function, File}
+use Rattle.grammar.specs.Tree.{Done, ExpressionStatement, IfStatement, IfElseStatement, While, Return, File}
 use Rattle.code.specs.declared.want.Want.{Want}
-use Rattle.code.specs.declared.want.Want.TheVariants.{Quiet, Ask, Restart}
+use Rattle.code.specs.declared.want.Want.TheVariants.{Quiet, Restart}
 use Rattle.code.specs.Functions.{function_at}
-use Rattle.code.specs.Meaning.{Vars, Evaluated, Gives, Awaits, and_then, tick, Flow, Through, Returns, Again, first_locals}
-use Rattle.code.specs.Meaning.{push, pass, full, short, binary, on_through, and_on, over, closed, returned, called}
-use Rattle.code.specs.Meaning.{value, values, effect, effect_within, want, want_within, wanted, zeros}
+use Rattle.code.specs.Meaning.{Vars, Evaluated, Gives, Awaits, and_then, tick, Flow, Through, Returns, Again}
+use Rattle.code.specs.Meaning.{push, pass, full, short, on_through, and_on, over, closed, returned, called}
+use Rattle.code.specs.Meaning.{value, values, effect, effect_within, want, want_within, wanted}
 use Rattle.room.specs.declared.room.Room.{Room}
-use Rattle.room.specs.Rooms.{room, words, both, above, IsWithin}
+use Rattle.room.specs.Rooms.{words, both, above, IsWithin}
 use Rattle.room.specs.Constructs.{may_skip, binary_need, callee_need, expr_need, args_need, body_need}
-use Rattle.room.specs.Functions.{function_need, need_of, HasRoom}
+use Rattle.room.specs.Functions.{function_need, need_of}
 use Rattle.room.specs.Laws.{RoomIsEnough}
 use Rattle.room.proofs.Fitting.{Fits, fits_left, fits_right, fits_above}
 

@@ -1,6 +1,6 @@
 -- What the tables of needs say of a file's functions.
-use Rattle.std.specs.Prelude.{ℕ, zero, suc, ◌+◌, ◌≡◌, ◌<◌, ◌≤◌, ◌⊎◌, Bool, List, [], ◌∷◌, ◌++◌, length, map, Option, Some, None}
-use Rattle.std.specs.Prelude.{drop, replicate, set, slice_get, slice_index_or}
+use Rattle.std.specs.Prelude.{ℕ, zero, suc, ◌+◌, ◌≡◌, ◌<◌, ◌≤◌, ◌⊎◌, Bool, List, [], ◌∷◌, ◌++◌, length, map, Option, None}
+use Rattle.std.specs.Prelude.{drop, set, slice_index_or}
 use Rattle.std.proofs.Common.{refl, ap, sym, ◌∙◌, subst, arith, inl, inr}
 use Rattle.std.proofs.lemmas.List.{drop_all, drop_more, get_or-set_same, get_or-set_other, get_or-replicate, length-set, length-replicate}
 use Rattle.std.proofs.lemmas.Option.{slice_get-get_or}
@@ -14,7 +14,6 @@ use Rattle.trees.specs.Laws.{Told, told, told_numbered, told_functions, told_tre
 use Rattle.trees.specs.Trees.{function_tree}
 use Rattle.trees.specs.declared.tree.Function.{Function}
 use Rattle.room.specs.declared.room.Room.{Room}
-use Rattle.room.specs.Rooms.{words, both, above}
 use Rattle.room.specs.Constructs.{body_need}
 use Rattle.room.specs.Counting.{counted, CountsAs}
 use Rattle.room.specs.Functions.{function_need, need_of}

@@ -14,10 +14,10 @@ use crate::room::Room;
 use grammar::Profile;
 use trees::{Function, TreeMaker};
 
-#[tactic(auto, using(crate::proofs::TableLaws::need_read))]
 /// Returns what the function of a number needs as `main`: no room is enough where it can come back to itself.
 ///
 /// It is counted up to 65,535 words, far more than any profile gives.
+#[tactic(auto, using(crate::proofs::TableLaws::need_read))]
 #[inline(never)]
 pub fn need(maker: &TreeMaker, main: u8, profile: Profile) -> Option<Room>
     ensures { (file : File) → IsResolved file → file.main ≡ main
@@ -35,8 +35,8 @@ pub fn need(maker: &TreeMaker, main: u8, profile: Profile) -> Option<Room>
     calls.needs[main as usize]
 }
 
-#[tactic(auto, using(crate::proofs::TableLaws::entered_more, crate::proofs::TableLaws::entered_all))]
 /// Returns what functions need, by what those need that they call.
+#[tactic(auto, using(crate::proofs::TableLaws::entered_more, crate::proofs::TableLaws::entered_all))]
 fn next_needs(functions: &[Function], calls: &Calls) -> [Option<Room>; NUMBERS]
     ensures { result ≡ entered calls.now.short (needs_in calls.now.needs) (told_trees functions.now) blank }
 {

@@ -1,4 +1,3 @@
-use Rattle.grammar.specs.Tree.{Expr}
 use Rattle.trees.specs.Trees.{expr_tree}
 use Rattle.room.specs.Constructs.{expr_need}
 use Rattle.room.specs.Counting.{CountsAs}

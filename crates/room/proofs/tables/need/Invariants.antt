@@ -8,5 +8,5 @@ abbrev pub invariant-loop-round : goal.invariant-loop-round
 invariant-loop-round l =
     record {
       short : l.calls.short ≡ l.initial.calls.short;
-      needs : l.calls.needs ≡ table_within l.initial.calls.short (told_trees l.functions) l.round;
+      needs : l.calls.needs ≡ table_within l.initial.calls.short (told_trees l.functions) l._round;
     }
