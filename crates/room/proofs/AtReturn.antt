@@ -1,9 +1,8 @@
--- A robot that has the room that it needs restarts only where main returns: a machine with more room than the state that
--- was reached takes up wants the same, so what it is refused isn't room.
-use Rattle.std.specs.Prelude.{ℕ, ℤ, ◌+◌, ◌≡◌, ◌<◌, ◌≤◌, max, List, [], ◌∷◌, ◌++◌, Bool, true, false, Option, Some, None, length, nat_lt, nat_le, if◌then◌else◌}
-use Rattle.std.proofs.Common.{refl, ap, sym, ◌∙◌, subst, arith}
+-- A robot that has the room that it needs restarts only where main returns: a machine with more room than the state
+-- that was reached takes up wants the same, so what it is refused isn't room.
+use Rattle.std.specs.Prelude.{ℕ, ℤ, ◌+◌, ◌≡◌, List, [], ◌∷◌, Bool, true, false, Option, Some, None, length, if◌then◌else◌}
+use Rattle.std.proofs.Common.{refl, ap, sym, ◌∙◌, arith}
 use Rattle.std.proofs.lemmas.Bool.Decides.{nat_tests}
-use Rattle.grammar.specs.declared.names.Callee.{Callee}
 use Rattle.grammar.specs.declared.names.Callee.TheVariants as callee
 use Rattle.grammar.specs.Profile.{Profile, profile_of}
 use Rattle.grammar.specs.Resolved.{IsResolved}
@@ -13,18 +12,16 @@ use Rattle.code.specs.declared.cause.Cause.TheVariants as cause
 use Rattle.code.specs.declared.instr.Instr.{Instr}
 use Rattle.code.specs.declared.instr.Instr.TheVariants.{Fetch, Store, Const, Binop, Fcall, Retsub, Branch, Chop, Truth, Nop}
 use Rattle.code.specs.declared.instr.Instr.TheVariants as instr
-use Rattle.code.specs.declared.want.Want.{Want}
-use Rattle.code.specs.declared.want.Want.TheVariants.{Quiet, Ask, Restart}
-use Rattle.code.specs.Causes.{cause_next, cause_if, lacking}
+use Rattle.code.specs.declared.want.Want.TheVariants.{Restart}
+use Rattle.code.specs.Causes.{cause_if, lacking}
 use Rattle.code.specs.Generation.{ObjectCode, code_of}
 use Rattle.code.specs.Machine.{State, after, done_with, event_of, frame_of, instr_at, is_fitting, is_ready, reached, start_state}
 use Rattle.code.specs.Machine.{variables_at, want_code, want_next}
-use Rattle.code.specs.Meaning.{want}
 use Rattle.code.proofs.Correct.{never_stuck, want_code_is_want}
 use Rattle.room.specs.declared.room.Room.{Room}
-use Rattle.room.specs.Rooms.{room, IsWithin}
+use Rattle.room.specs.Rooms.{IsWithin}
 use Rattle.room.specs.Functions.{HasRoom, need_of}
-use Rattle.room.specs.Laws.{NeverLacks, RestartsAtReturn}
+use Rattle.room.specs.Laws.{RestartsAtReturn}
 use Rattle.room.proofs.Enough.{room_is_enough}
 use Rattle.room.proofs.SameCode.{by_profile, same_code}
 
@@ -57,7 +54,8 @@ same_fitting s i false true same = absurd (never_restart s i (sym same))
 
 -- machines that want the same along all replies stand at the same place
 same_reached : (code : ObjectCode) (q : Profile) (s : State) (trace : List ℤ) →
-    ((t : List ℤ) → want_next code (reached code s t) ≡ want_next (by_profile code q) (reached (by_profile code q) s t)) →
+    ((t : List ℤ) → want_next code (reached code s t) ≡ want_next (by_profile code q) (reached (by_profile code q) s t))
+    →
     reached code s trace ≡ reached (by_profile code q) s trace
 same_reached code q s [] alike = refl
 same_reached code q s (reply ∷ rest) alike =

@@ -5,22 +5,22 @@ use Rattle.std.proofs.Common.{refl, ap, sym, ◌∙◌, subst, arith}
 use Rattle.std.proofs.lemmas.Bool.Decides.{nat_tests}
 use Rattle.arith.specs.declared.operators.Op.{Op}
 use Rattle.arith.specs.declared.operators.Op.TheVariants as op
-use Rattle.arith.specs.Op.{holds, truth, value_of}
+use Rattle.arith.specs.Op.{holds, value_of}
 use Rattle.grammar.specs.declared.names.Callee.{Callee}
 use Rattle.grammar.specs.declared.names.Callee.TheVariants as callee
 use Rattle.grammar.specs.Profile.{Profile}
 use Rattle.grammar.specs.Tree.{Expr, Constant, Variable, Binary, Assign, Postfix, Call, Args, NoMore, Argument, Body}
-use Rattle.grammar.specs.Tree.{Done, ExpressionStatement, IfStatement, IfElseStatement, While, Return, Function, File}
+use Rattle.grammar.specs.Tree.{Done, ExpressionStatement, IfStatement, IfElseStatement, While, Return, File}
 use Rattle.code.specs.declared.want.Want.{Want}
-use Rattle.code.specs.declared.want.Want.TheVariants.{Quiet, Ask, Restart}
+use Rattle.code.specs.declared.want.Want.TheVariants.{Quiet, Restart}
 use Rattle.code.specs.Functions.{function_at}
-use Rattle.code.specs.Meaning.{Vars, Evaluated, Gives, Awaits, and_then, tick, Flow, Through, Returns, Again, first_locals}
-use Rattle.code.specs.Meaning.{push, pass, full, short, binary, on_through, and_on, over, closed, returned, called}
-use Rattle.code.specs.Meaning.{value, values, effect, effect_within, want, want_within, wanted, zeros}
+use Rattle.code.specs.Meaning.{Vars, Evaluated, Gives, Awaits, and_then, tick, Flow, Through, Returns, Again}
+use Rattle.code.specs.Meaning.{push, pass, full, short, on_through, and_on, over, closed, returned, called}
+use Rattle.code.specs.Meaning.{value, values, effect, effect_within, want, want_within, wanted}
 use Rattle.room.specs.declared.room.Room.{Room}
-use Rattle.room.specs.Rooms.{room, words, both, above, IsWithin}
+use Rattle.room.specs.Rooms.{words, both, above, IsWithin}
 use Rattle.room.specs.Constructs.{may_skip, binary_need, callee_need, expr_need, args_need, body_need}
-use Rattle.room.specs.Functions.{function_need, need_of, HasRoom}
+use Rattle.room.specs.Functions.{function_need, need_of}
 use Rattle.room.specs.Laws.{RoomIsEnough}
 use Rattle.room.proofs.Fitting.{Fits, fits_left, fits_right, fits_above}
 
@@ -180,7 +180,8 @@ module _ (w f : ℕ) (p q : Profile) (first : Grants w f p) (second : Grants w f
     same_called (callee.Function k) arguments vars depth frames trace fits =
         same_call k arguments vars depth frames trace fits
     same_called (callee.Intrinsic i) arguments vars depth frames trace fits =
-        same_tick (nat_le (depth + 1) p.words) (nat_le (depth + 1) q.words) _ trace (λ reply rest. Gives reply vars rest)
+        same_tick (nat_le (depth + 1) p.words) (nat_le (depth + 1) q.words) _ trace
+        (λ reply rest. Gives reply vars rest)
         (λ reply rest. Gives reply vars rest)
         (le_test (depth + 1) p.words (omega (arith, fits.0, first.words_are)) ∙
         sym (le_test (depth + 1) q.words (omega (arith, fits.0, second.words_are)))) (λ reply rest. refl)
@@ -190,7 +191,8 @@ module _ (w f : ℕ) (p q : Profile) (first : Grants w f p) (second : Grants w f
           Fits w f depth frames (expr_need s calls e) →
           value p file again e vars depth frames trace ≡ value q file more e vars depth frames trace
       same_value (Constant n) vars depth frames trace fits =
-          same_push depth trace (λ rest. Gives n vars rest) (λ rest. Gives n vars rest) (omega (arith, fits.0)) (λ rest. refl)
+          same_push depth trace (λ rest. Gives n vars rest) (λ rest. Gives n vars rest) (omega (arith, fits.0))
+          (λ rest. refl)
       same_value (Variable v) vars depth frames trace fits =
           same_push depth trace _ _ (omega (arith, fits.0)) (λ rest. refl)
       same_value (Binary o a b) vars depth frames trace fits =
@@ -211,7 +213,8 @@ module _ (w f : ℕ) (p q : Profile) (first : Grants w f p) (second : Grants w f
           same_push depth trace _ _ (omega (arith, fits.0))
           (λ rest. same_push (depth + 1) rest _ _ (omega (arith, fits.0)) (λ rest. refl))
       same_value (Call g arguments) vars depth frames trace fits =
-          let inside = fits_left w f depth frames (above 0 1 (args_need s calls arguments)) (callee_need calls g) fits in
+          let inside =
+          fits_left w f depth frames (above 0 1 (args_need s calls arguments)) (callee_need calls g) fits in
           let room_left = open_frame depth frames (args_need s calls arguments) inside in
           same_tick (nat_lt frames p.frames) (nat_lt frames q.frames) Quiet trace _ _
           (lt_test frames p.frames (omega (arith, room_left, first.frames_are)) ∙

@@ -1,8 +1,8 @@
 -- What room is enough for, from a depth and so many open frames.
-use Rattle.std.specs.Prelude.{ℕ, ◌+◌, ◌≡◌, ◌≤◌, max, Option, Some, None}
+use Rattle.std.specs.Prelude.{ℕ, ◌+◌, ◌≡◌, Option, Some, None}
 use Rattle.std.proofs.Common.{arith}
 use Rattle.room.specs.declared.room.Room.{Room}
-use Rattle.room.specs.Rooms.{room, words, both, above, IsWithin}
+use Rattle.room.specs.Rooms.{words, both, above, IsWithin}
 
 -- from this depth and these frames on it is within so many words and frames
 abbrev pub Fits : (words frames deep opened : ℕ) → Option Room → Type 0

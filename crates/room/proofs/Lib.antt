@@ -3,3 +3,7 @@ pub mod Fitting
 pub mod Enough
 pub mod SameCode
 pub mod AtReturn
+pub mod Counting
+pub mod ConstructLaws
+pub mod TableLaws
+pub mod BoundLaws

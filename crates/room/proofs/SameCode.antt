@@ -5,7 +5,6 @@ use Rattle.std.proofs.Common.{refl, ap, ◌∙◌}
 use Rattle.grammar.specs.Profile.{Profile}
 use Rattle.grammar.specs.Tree.{Expr, Constant, Variable, Binary, Assign, Postfix, Call, Args, NoMore, Argument, Body}
 use Rattle.grammar.specs.Tree.{Done, ExpressionStatement, IfStatement, IfElseStatement, While, Return, File}
-use Rattle.code.specs.declared.instr.Instr.{Instr}
 use Rattle.code.specs.declared.instr.Instr.TheVariants.{Store, Fcall, Retsub, Chop, Frame, Nop}
 use Rattle.code.specs.Functions.{function_at}
 use Rattle.code.specs.Generation.{ObjectCode, Piece, ◌⨾◌, only, past, either, loop, both, short_code, expr_code, args_code}

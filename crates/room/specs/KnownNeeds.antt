@@ -5,8 +5,8 @@ use Rattle.grammar.specs.declared.names.Callee.TheVariants as callee
 use Rattle.grammar.specs.declared.names.Intrinsic.TheVariants as intrinsic
 use Rattle.grammar.specs.declared.names.Var.TheVariants as var
 use Rattle.grammar.specs.declared.operators.StoreOp.TheVariants as store
-use Rattle.grammar.specs.KnownSources.{constant, file_of_main, local, main_of}
-use Rattle.grammar.specs.Profile.{Profile, first_profile, second_profile}
+use Rattle.grammar.specs.KnownSources.{constant, file_of_main, local}
+use Rattle.grammar.specs.Profile.{first_profile, second_profile}
 use Rattle.grammar.specs.Tree.{Expr, Binary, Assign, Postfix, Call, Args, NoMore, Argument, Body, Done}
 use Rattle.grammar.specs.Tree.{ExpressionStatement, IfStatement, IfElseStatement, While, Return, Function, File}
 use Rattle.code.specs.KnownPrograms.{ask, cannon_of, defined_behind_file, file_of_two, says, two}

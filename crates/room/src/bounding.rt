@@ -1,0 +1,75 @@
+//! How much room the robot of a source needs, from its bytes.
+
+ghost use Rattle.std.specs.Prelude.{◌≡◌, ◌≤◌, IfErr, IfOk, length, map, true};
+ghost use Rattle.tokens.specs.Feed.{MayRead};
+ghost use Rattle.grammar.specs.Compiled.{main_name};
+ghost use Rattle.grammar.specs.Profile.{IsProfile};
+ghost use Rattle.grammar.specs.Scope.{number_of_name};
+ghost use Rattle.parser.specs.Files.{TakesEnough};
+ghost use Rattle.parser.specs.Segment.{Counts};
+ghost use Rattle.room.specs.Bounds.{AreBoundsOf, IsRefusedSource, goes_by};
+ghost use Rattle.room.specs.Rooms.{IsWithin};
+
+use crate::room::Room;
+use crate::tables::need;
+use grammar::{Function, MOST_NAMES, ParseFault, Profile};
+use parser::parse;
+use std::alloc::Global;
+use tokens::Feed;
+use trees::TreeMaker;
+
+/// What is known of a robot before it fights.
+#[derive(Clone, Copy, Debug, PartialEq, Eq)]
+pub struct Bound {
+    /// The room that it needs, or none where no room is enough: a function can come back to itself.
+    pub need: Option<Room>,
+    /// Whether its profile gives that room. Then it restarts only where `main` returns.
+    pub has_room: bool,
+}
+
+/// Reads a source from the device in one pass, as `parse` does, and returns how much room its robot needs.
+///
+/// # Errors
+/// Those of `parse`. `Memory` where the trees of the source were refused memory.
+#[inline(never)]
+pub fn bounds<F: Feed>(alloc: Global, feed: &mut F, profile: Profile) -> Result<Bound, ParseFault>
+    requires { MayRead (F.device feed.old) }
+    ensures bounds { IfOk result (AreBoundsOf profile (F.device feed.old).to_come) }
+    ensures refused { IfErr result (IsRefusedSource profile (F.device feed.old).to_come) }
+    ensures taken { TakesEnough result (goes_by profile) (F.device feed.old).to_come (F.device feed.new).to_come }
+    ensures counted { Counts result (F.device feed.old).account (F.device feed.new).account }
+{
+    let mut maker = TreeMaker::new(alloc, profile);
+    let names = parse(feed, &mut maker)?;
+    let main = main_number(names.functions()).unwrap_or(0);
+    let need = need(&maker, main, profile);
+    let has_room = is_within(need, profile);
+    Ok(Bound { need, has_room })
+}
+
+/// Reports whether the profile gives this room.
+fn is_within(need: Option<Room>, profile: Profile) -> bool
+    ensures within { result ≡ true → IsWithin profile.words profile.frames need }
+    ensures enough { IsWithin profile.words profile.frames need → result ≡ true }
+    ensures known { IsProfile profile }
+{
+    let words = profile.words();
+    match need {
+        Some(room) => room.words <= words && room.frames <= profile.frames(),
+        None => false,
+    }
+}
+
+/// Returns the number of the function `main`.
+#[tactic(auto, using(code::proofs::Mains::main_here, code::proofs::Mains::main_nowhere))]
+fn main_number(functions: &[Function]) -> Option<u8>
+    requires { length functions.now ≤ MOST_NAMES }
+    ensures { result ≡ number_of_name main_name (map (λ f. f.name) functions.now) }
+{
+    for (number, function) in functions.iter().enumerate() {
+        if function.name().is(b"main") {
+            return Some(number as u8);
+        }
+    }
+    None
+}
