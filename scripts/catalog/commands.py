@@ -46,6 +46,7 @@ PROGRAMS = (
     Program("crobots-trace", "trace", ("-l15", ROBOT)),
     Program("crobots-why", "why", (ROBOT,)),
     Program("crobots-stages", "stages", ("--tokens", ROBOT)),
+    Program("crobots-bounds", "bounds", (ROBOT,)),
 )
 SCRIPTS = (
     Script("crobots-tournament", "tournament", ("tournaments", "sites")),

@@ -1,0 +1,6 @@
+f(n)
+{
+  if (n)
+    return f(n - 1);
+}
+main() { f(3); }

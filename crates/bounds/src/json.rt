@@ -1,0 +1,95 @@
+//! What is known of a robot, as an object of JSON on a line.
+
+use crate::facts::{Facts, Part};
+use cycles::Span;
+use grammar::Intrinsic;
+use std::str;
+use tools::Text;
+
+/// Adds what is known of a robot as an object, and a line end.
+pub fn add_object(text: &mut impl Text, path: &str, facts: &Facts) {
+    text.add("{\"file\": ");
+    add_words(text, path);
+    text.add(", \"profile\": ");
+    text.number(if facts.profile.short_circuit() { 2 } else { 1 });
+    add_room(text, facts);
+    add_parts(text, ", \"functions\": [", facts.functions.as_slice());
+    add_parts(text, ", \"loops\": [", facts.loops.as_slice());
+    text.add("}\n");
+}
+
+/// Adds the room that a robot needs, and whether its profile gives it.
+fn add_room(text: &mut impl Text, facts: &Facts) {
+    let need = facts.bound.need;
+    text.add(", \"words\": ");
+    add_number(text, need.map(|room| u32::from(room.words)));
+    text.add(", \"frames\": ");
+    add_number(text, need.map(|room| u32::from(room.frames)));
+    text.add(", \"has_room\": ");
+    text.add(if facts.bound.has_room { "true" } else { "false" });
+}
+
+/// Adds a list of functions or loops.
+fn add_parts(text: &mut impl Text, head: &str, parts: &[Part]) {
+    text.add(head);
+    let mut mark = "";
+    for part in parts {
+        text.add(mark);
+        add_part(text, part);
+        mark = ", ";
+    }
+    text.add("]");
+}
+
+/// Adds a function or a loop.
+fn add_part(text: &mut impl Text, part: &Part) {
+    text.add("{\"name\": ");
+    add_words(text, str::from_utf8(part.name.as_bytes()).unwrap_or("?"));
+    text.add(", \"line\": ");
+    text.number(u64::from(part.line));
+    text.add(", \"cycles\": ");
+    add_span(text, part.cycles);
+    for (intrinsic, questions) in Intrinsic::ALL.iter().zip(&part.questions) {
+        text.add(", \"");
+        text.add(intrinsic.name());
+        text.add("\": ");
+        add_span(text, *questions);
+    }
+    text.add("}");
+}
+
+/// Adds a span as a list of its least and its most, which is null if nothing bounds it; null for none.
+fn add_span(text: &mut impl Text, span: Option<Span>) {
+    match span {
+        Some(span) => {
+            text.add("[");
+            text.number(u64::from(span.least));
+            text.add(", ");
+            add_number(text, span.most);
+            text.add("]");
+        }
+        None => text.add("null"),
+    }
+}
+
+/// Adds a number, or null for none.
+fn add_number(text: &mut impl Text, number: Option<u32>) {
+    match number {
+        Some(number) => text.number(u64::from(number)),
+        None => text.add("null"),
+    }
+}
+
+/// Adds words in quotes.
+fn add_words(text: &mut impl Text, words: &str) {
+    text.push('"');
+    for character in words.chars() {
+        match character {
+            '"' => text.add("\\\""),
+            '\\' => text.add("\\\\"),
+            '\0'..='\x1f' => text.add("?"),
+            other => text.push(other),
+        }
+    }
+    text.push('"');
+}

@@ -1,0 +1,104 @@
+//! Says what is known of robots before they fight: how much of the stack each needs, whether it may ever restart for want
+//! of it, and what its functions and loops take at least and at most.
+#![tactic(auto)]
+
+mod facts;
+mod json;
+mod places;
+mod rows;
+
+use crate::facts::Facts;
+use crate::json::add_object;
+use crate::rows::add_rows;
+use grammar::{ParseFault, Profile};
+use std::process::ExitCode;
+use tools::{
+    Draft, Fault, Frame, Known, Options, Output, Work, profile, source_of, tell_diagnostic,
+};
+
+/// The program's name, its line of wrong usage, and its options.
+const FRAME: Frame = Frame {
+    name: "bounds",
+    usage: "usage: bounds [-pPROFILE] [--json] FILE..",
+    known: &[&[Known::Valued("p"), Known::Flag("json")]],
+};
+
+/// Says what is known of the files that the command line names, and returns the status.
+fn main(rt: HostRuntime) -> ExitCode {
+    FRAME.run(&rt, &Bounds)
+}
+
+/// The work of this program.
+struct Bounds;
+
+impl Work for Bounds {
+    /// Tells of the files one after the other. What is known of the files before one that can't be read is written.
+    fn work(&self, rt: &HostRuntime, options: &Options<'_>) -> Result<(), Fault> {
+        let mut output = Output::new(rt.alloc());
+        let told = tell_all(rt, &mut output, &Wish::read(options)?, options.files());
+        output.finish(rt)?;
+        match told {
+            Ok(false) => Ok(()),
+            Ok(true) => Err(Fault::Source),
+            Err(fault) => Err(fault),
+        }
+    }
+}
+
+/// What is asked for beside the files.
+#[derive(Clone, Copy)]
+struct Wish {
+    profile: Profile,
+    as_json: bool,
+}
+
+impl Wish {
+    /// Reads what options ask for. No file is wrong usage.
+    fn read(options: &Options<'_>) -> Result<Wish, Fault> {
+        if options.files().is_empty() {
+            return Err(Fault::Usage);
+        }
+        Ok(Wish {
+            profile: profile(options)?,
+            as_json: options.has("json"),
+        })
+    }
+}
+
+/// Tells of files. Reports whether one has a fault.
+fn tell_all(
+    rt: &HostRuntime,
+    output: &mut Output,
+    wish: &Wish,
+    files: &[&str],
+) -> Result<bool, Fault> {
+    let mut is_faulty = false;
+    for path in files {
+        is_faulty |= tell(rt, output, wish, path)?;
+        output.pass(rt)?;
+    }
+    Ok(is_faulty)
+}
+
+/// Tells of a file. Reports whether it has a fault, whose diagnostic is then written.
+fn tell(rt: &HostRuntime, output: &mut Output, wish: &Wish, path: &str) -> Result<bool, Fault> {
+    let (bytes, alloc) = (source_of(rt, FRAME.name, path)?, rt.alloc());
+    match Facts::of(alloc, bytes.as_slice(), wish.profile) {
+        Ok(facts) => {
+            let mut text = Draft::new(alloc);
+            if wish.as_json {
+                add_object(&mut text, path, &facts);
+            } else {
+                add_rows(&mut text, path, &facts);
+            }
+            text.move_behind(output.text())?;
+            Ok(false)
+        }
+        Err(ParseFault::Source(diagnostic)) => {
+            tell_diagnostic(rt, path, &diagnostic);
+            Ok(true)
+        }
+        Err(ParseFault::Device) => Err(Fault::Read),
+        Err(ParseFault::Memory) => Err(Fault::Memory),
+    }
+}

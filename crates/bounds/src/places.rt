@@ -1,0 +1,66 @@
+//! Where the functions and loops of a source begin.
+
+use derivations::{Located, locate};
+use std::alloc::{AllocError, Global};
+use tokens::{Punctuator, Token, Word};
+
+/// The lines on which functions and loops begin, from 1, each in the order of the source.
+#[derive(Drop)]
+pub struct Places {
+    functions: Vec<u32>,
+    loops: Vec<u32>,
+}
+
+impl Places {
+    /// Finds those of a source that compiles. The only error is that memory is refused.
+    pub fn of(alloc: Global, source: &[u8]) -> Result<Places, AllocError> {
+        let mut places = Places {
+            functions: Vec::new(alloc),
+            loops: Vec::new(alloc),
+        };
+        let tokens = locate(alloc, source)?;
+        let mut depth = 0u32;
+        let mut before: Option<Located> = None;
+        for token in tokens.as_slice() {
+            places.pass(before, token, depth)?;
+            depth = depth_behind(depth, &token.token);
+            before = Some(*token);
+        }
+        Ok(places)
+    }
+
+    /// Passes a token so deep in braces: a name before a bracket outside of all braces is that of a function.
+    fn pass(&mut self, before: Option<Located>, token: &Located, depth: u32) -> Result<(), AllocError> {
+        match token.token {
+            Token::Word(Word::While) => self.loops.push(token.line)?,
+            Token::Punctuator(Punctuator::OpenRound) if depth == 0 => {
+                if let Some(name) = before {
+                    self.functions.push(name.line)?;
+                }
+            }
+            // no other token begins a function or a loop
+            _ => {}
+        }
+        Ok(())
+    }
+
+    /// Returns the line of a function, by how many begin before it; 0 if there is none.
+    pub fn function(&self, index: usize) -> u32 {
+        self.functions.get(index).copied().unwrap_or(0)
+    }
+
+    /// Returns the line of a loop, by how many begin before it; 0 if there is none.
+    pub fn of_loop(&self, index: usize) -> u32 {
+        self.loops.get(index).copied().unwrap_or(0)
+    }
+}
+
+/// Returns how many braces are open behind a token.
+fn depth_behind(depth: u32, token: &Token) -> u32 {
+    match token {
+        Token::Punctuator(Punctuator::OpenCurly) => depth.saturating_add(1),
+        Token::Punctuator(Punctuator::CloseCurly) => depth.saturating_sub(1),
+        // no other token opens or closes a brace
+        _ => depth,
+    }
+}

@@ -1,0 +1,104 @@
+//! What is known of a robot, as rows of text.
+
+use crate::facts::{Facts, Part};
+use cycles::Span;
+use grammar::Intrinsic;
+use room::Room;
+use std::str;
+use tools::{Text, add_left, add_right};
+
+/// The width of the longest name of a function that is laid out in a column.
+const NAMES: usize = 12;
+
+/// Adds a line on the room that a robot needs, and one for each of its functions and of its loops.
+pub fn add_rows(text: &mut impl Text, path: &str, facts: &Facts) {
+    text.add(path);
+    text.add(": ");
+    add_room(text, facts);
+    for part in &facts.functions {
+        add_row(text, part, "call", "never returns");
+    }
+    for part in &facts.loops {
+        add_row(text, part, "turn", "never begins again");
+    }
+}
+
+/// Adds the room that a robot needs, and what follows from it.
+fn add_room(text: &mut impl Text, facts: &Facts) {
+    match facts.bound.need {
+        Some(need) => add_need(text, need, facts),
+        None => text.add("no bound: a function may come back to itself"),
+    }
+    text.add(if facts.bound.has_room {
+        ": it never restarts for want of room\n"
+    } else {
+        ": it may restart for want of room\n"
+    });
+}
+
+/// Adds the room that is needed, beside what the profile gives.
+fn add_need(text: &mut impl Text, need: Room, facts: &Facts) {
+    text.number(u64::from(need.words));
+    text.add(" of ");
+    text.number(u64::from(facts.profile.words()));
+    text.add(" words, ");
+    text.number(u64::from(need.frames));
+    text.add(" of ");
+    text.number(u64::from(facts.profile.frames()));
+    text.add(" frames");
+}
+
+/// Adds the row of a function or of a loop.
+fn add_row(text: &mut impl Text, part: &Part, what: &str, never: &str) {
+    text.add("  line ");
+    add_right(text, u64::from(part.line), 4);
+    text.add("  ");
+    add_left(text, str::from_utf8(part.name.as_bytes()).unwrap_or("?"), NAMES);
+    text.add("  a ");
+    text.add(what);
+    text.add("  ");
+    match part.cycles {
+        Some(cycles) => {
+            add_span(text, cycles);
+            text.add(" cycles");
+            add_questions(text, part);
+        }
+        None => text.add(never),
+    }
+    text.add("\n");
+}
+
+/// Adds how much there is at least and at most.
+fn add_span(text: &mut impl Text, span: Span) {
+    match span.most {
+        None => {
+            text.add("at least ");
+            text.number(u64::from(span.least));
+        }
+        Some(most) if most == span.least => text.number(u64::from(most)),
+        Some(most) => {
+            text.number(u64::from(span.least));
+            text.add(" to ");
+            text.number(u64::from(most));
+        }
+    }
+}
+
+/// Adds the questions of a part: each kind of which something is known but that none is asked.
+fn add_questions(text: &mut impl Text, part: &Part) {
+    let mut mark = ": ";
+    for (intrinsic, questions) in Intrinsic::ALL.iter().zip(&part.questions) {
+        if let Some(span) = questions && tells(*span) {
+            text.add(mark);
+            text.add(intrinsic.name());
+            text.add(" ");
+            add_span(text, *span);
+            mark = ", ";
+        }
+    }
+}
+
+/// Reports whether a span tells of questions: none and any number tell of none.
+fn tells(span: Span) -> bool {
+    span.least > 0 || span.most != None && span.most != Some(0)
+}
