@@ -48,9 +48,19 @@ impl Facts {
         let bound = bounds(alloc, &mut Pieces::new(source, WINDOW), profile)?;
         let mut maker = TreeMaker::new(alloc, profile);
         let names = parse(&mut Pieces::new(source, WINDOW), &mut maker)?;
-        let found = Finder { alloc, maker: &maker, names: &names, profile };
+        let found = Finder {
+            alloc,
+            maker: &maker,
+            names: &names,
+            profile,
+        };
         match found.parts(source) {
-            Ok((functions, loops)) => Ok(Facts { profile, bound, functions, loops }),
+            Ok((functions, loops)) => Ok(Facts {
+                profile,
+                bound,
+                functions,
+                loops,
+            }),
             Err(AllocError) => Err(ParseFault::Memory),
         }
     }
@@ -74,7 +84,13 @@ impl Finder<'_> {
         let mut loops = self.loops(&places, &cycles)?;
         for (kind, intrinsic) in Intrinsic::ALL.iter().enumerate() {
             let asked = Runs::of(self.maker, self.profile, Counted::QuestionsOf(*intrinsic));
-            self.ask(kind, &cycles, &asked, functions.as_mut_slice(), loops.as_mut_slice())?;
+            self.ask(
+                kind,
+                &cycles,
+                &asked,
+                functions.as_mut_slice(),
+                loops.as_mut_slice(),
+            )?;
         }
         Ok((functions, loops))
     }
@@ -128,7 +144,12 @@ impl Finder<'_> {
             Some(function) => *function.name(),
             None => Name::new(),
         };
-        Part { name, line, cycles, questions: [None; KINDS] }
+        Part {
+            name,
+            line,
+            cycles,
+            questions: [None; KINDS],
+        }
     }
 }
 

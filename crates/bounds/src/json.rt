@@ -26,7 +26,11 @@ fn add_room(text: &mut impl Text, facts: &Facts) {
     text.add(", \"frames\": ");
     add_number(text, need.map(|room| u32::from(room.frames)));
     text.add(", \"has_room\": ");
-    text.add(if facts.bound.has_room { "true" } else { "false" });
+    text.add(if facts.bound.has_room {
+        "true"
+    } else {
+        "false"
+    });
 }
 
 /// Adds a list of functions or loops.

@@ -30,7 +30,12 @@ impl Places {
     }
 
     /// Passes a token so deep in braces: a name before a bracket outside of all braces is that of a function.
-    fn pass(&mut self, before: Option<Located>, token: &Located, depth: u32) -> Result<(), AllocError> {
+    fn pass(
+        &mut self,
+        before: Option<Located>,
+        token: &Located,
+        depth: u32,
+    ) -> Result<(), AllocError> {
         match token.token {
             Token::Word(Word::While) => self.loops.push(token.line)?,
             Token::Punctuator(Punctuator::OpenRound) if depth == 0 => {

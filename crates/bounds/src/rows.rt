@@ -53,7 +53,11 @@ fn add_row(text: &mut impl Text, part: &Part, what: &str, never: &str) {
     text.add("  line ");
     add_right(text, u64::from(part.line), 4);
     text.add("  ");
-    add_left(text, str::from_utf8(part.name.as_bytes()).unwrap_or("?"), NAMES);
+    add_left(
+        text,
+        str::from_utf8(part.name.as_bytes()).unwrap_or("?"),
+        NAMES,
+    );
     text.add("  a ");
     text.add(what);
     text.add("  ");
@@ -88,7 +92,9 @@ fn add_span(text: &mut impl Text, span: Span) {
 fn add_questions(text: &mut impl Text, part: &Part) {
     let mut mark = ": ";
     for (intrinsic, questions) in Intrinsic::ALL.iter().zip(&part.questions) {
-        if let Some(span) = questions && tells(*span) {
+        if let Some(span) = questions
+            && tells(*span)
+        {
             text.add(mark);
             text.add(intrinsic.name());
             text.add(" ");
