@@ -123,16 +123,3 @@ pub entered_all : (s : Bool) (calls : ℕ → Option Room) (fs : List Function) 
     entered s calls (told_trees (drop i fs)) table ≡ target → table ≡ target
 entered_all s calls fs i table target past before =
     sym (ap (λ (fs : List Function). entered s calls (told_trees fs) table) (drop_all i fs past)) ∙ before
-
--- what the last table says of main, as it is read there
-pub need_read : (p : Profile) (file : File) (made : List Function) (table : List (Option Room)) (main : ℕ)
-    (need : Option Room) → main < length table → need ≡ slice_index_or table main need →
-    table ≡ table_within p.short_circuit (told_trees made) (length made) →
-    IsResolved file → file.main ≡ main → told_functions file.functions file.order ≡ told_trees made →
-    need ≡ counted (need_of p file)
-need_read p file made table main need less read is resolved there same =
-    let one = slice_get-get_or table main need less in
-    let other = slice_get-get_or table main None less in
-    let found : need ≡ needs_in table main = cc in
-    found ∙ ap (λ (k : ℕ). needs_in table k) (sym there) ∙ ap (λ (t : List (Option Room)). needs_in t file.main) is
-    ∙ need_is p file made resolved same

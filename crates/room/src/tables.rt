@@ -17,7 +17,6 @@ use trees::{Function, TreeMaker};
 /// Returns what the function of a number needs as `main`: no room is enough where it can come back to itself.
 ///
 /// It is counted up to 65,535 words, far more than any profile gives.
-#[tactic(auto, using(crate::proofs::TableLaws::need_read))]
 #[inline(never)]
 pub fn need(maker: &TreeMaker, main: u8, profile: Profile) -> Option<Room>
     ensures { (file : File) → IsResolved file → file.main ≡ main
