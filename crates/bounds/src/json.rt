@@ -36,11 +36,11 @@ fn add_room(text: &mut impl Text, facts: &Facts) {
 /// Adds a list of functions or loops.
 fn add_parts(text: &mut impl Text, head: &str, parts: &[Part]) {
     text.add(head);
-    let mut mark = "";
+    let mut is_first = true;
     for part in parts {
-        text.add(mark);
+        text.add(if is_first { "" } else { ", " });
         add_part(text, part);
-        mark = ", ";
+        is_first = false;
     }
     text.add("]");
 }

@@ -90,16 +90,16 @@ fn add_span(text: &mut impl Text, span: Span) {
 
 /// Adds the questions of a part: each kind of which something is known but that none is asked.
 fn add_questions(text: &mut impl Text, part: &Part) {
-    let mut mark = ": ";
+    let mut is_first = true;
     for (intrinsic, questions) in Intrinsic::ALL.iter().zip(&part.questions) {
         if let Some(span) = questions
             && tells(*span)
         {
-            text.add(mark);
+            text.add(if is_first { ": " } else { ", " });
             text.add(intrinsic.name());
             text.add(" ");
             add_span(text, *span);
-            mark = ", ";
+            is_first = false;
         }
     }
 }
