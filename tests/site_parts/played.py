@@ -61,9 +61,10 @@ def results(trace: str = "", crobots: str = "") -> Results:
 
 
 def robots(place: str) -> list[str]:
-    """The sample robots, and two of them changed a little."""
+    """Ten sample robots, and two of them changed a little. The strongest three are left out: they would win all matches."""
     folder = os.path.join(place, "robots")
-    shutil.copytree(os.path.join(TOP, "robots"), folder, ignore=shutil.ignore_patterns("*.md"))
+    left_out = shutil.ignore_patterns("*.md", "boxer.r", "jouster.r", "shuttle.r")
+    shutil.copytree(os.path.join(TOP, "robots"), folder, ignore=left_out)
     for name in ("hunter", "sniper"):
         with open(os.path.join(folder, f"{name}.r"), encoding="utf-8") as file, \
                 open(os.path.join(folder, f"{name} <2>.r"), "w", encoding="utf-8") as other:
