@@ -1,7 +1,7 @@
 //! What is known of a robot, as an object of JSON on a line.
 
-use crate::facts::{Facts, Part};
 use cycles::Span;
+use facts::{Facts, Part};
 use grammar::Intrinsic;
 use std::str;
 use tools::Text;

@@ -2,14 +2,10 @@
 //! of it, and what its functions and loops take at least and at most.
 #![tactic(auto)]
 
-mod facts;
 mod json;
-mod places;
-mod rows;
 
-use crate::facts::Facts;
 use crate::json::add_object;
-use crate::rows::add_rows;
+use facts::{Facts, add_rows};
 use grammar::{ParseFault, Profile};
 use std::process::ExitCode;
 use tools::{

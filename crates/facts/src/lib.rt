@@ -1,0 +1,10 @@
+//! What is known of a robot before it fights, and how that is told: the room that it needs, and what its functions and the
+//! turns of its loops take.
+#![tactic(auto)]
+
+mod facts;
+mod places;
+mod rows;
+
+pub use facts::{Facts, Part};
+pub use rows::add_rows;
