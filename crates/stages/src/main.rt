@@ -27,13 +27,16 @@ use crate::pages::page;
 use crate::token_rows::token_rows;
 use std::alloc::Global;
 use std::process::ExitCode;
-use tools::{Fault, Frame, Options, Work, name_of, source_of, tell_diagnostic, write_text};
+use tools::{
+    Fault, Frame, Options, PROFILE_OPTIONS, Work, name_of, source_of, tell_diagnostic, write_text,
+};
 
 /// The program's name, its line of wrong usage, and its options.
 const FRAME: Frame = Frame {
-    name: "stages",
-    usage: "usage: stages (--tokens | --tree | --dot | --code | --html | --run CYCLES [--replies LIST]) [-pPROFILE] FILE",
-    known: &[&OPTIONS],
+    name: "crobots-stages",
+    about: "Shows what the compiler makes of a robot, stage by stage.",
+    usage: "(--tokens | --tree | --dot | --code | --html | --run CYCLES [--replies LIST]) [-pPROFILE] FILE",
+    known: &[&OPTIONS, &PROFILE_OPTIONS],
 };
 
 /// Shows what the command line asks for, and returns the status.

@@ -4,7 +4,7 @@ use settings::Settings;
 use tools::{Fault, Known, Options, Span, wish};
 
 /// The options of what is drawn besides a span.
-pub const VIEW_OPTIONS: [Known; 1] = [Known::Flag("no-shots")];
+pub const VIEW_OPTIONS: [Known; 1] = [Known::Flag("no-shots", "don't draw the shots")];
 
 /// What is asked for.
 #[derive(Drop)]

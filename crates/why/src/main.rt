@@ -4,18 +4,24 @@
 use explanations::{add_explanation, add_warnings, compile};
 use grammar::{ParseFault, Profile};
 use std::process::ExitCode;
-use tools::{Fault, Frame, Known, Options, Output, Work, profile, source_of};
+use tools::{Fault, Frame, Known, Options, Output, PROFILE_OPTIONS, Work, profile, source_of};
 
 /// The program's name, its line of wrong usage, and its options.
 const FRAME: Frame = Frame {
-    name: "why",
-    usage: "usage: why [-pPROFILE] [--lint [--strict]] FILE..",
-    known: &[&[
-        Known::Valued("p"),
-        Known::Flag("lint"),
-        Known::Flag("strict"),
-    ]],
+    name: "crobots-why",
+    about: "Explains the first fault of each robot, or warns about code that compiles but is probably a mistake.",
+    usage: "[-pPROFILE] [--lint [--strict]] FILE..",
+    known: &[&PROFILE_OPTIONS, &LINT_OPTIONS],
 };
+
+/// The options of warnings.
+const LINT_OPTIONS: [Known; 2] = [
+    Known::Flag("lint", "warn about files without a fault"),
+    Known::Flag(
+        "strict",
+        "with --lint: end with status 1 if there is a warning",
+    ),
+];
 
 /// Explains the files that the command line names, and returns the status.
 fn main(rt: HostRuntime) -> ExitCode {
