@@ -25,7 +25,7 @@ pub use frames::{Frame, Work};
 pub use known::{COMMON_OPTIONS, Known, OUTPUT_OPTIONS};
 pub use options::{Misread, Options, read_options};
 pub use outputs::{Output, write_text, write_to};
-pub use shown::{Dashed, Plain, plain};
+pub use shown::{Dashed, Plain, visible};
 pub use spans::{SPAN_OPTIONS, Span};
 pub use texts::{Draft, Text, add_left, add_right, add_signed};
 pub use version::VERSION;

@@ -9,14 +9,14 @@ pub struct Plain<'a>(pub &'a str);
 impl<'a> fmt::Display for Plain<'a> {
     fn fmt<W: fmt::Write>(&self, f: &mut fmt::Formatter<W>) -> fmt::Result {
         for c in self.0.chars() {
-            f.write_char(plain(c))?;
+            f.write_char(visible(c))?;
         }
         Ok(())
     }
 }
 
 /// Returns a character as a line shows it: a control character is a question mark.
-pub fn plain(c: char) -> char {
+pub fn visible(c: char) -> char {
     match c {
         '\0'..='\x1f' | '\x7f'..='\u{9f}' => '?',
         _ => c,
