@@ -16,8 +16,8 @@ from .pages import page
 from .words import HELP, NAME, USAGE_LINE, Asked, plain, read
 
 HERE = os.path.dirname(os.path.realpath(__file__))
-# Where the version is in the repository, and where it is installed.
-VERSIONS = [os.path.normpath(os.path.join(HERE, "..", "..", *way, "VERSION")) for way in ((), ("..",))]
+# The version's number, in the repository and where this is installed.
+VERSION = os.path.normpath(os.path.join(HERE, "..", "..", "VERSION"))
 TRACE = "crobots-trace: "
 
 
@@ -33,10 +33,7 @@ def program() -> str:
 
 def version() -> str:
     """The line of the version."""
-    path = next(filter(os.path.exists, VERSIONS), None)
-    if not path:
-        raise Fault("the file VERSION isn't there", USAGE)
-    with open(path, encoding="utf-8") as file:
+    with open(VERSION, encoding="utf-8") as file:
         return f"{NAME} {file.readline().strip()}\n"
 
 
