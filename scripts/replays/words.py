@@ -13,16 +13,14 @@ HELP = f"""{USAGE_LINE}
 Plays one match, and makes a page that shows it in a browser.
 
 options:
-  -k MATCH          number of the match (default 1)
-  -f MATCH          the same as -k
+  -k, -f MATCH      number of the match (default 1)
   -l CYCLES         most cycles of the match (default 500000)
   -s SEED           seed of the random numbers (default 1)
   -p PROFILE        language profile, 1 or 2 (default 1)
   --from CYCLE      the page begins with this cycle (default 0)
   --to CYCLE        the page ends with this cycle (default 1000000000)
   -o FILE           write into this file, and not on standard output
-  --help            show this page
-  -h                the same as --help
+  -h, --help        show this page
   --version         show the version
 
 More: man {NAME}

@@ -68,7 +68,7 @@ impl Frame {
         work: &W,
         options: &Options<'_>,
     ) -> Result<(), Fault> {
-        if options.has("help") {
+        if options.has("h") {
             return write_text(rt, help_page(rt.alloc(), self)?.as_str());
         }
         if options.has("version") {

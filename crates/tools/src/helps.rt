@@ -33,34 +33,53 @@ pub fn help_page(alloc: Global, frame: &Frame) -> Result<String, AllocError> {
     page.finish()
 }
 
-/// Adds a line for each of these options.
+/// Adds a line for each option of a list, with all its names.
 fn add_options(page: &mut Draft, options: &[Known]) {
     for option in options {
         match *option {
-            Known::Flag(name, about) => add_option(page, name, "", &[about]),
-            Known::Valued(name, value, about) => add_option(page, name, value, &[about]),
-            Known::Also(name, other) => {
-                let dashes = Dashed(other).dashes();
-                add_option(page, name, "", &["the same as ", dashes, other]);
-            }
+            Known::Flag(name, about) => add_option(page, options, name, "", about),
+            Known::Valued(name, value, about) => add_option(page, options, name, value, about),
+            Known::Also(..) => (),
         }
     }
 }
 
-/// Adds the line of an option of this name, with a value unless that is called nothing.
-fn add_option(page: &mut Draft, name: &'static str, value: &str, about: &[&str]) {
-    let dashes = Dashed(name).dashes();
-    let between = if value.is_empty() { "" } else { " " };
-    let mut column: usize = 0;
-    for part in ["  ", dashes, name, between, value] {
-        page.add(part);
-        column = column.saturating_add(part.len());
+/// Adds the line of an option of this name, with the other names that the list has for it, and with its value unless that is
+/// called nothing.
+fn add_option(
+    page: &mut Draft,
+    options: &[Known],
+    name: &'static str,
+    value: &'static str,
+    about: &str,
+) {
+    let mut column = add_name(page, "  ", name);
+    for option in options {
+        if let Known::Also(other, of) = *option
+            && of == name
+        {
+            column = column.saturating_add(add_name(page, ", ", other));
+        }
+    }
+    if !value.is_empty() {
+        page.push(' ');
+        page.add(value);
+        column = column.saturating_add(value.len()).saturating_add(1);
     }
     for _ in column..COLUMN {
         page.push(' ');
     }
-    for part in about {
-        page.add(part);
-    }
+    page.add(about);
     page.push('\n');
+}
+
+/// Adds an option's name after these words. Returns how many columns both take.
+fn add_name(page: &mut Draft, before: &str, name: &'static str) -> usize {
+    let dashes = Dashed(name).dashes();
+    let mut columns: usize = 0;
+    for part in [before, dashes, name] {
+        page.add(part);
+        columns = columns.saturating_add(part.len());
+    }
+    columns
 }

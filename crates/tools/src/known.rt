@@ -23,8 +23,8 @@ impl Known {
 
 /// The options that each program knows: its help, by two names, and its version.
 pub const COMMON_OPTIONS: [Known; 3] = [
-    Known::Flag("help", "show this page"),
-    Known::Also("h", "help"),
+    Known::Flag("h", "show this page"),
+    Known::Also("help", "h"),
     Known::Flag("version", "show the version"),
 ];
 
@@ -35,7 +35,7 @@ pub const OUTPUT_OPTIONS: [Known; 1] = [Known::Valued(
     "write into this file, and not on standard output",
 )];
 
-/// Returns the option of this name, if one of these lists has it or each program. It is the option that the name stands for.
+/// Returns the option that this name stands for, if one of these lists has it, or if each program has it.
 pub fn known_by(known: &[&'static [Known]], name: &str) -> Option<Known> {
     match named(known, name)? {
         Known::Also(_, other) => named(known, other),

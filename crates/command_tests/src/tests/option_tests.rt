@@ -70,8 +70,8 @@ fn values(rt: HostRuntime) -> Result<(), Fail> {
     check(&rt, alloc, "--robot= a.r", "robot", Some(""))?;
     check(&rt, alloc, "--sum a.r", "sum", Some(""))?;
     check(&rt, alloc, "-f7 a.r", "k", Some("7"))?;
-    check(&rt, alloc, "a.r --help", "help", Some(""))?;
-    check(&rt, alloc, "-h", "help", Some(""))?;
+    check(&rt, alloc, "a.r --help", "h", Some(""))?;
+    check(&rt, alloc, "-h", "h", Some(""))?;
     check(&rt, alloc, "--version", "version", Some(""))?;
     check(&rt, alloc, "-- -k7", "k", None)
 }
