@@ -13,8 +13,8 @@ use parser::parse;
 use settings::{FILES_MAX, Settings};
 use tokens::{DeviceFault, Feed, FileFeed};
 
-/// Compiles the files of a wish, and writes the diagnostic of each faulty one, or a line about the first that can't be
-/// opened or read, with the name of the program that asks.
+/// Compiles the files of a match. Writes the diagnostic of each faulty one, or a line about the first that can't be opened
+/// or read, which begins with the name of the program.
 pub fn programs(rt: &HostRuntime, program: &str, wish: &Settings<'_>) -> Result<Vec<Program>, Fault>
     ensures each { IfOk result (λ programs. length programs.items ≡ length wish.now.words) }
     ensures some { IfOk result (λ programs. 0 < length programs.items) }

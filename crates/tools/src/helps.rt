@@ -6,7 +6,7 @@ use crate::shown::Dashed;
 use crate::texts::{Draft, Text};
 use std::alloc::{AllocError, Global};
 
-/// The column in which it is said what an option does.
+/// The column at which the text about an option begins.
 const COLUMN: usize = 20;
 
 /// Returns the page of help of a program: its usage, what it does, and its options, in the order of its lists.

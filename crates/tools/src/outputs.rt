@@ -16,7 +16,7 @@ pub struct Output {
 }
 
 impl Output {
-    /// Makes an output in which nothing is kept.
+    /// Makes an output that keeps no text yet.
     pub fn new(alloc: Global) -> Output {
         Output {
             kept: String::new(alloc),

@@ -36,7 +36,7 @@ pub struct View {
 }
 
 impl View {
-    /// Reports whether all of a match of so many cycles is drawn.
+    /// Reports whether all of a match of this length, in cycles, is drawn.
     pub fn is_whole(&self, cycles: u32) -> bool {
         self.span.is_whole(cycles) && self.has_shots
     }
