@@ -4,7 +4,9 @@
 use explanations::{add_explanation, add_warnings, compile};
 use grammar::{ParseFault, Profile};
 use std::process::ExitCode;
-use tools::{Fault, Frame, Known, Options, Output, PROFILE_OPTIONS, Work, profile, source_of};
+use tools::{
+    Fault, Frame, Known, Options, Output, PROFILE_OPTIONS, Plain, Work, profile, source_of,
+};
 
 /// The program's name, its line of wrong usage, and its options.
 const FRAME: Frame = Frame {
@@ -86,7 +88,8 @@ fn explain_all(
 /// Explains a file. Reports whether it has a fault, or a warning where warnings count.
 fn explain(rt: &HostRuntime, output: &mut Output, wish: &Wish, path: &str) -> Result<bool, Fault> {
     let (bytes, alloc) = (source_of(rt, FRAME.name, path)?, rt.alloc());
-    let (text, source) = (output.text(), bytes.as_slice());
+    let name = format!(in alloc; "{}", Plain(path))?;
+    let (text, source, path) = (output.text(), bytes.as_slice(), name.as_str());
     match compile(source, wish.profile) {
         Ok(()) if wish.lint => {
             let warnings = add_warnings(text, alloc, path, source, wish.profile)?;
