@@ -21,38 +21,36 @@ impl<'a> fmt::Display for Misread<'a> {
 /// Writes a line on what is wrong with the values of options, or with the files, on standard error, with the name of the
 /// program.
 pub fn tell_wrong(rt: &HostRuntime, program: &str, options: &Options<'_>, wrong: Wrong) {
-    let value = |name| Plain(options.value(name).unwrap_or(""));
     let _ = match wrong {
         Wrong::Number(name, least, most) => {
-            eprintln!(rt;
-                "{program}: {} {}: no number from {least} to {most}",
-                Dashed(name),
-                value(name)
-            )
+            let value = value_of(options, name);
+            let option = Dashed(name);
+            eprintln!(rt; "{program}: {option} {value}: no number from {least} to {most}")
         }
         Wrong::Robot(robots) => {
-            eprintln!(rt;
-                "{program}: --robot {}: there are {} robots",
-                value("robot"),
-                spelled(robots)
-            )
+            let value = value_of(options, "robot");
+            let count = spelled(robots);
+            eprintln!(rt; "{program}: --robot {value}: there are {count} robots")
         }
         Wrong::Order => {
-            eprintln!(rt;
-                "{program}: --to {}: before --from {}",
-                value("to"),
-                value("from")
-            )
+            let last = value_of(options, "to");
+            let first = value_of(options, "from");
+            eprintln!(rt; "{program}: --to {last}: before --from {first}")
         }
         Wrong::Both(one, other) => {
-            eprintln!(rt;
-                "{program}: {} and {} exclude each other",
-                Dashed(one),
-                Dashed(other)
-            )
+            let (one, other) = (Dashed(one), Dashed(other));
+            eprintln!(rt; "{program}: {one} and {other} exclude each other")
         }
         Wrong::Files => eprintln!(rt; "{program}: over four files"),
     };
+}
+
+/// Returns the value of an option as a line shows it.
+fn value_of<'a>(options: &Options<'a>, name: &str) -> Plain<'a> {
+    match options.value(name) {
+        Some(value) => Plain(value),
+        None => Plain(""),
+    }
 }
 
 /// Writes on standard error that the output can't be written, with the name of the program, and the file if it is one.

@@ -12,24 +12,20 @@ const COLUMN: usize = 20;
 /// Returns the page of help of a program: its usage, what it does, and its options, in the order of its lists.
 pub fn help_page(alloc: Global, frame: &Frame) -> Result<String, AllocError> {
     let mut page = Draft::new(alloc);
-    for part in [
-        "usage: ",
-        frame.name,
-        " ",
-        frame.usage,
-        "\n\n",
-        frame.about,
-        "\n\noptions:\n",
-    ] {
-        page.add(part);
-    }
+    page.add("usage: ");
+    page.add(frame.name);
+    page.add(" ");
+    page.add(frame.usage);
+    page.add("\n\n");
+    page.add(frame.about);
+    page.add("\n\noptions:\n");
     for options in frame.known {
         add_options(&mut page, options);
     }
     add_options(&mut page, &COMMON_OPTIONS);
-    for part in ["\nMore: man ", frame.name, "\n"] {
-        page.add(part);
-    }
+    page.add("\nMore: man ");
+    page.add(frame.name);
+    page.add("\n");
     page.finish()
 }
 
@@ -76,10 +72,11 @@ fn add_option(
 /// Adds an option's name after these words. Returns how many columns both take.
 fn add_name(page: &mut Draft, before: &str, name: &'static str) -> usize {
     let dashes = Dashed(name).dashes();
-    let mut columns: usize = 0;
-    for part in [before, dashes, name] {
-        page.add(part);
-        columns = columns.saturating_add(part.len());
-    }
-    columns
+    page.add(before);
+    page.add(dashes);
+    page.add(name);
+    before
+        .len()
+        .saturating_add(dashes.len())
+        .saturating_add(name.len())
 }
