@@ -47,10 +47,8 @@ pub fn tell_wrong(rt: &HostRuntime, program: &str, options: &Options<'_>, wrong:
 
 /// Returns the value of an option as a line shows it.
 fn value_of<'a>(options: &Options<'a>, name: &str) -> Plain<'a> {
-    match options.value(name) {
-        Some(value) => Plain(value),
-        None => Plain(""),
-    }
+    let value = options.value(name).unwrap_or("");
+    Plain(value)
 }
 
 /// Writes on standard error that the output can't be written, with the name of the program, and the file if it is one.
