@@ -73,7 +73,7 @@ fn add_row(text: &mut impl Text, part: &Part, what: &str, never: &str) {
 }
 
 /// Adds how much there is at least and at most.
-fn add_span(text: &mut impl Text, span: Span) {
+pub fn add_span(text: &mut impl Text, span: Span) {
     match span.most {
         None => {
             text.add("at least ");
