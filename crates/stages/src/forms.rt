@@ -9,11 +9,12 @@ use tools::{Fault, Known, Options, number_of, profile};
 const MOST_CYCLES: u64 = 10_000;
 
 /// The options.
-pub const OPTIONS: [Known; 8] = [
+pub const OPTIONS: [Known; 9] = [
     Known::Flag("tokens"),
     Known::Flag("tree"),
     Known::Flag("dot"),
     Known::Flag("code"),
+    Known::Flag("bounds"),
     Known::Flag("html"),
     Known::Valued("run"),
     Known::Valued("replies"),
@@ -31,18 +32,21 @@ pub enum Form {
     Dot,
     /// Its code, below its lines.
     Code,
-    /// Its code beside its lines, as a page.
+    /// What is known of it before it fights.
+    Bounds,
+    /// Its code beside its lines, and what is known of it, as a page.
     Html,
     /// So many cycles of its machine.
     Run(u32),
 }
 
 /// The forms without a value, with the names of their options.
-const FLAGS: [(&str, Form); 5] = [
+const FLAGS: [(&str, Form); 6] = [
     ("tokens", Form::Tokens),
     ("tree", Form::Tree),
     ("dot", Form::Dot),
     ("code", Form::Code),
+    ("bounds", Form::Bounds),
     ("html", Form::Html),
 ];
 
