@@ -71,13 +71,24 @@ fn shown(alloc: Global, request: &Request<'_>, source: &[u8]) -> Result<String, 
         Form::Code => listing(alloc, source, &made, &found(alloc, request, source)?)?,
         Form::Bounds => {
             let mut rows = Draft::new(alloc);
-            add_rows(&mut rows, request.file, &known(alloc, source, request.profile)?);
+            add_rows(
+                &mut rows,
+                request.file,
+                &known(alloc, source, request.profile)?,
+            );
             rows.finish()?
         }
         Form::Html => {
             let facts = known(alloc, source, request.profile)?;
             let origins = found(alloc, request, source)?;
-            page(alloc, name_of(request.file), source, &made, &origins, &facts)?
+            page(
+                alloc,
+                name_of(request.file),
+                source,
+                &made,
+                &origins,
+                &facts,
+            )?
         }
         Form::Run(cycles) => execution(alloc, &made, cycles, request.replies.as_slice())?,
     };

@@ -60,7 +60,7 @@ enum Part {
 
 /// A part that goes on, and the cycle in which it began.
 #[derive(Clone, Copy)]
-struct Open {
+struct Running {
     part: Part,
     begun: u32,
 }
@@ -72,7 +72,7 @@ pub struct Clock {
     /// What the instruction of each address begins or ends.
     marks: Vec<Mark>,
     /// The calls and turns that go on, each within those before it. Those of a call may have been left.
-    open: Vec<Open>,
+    running: Vec<Running>,
     /// What the calls of each function took, by its number.
     calls: Vec<Taken>,
     /// What the turns of each loop took, in the order of the source.
@@ -86,7 +86,7 @@ impl Clock {
     pub fn new(alloc: Global, program: &Program) -> Result<Clock, AllocError> {
         let mut clock = Clock {
             marks: Vec::new(alloc),
-            open: Vec::new(alloc),
+            running: Vec::new(alloc),
             calls: Vec::new(alloc),
             turns: Vec::new(alloc),
             is_whole: true,
@@ -128,18 +128,20 @@ impl Clock {
 
     /// Begins a part.
     fn begin(&mut self, part: Part, begun: u32) {
-        if self.open.push(Open { part, begun }).is_err() {
+        if self.running.push(Running { part, begun }).is_err() {
             self.is_whole = false;
         }
     }
 
     /// Ends the innermost call, and the turns in it. One that began before the first cycle that is looked at isn't known.
     fn end_call(&mut self, cycle: u32) {
-        for _ in 0..self.open.len() {
-            if let Some(Open {
-                part: Part::Call(number),
-                begun,
-            }) = self.open.pop()
+        for _ in 0..self.running.len() {
+            if let Some(
+                Running {
+                    part: Part::Call(number),
+                    begun,
+                },
+            ) = self.running.pop()
             {
                 note(self.calls.as_mut_slice(), number, begun, cycle);
                 return;
@@ -150,15 +152,17 @@ impl Clock {
     /// Ends the turn of a loop in the innermost call, and those in it: their loops were left. One that began before the first
     /// cycle that is looked at isn't known.
     fn end_turn(&mut self, ended: usize, cycle: u32) {
-        for _ in 0..self.open.len() {
-            let Some(Open {
-                part: Part::Turn(number),
-                begun,
-            }) = self.open.last().copied()
+        for _ in 0..self.running.len() {
+            let Some(
+                Running {
+                    part: Part::Turn(number),
+                    begun,
+                },
+            ) = self.running.last().copied()
             else {
                 return;
             };
-            self.open.pop();
+            self.running.pop();
             if number == ended {
                 note(self.turns.as_mut_slice(), number, begun, cycle);
                 return;
@@ -168,7 +172,7 @@ impl Clock {
 
     /// Cuts off all that goes on: the robot restarts.
     pub fn restart(&mut self) {
-        self.open.clear();
+        self.running.clear();
     }
 
     /// Returns what the calls of the function of a number took.
