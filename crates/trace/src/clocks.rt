@@ -5,7 +5,7 @@ use grammar::Callee;
 use std::alloc::{AllocError, Global};
 
 /// How many cycles something took, each time that it was done.
-#[derive(Clone, Copy, Default, Drop)]
+#[derive(Clone, Copy, Drop)]
 pub struct Taken {
     /// How often it was done.
     pub count: u64,
@@ -16,6 +16,14 @@ pub struct Taken {
     /// The cycles that it took in all.
     pub all: u64,
 }
+
+/// What was never done.
+const NEVER: Taken = Taken {
+    count: 0,
+    least: 0,
+    most: 0,
+    all: 0,
+};
 
 impl Taken {
     /// Counts one time.
@@ -51,18 +59,11 @@ enum Mark {
     Again(usize),
 }
 
-/// A call of the function of a number, or a turn of the loop of a number.
+/// A call of the function of a number or a turn of the loop of a number, and the cycle in which it began.
 #[derive(Clone, Copy)]
-enum Part {
-    Call(usize),
-    Turn(usize),
-}
-
-/// A part that goes on, and the cycle in which it began.
-#[derive(Clone, Copy)]
-struct Running {
-    part: Part,
-    begun: u32,
+enum Running {
+    Call(usize, u32),
+    Turn(usize, u32),
 }
 
 /// What measures a robot's calls and turns. A call goes from its `FCALL` to its `RETSUB`, a turn from the loop's test to the
@@ -95,12 +96,12 @@ impl Clock {
             clock.marks.push(mark_of(instruction))?;
         }
         for _ in program.addresses() {
-            clock.calls.push(Taken::default())?;
+            clock.calls.push(NEVER)?;
         }
         for (test, again) in loops(alloc, program.instructions())?.as_slice() {
             clock.mark(*test, Mark::Test(clock.turns.len()));
             clock.mark(*again, Mark::Again(clock.turns.len()));
-            clock.turns.push(Taken::default())?;
+            clock.turns.push(NEVER)?;
         }
         Ok(clock)
     }
@@ -119,16 +120,16 @@ impl Clock {
         };
         match mark {
             Mark::Nothing => {}
-            Mark::Call(number) => self.begin(Part::Call(number), cycle),
+            Mark::Call(number) => self.begin(Running::Call(number, cycle)),
             Mark::Return => self.end_call(cycle),
-            Mark::Test(number) => self.begin(Part::Turn(number), cycle),
+            Mark::Test(number) => self.begin(Running::Turn(number, cycle)),
             Mark::Again(number) => self.end_turn(number, cycle),
         }
     }
 
-    /// Begins a part.
-    fn begin(&mut self, part: Part, begun: u32) {
-        if self.running.push(Running { part, begun }).is_err() {
+    /// Begins a call or a turn.
+    fn begin(&mut self, begun: Running) {
+        if self.running.push(begun).is_err() {
             self.is_whole = false;
         }
     }
@@ -136,13 +137,7 @@ impl Clock {
     /// Ends the innermost call, and the turns in it. One that began before the first cycle that is looked at isn't known.
     fn end_call(&mut self, cycle: u32) {
         for _ in 0..self.running.len() {
-            if let Some(
-                Running {
-                    part: Part::Call(number),
-                    begun,
-                },
-            ) = self.running.pop()
-            {
+            if let Some(Running::Call(number, begun)) = self.running.pop() {
                 note(self.calls.as_mut_slice(), number, begun, cycle);
                 return;
             }
@@ -153,13 +148,7 @@ impl Clock {
     /// cycle that is looked at isn't known.
     fn end_turn(&mut self, ended: usize, cycle: u32) {
         for _ in 0..self.running.len() {
-            let Some(
-                Running {
-                    part: Part::Turn(number),
-                    begun,
-                },
-            ) = self.running.last().copied()
-            else {
+            let Some(Running::Turn(number, begun)) = self.running.last().copied() else {
                 return;
             };
             self.running.pop();
@@ -177,12 +166,12 @@ impl Clock {
 
     /// Returns what the calls of the function of a number took.
     pub fn calls(&self, number: usize) -> Taken {
-        self.calls.get(number).copied().unwrap_or_default()
+        self.calls.get(number).copied().unwrap_or(NEVER)
     }
 
     /// Returns what the turns of a loop took, by how many loops begin before it.
     pub fn turns(&self, number: usize) -> Taken {
-        self.turns.get(number).copied().unwrap_or_default()
+        self.turns.get(number).copied().unwrap_or(NEVER)
     }
 
     /// Reports whether no memory was refused.
