@@ -144,15 +144,13 @@ impl Clock {
         }
     }
 
-    /// Ends the turn of a loop in the innermost call, and those in it: their loops were left. One that began before the first
-    /// cycle that is looked at isn't known.
+    /// Ends the turn of a loop, and those in it: their loops were left. One that began before the first cycle that is looked
+    /// at isn't known.
     fn end_turn(&mut self, ended: usize, cycle: u32) {
         for _ in 0..self.running.len() {
-            let Some(Running::Turn(number, begun)) = self.running.last().copied() else {
-                return;
-            };
-            self.running.pop();
-            if number == ended {
+            if let Some(Running::Turn(number, begun)) = self.running.pop()
+                && number == ended
+            {
                 note(self.turns.as_mut_slice(), number, begun, cycle);
                 return;
             }
