@@ -99,8 +99,9 @@ impl Clock {
             clock.calls.push(NEVER)?;
         }
         for (test, again) in loops(alloc, program.instructions())?.as_slice() {
-            clock.mark(*test, Mark::Test(clock.turns.len()));
-            clock.mark(*again, Mark::Again(clock.turns.len()));
+            let number = clock.turns.len();
+            clock.mark(*test, Mark::Test(number));
+            clock.mark(*again, Mark::Again(number));
             clock.turns.push(NEVER)?;
         }
         Ok(clock)

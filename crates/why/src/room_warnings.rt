@@ -1,6 +1,6 @@
 //! The warning about a robot that may restart for want of room.
 
-use facts::{Facts, Link, add_chain, add_need};
+use facts::{Facts, add_chain, add_need};
 use grammar::Profile;
 use std::alloc::Global;
 use tools::{Draft, Fault, Text};
@@ -40,17 +40,10 @@ fn add_place(line: &mut Draft, facts: &Facts) {
         Some(_) => facts.chain.links(),
         None => facts.chain.circle(),
     };
-    if let Some(
-        Link {
-            line: number,
-            column,
-            ..
-        },
-    ) = links.first()
-    {
+    if let Some(link) = links.first() {
         line.add(":");
-        line.number(u64::from(*number));
+        line.number(u64::from(link.line));
         line.add(":");
-        line.number(u64::from(*column));
+        line.number(u64::from(link.column));
     }
 }
