@@ -25,7 +25,9 @@ pub struct Facts {
 /// A function or a loop of a robot.
 #[derive(Clone, Copy, Drop)]
 pub struct Part {
-    /// The function's name: of a loop, of that in which it stands.
+    /// The function's number: of a loop, of that in which it stands.
+    pub number: u8,
+    /// That function's name.
     pub name: Name,
     /// The line on which it begins, from 1.
     pub line: u32,
@@ -145,6 +147,7 @@ impl Finder<'_> {
             None => Name::new(),
         };
         Part {
+            number: function,
             name,
             line,
             cycles,

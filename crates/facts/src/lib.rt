@@ -7,4 +7,4 @@ mod places;
 mod rows;
 
 pub use facts::{Facts, Part};
-pub use rows::add_rows;
+pub use rows::{add_call, add_room, add_rows, add_span, add_turn};

@@ -16,15 +16,19 @@ pub fn add_rows(text: &mut impl Text, path: &str, facts: &Facts) {
     text.add(": ");
     add_room(text, facts);
     for part in &facts.functions {
-        add_row(text, part, "call", "never returns");
+        add_line(text, part);
+        add_call(text, part);
+        text.add("\n");
     }
     for part in &facts.loops {
-        add_row(text, part, "turn", "never begins again");
+        add_line(text, part);
+        add_turn(text, part);
+        text.add("\n");
     }
 }
 
 /// Adds the room that a robot needs, and what follows from it.
-fn add_room(text: &mut impl Text, facts: &Facts) {
+pub fn add_room(text: &mut impl Text, facts: &Facts) {
     match facts.bound.need {
         Some(need) => add_need(text, need, facts),
         None => text.add("no bound: a function may come back to itself"),
@@ -48,11 +52,25 @@ fn add_need(text: &mut impl Text, need: Room, facts: &Facts) {
     text.add(" frames");
 }
 
-/// Adds the row of a function or of a loop.
-fn add_row(text: &mut impl Text, part: &Part, what: &str, never: &str) {
+/// Adds the line on which a function or a loop begins.
+fn add_line(text: &mut impl Text, part: &Part) {
     text.add("  line ");
     add_right(text, u64::from(part.line), 4);
     text.add("  ");
+}
+
+/// Adds what a call of a function takes.
+pub fn add_call(text: &mut impl Text, part: &Part) {
+    add_part(text, part, "call", "never returns");
+}
+
+/// Adds what a turn of a loop takes.
+pub fn add_turn(text: &mut impl Text, part: &Part) {
+    add_part(text, part, "turn", "never begins again");
+}
+
+/// Adds the name of a function, or of that in which a loop stands, and what a call or a turn takes.
+fn add_part(text: &mut impl Text, part: &Part, what: &str, never: &str) {
     add_left(
         text,
         str::from_utf8(part.name.as_bytes()).unwrap_or("?"),
@@ -69,11 +87,10 @@ fn add_row(text: &mut impl Text, part: &Part, what: &str, never: &str) {
         }
         None => text.add(never),
     }
-    text.add("\n");
 }
 
 /// Adds how much there is at least and at most.
-fn add_span(text: &mut impl Text, span: Span) {
+pub fn add_span(text: &mut impl Text, span: Span) {
     match span.most {
         None => {
             text.add("at least ");

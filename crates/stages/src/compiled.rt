@@ -1,6 +1,7 @@
-//! A source with what the compiler makes of it: its program, and its trees.
+//! A source with what the compiler makes of it: its program, its trees, and what is known of it before it fights.
 
 use code::Profile;
+use facts::Facts;
 use grammar::{Diagnostic, ParseFault, Pools};
 use parser::parse;
 use std::alloc::{AllocError, Global};
@@ -51,7 +52,22 @@ pub fn grown(alloc: Global, source: &[u8], profile: Profile) -> Result<FileTrees
     let mut maker = TreeMaker::new(alloc, profile);
     match parse(&mut Pieces::new(source, WINDOW), &mut maker) {
         Ok(names) => Ok(FileTrees { maker, names }),
-        Err(ParseFault::Source(diagnostic)) => Err(CompileFault::Source(diagnostic)),
-        Err(ParseFault::Device | ParseFault::Memory) => Err(CompileFault::Memory),
+        Err(fault) => Err(fault_of(fault)),
+    }
+}
+
+/// Finds out what is known of the robot of a source by a profile.
+pub fn known(alloc: Global, source: &[u8], profile: Profile) -> Result<Facts, CompileFault> {
+    match Facts::of(alloc, source, profile) {
+        Ok(facts) => Ok(facts),
+        Err(fault) => Err(fault_of(fault)),
+    }
+}
+
+/// Returns why nothing is made of a source, by the parser's fault.
+fn fault_of(fault: ParseFault) -> CompileFault {
+    match fault {
+        ParseFault::Source(diagnostic) => CompileFault::Source(diagnostic),
+        ParseFault::Device | ParseFault::Memory => CompileFault::Memory,
     }
 }

@@ -9,11 +9,12 @@ use tools::{Fault, Known, Options, number_of, profile};
 const MOST_CYCLES: u64 = 10_000;
 
 /// The options.
-pub const OPTIONS: [Known; 7] = [
+pub const OPTIONS: [Known; 8] = [
     Known::Flag("tokens", "its tokens"),
     Known::Flag("tree", "its tree"),
     Known::Flag("dot", "its tree as a graph, for Graphviz"),
     Known::Flag("code", "its code below its lines"),
+    Known::Flag("bounds", "what is known of it before a match"),
     Known::Flag("html", "its code beside its lines, as a page"),
     Known::Valued("run", "CYCLES", "the first cycles of its machine"),
     Known::Valued(
@@ -34,18 +35,21 @@ pub enum Form {
     Dot,
     /// Its code, below its lines.
     Code,
-    /// Its code beside its lines, as a page.
+    /// What is known of it before it fights.
+    Bounds,
+    /// Its code beside its lines, and what is known of it, as a page.
     Html,
     /// So many cycles of its machine.
     Run(u32),
 }
 
 /// The forms without a value, with the names of their options.
-const FLAGS: [(&str, Form); 5] = [
+const FLAGS: [(&str, Form); 6] = [
     ("tokens", Form::Tokens),
     ("tree", Form::Tree),
     ("dot", Form::Dot),
     ("code", Form::Code),
+    ("bounds", Form::Bounds),
     ("html", Form::Html),
 ];
 

@@ -27,6 +27,7 @@ h2 { position: sticky; top: 0; margin: 0; padding: .3rem .6rem; font-size: .9rem
 .rows > .k { background: hsl(var(--h) 60% var(--light)); border-left-color: hsl(var(--h) 60% 55%); }
 .rows > :target { outline: 2px solid var(--ink); outline-offset: -2px; }
 .rows > .f { padding: .3rem 0 0 .8rem; font-weight: bold; }
+.wide { grid-column: 1 / -1; }
 a, i, b { display: inline-block; font-style: normal; font-weight: normal; }
 a, .n { min-width: 2.8rem; padding-right: .8rem; text-align: right; text-decoration: none; }
 a, i { color: var(--faint); }
@@ -59,6 +60,14 @@ pub const BEFORE_CODE: &str = "</div>
 </section>
 <section aria-label=\"Code\">
 <h2>Code: line, address, instruction, name</h2>
+<div class=\"rows\">
+";
+
+/// What is between the code and what is known before a match.
+pub const BEFORE_FACTS: &str = "</div>
+</section>
+<section class=\"wide\" aria-label=\"Before a match\">
+<h2>Before a match: line, function, what a call or a turn takes</h2>
 <div class=\"rows\">
 ";
 

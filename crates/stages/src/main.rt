@@ -1,5 +1,5 @@
 //! Shows what the compiler does with a robot, stage by stage: its tokens, its tree, its code below or beside its lines,
-//! and the cycles of its machine.
+//! what is known of it before it fights, and the cycles of its machine.
 #![tactic(auto)]
 
 mod code_rows;
@@ -17,7 +17,7 @@ mod texts;
 mod token_rows;
 
 use crate::code_rows::listing;
-use crate::compiled::{CompileFault, compiled, grown};
+use crate::compiled::{CompileFault, compiled, grown, known};
 use crate::drawings::{graph, indented};
 use crate::execution::execution;
 use crate::forms::{Form, OPTIONS, Request};
@@ -25,17 +25,18 @@ use crate::nodes::Nodes;
 use crate::origins::Origins;
 use crate::pages::page;
 use crate::token_rows::token_rows;
+use facts::add_rows;
 use std::alloc::Global;
 use std::process::ExitCode;
 use tools::{
-    Fault, Frame, Options, PROFILE_OPTIONS, Work, name_of, source_of, tell_diagnostic, write_text,
+    Draft, Fault, Frame, Options, PROFILE_OPTIONS, Work, name_of, source_of, tell_diagnostic, write_text,
 };
 
 /// The program's name, its line of wrong usage, and its options.
 const FRAME: Frame = Frame {
     name: "crobots-stages",
     about: "Shows what the compiler makes of a robot, stage by stage.",
-    usage: "(--tokens | --tree | --dot | --code | --html | --run CYCLES [--replies LIST]) [-pPROFILE] FILE",
+    usage: "(--tokens | --tree | --dot | --code | --bounds | --html | --run CYCLES [--replies LIST]) [-pPROFILE] FILE",
     known: &[&OPTIONS, &PROFILE_OPTIONS],
 };
 
@@ -71,9 +72,26 @@ fn shown(alloc: Global, request: &Request<'_>, source: &[u8]) -> Result<String, 
         Form::Tree => indented(alloc, &tree(alloc, request, source)?)?,
         Form::Dot => graph(alloc, &tree(alloc, request, source)?)?,
         Form::Code => listing(alloc, source, &made, &found(alloc, request, source)?)?,
+        Form::Bounds => {
+            let mut rows = Draft::new(alloc);
+            add_rows(
+                &mut rows,
+                request.file,
+                &known(alloc, source, request.profile)?,
+            );
+            rows.finish()?
+        }
         Form::Html => {
+            let facts = known(alloc, source, request.profile)?;
             let origins = found(alloc, request, source)?;
-            page(alloc, name_of(request.file), source, &made, &origins)?
+            page(
+                alloc,
+                name_of(request.file),
+                source,
+                &made,
+                &origins,
+                &facts,
+            )?
         }
         Form::Run(cycles) => execution(alloc, &made, cycles, request.replies.as_slice())?,
     };

@@ -1,11 +1,14 @@
-//! A page that shows a source and its code side by side, in the colours of their lines.
+//! A page that shows a source and its code side by side, in the colours of their lines, and below what is known of it.
 
 ghost use Rattle.std.specs.Prelude.{◌<◌};
 
-use crate::looks::{BEFORE_CODE, BEFORE_NAME, BEFORE_SOURCE, BEFORE_TITLE, LOOK, TAIL};
+use crate::looks::{
+    BEFORE_CODE, BEFORE_FACTS, BEFORE_NAME, BEFORE_SOURCE, BEFORE_TITLE, LOOK, TAIL,
+};
 use crate::origins::Origins;
 use crate::spelling::{beginning_at, instruction_at, name_at};
 use crate::texts::{ascii, lines_of, shown, text_of};
+use facts::{Facts, Part, add_call, add_room, add_turn};
 use std::alloc::{AllocError, Global};
 use tools::{Compiled, Draft, Text};
 
@@ -19,6 +22,7 @@ pub fn page(
     source: &[u8],
     made: &Compiled,
     origins: &Origins,
+    facts: &Facts,
 ) -> Result<String, AllocError> {
     let name = shown(alloc, name.as_bytes())?;
     let mut text = Draft::new(alloc);
@@ -35,6 +39,8 @@ pub fn page(
         add_begin(&mut text, made, address);
         add_instruction(&mut text, alloc, made, origins, address)?;
     }
+    text.add(BEFORE_FACTS);
+    add_facts(&mut text, alloc, facts)?;
     text.add(TAIL);
     text.finish()
 }
@@ -148,6 +154,36 @@ fn add_instruction(
     text.add(name_at(made, address).unwrap_or(""));
     text.add("</i></div>\n");
     Ok(())
+}
+
+/// Adds what is known before a match: the lines on room, and the row of each function and of each loop.
+fn add_facts(text: &mut Draft, alloc: Global, facts: &Facts) -> Result<(), AllocError> {
+    let mut room = Draft::new(alloc);
+    add_room(&mut room, facts);
+    let room = room.finish()?;
+    for line in room.trim().split('\n') {
+        text.add("<div>");
+        text.add(line);
+        text.add("</div>\n");
+    }
+    for part in &facts.functions {
+        add_begin_of_part(text, part);
+        add_call(text, part);
+        text.add("</div>\n");
+    }
+    for part in &facts.loops {
+        add_begin_of_part(text, part);
+        add_turn(text, part);
+        text.add("</div>\n");
+    }
+    Ok(())
+}
+
+/// Adds the begin of a row of a function or a loop: the number of its line, which leads there.
+fn add_begin_of_part(text: &mut Draft, part: &Part) {
+    add_line(text, "<div><a href=\"#s", part.line);
+    add_line(text, "\">", part.line);
+    text.add("</a>");
 }
 
 /// Adds a text, with the characters that mean something in HTML replaced.

@@ -155,7 +155,7 @@ fn add_counts(text: &mut Draft, name: &str, counts: &[u64]) {
 }
 
 /// Adds a count after a blank at least, in eight columns: in thousands if it has no room else.
-fn add_count(text: &mut Draft, count: u64) {
+pub fn add_count(text: &mut Draft, count: u64) {
     if count < LEAST_THOUSANDS {
         add_right(text, count, 8);
     } else {

@@ -4,9 +4,11 @@
 ghost use Rattle.std.specs.Prelude.{◌≤◌, length};
 
 mod asks;
+mod clocks;
 mod events;
 mod habits;
 mod items;
+mod measured;
 mod notes;
 mod reports;
 mod requests;

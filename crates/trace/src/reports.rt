@@ -2,6 +2,7 @@
 
 use crate::habits::{add_calls, add_directions, add_streak};
 use crate::items::{Items, MOST_COLUMNS};
+use crate::measured::add_measured;
 use crate::notes::{Note, note_of, plain};
 use crate::requests::Request;
 use crate::restarts::add_restarts;
@@ -89,7 +90,8 @@ fn add_robot(text: &mut Draft, robot: usize, subject: &Subject<'_>) -> Result<()
     add_calls(text, tally)?;
     add_directions(text, tally);
     add_functions(text, subject)?;
-    add_lines(text, tally, subject.note)
+    add_lines(text, tally, subject.note)?;
+    add_measured(text, subject)
 }
 
 /// Adds a robot's number and name, and when it was dead.

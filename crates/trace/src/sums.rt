@@ -32,7 +32,7 @@ impl<'a> Sums<'a> {
     ) -> Result<Sums<'a>, Fault> {
         let mut tallies = Vec::new(rt.alloc());
         for pilot in pilots {
-            let tally = Tally::new(rt.alloc(), pilot.program().instructions().len())?;
+            let tally = Tally::new(rt.alloc(), pilot.program())?;
             if tallies.push(tally).is_err() {
                 return Err(Fault::Memory);
             }
@@ -88,7 +88,7 @@ impl<'a> Sums<'a> {
 impl Watcher for Sums<'_> {
     fn turn(&mut self, turn: Turn, pilot: &Pilot<'_>) {
         if let Some(tally) = self.tally(turn.cycle, turn.robot) {
-            tally.pass(pilot.machine().address());
+            tally.pass(turn.cycle, pilot.machine().address());
         }
     }
 
@@ -123,6 +123,11 @@ impl Watcher for Sums<'_> {
 
 impl Teller for Sums<'_> {
     fn finish(self, request: &Request<'_>, cycles: u32, pilots: &[Pilot<'_>]) -> Result<(), Fault> {
+        for tally in &self.tallies {
+            if !tally.clock.is_whole() {
+                return Err(Fault::Memory);
+            }
+        }
         let mut text = Draft::new(self.rt.alloc());
         add_report(
             &mut text,

@@ -1,9 +1,10 @@
 //! The tally of a robot: the counts of which the sums are made. It gets each cycle, call, restart, loss and burst while
 //! the match is played.
 
+use crate::clocks::Clock;
 use crate::restarts::{Crowd, crowd_of};
 use arena::MOST_ROBOTS;
-use code::{Cause, Frame, Intrinsic};
+use code::{Cause, Frame, Intrinsic, Program};
 use findings::{Call, DIRECTIONS, Loss, Shares, Source, Streak, direction_of, largest, purpose_of};
 use playing::Question;
 use std::alloc::{AllocError, Global};
@@ -90,6 +91,8 @@ fn deed_of(question: &Question) -> Option<Deed> {
 pub struct Tally {
     /// Its addresses.
     pub spots: Vec<Spot>,
+    /// What its calls and the turns of its loops took.
+    pub clock: Clock,
     /// What its cycles were for.
     pub shares: Shares,
     /// Its calls, in the order of the intrinsic functions.
@@ -119,14 +122,15 @@ pub struct Tally {
 }
 
 impl Tally {
-    /// Makes the tally of a robot whose program has so many instructions.
-    pub fn new(alloc: Global, instructions: usize) -> Result<Tally, AllocError> {
+    /// Makes the tally of a robot that runs a program.
+    pub fn new(alloc: Global, program: &Program) -> Result<Tally, AllocError> {
         let mut spots = Vec::new(alloc);
-        for _ in 0..instructions {
+        for _ in program.instructions() {
             spots.push(Spot::default())?;
         }
         Ok(Tally {
             spots,
+            clock: Clock::new(alloc, program)?,
             shares: Shares::default(),
             calls: [Calls::default(); INTRINSICS],
             deeds: [[0; DIRECTIONS]; 3],
@@ -144,8 +148,9 @@ impl Tally {
     }
 
     /// Counts a cycle at an address.
-    pub fn pass(&mut self, address: usize) {
+    pub fn pass(&mut self, cycle: u32, address: usize) {
         self.shares.count();
+        self.clock.pass(cycle, address);
         if let Some(spot) = self.spots.get_mut(address) {
             spot.cycles = spot.cycles.saturating_add(1);
         }
@@ -188,6 +193,7 @@ impl Tally {
     /// Counts a restart at an address, with these frames open.
     pub fn restart(&mut self, address: usize, cause: Cause, frames: &[Frame]) {
         self.streak = None;
+        self.clock.restart();
         if let Some(spot) = self.spots.get_mut(address) {
             spot.restarts = spot.restarts.saturating_add(1);
             spot.cause = Some(cause);

@@ -1,6 +1,9 @@
 //! Says what is wrong with robots' sources, in words for beginners: where, what fits there, and what may be meant.
 #![tactic(auto)]
 
+mod room_warnings;
+
+use crate::room_warnings::add_want_of_room;
 use explanations::{add_explanation, add_warnings, compile};
 use grammar::{ParseFault, Profile};
 use std::process::ExitCode;
@@ -93,7 +96,8 @@ fn explain(rt: &HostRuntime, output: &mut Output, wish: &Wish, path: &str) -> Re
     match compile(source, wish.profile) {
         Ok(()) if wish.lint => {
             let warnings = add_warnings(text, alloc, path, source, wish.profile)?;
-            Ok(wish.strict && warnings > 0)
+            let lacks = add_want_of_room(text, alloc, path, source, wish.profile)?;
+            Ok(wish.strict && (lacks || warnings > 0))
         }
         Ok(()) => Ok(false),
         Err(ParseFault::Source(diagnostic)) => {
