@@ -2,6 +2,7 @@
 
 ghost use Rattle.std.specs.Prelude.{◌≤◌, length};
 
+use arrayvec::ArrayVec;
 use std::alloc::{AllocError, Global};
 use tokens::{Cursor, LexicalError, LocatedToken, Pieces, SOURCE_BYTES, Token, WINDOW};
 
@@ -20,23 +21,64 @@ pub struct Located {
     pub end: usize,
 }
 
+impl Default for Located {
+    fn default() -> Located {
+        Located {
+            token: Token::End,
+            line: 1,
+            column: 1,
+            start: 0,
+            end: 0,
+        }
+    }
+}
+
+/// What takes the tokens of a source, one after the other.
+pub trait Shelf {
+    /// Takes the next token. Answers whether there was room.
+    fn take(&mut self, token: Located) -> bool;
+}
+
+impl Shelf for Vec<Located> {
+    fn take(&mut self, token: Located) -> bool {
+        self.push(token).is_ok()
+    }
+}
+
+impl<const MOST: usize> Shelf for ArrayVec<Located, MOST> {
+    fn take(&mut self, token: Located) -> bool {
+        self.try_push(token).is_ok()
+    }
+}
+
 /// Finds all tokens of a source, the last one included: the end, or a lexical error. The only error is that memory is
 /// refused.
 pub fn locate(alloc: Global, source: &[u8]) -> Result<Vec<Located>, AllocError> {
     let mut tokens = Vec::new(alloc);
+    if !locate_on(&mut tokens, source) {
+        return Err(AllocError);
+    }
+    Ok(tokens)
+}
+
+/// Puts all tokens of a source on a shelf, the last one included: the end, or a lexical error. Answers whether there was
+/// room for all.
+pub fn locate_on<S: Shelf>(shelf: &mut S, source: &[u8]) -> bool {
     let mut feed = Pieces::new(source, WINDOW);
     let Ok(mut cursor) = Cursor::open(&mut feed) else {
-        return Ok(tokens);
+        return true;
     };
     let mut places = Finder::new(source);
     for _ in 0..SOURCE_BYTES + 2 {
         let token = *cursor.peek();
-        tokens.push(places.place(&token))?;
+        if !shelf.take(places.place(&token)) {
+            return false;
+        }
         if token.token.is_last() || cursor.advance(&mut feed).is_err() {
             break;
         }
     }
-    Ok(tokens)
+    true
 }
 
 /// How far the places of a source's tokens are known: to the end of a token.

@@ -1,7 +1,8 @@
 //! Says what is wrong with robots' sources, in words for beginners: where, what fits there, and what may be meant.
 #![tactic(auto)]
 
-use explanations::{add_explanation, add_warnings, compile};
+use derivations::locate;
+use explanations::{Note, compile, explain, warnings_of};
 use grammar::{ParseFault, Profile};
 use std::process::ExitCode;
 use tools::{Fault, Frame, Known, Options, Output, Work, profile, source_of};
@@ -71,27 +72,46 @@ fn explain_all(
 ) -> Result<bool, Fault> {
     let mut is_faulty = false;
     for path in files {
-        is_faulty |= explain(rt, output, wish, path)?;
+        is_faulty |= explain_file(rt, output, wish, path)?;
         output.pass(rt)?;
     }
     Ok(is_faulty)
 }
 
 /// Explains a file. Reports whether it has a fault, or a warning where warnings count.
-fn explain(rt: &HostRuntime, output: &mut Output, wish: &Wish, path: &str) -> Result<bool, Fault> {
-    let (bytes, alloc) = (source_of(rt, FRAME.name, path)?, rt.alloc());
-    let (text, source) = (output.text(), bytes.as_slice());
+fn explain_file(
+    rt: &HostRuntime,
+    output: &mut Output,
+    wish: &Wish,
+    path: &str,
+) -> Result<bool, Fault> {
+    let bytes = source_of(rt, FRAME.name, path)?;
+    let tokens = locate(rt.alloc(), bytes.as_slice())?;
+    let (source, tokens) = (bytes.as_slice(), tokens.as_slice());
     match compile(source, wish.profile) {
         Ok(()) if wish.lint => {
-            let warnings = add_warnings(text, alloc, path, source, wish.profile)?;
-            Ok(wish.strict && warnings > 0)
+            let warnings = warnings_of(tokens, wish.profile);
+            for warning in warnings.list() {
+                tell(output, path, &warning.note(tokens))?;
+            }
+            Ok(wish.strict && !warnings.list().is_empty())
         }
         Ok(()) => Ok(false),
         Err(ParseFault::Source(diagnostic)) => {
-            add_explanation(text, alloc, path, source, wish.profile, &diagnostic)?;
+            let note = explain(source, tokens, wish.profile, &diagnostic);
+            tell(output, path, &note)?;
             Ok(true)
         }
         Err(ParseFault::Device) => Err(Fault::Read),
         Err(ParseFault::Memory) => Err(Fault::Memory),
     }
+}
+
+/// Tells a note on a file, whose path is written as it is.
+fn tell(output: &mut Output, path: &str, note: &Note) -> Result<(), Fault> {
+    let text = output.text();
+    text.push_str(path)?;
+    text.push_str(":")?;
+    text.push_str(note.as_str())?;
+    Ok(())
 }
