@@ -108,15 +108,22 @@ impl<'a> Gap<'a> {
 
     /// Adds a token to those found, if it fits here.
     fn add(&self, found: &mut Fitting, token: Token) {
-        let placeless = Located {
-            token,
-            ..Located::default()
-        };
         let mut tokens: ArrayVec<Located, 2> = ArrayVec::new();
         let _ = tokens.try_extend_from_slice(self.kept);
-        let _ = tokens.try_push(placeless);
+        let _ = tokens.try_push(placeless(&token));
         if self.before.matches_all(tokens.as_slice()) {
-            let _ = found.try_push(placeless);
+            let _ = found.try_push(placeless(&token));
         }
+    }
+}
+
+/// Returns a token without a place of its own.
+fn placeless(token: &Token) -> Located {
+    Located {
+        token: *token,
+        line: 1,
+        column: 1,
+        start: 0,
+        end: 0,
     }
 }

@@ -6,6 +6,9 @@ use arrayvec::ArrayVec;
 use std::alloc::{AllocError, Global};
 use tokens::{Cursor, LexicalError, LocatedToken, Pieces, SOURCE_BYTES, Token, WINDOW};
 
+/// The most tokens that are found without asking for memory.
+pub const MOST_TOKENS: usize = 16_384;
+
 /// A token of a source in memory, with its place.
 #[derive(Clone, Copy)]
 pub struct Located {
@@ -33,52 +36,43 @@ impl Default for Located {
     }
 }
 
-/// What takes the tokens of a source, one after the other.
-pub trait Shelf {
-    /// Takes the next token. Answers whether there was room.
-    fn take(&mut self, token: Located) -> bool;
-}
-
-impl Shelf for Vec<Located> {
-    fn take(&mut self, token: Located) -> bool {
-        self.push(token).is_ok()
-    }
-}
-
-impl<const MOST: usize> Shelf for ArrayVec<Located, MOST> {
-    fn take(&mut self, token: Located) -> bool {
-        self.try_push(token).is_ok()
-    }
-}
-
 /// Finds all tokens of a source, the last one included: the end, or a lexical error. The only error is that memory is
 /// refused.
 pub fn locate(alloc: Global, source: &[u8]) -> Result<Vec<Located>, AllocError> {
     let mut tokens = Vec::new(alloc);
-    if !locate_on(&mut tokens, source) {
-        return Err(AllocError);
+    let mut feed = Pieces::new(source, WINDOW);
+    let Ok(mut cursor) = Cursor::open(&mut feed) else {
+        return Ok(tokens);
+    };
+    let mut places = Finder::new(source);
+    for _ in 0..SOURCE_BYTES + 2 {
+        let token = *cursor.peek();
+        tokens.push(places.place(&token))?;
+        if token.token.is_last() || cursor.advance(&mut feed).is_err() {
+            break;
+        }
     }
     Ok(tokens)
 }
 
-/// Puts all tokens of a source on a shelf, the last one included: the end, or a lexical error. Answers whether there was
-/// room for all.
-pub fn locate_on<S: Shelf>(shelf: &mut S, source: &[u8]) -> bool {
+/// Tokens of a source that isn't too long, in memory of fixed size.
+pub type Tokens = ArrayVec<Located, MOST_TOKENS>;
+
+/// Finds all tokens of a source as `locate` does, without asking for memory. Answers whether there was room for all.
+pub fn locate_in(tokens: &mut Tokens, source: &[u8]) -> bool {
     let mut feed = Pieces::new(source, WINDOW);
     let Ok(mut cursor) = Cursor::open(&mut feed) else {
         return true;
     };
     let mut places = Finder::new(source);
-    for _ in 0..SOURCE_BYTES + 2 {
+    for _ in 0..MOST_TOKENS {
         let token = *cursor.peek();
-        if !shelf.take(places.place(&token)) {
-            return false;
-        }
+        let _ = tokens.try_push(places.place(&token));
         if token.token.is_last() || cursor.advance(&mut feed).is_err() {
-            break;
+            return true;
         }
     }
-    true
+    false
 }
 
 /// How far the places of a source's tokens are known: to the end of a token.

@@ -66,7 +66,7 @@ pub fn on_the_outside(scene: &Scene<'_>) -> Option<Hint> {
         return Some(Hint::Text(if is_behind_block(scene.tokens, scene.index) {
             "outside functions stand declarations and functions alone: a `}` above may be one too many"
         } else {
-            "outside functions stand declarations and functions alone: a robot begins with `main() {`"
+            "outside functions stand declarations and functions alone: what is done stands in `main() { .. }`"
         }));
     }
     None

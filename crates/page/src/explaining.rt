@@ -9,14 +9,9 @@ use crate::orders::Order;
 use crate::robots::RobotFile;
 use crate::running::words_of;
 use crate::sheets::{FRAME_BYTES, Sheet};
-use arrayvec::ArrayVec;
-use derivations::{Located, locate_on};
+use derivations::{Located, Tokens, locate_in};
 use explanations::{compile, explain, warnings_of};
 use grammar::{ParseFault, Profile};
-
-/// The most tokens of a source that is explained. One of as many instructions as a robot may have has fewer, but for
-/// statements that do nothing.
-const MOST_TOKENS: usize = 16_384;
 
 /// What was explained.
 #[derive(Clone, Copy, Debug, PartialEq, Eq)]
@@ -25,7 +20,7 @@ pub enum Explained {
     Good,
     /// A source with a fault: the sheet has its explanation.
     Faulty,
-    /// Nothing, or a part: the source has too many tokens, or the sheet is full.
+    /// Nothing, or a part: the source has over `derivations::MOST_TOKENS` tokens, or the sheet is full.
     Cut,
 }
 
@@ -52,8 +47,8 @@ fn explained(profile: Profile, source: &[u8], sheet: &mut Sheet) -> Explained
     ensures good { result ≡ Explained.Good → Compiles profile source.now }
     ensures faulty { result ≡ Explained.Faulty → IsFaulty profile source.now }
 {
-    let mut tokens: ArrayVec<Located, MOST_TOKENS> = ArrayVec::new();
-    if !locate_on(&mut tokens, source) {
+    let mut tokens = Tokens::new();
+    if !locate_in(&mut tokens, source) {
         return Explained::Cut;
     }
     let tokens = tokens.as_slice();

@@ -1,6 +1,6 @@
 use Rattle.std.proofs.Common.{◌≡◌}
 use Rattle.tokens.specs.Window.{KnowsEnd}
-use Rattle.derivations.proofs.locations.locate_on.Given as goal
+use Rattle.derivations.proofs.locations.locate_in.Given as goal
 
 abbrev pub invariant-loop : goal.invariant-loop
 invariant-loop l = record {
