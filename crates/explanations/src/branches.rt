@@ -16,9 +16,7 @@ pub fn warn_of_branch(out: &mut Warnings, subject: &Subject<'_>, index: usize, n
     let Some(condition) = subject.nodes.get(node.middle.saturating_sub(1)) else {
         return;
     };
-    if is_assignment(subject.nodes, node, condition)
-        && !is_in_brackets(tokens, condition.token)
-    {
+    if is_assignment(subject.nodes, node, condition) && !is_in_brackets(tokens, condition.token) {
         out.tell(
             condition.token.saturating_add(1),
             "`=` sets the variable; to compare write `==`, or put it into brackets of its own",
@@ -39,10 +37,16 @@ fn warn_of_body(out: &mut Warnings, tokens: &[Located], node: &Node, body: usize
         warn_of_indentation(out, tokens, node.token, body);
     } else if node.kind == Kind::While {
         if behind == Token::Punctuator(Punctuator::OpenCurly) {
-            out.tell(body, "the `while` ends with this `;`: the block behind it is no part of it");
+            out.tell(
+                body,
+                "the `while` ends with this `;`: the block behind it is no part of it",
+            );
         }
     } else if behind != Token::Word(Word::Else) {
-        out.tell(body, "the `if` ends with this `;`: what follows it is always done");
+        out.tell(
+            body,
+            "the `if` ends with this `;`: what follows it is always done",
+        );
     }
 }
 
@@ -51,9 +55,11 @@ fn warn_of_indentation(out: &mut Warnings, tokens: &[Located], head: usize, body
     let Some(behind) = behind_simple(tokens, body) else {
         return;
     };
-    let (Some(head), Some(first), Some(next)) =
-        (tokens.get(head), tokens.get(body), tokens.get(behind))
-    else {
+    let (Some(head), Some(first), Some(next)) = (
+        tokens.get(head),
+        tokens.get(body),
+        tokens.get(behind),
+    ) else {
         return;
     };
     let is_below = head.line < first.line && first.line < next.line;

@@ -37,7 +37,10 @@ pub fn warn_of_call(
         && node.is_used
         && !returns(nodes, number)
     {
-        out.warn(node.token, Said::Named(" has no `return`: its value is always 0"));
+        out.warn(
+            node.token,
+            Said::Named(" has no `return`: its value is always 0"),
+        );
     }
 }
 
@@ -139,7 +142,15 @@ fn order_of(intrinsic: Intrinsic) -> &'static str {
 }
 
 /// Names that say a degree.
-static DEGREES: [&str; 7] = ["angle", "degree", "degrees", "deg", "dir", "direction", "heading"];
+static DEGREES: [&str; 7] = [
+    "angle",
+    "degree",
+    "degrees",
+    "deg",
+    "dir",
+    "direction",
+    "heading",
+];
 
 /// Names that say the other argument.
 static OTHERS: [&str; 6] = ["range", "distance", "dist", "speed", "resolution", "res"];

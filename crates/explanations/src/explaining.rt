@@ -141,14 +141,24 @@ fn add_limit(note: &mut Note, found: &Found<'_>) {
     match found.code {
         Code::CommentNotClosed => note.add("the comment that begins here has no `*/`"),
         Code::NameTooLong => {
-            add_most(note, "a name has at most ", NAME_BYTES, " letters, and this one has ");
+            add_most(
+                note,
+                "a name has at most ",
+                NAME_BYTES,
+                " letters, and this one has ",
+            );
             note.number(length_of(found));
         }
         Code::ConstantTooLarge => {
             note.add("the greatest number is ");
             note.number(u64::from(CONSTANT_MAX));
         }
-        Code::SourceTooLong => add_most(note, "a source has at most ", SOURCE_BYTES as usize, " bytes"),
+        Code::SourceTooLong => add_most(
+            note,
+            "a source has at most ",
+            SOURCE_BYTES as usize,
+            " bytes",
+        ),
         Code::NestedTooDeeply => add_most(
             note,
             "at most ",
@@ -157,7 +167,12 @@ fn add_limit(note: &mut Note, found: &Found<'_>) {
         ),
         Code::TooManyVariables => {
             add_most(note, "a function has at most ", MOST_NAMES, " variables");
-            add_most(note, ", and a file at most ", MOST_NAMES, " outside its functions");
+            add_most(
+                note,
+                ", and a file at most ",
+                MOST_NAMES,
+                " outside its functions",
+            );
         }
         Code::TooManyFunctions => add_most(note, "a file has at most ", MOST_NAMES, " functions"),
         Code::TooMuchCode => add_most(

@@ -59,7 +59,11 @@ impl Hint {
                 "",
             ),
             Hint::Hexadecimal(None) => {
-                ("numbers are decimal: hexadecimal ones aren't known", None, "")
+                (
+                    "numbers are decimal: hexadecimal ones aren't known",
+                    None,
+                    "",
+                )
             }
             Hint::Meant(word) => ("perhaps ", None, word),
         }
@@ -200,7 +204,11 @@ static MISSPELLED: [(Punctuator, Punctuator, &str); 6] = [
     (Punctuator::Equals, Punctuator::Less, "`<=` is meant"),
     (Punctuator::Equals, Punctuator::Greater, "`>=` is meant"),
     (Punctuator::Equals, Punctuator::Equals, "`==` is meant"),
-    (Punctuator::EqualsEquals, Punctuator::Equals, "`==` is meant"),
+    (
+        Punctuator::EqualsEquals,
+        Punctuator::Equals,
+        "`==` is meant",
+    ),
     (Punctuator::Equals, Punctuator::Plus, "`+=` is meant"),
 ];
 
@@ -309,7 +317,10 @@ fn on_brackets(scene: &Scene<'_>) -> Option<Hint> {
 /// Reports whether a `;` stands where a `,` may, with a whole argument behind it.
 fn parts_arguments(scene: &Scene<'_>) -> bool {
     let behind = scene.token(scene.index.saturating_add(2));
-    let ends = matches!(behind, Token::Punctuator(Punctuator::Comma | Punctuator::CloseRound));
+    let ends = matches!(
+        behind,
+        Token::Punctuator(Punctuator::Comma | Punctuator::CloseRound)
+    );
     let is_value = begins_value(&scene.token(scene.index.saturating_add(1)));
     scene.is_mark(Punctuator::Semicolon) && scene.fits_mark(Punctuator::Comma) && is_value && ends
 }

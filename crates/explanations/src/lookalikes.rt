@@ -21,7 +21,10 @@ static WORDS: [(&str, &str); 9] = [
     ("long", "`long` is meant"),
     ("auto", "`auto` is meant"),
     ("register", "`register` is meant"),
-    ("for", "`for` is meant, which isn't known here: write a `while`"),
+    (
+        "for",
+        "`for` is meant, which isn't known here: write a `while`",
+    ),
 ];
 
 /// Words of other languages, with a hint on each.

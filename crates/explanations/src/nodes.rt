@@ -241,13 +241,20 @@ impl Nodes {
 
     /// Notes a declared variable of a function, if it hides one of the file.
     fn declare(&mut self, tokens: &[Located], token: usize) {
+        if self.hides(tokens, token) {
+            let _ = self.hiding.try_push(token);
+        }
+    }
+
+    /// Reports whether a variable of the file has the name of a token.
+    fn hides(&self, tokens: &[Located], token: usize) -> bool {
         let name = name_at(tokens, token);
-        for external in &self.externals {
+        for external in self.externals() {
             if name_at(tokens, *external) == name {
-                let _ = self.hiding.try_push(token);
-                return;
+                return true;
             }
         }
+        false
     }
 
     /// Begins a function.
@@ -394,10 +401,12 @@ impl Nodes {
 
     /// Adds the node of the innermost call, above its arguments.
     fn invoke(&mut self, token: usize) {
-        let Some(Open {
-            callee: Some(callee),
-            arguments,
-        }) = self.calls.pop()
+        let Some(
+            Open {
+                callee: Some(callee),
+                arguments,
+            },
+        ) = self.calls.pop()
         else {
             return;
         };

@@ -1,9 +1,9 @@
 //! The search for the token of a source's fault.
 
 use crate::walks::{Event, Meaning, Walk};
+use arrayvec::ArrayVec;
 use derivations::Derivation;
 use grammar::{Callee, Code, Diagnostic, MOST_NAMES};
-use arrayvec::ArrayVec;
 
 /// A search: how far it has come, which functions are defined up to there, and which ones are mentioned.
 #[derive(Drop)]

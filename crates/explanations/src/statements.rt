@@ -37,7 +37,10 @@ fn is_drive(nodes: &[Node]) -> bool {
     match nodes {
         [call, statement] => {
             statement.kind == Kind::Evaluate
-                && matches!(call.kind, Kind::Call(Callee::Intrinsic(Intrinsic::Drive), _))
+                && matches!(
+                    call.kind,
+                    Kind::Call(Callee::Intrinsic(Intrinsic::Drive), _)
+                )
         }
         _ => false,
     }

@@ -26,33 +26,49 @@ pub fn add_token(note: &mut Note, source: &[u8], located: &Located) {
     }
 }
 
-/// Adds the character that a place of a source has: one that no terminal surely shows by its number in Unicode.
+/// Adds the character that a place of a source has: one that isn't ASCII by its number in Unicode.
 fn add_character(note: &mut Note, source: &[u8], at: usize) {
     match character_at(source, at) {
-        Some(character @ '!'..='~') => {
-            note.add("the character `");
-            note.push(character);
-            note.push('`');
-        }
-        Some(character @ '\u{80}'..) => {
-            note.add("the character U+");
-            add_hexadecimal(note, u32::from(character));
-        }
-        _ => {
-            note.add("the byte ");
-            note.number(u64::from(source.get(at).copied().unwrap_or(0)));
-        }
+        Some(character) => add_known(note, character),
+        None => add_byte(note, source.get(at).copied().unwrap_or(0)),
     }
 }
 
-/// Adds a number with at least four hexadecimal digits.
+/// Adds a character: one that isn't ASCII by its number in Unicode, and one that no terminal shows as a byte.
+fn add_known(note: &mut Note, character: char) {
+    let code = u32::from(character);
+    if code >= 128 {
+        note.add("the character U+");
+        add_hexadecimal(note, code);
+    } else if code > 32 && code < 127 {
+        note.add("the character `");
+        note.push(character);
+        note.push('`');
+    } else {
+        note.add("the byte ");
+        note.number(u64::from(code));
+    }
+}
+
+/// Adds what a byte is.
+fn add_byte(note: &mut Note, byte: u8) {
+    note.add("the byte ");
+    note.number(u64::from(byte));
+}
+
+/// The hexadecimal digits.
+static DIGITS: [char; 16] = [
+    '0', '1', '2', '3', '4', '5', '6', '7', '8', '9', 'A', 'B', 'C', 'D', 'E', 'F',
+];
+
+/// Adds a number of at most 24 bits, with at least four hexadecimal digits.
 fn add_hexadecimal(note: &mut Note, number: u32) {
     let mut is_begun = false;
-    for place in [5u32, 4, 3, 2, 1, 0] {
-        let digit = number >> (4 * place) & 15;
-        is_begun = is_begun || digit != 0 || place < 4;
+    for part in [1_048_576u32, 65_536, 4096, 256, 16, 1] {
+        let digit = number.checked_div(part).unwrap_or(0) % 16;
+        is_begun = is_begun || digit != 0 || part < 65_536;
         if is_begun {
-            note.push(char::from_digit(digit, 16).unwrap_or('?').to_ascii_uppercase());
+            note.push(DIGITS.get(digit as usize).copied().unwrap_or('?'));
         }
     }
 }

@@ -35,9 +35,10 @@ pub fn warn_of_operator(out: &mut Warnings, subject: &Subject<'_>, index: usize,
 fn on_operator(op: Op, left: &Node, right: &Node) -> Option<&'static str> {
     match (op, left.kind, right.kind) {
         (Op::Less | Op::LessOrEqual | Op::Greater | Op::GreaterOrEqual, Kind::Binary(inner), _)
-            if is_order(inner) =>
-        {
-            Some("this compares the answer of the comparison before it, 0 or 1: write `a < b && b < c`")
+            if is_order(inner) => {
+            Some(
+                "this compares the answer of the comparison before it, 0 or 1: write `a < b && b < c`",
+            )
         }
         (Op::BitXor, _, Kind::Constant(2..=9)) => {
             Some("`^` is no power: it is the exclusive or of bits; multiply instead")
@@ -86,8 +87,10 @@ fn has_value(nodes: &Nodes, value: i32) -> bool {
 
 /// Warns of a factor that is a sine, a cosine or a tangent, if nothing divides.
 fn warn_of_parts(out: &mut Warnings, factor: &Node) {
-    if let Kind::Call(Callee::Intrinsic(Intrinsic::Sin | Intrinsic::Cos | Intrinsic::Tan), _) =
-        factor.kind
+    if let Kind::Call(
+        Callee::Intrinsic(Intrinsic::Sin | Intrinsic::Cos | Intrinsic::Tan),
+        _,
+    ) = factor.kind
     {
         out.warn(
             factor.token,

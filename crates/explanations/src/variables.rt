@@ -25,7 +25,10 @@ pub fn warn_of_variables(out: &mut Warnings, subject: &Subject<'_>) {
         warn_of_body(out, subject, body);
     }
     for token in subject.nodes.hiding() {
-        out.warn(*token, Said::Named(" is a variable of the function alone: it hides that of the file"));
+        out.warn(
+            *token,
+            Said::Named(" is a variable of the function alone: it hides that of the file"),
+        );
     }
 }
 
@@ -42,7 +45,10 @@ fn warn_of_body(out: &mut Warnings, subject: &Subject<'_>, body: &Body) {
             (Some(read), None) if number >= body.parameters => {
                 let token = token_of(subject.nodes, read);
                 let meant = meant_as_read(subject, &uses, token);
-                out.warn(token, Said::Variable(" is read and never set, so it is always 0", meant));
+                out.warn(
+                    token,
+                    Said::Variable(" is read and never set, so it is always 0", meant),
+                );
             }
             (Some(read), Some(set)) if number >= body.parameters && read < set => {
                 warn_of_early(out, subject.nodes, read, set);
@@ -125,12 +131,7 @@ fn is_truth(name: &Name) -> bool {
 
 /// Returns the index of the token of another variable's name that may be meant by the one of a token: a variable of the
 /// function, or else of the file if it is declared before that token.
-fn near_variable(
-    subject: &Subject<'_>,
-    uses: &Uses,
-    token: usize,
-    name: &Name,
-) -> Option<usize> {
+fn near_variable(subject: &Subject<'_>, uses: &Uses, token: usize, name: &Name) -> Option<usize> {
     for own in uses {
         if let Some(local) = own.read.or(own.set) {
             let other = token_of(subject.nodes, local);

@@ -58,7 +58,7 @@ pub enum Meant {
 #[derive(Clone, Copy)]
 pub struct Warning {
     token: usize,
-    rank: usize,
+    order: usize,
     said: Said,
 }
 
@@ -66,7 +66,7 @@ impl Default for Warning {
     fn default() -> Warning {
         Warning {
             token: 0,
-            rank: 0,
+            order: 0,
             said: Said::Words(""),
         }
     }
@@ -135,7 +135,11 @@ fn add_arguments(note: &mut Note, wanted: usize, given: usize) {
         0 => note.add("no"),
         _ => note.number(wanted as u64),
     }
-    note.add(if wanted == 1 { " argument" } else { " arguments" });
+    note.add(if wanted == 1 {
+        " argument"
+    } else {
+        " arguments"
+    });
     note.add(", and is given ");
     note.number(given as u64);
     note.add(if given < wanted {
@@ -157,13 +161,11 @@ impl Warnings {
         self.list.as_slice()
     }
 
-    /// Adds a warning.
+    /// Adds a warning. Those about a token are told in the order in which they are found.
     pub(crate) fn warn(&mut self, token: usize, said: Said) {
-        let _ = self.list.try_push(Warning {
-            token,
-            rank: self.list.len(),
-            said,
-        });
+        let found = self.list.len();
+        let order = token.saturating_mul(MOST_WARNINGS).saturating_add(found);
+        let _ = self.list.try_push(Warning { token, order, said });
     }
 
     /// Adds a warning with these words.
@@ -216,6 +218,6 @@ pub fn warnings_of(tokens: &[Located], profile: Profile) -> Warnings {
     warn_of_recursion(&mut warnings, &subject);
     warn_of_main(&mut warnings, &subject);
     let list = warnings.list.as_mut_slice();
-    list.sort_unstable_by_key(|warning| (warning.token, warning.rank));
+    list.sort_unstable_by_key(|warning| warning.order);
     warnings
 }

@@ -58,7 +58,8 @@ fn explained(profile: Profile, source: &[u8], sheet: &mut Sheet) -> Explained
             told(Explained::Good, sheet)
         }
         Err(ParseFault::Source(diagnostic)) => {
-            tell(explain(source, tokens, profile, &diagnostic).as_str(), sheet);
+            let note = explain(source, tokens, profile, &diagnostic);
+            tell(note.as_str(), sheet);
             told(Explained::Faulty, sheet)
         }
         Err(_) => Explained::Cut,
@@ -81,7 +82,8 @@ fn told(explained: Explained, sheet: &Sheet) -> Explained
 fn tell_warnings(tokens: &[Located], profile: Profile, sheet: &mut Sheet) {
     let warnings = warnings_of(tokens, profile);
     for warning in warnings.list() {
-        tell(warning.note(tokens).as_str(), sheet);
+        let note = warning.note(tokens);
+        tell(note.as_str(), sheet);
     }
 }
 

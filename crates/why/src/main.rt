@@ -92,7 +92,8 @@ fn explain_file(
         Ok(()) if wish.lint => {
             let warnings = warnings_of(tokens, wish.profile);
             for warning in warnings.list() {
-                tell(output, path, &warning.note(tokens))?;
+                let note = warning.note(tokens);
+                tell(output, path, &note)?;
             }
             Ok(wish.strict && !warnings.list().is_empty())
         }

@@ -51,7 +51,10 @@ const BEGINS: [Token; 11] = [
 
 /// Reports whether a token is among those that fit.
 fn has(found: &Fitting, token: &Token) -> bool {
-    found.as_slice().iter().any(|located| located.token == *token)
+    found
+        .as_slice()
+        .iter()
+        .any(|located| located.token == *token)
 }
 
 #[test]

@@ -69,9 +69,8 @@ fn what_fits_after_a_whole_expression(rt: HostRuntime) -> Result<(), Fail> {
     };
     let found = fitting(tokens.as_slice(), 7);
     assert_eq!(&rt; found.len(), 19);
-    let has_semicolon = found
-        .iter()
-        .any(|located| located.token == Token::Punctuator(Punctuator::Semicolon));
+    let has_semicolon = found.iter().any(|located| located.token
+        == Token::Punctuator(Punctuator::Semicolon));
     assert_eq!(&rt; has_semicolon, true);
     Ok(())
 }
