@@ -4,7 +4,8 @@
 mod room_warnings;
 
 use crate::room_warnings::add_want_of_room;
-use explanations::{add_explanation, add_warnings, compile};
+use derivations::locate;
+use explanations::{Note, compile, explain, warnings_of};
 use grammar::{ParseFault, Profile};
 use std::process::ExitCode;
 use tools::{
@@ -82,29 +83,49 @@ fn explain_all(
 ) -> Result<bool, Fault> {
     let mut is_faulty = false;
     for path in files {
-        is_faulty |= explain(rt, output, wish, path)?;
+        is_faulty |= explain_file(rt, output, wish, path)?;
         output.pass(rt)?;
     }
     Ok(is_faulty)
 }
 
 /// Explains a file. Reports whether it has a fault, or a warning where warnings count.
-fn explain(rt: &HostRuntime, output: &mut Output, wish: &Wish, path: &str) -> Result<bool, Fault> {
+fn explain_file(
+    rt: &HostRuntime,
+    output: &mut Output,
+    wish: &Wish,
+    path: &str,
+) -> Result<bool, Fault> {
     let (bytes, alloc) = (source_of(rt, FRAME.name, path)?, rt.alloc());
     let name = format!(in alloc; "{}", Plain(path))?;
-    let (text, source, path) = (output.text(), bytes.as_slice(), name.as_str());
+    let tokens = locate(alloc, bytes.as_slice())?;
+    let (path, source, tokens) = (name.as_str(), bytes.as_slice(), tokens.as_slice());
     match compile(source, wish.profile) {
         Ok(()) if wish.lint => {
-            let warnings = add_warnings(text, alloc, path, source, wish.profile)?;
-            let lacks = add_want_of_room(text, alloc, path, source, wish.profile)?;
-            Ok(wish.strict && (lacks || warnings > 0))
+            let warnings = warnings_of(tokens, wish.profile);
+            for warning in warnings.list() {
+                let note = warning.note(tokens);
+                tell(output, path, &note)?;
+            }
+            let lacks = add_want_of_room(output.text(), alloc, path, source, wish.profile)?;
+            Ok(wish.strict && (lacks || !warnings.list().is_empty()))
         }
         Ok(()) => Ok(false),
         Err(ParseFault::Source(diagnostic)) => {
-            add_explanation(text, alloc, path, source, wish.profile, &diagnostic)?;
+            let note = explain(source, tokens, wish.profile, &diagnostic);
+            tell(output, path, &note)?;
             Ok(true)
         }
         Err(ParseFault::Device) => Err(Fault::Read),
         Err(ParseFault::Memory) => Err(Fault::Memory),
     }
+}
+
+/// Tells a note on a file of this name.
+fn tell(output: &mut Output, path: &str, note: &Note) -> Result<(), Fault> {
+    let text = output.text();
+    text.push_str(path)?;
+    text.push_str(":")?;
+    text.push_str(note.as_str())?;
+    Ok(())
 }
