@@ -25,7 +25,7 @@ file_of_names : (before after : Meaning) (told : Option (List ℕ)) (kept names 
     IsFile before after told kept → IsFile before after told names
 file_of_names before after told kept names same file = rw same file
 
--- A file was parsed, whose bytes the device may have told: it is the one that the maker was told, whose names these are.
+-- a parsed file, whose bytes the device may have told: the maker was told it, and these are its names
 pub record IsGood (maker : Made) (profile : Profile) (bytes_told : Option (List ℕ)) (names : Names) : Type 0 where
   pub file : File
   pub told : IsTold maker profile names file
