@@ -116,7 +116,8 @@ happens_so codes robots s seats others i none new game next code sought before a
     let now = stage_after robots s game.ending.cycles in
     let later = stage_after robots s (game.ending.cycles + 1) in
     let is = code_is seats i none code inside (rw same here) in
-    let see = glances_see codes robots s seats others i none new game next code sought before after are same still inside
+    let see =
+    glances_see codes robots s seats others i none new game next code sought before after are same still inside
     come came one is first second in
     let lives_now = first.alive ∙ lives_are game.arena now.field i come.played.field in (
       λ seems. record {
