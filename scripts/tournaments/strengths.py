@@ -74,7 +74,7 @@ class Matches:
         """A robot's strength by a step of Newton's method from this one, if all others' powers stay."""
         power, others = powers[robot], self.opponents.pickers[robot](powers)
         both = [*map(add, itertools.repeat(power), others)]
-        parts = [*map(truediv, self.rows[robot], both)]
+        parts: list[float] = [*map(truediv, self.rows[robot], both)]
         bend: float = sum(map(mul, parts, map(truediv, others, both))) + 1 / (1 + power) ** 2
         return strength + (self.scores[robot] / power - sum(parts) - 1 / (1 + power)) / bend
 
