@@ -31,6 +31,8 @@ pub struct Part {
     pub name: Name,
     /// The line on which it begins, from 1.
     pub line: u32,
+    /// The column in which its name or its word begins, in bytes from 1.
+    pub column: u32,
     /// The cycles of a call or a turn, if one ever ends.
     pub cycles: Option<Span>,
     /// Its questions by the functions that are asked, in the order of `Intrinsic::ALL`.
@@ -101,8 +103,8 @@ impl Finder<'_> {
     fn functions(&self, places: &Places, cycles: &Runs) -> Result<Vec<Part>, AllocError> {
         let mut parts = Vec::new(self.alloc);
         for (index, function) in self.maker.functions().iter().enumerate() {
-            let line = places.function(index);
-            parts.push(self.part(function.number, line, Some(cycles.run(function.number))))?;
+            let place = places.function(index);
+            parts.push(self.part(function.number, place, Some(cycles.run(function.number))))?;
         }
         Ok(parts)
     }
@@ -141,7 +143,8 @@ impl Finder<'_> {
     }
 
     /// Makes a part of the function of this number, which has asked nothing so far.
-    fn part(&self, function: u8, line: u32, cycles: Option<Span>) -> Part {
+    fn part(&self, function: u8, place: (u32, u32), cycles: Option<Span>) -> Part {
+        let (line, column) = place;
         let name = match self.names.functions().get(usize::from(function)) {
             Some(function) => *function.name(),
             None => Name::new(),
@@ -150,6 +153,7 @@ impl Finder<'_> {
             number: function,
             name,
             line,
+            column,
             cycles,
             questions: [None; KINDS],
         }
