@@ -20,7 +20,6 @@ use Rattle.cycles.specs.Ends.{after, before, behind, end_of, followed, one_branc
 use Rattle.cycles.specs.Expressions.{arguments_span, binary_span, callee_span, cycle, full_span, short_span, span_of, two_cycles}
 use Rattle.cycles.specs.Statements.{ends_of, loop_ends, return_ends, taken, turn_span}
 use Rattle.cycles.specs.Runs.{body_at, run_of, run_within}
-use Rattle.cycles.specs.Turns.{turn}
 use Rattle.cycles.proofs.Numbers.{again_takes, anything_takes, before_both, behind_takes, end_after, end_followed, end_of_first, end_of_second, first_takes, second_takes, takes_none, within_all, within_anything, within_exactly, within_first, within_second}
 use Rattle.cycles.proofs.Spending.{Spends, spends_both, spends_either, spends_given, spends_never, spends_then, spends_tick, spends_wider}
 
