@@ -1,7 +1,7 @@
 //! What is known of a robot, as an object of JSON on a line.
 
 use cycles::Span;
-use facts::{Facts, Part};
+use facts::{Facts, Link, Part};
 use grammar::Intrinsic;
 use std::str;
 use tools::Text;
@@ -13,6 +13,8 @@ pub fn add_object(text: &mut impl Text, path: &str, facts: &Facts) {
     text.add(", \"profile\": ");
     text.number(if facts.profile.short_circuit() { 2 } else { 1 });
     add_room(text, facts);
+    add_links(text, ", \"most_by\": ", facts.chain.links());
+    add_links(text, ", \"calls_itself\": ", facts.chain.circle());
     add_parts(text, ", \"functions\": [", facts.functions.as_slice());
     add_parts(text, ", \"loops\": [", facts.loops.as_slice());
     text.add("}\n");
@@ -31,6 +33,28 @@ fn add_room(text: &mut impl Text, facts: &Facts) {
     } else {
         "false"
     });
+}
+
+/// Adds a list of functions that call one another, or null.
+fn add_links(text: &mut impl Text, head: &str, links: &[Link]) {
+    text.add(head);
+    if links.is_empty() {
+        text.add("null");
+        return;
+    }
+    let mut before = "[";
+    for link in links {
+        text.add(before);
+        text.add("{\"name\": ");
+        add_words(text, str::from_utf8(link.name.as_bytes()).unwrap_or("?"));
+        text.add(", \"line\": ");
+        text.number(u64::from(link.line));
+        text.add(", \"variables\": ");
+        text.number(u64::from(link.variables));
+        text.add("}");
+        before = ", ";
+    }
+    text.add("]");
 }
 
 /// Adds a list of functions or loops.

@@ -22,6 +22,8 @@ runs = record {
   winds_back = record { first = refl; second = refl };
   early_return = record { first = refl; second = refl };
   return_from_loop = record { first = refl; second = refl };
+  idle_loop = record { first = refl; second = refl };
+  loop_of_no_turn = record { first = refl; second = refl };
 }
 
 pub turns : KnownTurns
@@ -43,5 +45,8 @@ questions = record {
   of_one_side = refl;
   of_turn = record { first = refl; second = refl };
   of_loop = record { first = refl; second = refl };
+  of_idle_loop = record { first = refl; second = refl };
+  of_loop_that_asks_others = record { first = refl; second = refl };
+  of_return_from_loop = record { first = refl; second = refl };
   of_branch = record { first = refl; second = refl };
 }

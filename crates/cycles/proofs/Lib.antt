@@ -7,3 +7,4 @@ pub mod KnownSpans
 pub mod Tables
 pub mod TreeSpans
 pub mod Rows
+pub mod Files

@@ -1,11 +1,11 @@
 -- Numbers within spans.
-use Rattle.std.specs.Prelude.{◌≡◌, ℕ, ◌+◌, ◌≤◌, Option, Some, None, IfSome, unwrap_or}
-use Rattle.std.proofs.Common.{arith, subst}
+use Rattle.std.specs.Prelude.{◌≡◌, ℕ, zero, suc, ◌+◌, ◌≤◌, Option, Some, None, IfSome, unwrap_or}
+use Rattle.std.proofs.Common.{arith, refl, subst}
 use Rattle.code.specs.Meaning.{Flow, Through, Returns}
 use Rattle.cycles.specs.declared.spans.Span.{Span}
 use Rattle.cycles.specs.declared.spans.Ends.{Ends}
-use Rattle.cycles.specs.Spans.{IsWithin, MayTake, ◌⊕◌, anything, either, exactly, most_of_both, most_of_either, unbounded}
-use Rattle.cycles.specs.Ends.{after, before, behind, end_of, endless, followed, one_branch, one_of, without_most}
+use Rattle.cycles.specs.Spans.{IsWithin, MayTake, ◌⊕◌, anything, either, exactly, most_of_any, most_of_both, most_of_either}
+use Rattle.cycles.specs.Ends.{after, before, behind, end_of, followed, one_branch, one_of, repeated}
 
 -- One after the other.
 
@@ -88,27 +88,6 @@ second_takes None b n h = h
 second_takes (Some s) None n h = absurd h
 second_takes (Some s) (Some t) n h = within_second s t n h
 
--- No most.
-
-pub within_unbounded : (s : Span) (n : ℕ) → IsWithin s n → IsWithin (unbounded s) n
-within_unbounded s n h = record { least = h.least; most = tt }
-
-pub without_most_takes : (o : Option Span) (n : ℕ) → MayTake o n → MayTake (without_most o) n
-without_most_takes None n h = absurd h
-without_most_takes (Some s) n h = within_unbounded s n h
-
--- a span and an end with no most, as one with no most
-pub before_without_most : (s : Span) (o : Option Span) (n : ℕ) → MayTake (before s (without_most o)) n →
-    MayTake (without_most (before s o)) n
-before_without_most s None n h = absurd h
-before_without_most s (Some t) n h = record { least = h.least; most = tt }
-
--- an end with no most is reached later too
-pub later_takes : (s t : Span) (o : Option Span) (m n : ℕ) → MayTake (before s (without_most (before t o))) n →
-    MayTake (without_most o) (m + n)
-later_takes s t None m n h = absurd h
-later_takes s t (Some r) m n h = record { least = omega (arith, h.least); most = tt }
-
 pub anything_takes : (o : Option Span) (n : ℕ) → MayTake o n → IsWithin (unwrap_or o anything) n
 anything_takes None n h = absurd h
 anything_takes (Some s) n h = h
@@ -153,17 +132,59 @@ pub end_of_second : (first second : Ends) (flow : Flow) (n : ℕ) → MayTake (e
 end_of_second first second Through n h = second_takes first.through second.through n h
 end_of_second first second (Returns x) n h = second_takes first.returns second.returns n h
 
-pub end_endless : (ends : Ends) (flow : Flow) (n : ℕ) → MayTake (end_of ends flow) n →
-    MayTake (end_of (endless ends) flow) n
-end_endless ends Through n h = without_most_takes ends.through n h
-end_endless ends (Returns x) n h = without_most_takes ends.returns n h
+-- Any number of turns.
 
-pub end_endless_after : (s : Span) (ends : Ends) (flow : Flow) (n : ℕ) →
-    MayTake (before s (end_of (endless ends) flow)) n → MayTake (end_of (endless (after s ends)) flow) n
-end_endless_after s ends Through n h = before_without_most s ends.through n h
-end_endless_after s ends (Returns x) n h = before_without_most s ends.returns n h
+most_of_no_turn : (a : Option ℕ) → IfSome (most_of_any a) (λ k. 0 ≤ k)
+most_of_no_turn (Some zero) = omega arith
+most_of_no_turn (Some (suc n)) = tt
+most_of_no_turn None = tt
 
-pub end_later : (s t : Span) (ends : Ends) (flow : Flow) (m n : ℕ) →
-    MayTake (before s (end_of (endless (after t ends)) flow)) n → MayTake (end_of (endless ends) flow) (m + n)
-end_later s t ends Through m n h = later_takes s t ends.through m n h
-end_later s t ends (Returns x) m n h = later_takes s t ends.returns m n h
+within_no_turn : (turn : Option Span) → IsWithin (repeated turn) 0
+within_no_turn None = within_exactly 0
+within_no_turn (Some s) = record { least = omega arith; most = most_of_no_turn s.most }
+
+-- no turn before it
+pub no_turn_takes : (turn o : Option Span) (n : ℕ) → MayTake o n → MayTake (before (repeated turn) o) n
+no_turn_takes turn o n h =
+    let all : 0 + n ≡ n = omega arith in
+    subst (λ (k : ℕ). MayTake (before (repeated turn) o) k) all
+    (before_takes (repeated turn) o 0 n (within_no_turn turn) h)
+
+-- what is left of a loop behind the test of a turn: its end and the loop again, or the loop's end
+most_by_turn : (t b w turn : ℕ) (r : Option ℕ) (n : ℕ) → turn ≡ t + (b + w) →
+    IfSome (most_of_both (Some t)
+    (most_of_either
+    (most_of_both (Some b) (most_of_both (Some w) (most_of_both (most_of_any (Some turn)) (most_of_both (Some t) r))))
+    r)) (λ k. n ≤ k) →
+    IfSome (most_of_both (most_of_any (Some turn)) (most_of_both (Some t) r)) (λ k. n ≤ k)
+most_by_turn t b w (suc turn) r n is h = tt
+most_by_turn t b w zero None n is h = tt
+most_by_turn t b w zero (Some r) n is h = omega (arith, is, h)
+
+most_again : (t b w r : Option ℕ) (n : ℕ) →
+    IfSome (most_of_both t
+    (most_of_either
+    (most_of_both b (most_of_both w
+    (most_of_both (most_of_any (most_of_both t (most_of_both b w))) (most_of_both t r)))) r)) (λ k. n ≤ k) →
+    IfSome (most_of_both (most_of_any (most_of_both t (most_of_both b w))) (most_of_both t r)) (λ k. n ≤ k)
+most_again None b w r n h = tt
+most_again (Some t) None w r n h = tt
+most_again (Some t) (Some b) None r n h = tt
+most_again (Some t) (Some b) (Some w) r n h = most_by_turn t b w (t + (b + w)) r n refl h
+
+within_again : (test b two r : Span) (n : ℕ) →
+    IsWithin (test ⊕ either (b ⊕ (two ⊕ (repeated (Some (test ⊕ (b ⊕ two))) ⊕ (test ⊕ r)))) r) n →
+    IsWithin (repeated (Some (test ⊕ (b ⊕ two))) ⊕ (test ⊕ r)) n
+within_again test b two r n h = record {
+  least = omega (arith, h.least);
+  most = most_again test.most b.most two.most r.most n h.most;
+}
+
+pub again_takes : (test two : Span) (through o : Option Span) (n : ℕ) →
+    MayTake (before test
+    (one_of
+    (behind through (before two (before (repeated (before test (behind through (Some two)))) (before test o)))) o)) n →
+    MayTake (before (repeated (before test (behind through (Some two)))) (before test o)) n
+again_takes test two None o n h = no_turn_takes None (before test o) n h
+again_takes test two (Some b) None n h = absurd h
+again_takes test two (Some b) (Some r) n h = within_again test b two r n h

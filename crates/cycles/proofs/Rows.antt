@@ -11,7 +11,9 @@ use Rattle.trees.proofs.TreeLaws.{tree-ExpressionStatement, tree-IfElseStatement
 use Rattle.cycles.specs.declared.runs.Runs.{Runs}
 use Rattle.cycles.specs.declared.spans.Span.{Span}
 use Rattle.cycles.specs.declared.loops.Turn.{Turn}
+use Rattle.cycles.specs.declared.runs.Run.{Run}
 use Rattle.cycles.specs.Loops.{Loop, all_rows, loops_of, row_of, rows_of}
+use Rattle.cycles.specs.Tables.{row_in, rows_in, run_in}
 
 -- The loops of a statement come first.
 
@@ -138,3 +140,18 @@ module _ (c q : Runs) (cycles questions : ℕ → Span) where
       added ∙ ap (λ ts. ts ++ rows_of c q cycles questions f.number (body_tree f.body.items)) before ∙
       sym
       (ap all (take_more fs i f below ∙ ap (λ f. take i fs ++ f ∷ []) (sym is)) ∙ all_last (take i fs) f)
+
+-- the row of one function more
+pub runs_more : (c q : Runs) (old new : List Run) (fs : List Function) (i : ℕ) (f : Function) (one other : Span) →
+    i < length fs → f ≡ get_or fs i f → one ≡ run_in c f.number → other ≡ run_in q f.number →
+    old ≡ rows_in c q (take i fs) →
+    new ≡ old ++ record { function = f.number; cycles = one; questions = other } ∷ [] →
+    new ≡ rows_in c q (take (i + 1) fs)
+runs_more c q old new fs i f one other below is first second before added =
+    let longer : take (i + 1) fs ≡ take i fs ++ f ∷ [] =
+    take_more fs i f below ∙ ap (λ f. take i fs ++ f ∷ []) (sym is) in
+    let row : record { function = f.number; cycles = one; questions = other } ≡ row_in c q f =
+    λ j. record { function = f.number; cycles = first j; questions = second j } in
+    added ∙ ap (λ rows. rows ++ record { function = f.number; cycles = one; questions = other } ∷ []) before ∙
+    ap (λ row. rows_in c q (take i fs) ++ row ∷ []) row ∙ sym (map-append (row_in c q) (take i fs) (f ∷ [])) ∙
+    ap (rows_in c q) (sym longer)

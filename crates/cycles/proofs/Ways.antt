@@ -16,12 +16,11 @@ use Rattle.cycles.specs.declared.spans.Span.{Span}
 use Rattle.cycles.specs.declared.spans.Ends.{Ends}
 use Rattle.cycles.specs.Counting.{asking}
 use Rattle.cycles.specs.Spans.{IsWithin, MayTake, ◌⊕◌, anything, either, exactly}
-use Rattle.cycles.specs.Ends.{after, before, behind, end_of, endless, followed, one_branch, one_of, passed}
+use Rattle.cycles.specs.Ends.{after, before, behind, end_of, followed, one_branch, one_of, passed}
 use Rattle.cycles.specs.Expressions.{arguments_span, binary_span, callee_span, cycle, full_span, short_span, span_of, two_cycles}
-use Rattle.cycles.specs.Statements.{ends_of, loop_ends, return_ends, taken}
+use Rattle.cycles.specs.Statements.{ends_of, loop_ends, return_ends, taken, turn_span}
 use Rattle.cycles.specs.Runs.{body_at, run_of, run_within}
-use Rattle.cycles.specs.Turns.{turn}
-use Rattle.cycles.proofs.Numbers.{anything_takes, before_both, behind_takes, end_after, end_endless, end_endless_after, end_followed, end_later, end_of_first, end_of_second, first_takes, second_takes, takes_none, within_all, within_anything, within_exactly, within_first, within_second, without_most_takes}
+use Rattle.cycles.proofs.Numbers.{again_takes, anything_takes, before_both, behind_takes, end_after, end_followed, end_of_first, end_of_second, first_takes, second_takes, takes_none, within_all, within_anything, within_exactly, within_first, within_second}
 use Rattle.cycles.proofs.Spending.{Spends, spends_both, spends_either, spends_given, spends_never, spends_then, spends_tick, spends_wider}
 
 -- Single cycles.
@@ -240,50 +239,85 @@ over_takes u p depth go ends goes =
     (end_of (after (two_cycles u) ends)) (λ flow n h. end_after (two_cycles u) ends flow n h)
     (behind_two u (nat_lt depth p.words) true go (end_of ends) goes)
 
--- what is left of a loop behind its test
+-- what is left of a loop behind its test, if it doesn't begin again
 abbrev behind_test : Ends → Ends → Ends
-behind_test turn next = one_branch (record { through = None; returns = turn.returns }) next
+behind_test inside last = one_branch (record { through = None; returns = inside.returns }) last
+
+-- the loop
+abbrev whole_loop : Counted → Span → Ends → Ends → Ends
+whole_loop u test inside last = loop_ends (turn_span u test inside) test inside last
+
+-- what is left of it behind its test: it begins again, or not
+abbrev on_test : Counted → Span → Ends → Ends → Flow → Option Span
+on_test u test inside last flow =
+    one_of (behind inside.through (before (two_cycles u) (end_of (whole_loop u test inside last) flow)))
+    (end_of (behind_test inside last) flow)
+
+loop_again : (u : Counted) (test : Span) (inside last : Ends) (flow : Flow) (n : ℕ) →
+    MayTake (before test (on_test u test inside last flow)) n → MayTake (end_of (whole_loop u test inside last) flow) n
+loop_again u test inside last Through n h = again_takes test (two_cycles u) inside.through last.through n h
+loop_again u test inside last (Returns x) n h =
+    again_takes test (two_cycles u) inside.through (one_of inside.returns last.returns) n h
+
+again_first : (u : Counted) (test : Span) (inside last : Ends) (flow : Flow) (m n : ℕ) → MayTake inside.through m →
+    MayTake (before (two_cycles u) (end_of (whole_loop u test inside last) flow)) n →
+    MayTake (on_test u test inside last flow) (m + n)
+again_first u test inside last flow m n one other =
+    let again : Option Span = before (two_cycles u) (end_of (whole_loop u test inside last) flow) in
+    first_takes (behind inside.through again) (end_of (behind_test inside last) flow) (m + n)
+    (behind_takes inside.through again m n one other)
+
+return_first : (u : Counted) (test : Span) (inside last : Ends) (x : ℤ) (n : ℕ) → MayTake inside.returns n →
+    MayTake (on_test u test inside last (Returns x)) n
+return_first u test inside last x n h =
+    second_takes
+    (behind inside.through (before (two_cycles u) (end_of (whole_loop u test inside last) (Returns x))))
+    (one_of inside.returns last.returns) n (first_takes inside.returns last.returns n h)
+
+next_last : (u : Counted) (test : Span) (inside last : Ends) (flow : Flow) (n : ℕ) → MayTake (end_of last flow) n →
+    MayTake (on_test u test inside last flow) n
+next_last u test inside last flow n h =
+    second_takes (behind inside.through (before (two_cycles u) (end_of (whole_loop u test inside last) flow)))
+    (end_of (behind_test inside last) flow) n
+    (end_of_second (record { through = None; returns = inside.returns }) last flow n h)
 
 -- a loop, by what it is when it begins again
 pub loop_takes : (u : Counted) (p : Profile) (depth : ℕ) (run : List ℤ → Evaluated ℤ)
-    (body next again : Vars → List ℤ → Evaluated Flow) (s : Span) (inside behind : Ends) →
+    (body next again : Vars → List ℤ → Evaluated Flow) (s : Span) (inside last : Ends) →
     Spends u run (λ x. Some s) →
     ((vars : Vars) → Spends u (λ (t : List ℤ). body vars t) (end_of inside)) →
-    ((vars : Vars) → Spends u (λ (t : List ℤ). next vars t) (end_of behind)) →
-    ((vars : Vars) → Spends u (λ (t : List ℤ). again vars t) (end_of (loop_ends (s ⊕ cycle u) inside behind))) →
+    ((vars : Vars) → Spends u (λ (t : List ℤ). next vars t) (end_of last)) →
+    ((vars : Vars) → Spends u (λ (t : List ℤ). again vars t) (end_of (whole_loop u (s ⊕ cycle u) inside last))) →
     Spends u
     (λ (t : List ℤ). and_then (run t)
     (λ x vars rest. pass rest
     (λ rest. if holds x then and_on (body vars rest) (λ vars rest. over p depth rest (λ rest. again vars rest)) else
     next vars rest)))
-    (end_of (loop_ends (s ⊕ cycle u) inside behind))
-loop_takes u p depth run body next again s inside behind tested goes leaves begins =
+    (end_of (whole_loop u (s ⊕ cycle u) inside last))
+loop_takes u p depth run body next again s inside last tested goes leaves begins =
+    let test : Span = s ⊕ cycle u in
     spends_wider u
     (λ (t : List ℤ). and_then (run t)
     (λ x vars rest. pass rest
     (λ rest. if holds x then and_on (body vars rest) (λ vars rest. over p depth rest (λ rest. again vars rest)) else
     next vars rest)))
-    (λ flow. before (s ⊕ cycle u) (end_of (endless (behind_test inside behind)) flow))
-    (end_of (loop_ends (s ⊕ cycle u) inside behind))
-    (λ flow n h. end_endless_after (s ⊕ cycle u) (behind_test inside behind) flow n h)
+    (λ flow. before test (on_test u test inside last flow)) (end_of (whole_loop u test inside last))
+    (λ flow n h. loop_again u test inside last flow n h)
     (behind_taken u run
     (λ x vars rest. if holds x then and_on (body vars rest) (λ vars rest. over p depth rest (λ rest. again vars rest))
-    else next vars rest) s
-    (end_of (endless (behind_test inside behind))) tested
+    else next vars rest) s (on_test u test inside last) tested
     (λ x vars. spends_either u (holds x)
     (λ (t : List ℤ). and_on (body vars t) (λ vars rest. over p depth rest (λ rest. again vars rest)))
-    (λ (t : List ℤ). next vars t) (end_of (endless (behind_test inside behind)))
-    (behind_on u inside (λ flow. before (two_cycles u) (end_of (loop_ends (s ⊕ cycle u) inside behind) flow))
-    (end_of (endless (behind_test inside behind))) (λ (t : List ℤ). body vars t)
+    (λ (t : List ℤ). next vars t) (on_test u test inside last)
+    (behind_on u inside (λ flow. before (two_cycles u) (end_of (whole_loop u test inside last) flow))
+    (on_test u test inside last) (λ (t : List ℤ). body vars t)
     (λ vars rest. over p depth rest (λ rest. again vars rest)) (goes vars)
     (λ vars. behind_two u (nat_lt depth p.words) true (λ (rest : List ℤ). again vars rest)
-    (end_of (loop_ends (s ⊕ cycle u) inside behind)) (begins vars))
-    (λ flow m n one other. end_later (two_cycles u) (s ⊕ cycle u) (behind_test inside behind) flow m n other)
-    (λ x n h. without_most_takes (one_of inside.returns behind.returns) n
-    (first_takes inside.returns behind.returns n h)))
-    (spends_wider u (λ (t : List ℤ). next vars t) (end_of behind) (end_of (endless (behind_test inside behind)))
-    (λ flow n h. end_endless (behind_test inside behind) flow n
-    (end_of_second (record { through = None; returns = inside.returns }) behind flow n h)) (leaves vars))))
+    (end_of (whole_loop u test inside last)) (begins vars))
+    (λ flow m n one other. again_first u test inside last flow m n one other)
+    (λ x n h. return_first u test inside last x n h))
+    (spends_wider u (λ (t : List ℤ). next vars t) (end_of last) (on_test u test inside last)
+    (λ flow n h. next_last u test inside last flow n h) (leaves vars))))
 
 -- a return
 return_now : Flow → Option Span

@@ -3,7 +3,7 @@ use Rattle.std.specs.Prelude.{Option, Some, None}
 use Rattle.code.specs.Meaning.{Flow, Through, Returns}
 use Rattle.cycles.specs.declared.spans.Span.{Span}
 use Rattle.cycles.specs.declared.spans.Ends.{Ends}
-use Rattle.cycles.specs.Spans.{◌⊕◌, either, exactly, unbounded}
+use Rattle.cycles.specs.Spans.{◌⊕◌, either, exactly, most_of_any}
 
 -- a span, and then an end that may never be reached
 abbrev pub before : Span → Option Span → Option Span
@@ -21,9 +21,10 @@ one_of None end = end
 one_of (Some s) None = Some s
 one_of (Some s) (Some t) = Some (either s t)
 
-abbrev pub without_most : Option Span → Option Span
-without_most None = None
-without_most (Some s) = Some (unbounded s)
+-- an end that is reached any number of times; not once, if it is never reached
+abbrev pub repeated : Option Span → Span
+repeated None = exactly 0
+repeated (Some s) = record { least = 0; most = most_of_any s.most }
 
 -- the end of this flow
 abbrev pub end_of : Ends → Flow → Option Span
@@ -51,7 +52,3 @@ one_branch first second = record {
   through = one_of first.through second.through;
   returns = one_of first.returns second.returns;
 }
-
--- the same with no most
-abbrev pub endless : Ends → Ends
-endless ends = record { through = without_most ends.through; returns = without_most ends.returns }

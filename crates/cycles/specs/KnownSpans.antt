@@ -74,6 +74,10 @@ waiting_file = file_of_main [] (While (constant 1) until_hurt Done)
 abbrev pub once_file : File
 once_file = file_of_main [] (While (constant 1) (Return (constant 5) Done) Done)
 
+-- main(){while(1);}
+abbrev pub idle_file : File
+idle_file = file_of_main [] (While (constant 1) Done Done)
+
 -- by both profiles
 pub record ByBoth (holds : Profile → Type 0) : Type 0 where
   pub first : holds first_profile
@@ -105,6 +109,8 @@ pub record KnownRuns : Type 0 where
   pub winds_back : ByBoth (RunTakes Cycles winding_file 2 (from 5))
   pub early_return : ByBoth (RunTakes Cycles early_file 0 (from_to 3 3))
   pub return_from_loop : ByBoth (RunTakes Cycles waiting_file 0 (from 5))
+  pub idle_loop : ByBoth (RunTakes Cycles idle_file 0 (from 5))
+  pub loop_of_no_turn : ByBoth (RunTakes Cycles once_file 0 (from_to 5 5))
 
 -- The turns of loops, in cycles.
 pub record KnownTurns : Type 0 where
@@ -122,4 +128,7 @@ pub record KnownQuestions : Type 0 where
   pub of_one_side : RunTakes Questions (either_or_shot op.And 0) 0 (from_to 0 1) second_profile
   pub of_turn : ByBoth (TurnTakes (QuestionsOf intrinsic.Cannon) shooting_file shot_tree (Some (from_to 1 1)))
   pub of_loop : ByBoth (RunTakes Questions shooting_file 0 (from 0))
+  pub of_idle_loop : ByBoth (RunTakes Questions idle_file 0 (from_to 0 0))
+  pub of_loop_that_asks_others : ByBoth (RunTakes (QuestionsOf intrinsic.Scan) shooting_file 0 (from_to 0 0))
+  pub of_return_from_loop : ByBoth (RunTakes (QuestionsOf intrinsic.Damage) waiting_file 0 (from 0))
   pub of_branch : ByBoth (RunTakes Questions set_file 0 (from_to 0 0))

@@ -9,4 +9,5 @@ pub mod Laws
 pub mod Told
 pub mod Tables
 pub mod Loops
+pub mod Files
 pub mod KnownSpans

@@ -1,5 +1,5 @@
 -- What is at least so much, and at most so much if anything bounds it.
-use Rattle.std.specs.Prelude.{ℕ, ◌+◌, ◌≤◌, min, max, Option, Some, None, IfSome}
+use Rattle.std.specs.Prelude.{ℕ, zero, ◌+◌, ◌≤◌, min, max, Option, Some, None, IfSome}
 use Rattle.cycles.specs.declared.spans.Span.{Span}
 
 -- a number is within a span
@@ -20,10 +20,6 @@ exactly n = record { least = n; most = Some n }
 abbrev pub anything : Span
 anything = record { least = 0; most = None }
 
--- the same with no most
-abbrev pub unbounded : Span → Span
-unbounded s = record { least = s.least; most = None }
-
 abbrev pub most_of_both : Option ℕ → Option ℕ → Option ℕ
 most_of_both (Some m) (Some n) = Some (m + n)
 most_of_both m n = None
@@ -40,3 +36,8 @@ s ⊕ t = record { least = s.least + t.least; most = most_of_both s.most t.most 
 -- one or the other
 abbrev pub either : Span → Span → Span
 either s t = record { least = min s.least t.least; most = most_of_either s.most t.most }
+
+-- however often there is nothing, there is nothing
+abbrev pub most_of_any : Option ℕ → Option ℕ
+most_of_any (Some zero) = Some 0
+most_of_any most = None

@@ -1,14 +1,12 @@
 -- One turn of a loop, and what it takes.
-use Rattle.std.specs.Prelude.{ℕ, ℤ, List, Option, Some, if◌then◌else◌}
+use Rattle.std.specs.Prelude.{ℕ, ℤ, List, Option, if◌then◌else◌}
 use Rattle.arith.specs.Op.{holds}
 use Rattle.grammar.specs.Profile.{Profile}
 use Rattle.grammar.specs.Tree.{Expr, Body, File, While}
 use Rattle.code.specs.Meaning.{Vars, Evaluated, Gives, Flow, Through, Returns, Again, and_then, pass, push, value, effect}
 use Rattle.cycles.specs.declared.counted.Counted.{Counted}
 use Rattle.cycles.specs.declared.spans.Span.{Span}
-use Rattle.cycles.specs.Ends.{before, behind}
-use Rattle.cycles.specs.Expressions.{two_cycles}
-use Rattle.cycles.specs.Statements.{ends_of, taken}
+use Rattle.cycles.specs.Statements.{ends_of, taken, turn_span}
 
 -- where a turn ends: the loop begins again, or its test doesn't hold, or the function returns
 pub data TurnEnd : Type 0 where
@@ -36,7 +34,6 @@ module _ (p : Profile) (file : File) (again : Again) where
   after_turn c s next depth frames Leaves vars rest = effect p file again next vars depth frames rest
   after_turn c s next depth frames (GivesBack x) vars rest = Gives (Returns x) vars rest
 
--- A turn up to where the loop begins again: its test, its statements, and two cycles. It has no span if they are never
--- passed through.
+-- what a turn takes up to where its loop begins again
 abbrev pub turn_of : Counted → Profile → (ℕ → Span) → Expr → Body → Option Span
-turn_of u p runs c s = before (taken u p runs c) (behind (ends_of u p runs s).through (Some (two_cycles u)))
+turn_of u p runs c s = turn_span u (taken u p runs c) (ends_of u p runs s)

@@ -1,8 +1,7 @@
 //! The ends of statements, one behind the other.
 
 ghost use Rattle.std.specs.Prelude.{◌≡◌, Option};
-ghost use Rattle.cycles.specs.Ends.{after, before, behind, endless, followed, one_branch, one_of, passed};
-ghost use Rattle.cycles.specs.Ends.{without_most};
+ghost use Rattle.cycles.specs.Ends.{after, before, behind, followed, one_branch, one_of, passed, repeated};
 ghost use Rattle.cycles.specs.Statements.{loop_ends, return_ends};
 ghost use Rattle.cycles.specs.Told.{told, told_end, told_ends};
 ghost use Rattle.cycles.specs.declared.spans.Ends as ends;
@@ -46,13 +45,13 @@ pub fn one_of(first: Option<Span>, second: Option<Span>) -> Option<Span>
     }
 }
 
-/// Returns the end with no most.
-fn without_most(end: Option<Span>) -> Option<Span>
-    ensures { (o : Option span.Span) → end ≡ told_end o → result ≡ told_end (without_most o) }
+/// Returns what comes up to an end that is reached any number of times.
+fn repeated(end: Option<Span>) -> Span
+    ensures { (o : Option span.Span) → end ≡ told_end o → result ≡ told (repeated o) }
 {
     match end {
-        None => None,
-        Some(end) => Some(end.unbounded()),
+        None => Span::exactly(0),
+        Some(end) => end.any_number(),
     }
 }
 
@@ -100,16 +99,6 @@ impl Ends {
         }
     }
 
-    /// Returns these ends with no most.
-    pub fn endless(self) -> Ends
-        ensures { (e : ends.Ends) → self ≡ told_ends e → result ≡ told_ends (endless e) }
-    {
-        Ends {
-            through: without_most(self.through),
-            returns: without_most(self.returns),
-        }
-    }
-
     /// Makes the ends of a return.
     pub fn returning(taken: Span) -> Ends
         ensures { (s : span.Span) → taken ≡ told s → result ≡ told_ends (return_ends s) }
@@ -120,15 +109,16 @@ impl Ends {
         }
     }
 
-    /// Returns the ends of a loop, by its test, what returns from its turn, and these ends behind it.
-    pub fn behind_loop(self, test: Span, returns: Option<Span>) -> Ends
-        ensures { (s : span.Span) (turn next : ends.Ends) → test ≡ told s → returns ≡ told_end turn.returns
-            → self ≡ told_ends next → result ≡ told_ends (loop_ends s turn next) }
+    /// Returns the ends of a loop, by its turn up to where it begins again, its test, the ends inside of it, and these
+    /// ends behind it.
+    pub fn behind_loop(self, turn: Option<Span>, test: Span, inside: Ends) -> Ends
+        ensures { (o : Option span.Span) (s : span.Span) (e next : ends.Ends) → turn ≡ told_end o → test ≡ told s
+            → inside ≡ told_ends e → self ≡ told_ends next → result ≡ told_ends (loop_ends o s e next) }
     {
-        let turn = Ends {
+        let returning = Ends {
             through: None,
-            returns,
+            returns: inside.returns,
         };
-        turn.or(self).after(test).endless()
+        returning.or(self).after(test).after(repeated(turn))
     }
 }

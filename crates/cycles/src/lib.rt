@@ -8,6 +8,7 @@ mod known;
 mod laws;
 mod loops;
 mod runs;
+mod sources;
 mod spans;
 mod statements;
 
@@ -18,5 +19,6 @@ pub use laws::{
     cycles_are_replies, expressions_take, loops_are_turns, runs_take, statements_take, turns_take,
 };
 pub use loops::{Turn, turns};
-pub use runs::Runs;
+pub use runs::{Run, Runs, all_runs};
+pub use sources::{SourceSpans, source_spans};
 pub use spans::{Ends, Span};

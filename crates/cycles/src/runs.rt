@@ -1,10 +1,10 @@
 //! What the runs of functions take, by their numbers.
 
-ghost use Rattle.std.specs.Prelude.{◌≡◌, ℕ, length};
+ghost use Rattle.std.specs.Prelude.{◌≡◌, ℕ, IfOk, length};
 ghost use Rattle.cycles.specs.Runs.{run_of, run_within};
 ghost use Rattle.cycles.specs.Spans.{anything};
 ghost use Rattle.cycles.specs.Statements.{ends_of};
-ghost use Rattle.cycles.specs.Tables.{HasRuns, body_numbered, run_in};
+ghost use Rattle.cycles.specs.Tables.{HasRuns, body_numbered, rows_in, run_in};
 ghost use Rattle.cycles.specs.Told.{told, told_ends};
 ghost use Rattle.cycles.specs.declared.spans.Ends as ends;
 ghost use Rattle.cycles.specs.declared.spans.Span as span;
@@ -14,10 +14,46 @@ use crate::counted::Counted;
 use crate::ends::{behind, one_of};
 use crate::spans::{Ends, Span};
 use grammar::Profile;
+use std::alloc::{AllocError, Global};
 use trees::{Function, Statement, TreeMaker};
 
 /// How many numbers a function may have.
 const NUMBERS: usize = 256;
+
+/// A function, and what its run takes, from the call behind its arguments to its value.
+#[derive(Clone, Copy, Debug, PartialEq, Eq, Drop)]
+pub struct Run {
+    /// The function's number.
+    pub function: u8,
+    /// The run's cycles.
+    pub cycles: Span,
+    /// The run's questions.
+    pub questions: Span,
+}
+
+/// Lists the maker's functions in the order of the source, by the runs of these by their cycles and by their questions.
+///
+/// # Errors
+///
+/// A request of memory that was refused.
+pub fn all_runs(
+    alloc: Global,
+    maker: &TreeMaker,
+    cycles: &Runs,
+    questions: &Runs,
+) -> Result<Vec<Run>, AllocError>
+    ensures { IfOk result (λ rows. rows.items ≡ rows_in cycles.now questions.now maker.now.functions) }
+{
+    let mut rows = Vec::new(alloc);
+    for function in maker.functions() {
+        rows.push(Run {
+            function: function.number,
+            cycles: cycles.run(function.number),
+            questions: questions.run(function.number),
+        })?;
+    }
+    Ok(rows)
+}
 
 /// What each function's run takes, from the call behind its arguments to its value, as far as that is known.
 #[derive(Clone, Copy, Debug)]

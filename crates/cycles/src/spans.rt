@@ -1,7 +1,8 @@
 //! How much there is at least and at most.
 
-ghost use Rattle.std.specs.Prelude.{◌≡◌, ℕ, Option};
-ghost use Rattle.cycles.specs.Spans.{◌⊕◌, anything, either, exactly, most_of_both, most_of_either, unbounded};
+ghost use Rattle.std.specs.Prelude.{◌≡◌, ℕ, Option, Some};
+ghost use Rattle.cycles.specs.Spans.{◌⊕◌, anything, either, exactly, most_of_any, most_of_both, most_of_either};
+ghost use Rattle.cycles.specs.Ends.{repeated};
 ghost use Rattle.cycles.specs.Told.{told, told_most};
 ghost use Rattle.cycles.specs.declared.spans.Span as span;
 
@@ -66,13 +67,13 @@ impl Span {
         }
     }
 
-    /// Returns this span with no most.
-    pub fn unbounded(self) -> Span
-        ensures { (s : span.Span) → self ≡ told s → result ≡ told (unbounded s) }
+    /// Returns this span any number of times.
+    pub fn any_number(self) -> Span
+        ensures { (s : span.Span) → self ≡ told s → result ≡ told (repeated (Some s)) }
     {
         Span {
-            least: self.least,
-            most: None,
+            least: 0,
+            most: most_of_any(self.most),
         }
     }
 }
@@ -95,6 +96,16 @@ fn most_of_either(first: Option<u32>, second: Option<u32>) -> Option<u32>
 {
     match (first, second) {
         (Some(first), Some(second)) => Some(first.max(second)),
+        _ => None,
+    }
+}
+
+/// Returns the most of a thing any number of times: none but of nothing.
+fn most_of_any(most: Option<u32>) -> Option<u32>
+    ensures { (a : Option ℕ) → most ≡ told_most a → result ≡ told_most (most_of_any a) }
+{
+    match most {
+        Some(0) => Some(0),
         _ => None,
     }
 }

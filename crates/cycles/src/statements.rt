@@ -2,13 +2,15 @@
 
 ghost use Rattle.std.specs.Prelude.{◌≡◌, ℕ};
 ghost use Rattle.grammar.specs.Tree.{Body};
-ghost use Rattle.cycles.specs.Statements.{ends_of, taken};
+ghost use Rattle.cycles.specs.Statements.{ends_of, taken, turn_span};
 ghost use Rattle.cycles.specs.Tables.{HasRuns};
 ghost use Rattle.cycles.specs.Told.{told, told_end, told_ends};
 ghost use Rattle.cycles.specs.Turns.{turn_of};
+ghost use Rattle.cycles.specs.declared.spans.Ends as ends;
 ghost use Rattle.cycles.specs.declared.spans.Span as span;
 ghost use Rattle.trees.specs.Trees.{body_tree, expr_tree, statement_tree};
 
+use crate::counted::Counted;
 use crate::ends::{before, behind};
 use crate::runs::Runs;
 use crate::spans::{Ends, Span};
@@ -59,8 +61,9 @@ impl Runs {
                 branches.after(self.taken(test))
             }
             Statement::While(test, body) => {
-                let turn = self.statements(body);
-                next.behind_loop(self.taken(test), turn.returns)
+                let inside = self.statements(body);
+                let test = self.taken(test);
+                next.behind_loop(self.counted.turn(test, inside), test, inside)
             }
             Statement::Return(expr) => Ends::returning(self.taken(expr)),
         }
@@ -72,8 +75,16 @@ impl Runs {
             → result ≡ told_end (turn_of self.now.counted self.now.profile runs (expr_tree test.now)
             (body_tree body.now)) }
     {
-        let ends = self.statements(body);
-        let again = behind(ends.through, Some(self.counted.two_cycles()));
-        before(self.taken(test), again)
+        self.counted.turn(self.taken(test), self.statements(body))
+    }
+}
+
+impl Counted {
+    /// Returns the span of a turn up to where its loop begins again, by its test and the ends inside of it.
+    fn turn(self, test: Span, inside: Ends) -> Option<Span>
+        ensures { (s : span.Span) (e : ends.Ends) → test ≡ told s → inside ≡ told_ends e
+            → result ≡ told_end (turn_span self s e) }
+    {
+        before(test, behind(inside.through, Some(self.two_cycles())))
     }
 }

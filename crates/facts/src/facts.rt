@@ -1,10 +1,11 @@
 //! What is known of a robot: the room that it needs, and what its functions and the turns of its loops take.
 
+use crate::chains::{Chain, Link};
 use crate::places::Places;
-use cycles::{Counted, Runs, Span, Turn, turns};
+use cycles::{Counted, Run, SourceSpans, Span, Turn, source_spans};
 use grammar::{Intrinsic, Name, ParseFault, Pools, Profile};
 use parser::parse;
-use room::{Bound, bounds};
+use room::{Bound, bounds, chain};
 use std::alloc::{AllocError, Global};
 use tokens::{Pieces, WINDOW};
 use trees::TreeMaker;
@@ -16,6 +17,9 @@ pub struct Facts {
     pub profile: Profile,
     /// The room that it needs.
     pub bound: Bound,
+    /// The functions that call one another where it needs most: most frames, if only of these its profile gives too few,
+    /// and else most words.
+    pub chain: Chain,
     /// Its functions, in the order of the source.
     pub functions: Vec<Part>,
     /// Its loops, in the order of the source.
@@ -31,10 +35,14 @@ pub struct Part {
     pub name: Name,
     /// The line on which it begins, from 1.
     pub line: u32,
+    /// The column in which its name or its word begins, in bytes from 1.
+    pub column: u32,
     /// The cycles of a call or a turn, if one ever ends.
     pub cycles: Option<Span>,
     /// Its questions by the functions that are asked, in the order of `Intrinsic::ALL`.
     pub questions: [Option<Span>; KINDS],
+    /// Which of these functions the robot's source names.
+    pub named: [bool; KINDS],
 }
 
 /// How many intrinsic functions there are.
@@ -48,23 +56,26 @@ impl Facts {
     /// Those of `parse`; `Memory` also where a list of parts was refused it.
     pub fn of(alloc: Global, source: &[u8], profile: Profile) -> Result<Facts, ParseFault> {
         let bound = bounds(alloc, &mut Pieces::new(source, WINDOW), profile)?;
+        let numbers = chain(alloc, &mut Pieces::new(source, WINDOW), profile)?;
         let mut maker = TreeMaker::new(alloc, profile);
         let names = parse(&mut Pieces::new(source, WINDOW), &mut maker)?;
-        let found = Finder {
+        let places = kept(Places::of(alloc, source))?;
+        let finder = Finder {
             alloc,
+            source,
+            profile,
             maker: &maker,
             names: &names,
-            profile,
+            places: &places,
         };
-        match found.parts(source) {
-            Ok((functions, loops)) => Ok(Facts {
-                profile,
-                bound,
-                functions,
-                loops,
-            }),
-            Err(AllocError) => Err(ParseFault::Memory),
-        }
+        let (functions, loops) = finder.parts()?;
+        Ok(Facts {
+            profile,
+            bound,
+            chain: kept(finder.chain(numbers.as_slice()))?,
+            functions,
+            loops,
+        })
     }
 }
 
@@ -72,86 +83,105 @@ impl Facts {
 #[derive(Drop)]
 struct Finder<'a> {
     alloc: Global,
+    source: &'a [u8],
+    profile: Profile,
     maker: &'a TreeMaker,
     names: &'a Pools,
-    profile: Profile,
+    places: &'a Places,
 }
 
 impl Finder<'_> {
-    /// Finds the functions and the loops of a source.
-    fn parts(&self, source: &[u8]) -> Result<(Vec<Part>, Vec<Part>), AllocError> {
-        let places = Places::of(self.alloc, source)?;
-        let cycles = Runs::of(self.maker, self.profile, Counted::Cycles);
-        let mut functions = self.functions(&places, &cycles)?;
-        let mut loops = self.loops(&places, &cycles)?;
+    /// Finds the functions and the loops. Each kind of question wants a pass over the source.
+    fn parts(&self) -> Result<(Vec<Part>, Vec<Part>), ParseFault> {
+        let told = self.told(Counted::Questions)?;
+        let mut functions = kept(self.functions(told.runs.as_slice()))?;
+        let mut loops = kept(self.loops(told.turns.as_slice()))?;
         for (kind, intrinsic) in Intrinsic::ALL.iter().enumerate() {
-            let asked = Runs::of(self.maker, self.profile, Counted::QuestionsOf(*intrinsic));
-            self.ask(
-                kind,
-                &cycles,
-                &asked,
-                functions.as_mut_slice(),
-                loops.as_mut_slice(),
-            )?;
+            let told = self.told(Counted::QuestionsOf(*intrinsic))?;
+            for (part, run) in functions.iter_mut().zip(told.runs.as_slice()) {
+                note(part, kind, Some(run.questions));
+            }
+            for (part, turn) in loops.iter_mut().zip(told.turns.as_slice()) {
+                note(part, kind, turn.questions);
+            }
         }
         Ok((functions, loops))
     }
 
+    /// Returns what functions and loops take, with their questions of a kind.
+    fn told(&self, asked: Counted) -> Result<SourceSpans, ParseFault> {
+        let mut feed = Pieces::new(self.source, WINDOW);
+        source_spans(self.alloc, &mut feed, self.profile, asked)
+    }
+
     /// Lists the functions with their cycles.
-    fn functions(&self, places: &Places, cycles: &Runs) -> Result<Vec<Part>, AllocError> {
+    fn functions(&self, runs: &[Run]) -> Result<Vec<Part>, AllocError> {
         let mut parts = Vec::new(self.alloc);
-        for (index, function) in self.maker.functions().iter().enumerate() {
-            let line = places.function(index);
-            parts.push(self.part(function.number, line, Some(cycles.run(function.number))))?;
+        for (index, run) in runs.iter().enumerate() {
+            parts.push(self.part(run.function, self.places.function(index), Some(run.cycles)))?;
         }
         Ok(parts)
     }
 
     /// Lists the loops with their cycles.
-    fn loops(&self, places: &Places, cycles: &Runs) -> Result<Vec<Part>, AllocError> {
+    fn loops(&self, turns: &[Turn]) -> Result<Vec<Part>, AllocError> {
         let mut parts = Vec::new(self.alloc);
-        for (index, turn) in self.turns(cycles, cycles)?.iter().enumerate() {
-            parts.push(self.part(turn.function, places.of_loop(index), turn.cycles))?;
+        for (index, turn) in turns.iter().enumerate() {
+            parts.push(self.part(turn.function, self.places.of_loop(index), turn.cycles))?;
         }
         Ok(parts)
     }
 
-    /// Notes the questions of one kind of functions and loops.
-    fn ask(
-        &self,
-        kind: usize,
-        cycles: &Runs,
-        asked: &Runs,
-        functions: &mut [Part],
-        loops: &mut [Part],
-    ) -> Result<(), AllocError> {
-        for (part, function) in functions.iter_mut().zip(self.maker.functions()) {
-            note(part, kind, Some(asked.run(function.number)));
-        }
-        let turns = self.turns(cycles, asked)?;
-        for (part, turn) in loops.iter_mut().zip(turns.as_slice()) {
-            note(part, kind, turn.questions);
-        }
-        Ok(())
-    }
-
-    /// Lists the turns of all loops.
-    fn turns(&self, cycles: &Runs, questions: &Runs) -> Result<Vec<Turn>, AllocError> {
-        turns(self.alloc, self.maker, cycles, questions)
-    }
-
     /// Makes a part of the function of this number, which has asked nothing so far.
-    fn part(&self, function: u8, line: u32, cycles: Option<Span>) -> Part {
-        let name = match self.names.functions().get(usize::from(function)) {
-            Some(function) => *function.name(),
-            None => Name::new(),
-        };
+    fn part(&self, function: u8, place: (u32, u32), cycles: Option<Span>) -> Part {
+        let (line, column) = place;
         Part {
             number: function,
-            name,
+            name: self.name(function),
             line,
+            column,
             cycles,
             questions: [None; KINDS],
+            named: self.places.named(),
+        }
+    }
+
+    /// Lists the functions of these numbers, of which the last may stand there twice.
+    fn chain(&self, numbers: &[u8]) -> Result<Chain, AllocError> {
+        let mut links = Vec::new(self.alloc);
+        for (index, number) in numbers.iter().enumerate() {
+            for (before, other) in numbers.iter().enumerate() {
+                if before < index && other == number {
+                    return Ok(Chain::new(links, Some(before)));
+                }
+            }
+            links.push(self.link(*number))?;
+        }
+        Ok(Chain::new(links, None))
+    }
+
+    /// Makes a link of the function of this number.
+    fn link(&self, number: u8) -> Link {
+        let mut link = Link {
+            name: self.name(number),
+            line: 0,
+            variables: 0,
+        };
+        for (index, function) in self.maker.functions().iter().enumerate() {
+            if function.number == number {
+                let (line, _) = self.places.function(index);
+                link.line = line;
+                link.variables = function.variables;
+            }
+        }
+        link
+    }
+
+    /// Returns the name of the function of this number.
+    fn name(&self, function: u8) -> Name {
+        match self.names.functions().get(usize::from(function)) {
+            Some(function) => *function.name(),
+            None => Name::new(),
         }
     }
 }
@@ -160,5 +190,13 @@ impl Finder<'_> {
 fn note(part: &mut Part, kind: usize, questions: Option<Span>) {
     if let Some(noted) = part.questions.get_mut(kind) {
         *noted = questions;
+    }
+}
+
+/// Returns what was made, or that memory was refused.
+fn kept<T>(made: Result<T, AllocError>) -> Result<T, ParseFault> {
+    match made {
+        Ok(made) => Ok(made),
+        Err(AllocError) => Err(ParseFault::Memory),
     }
 }

@@ -2,9 +2,11 @@
 //! turns of its loops take.
 #![tactic(auto)]
 
+mod chains;
 mod facts;
 mod places;
 mod rows;
 
+pub use chains::{Chain, Link};
 pub use facts::{Facts, Part};
 pub use rows::{add_call, add_room, add_rows, add_span, add_turn};

@@ -1,14 +1,18 @@
 //! Where the functions and loops of a source begin.
 
+use crate::facts::KINDS;
 use derivations::{Located, locate};
+use grammar::Intrinsic;
 use std::alloc::{AllocError, Global};
 use tokens::{Punctuator, Token, Word};
 
-/// The lines on which functions and loops begin, from 1, each in the order of the source.
+/// Where functions and loops begin, each in the order of the source: the line and the column of the name or the word. And
+/// which intrinsic functions are named.
 #[derive(Drop)]
 pub struct Places {
-    functions: Vec<u32>,
-    loops: Vec<u32>,
+    functions: Vec<(u32, u32)>,
+    loops: Vec<(u32, u32)>,
+    named: [bool; KINDS],
 }
 
 impl Places {
@@ -17,6 +21,7 @@ impl Places {
         let mut places = Places {
             functions: Vec::new(alloc),
             loops: Vec::new(alloc),
+            named: [false; KINDS],
         };
         let tokens = locate(alloc, source)?;
         let mut depth = 0u32;
@@ -37,10 +42,15 @@ impl Places {
         depth: u32,
     ) -> Result<(), AllocError> {
         match token.token {
-            Token::Word(Word::While) => self.loops.push(token.line)?,
+            Token::Word(Word::While) => self.loops.push((token.line, token.column))?,
             Token::Punctuator(Punctuator::OpenRound) if depth == 0 => {
                 if let Some(name) = before {
-                    self.functions.push(name.line)?;
+                    self.functions.push((name.line, name.column))?;
+                }
+            }
+            Token::Name(name) => {
+                for (intrinsic, is_named) in Intrinsic::ALL.iter().zip(&mut self.named) {
+                    *is_named |= name.is(intrinsic.name().as_bytes());
                 }
             }
             // no other token begins a function or a loop
@@ -49,14 +59,19 @@ impl Places {
         Ok(())
     }
 
-    /// Returns the line of a function, by how many begin before it; 0 if there is none.
-    pub fn function(&self, index: usize) -> u32 {
-        self.functions.get(index).copied().unwrap_or(0)
+    /// Returns which intrinsic functions are named, in the order of `Intrinsic::ALL`.
+    pub fn named(&self) -> [bool; KINDS] {
+        self.named
     }
 
-    /// Returns the line of a loop, by how many begin before it; 0 if there is none.
-    pub fn of_loop(&self, index: usize) -> u32 {
-        self.loops.get(index).copied().unwrap_or(0)
+    /// Returns the line and the column of a function, by how many begin before it; 0 if there is none.
+    pub fn function(&self, index: usize) -> (u32, u32) {
+        self.functions.get(index).copied().unwrap_or((0, 0))
+    }
+
+    /// Returns the line and the column of a loop, by how many begin before it; 0 if there is none.
+    pub fn of_loop(&self, index: usize) -> (u32, u32) {
+        self.loops.get(index).copied().unwrap_or((0, 0))
     }
 }
 

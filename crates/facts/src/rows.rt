@@ -1,5 +1,6 @@
 //! What is known of a robot, as rows of text.
 
+use crate::chains::Link;
 use crate::facts::{Facts, Part};
 use cycles::Span;
 use grammar::Intrinsic;
@@ -31,13 +32,69 @@ pub fn add_rows(text: &mut impl Text, path: &str, facts: &Facts) {
 pub fn add_room(text: &mut impl Text, facts: &Facts) {
     match facts.bound.need {
         Some(need) => add_need(text, need, facts),
-        None => text.add("no bound: a function may come back to itself"),
+        None => add_circle(text, facts.chain.circle()),
     }
     text.add(if facts.bound.has_room {
         ": it never restarts for want of room\n"
     } else {
         ": it may restart for want of room\n"
     });
+    if facts.bound.need.is_some() && !facts.bound.has_room {
+        add_chain(text, facts.chain.links());
+    }
+}
+
+/// Adds the functions that call one another where most is needed.
+fn add_chain(text: &mut impl Text, links: &[Link]) {
+    text.add("  most by ");
+    add_links(text, links);
+    text.add("\n");
+}
+
+/// Adds which function comes back to itself, and through which others.
+fn add_circle(text: &mut impl Text, links: &[Link]) {
+    text.add("no bound: ");
+    if let Some(first) = links.first() {
+        text.add(name_of(first));
+        text.add(" calls itself");
+        add_place(text, first);
+        text.add(")");
+    }
+    if links.len() > 1 {
+        text.add(" through ");
+        add_links(text, links.get(1..).unwrap_or(&[]));
+    }
+}
+
+/// Adds functions, each with its line and how many variables it has.
+fn add_links(text: &mut impl Text, links: &[Link]) {
+    let mut is_first = true;
+    for link in links {
+        text.add(if is_first { "" } else { ", " });
+        text.add(name_of(link));
+        add_place(text, link);
+        match link.variables {
+            0 => text.add(")"),
+            1 => text.add(": 1 variable)"),
+            more => {
+                text.add(": ");
+                text.number(u64::from(more));
+                text.add(" variables)");
+            }
+        }
+        is_first = false;
+    }
+}
+
+/// Adds a bracket and the line of a function.
+fn add_place(text: &mut impl Text, link: &Link) {
+    text.add(" (line ");
+    text.number(u64::from(link.line));
+}
+
+/// Returns the name of a function.
+fn name_of(link: &Link) -> &str {
+    str::from_utf8(link.name.as_bytes()).unwrap_or("?")
 }
 
 /// Adds the room that is needed, beside what the profile gives.
@@ -92,6 +149,7 @@ fn add_part(text: &mut impl Text, part: &Part, what: &str, never: &str) {
 /// Adds how much there is at least and at most.
 pub fn add_span(text: &mut impl Text, span: Span) {
     match span.most {
+        None if span.least == 0 => text.add("0 or more"),
         None => {
             text.add("at least ");
             text.number(u64::from(span.least));
@@ -105,12 +163,14 @@ pub fn add_span(text: &mut impl Text, span: Span) {
     }
 }
 
-/// Adds the questions of a part: each kind of which something is known but that none is asked.
+/// Adds the questions of a part: each kind that it may ask and that the source names.
 fn add_questions(text: &mut impl Text, part: &Part) {
     let mut is_first = true;
-    for (intrinsic, questions) in Intrinsic::ALL.iter().zip(&part.questions) {
+    let named = Intrinsic::ALL.iter().zip(&part.named);
+    for ((intrinsic, is_named), questions) in named.zip(&part.questions) {
         if let Some(span) = questions
-            && tells(*span)
+            && *is_named
+            && span.most != Some(0)
         {
             text.add(if is_first { ": " } else { ", " });
             text.add(intrinsic.name());
@@ -119,9 +179,4 @@ fn add_questions(text: &mut impl Text, part: &Part) {
             is_first = false;
         }
     }
-}
-
-/// Reports whether a span tells of questions: none and any number tell of none.
-fn tells(span: Span) -> bool {
-    span.least > 0 || span.most != None && span.most != Some(0)
 }

@@ -13,12 +13,13 @@ use Rattle.parser.specs.Files.{IsFile, IsRefused, TakesEnough}
 use Rattle.grammar.specs.Compiled.{main_name}
 use Rattle.grammar.specs.Pools.{FunctionNames, Names}
 use Rattle.grammar.specs.Scope.{number_of_name}
-use Rattle.trees.specs.Laws.{told_functions, told_trees}
+use Rattle.trees.specs.Laws.{Told, told_functions, told_trees}
 use Rattle.trees.specs.Standing.{Kept, Stands}
 use Rattle.trees.proofs.Rebuilding.{actions_determine_trees}
 use Rattle.trees.proofs.ReplayLaws.{is_done}
 use Rattle.room.specs.declared.room.Room.{Room}
-use Rattle.room.specs.Bounds.{AreBoundsOf, IsRefusedSource, goes_by}
+use Rattle.room.specs.Bounds.{AreBoundsOf, IsChainOf, IsRefusedSource, goes_by}
+use Rattle.room.specs.Chains.{IsChain}
 use Rattle.room.specs.Counting.{counted}
 use Rattle.room.specs.Functions.{HasRoom, need_of}
 use Rattle.room.specs.Rooms.{IsWithin}
@@ -93,5 +94,25 @@ bounds_are p told before after names number main need has_room new known is numb
           (within_counted p (need_of p file) has));
       sound = sound;
       never = λ yes. restarts_at_return p file is.resolved (sound yes);
+      is = λ bytes tells. is.is bytes tells p new;
+    }
+
+-- and of the functions that call one another where it needs most
+pub chain_are : (p : Profile) (told : Option (List ℕ)) (before after : Kept) (names : Names) (number : Option ℕ)
+    (main : ℕ) (chain : List ℕ) → Stands before p [] →
+    IsFile (λ p acts. Stands before p acts) (λ p acts. Stands after p acts) told names →
+    number ≡ number_of_name main_name (map (λ (f : FunctionNames). f.name) names.functions) →
+    main ≡ unwrap_or number 0 → IsChain p (told_trees after.functions) main chain → IsChainOf p told chain
+chain_are p told before after names number main chain new is numbered first linked =
+    let file = is.file in
+    let found : number ≡ Some file.main = numbered ∙ is.main in
+    let there : main ≡ file.main = first ∙ ap (λ (o : Option ℕ). unwrap_or o 0) found in
+    let trees = trees_are after p file is.closed (is.built p new) in
+    record {
+      file = file;
+      resolved = is.resolved;
+      linked =
+          subst (λ (k : ℕ). IsChain p (told_functions file.functions file.order) k chain) there
+          (subst (λ (ts : List Told). IsChain p ts main chain) (sym trees) linked);
       is = λ bytes tells. is.is bytes tells p new;
     }

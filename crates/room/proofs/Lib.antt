@@ -7,3 +7,4 @@ pub mod Counting
 pub mod ConstructLaws
 pub mod TableLaws
 pub mod BoundLaws
+pub mod ChainLaws

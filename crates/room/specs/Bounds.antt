@@ -9,6 +9,8 @@ use Rattle.grammar.specs.Resolved.{IsResolved}
 use Rattle.grammar.specs.Tree.{File}
 use Rattle.parser.specs.Files.{FailsBytes}
 use Rattle.room.specs.declared.bounding.Bound.{Bound}
+use Rattle.trees.specs.Laws.{told_functions}
+use Rattle.room.specs.Chains.{IsChain}
 use Rattle.room.specs.Counting.{counted}
 use Rattle.room.specs.Functions.{need_of, HasRoom}
 use Rattle.room.specs.Laws.{NeverLacks}
@@ -26,6 +28,14 @@ pub record AreBoundsOf (profile : Profile) (told : Option (List ℕ)) (bound : B
   pub enough : HasRoom profile file → bound.has_room ≡ true
   pub sound : bound.has_room ≡ true → HasRoom profile file
   pub never : bound.has_room ≡ true → NeverLacks profile file
+  pub is : (bytes : List ℕ) → told ≡ Some bytes → compiled profile bytes ≡ Ok file
+
+-- The functions by which a resolved file's main needs what it needs. Where the device tells its bytes, they are that
+-- file.
+pub record IsChainOf (profile : Profile) (told : Option (List ℕ)) (chain : List ℕ) : Type 0 where
+  pub file : File
+  pub resolved : IsResolved file
+  pub linked : IsChain profile (told_functions file.functions file.order) file.main chain
   pub is : (bytes : List ℕ) → told ≡ Some bytes → compiled profile bytes ≡ Ok file
 
 -- what a refusal says of a source: its first fault

@@ -3,6 +3,7 @@ pub mod Constructs
 pub mod Functions
 pub mod Counting
 pub mod Tables
+pub mod Chains
 pub mod Laws
 pub mod Bounds
 pub mod KnownNeeds

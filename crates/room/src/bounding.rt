@@ -7,14 +7,15 @@ ghost use Rattle.grammar.specs.Profile.{IsProfile};
 ghost use Rattle.grammar.specs.Scope.{number_of_name};
 ghost use Rattle.parser.specs.Files.{TakesEnough};
 ghost use Rattle.parser.specs.Segment.{Counts};
-ghost use Rattle.room.specs.Bounds.{AreBoundsOf, IsRefusedSource, goes_by};
+ghost use Rattle.room.specs.Bounds.{AreBoundsOf, IsChainOf, IsRefusedSource, goes_by};
 ghost use Rattle.room.specs.Rooms.{IsWithin};
 
+use crate::chains::chain_of;
 use crate::room::Room;
 use crate::tables::need;
 use grammar::{Function, MOST_NAMES, ParseFault, Profile};
 use parser::parse;
-use std::alloc::Global;
+use std::alloc::{AllocError, Global};
 use tokens::Feed;
 use trees::TreeMaker;
 
@@ -45,6 +46,30 @@ pub fn bounds<F: Feed>(alloc: Global, feed: &mut F, profile: Profile) -> Result<
     let need = need(&maker, main, profile);
     let has_room = is_within(need, profile);
     Ok(Bound { need, has_room })
+}
+
+/// Reads a source as `bounds` does, and returns the numbers of the functions that call one another where its robot needs
+/// most, from `main` on: most frames, if only of these its profile gives too few, and else most words.
+///
+/// Each needs so much by its call of the next one. If a function can come back to itself, it stands twice, the second time
+/// as the last one.
+///
+/// # Errors
+/// Those of `bounds`.
+pub fn chain<F: Feed>(alloc: Global, feed: &mut F, profile: Profile) -> Result<Vec<u8>, ParseFault>
+    requires { MayRead (F.device feed.old) }
+    ensures chain { IfOk result (λ chain. IsChainOf profile (F.device feed.old).to_come chain.items) }
+    ensures refused { IfErr result (IsRefusedSource profile (F.device feed.old).to_come) }
+    ensures taken { TakesEnough result (goes_by profile) (F.device feed.old).to_come (F.device feed.new).to_come }
+    ensures counted { Counts result (F.device feed.old).account (F.device feed.new).account }
+{
+    let mut maker = TreeMaker::new(alloc, profile);
+    let names = parse(feed, &mut maker)?;
+    let main = main_number(names.functions()).unwrap_or(0);
+    match chain_of(alloc, &maker, main, profile) {
+        Ok(chain) => Ok(chain),
+        Err(AllocError) => Err(ParseFault::Memory),
+    }
 }
 
 /// Reports whether the profile gives this room.

@@ -123,7 +123,7 @@ fn binary_need(short: bool, op: Op, left: Option<Room>, right: Option<Room>) -> 
 }
 
 /// Returns what is needed behind the arguments of a call.
-fn callee_need(callee: Callee, calls: &Calls) -> Option<Room>
+pub fn callee_need(callee: Callee, calls: &Calls) -> Option<Room>
     ensures { result ≡ need_of_callee (needs_in calls.now.needs) callee }
 {
     match callee {

@@ -2,12 +2,13 @@
 #![tactic(auto)]
 
 mod bounding;
+mod chains;
 mod constructs;
 mod laws;
 mod room;
 mod tables;
 
-pub use bounding::{Bound, bounds};
+pub use bounding::{Bound, bounds, chain};
 pub use laws::{known_needs, restarts_at_return, room_is_enough};
 pub use room::Room;
 pub use tables::need;

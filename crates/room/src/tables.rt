@@ -23,7 +23,16 @@ pub fn need(maker: &TreeMaker, main: u8, profile: Profile) -> Option<Room>
         → told_functions file.functions file.order ≡ told_trees maker.now.functions
         → result ≡ counted (need_of profile file) }
 {
-    let functions = maker.functions();
+    all_needs(maker.functions(), profile).needs[main as usize]
+}
+
+/// Returns what functions need, each by those that it calls: no room is enough for one that can come back to itself, or
+/// that calls one that can.
+pub fn all_needs(functions: &[Function], profile: Profile) -> Calls
+    ensures short { result.short ≡ profile.short_circuit }
+    ensures needs { result.needs ≡
+        table_within profile.short_circuit (told_trees functions.now) (length functions.now) }
+{
     let mut calls = Calls {
         short: profile.short_circuit(),
         needs: no_needs(),
@@ -31,7 +40,7 @@ pub fn need(maker: &TreeMaker, main: u8, profile: Profile) -> Option<Room>
     for _round in 0..functions.len() {
         calls.needs = next_needs(functions, &calls);
     }
-    calls.needs[main as usize]
+    calls
 }
 
 /// Returns what functions need, by what those need that they call.

@@ -29,7 +29,8 @@ use facts::add_rows;
 use std::alloc::Global;
 use std::process::ExitCode;
 use tools::{
-    Draft, Fault, Frame, Options, PROFILE_OPTIONS, Work, name_of, source_of, tell_diagnostic, write_text,
+    Draft, Fault, Frame, Options, PROFILE_OPTIONS, Work, name_of, source_of, tell_diagnostic,
+    write_text,
 };
 
 /// The program's name, its line of wrong usage, and its options.

@@ -1,12 +1,12 @@
 //! The warning about a robot that may restart for want of room.
 
-use facts::{Facts, add_chain, add_need};
+use facts::{Facts, add_room};
 use grammar::Profile;
 use std::alloc::Global;
 use tools::{Draft, Fault, Text};
 
 /// Adds the warning about the robot of a source that compiles by this profile, if it may restart for want of room: a line
-/// as those of `add_warnings`. Reports whether it may. The only fault is that memory is refused.
+/// as those of `add_warnings`, about its `main`. Reports whether it may. The only fault is that memory is refused.
 pub fn add_want_of_room(
     text: &mut String,
     alloc: Global,
@@ -20,30 +20,31 @@ pub fn add_want_of_room(
     if facts.bound.has_room {
         return Ok(false);
     }
+    let mut room = Draft::new(alloc);
+    add_room(&mut room, &facts);
     let mut line = Draft::new(alloc);
     line.add(path);
     add_place(&mut line, &facts);
-    line.add(": warning: the robot may restart for want of room: ");
-    add_need(&mut line, &facts);
-    if facts.bound.need.is_some() {
-        line.add(", ");
-        add_chain(&mut line, &facts);
+    let room = room.finish()?;
+    let mut before = ": warning: ";
+    for words in room.trim().split('\n') {
+        line.add(before);
+        line.add(words.trim());
+        before = ", ";
     }
     line.add("\n");
     line.move_behind(text)?;
     Ok(true)
 }
 
-/// Adds the place that the warning is about: the function that comes back to itself, or else `main`.
+/// Adds the line and the column of `main`.
 fn add_place(line: &mut Draft, facts: &Facts) {
-    let links = match facts.bound.need {
-        Some(_) => facts.chain.links(),
-        None => facts.chain.circle(),
-    };
-    if let Some(link) = links.first() {
-        line.add(":");
-        line.number(u64::from(link.line));
-        line.add(":");
-        line.number(u64::from(link.column));
+    for part in &facts.functions {
+        if part.name.is(b"main") {
+            line.add(":");
+            line.number(u64::from(part.line));
+            line.add(":");
+            line.number(u64::from(part.column));
+        }
     }
 }

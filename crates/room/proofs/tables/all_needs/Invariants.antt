@@ -1,7 +1,7 @@
 use Rattle.std.proofs.Common.{◌≡◌}
 use Rattle.trees.specs.Laws.{told_trees}
 use Rattle.room.specs.Tables.{table_within}
-use Rattle.room.proofs.tables.need.Given as goal
+use Rattle.room.proofs.tables.all_needs.Given as goal
 
 -- so many functions may call one another
 abbrev pub invariant-loop-round : goal.invariant-loop-round

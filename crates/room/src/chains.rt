@@ -1,0 +1,149 @@
+//! The calls by which a robot needs what it needs.
+
+ghost use Rattle.std.specs.Prelude.{◌≡◌, ◌++◌, ◌∷◌, [], IfOk, IfSome, OnOk};
+ghost use Rattle.trees.specs.Laws.{told, told_trees};
+ghost use Rattle.trees.specs.Trees.{function_tree};
+ghost use Rattle.room.specs.Chains.{IsChain, IsLink, NeedsBy, measured, only, scarce};
+
+use crate::constructs::{Calls, NUMBERS, callee_need, function_need};
+use crate::room::{Room, words};
+use crate::tables::all_needs;
+use grammar::{Callee, Profile};
+use std::alloc::{AllocError, Global};
+use trees::{Function, TreeMaker};
+
+/// What room is measured by.
+#[derive(Clone, Copy)]
+enum Measure {
+    /// By its words.
+    Words,
+    /// By its frames.
+    Frames,
+}
+
+impl Measure {
+    /// Returns what there is too much of: frames, if only they are too many, and else words.
+    fn most(need: Option<Room>, profile: Profile) -> Measure
+        ensures { result ≡ scarce profile need }
+    {
+        match need {
+            Some(room) if room.words <= profile.words() && room.frames > profile.frames() => {
+                Measure::Frames
+            }
+            _ => Measure::Words,
+        }
+    }
+
+    /// Measures a need.
+    fn of(self, need: Option<Room>) -> Option<u16>
+        ensures { result ≡ measured self need }
+    {
+        match (need, self) {
+            (None, _) => None,
+            (Some(room), Measure::Words) => Some(room.words),
+            (Some(room), Measure::Frames) => Some(room.frames),
+        }
+    }
+}
+
+/// Returns the numbers of the functions that call one another where `main` needs what it needs, from its own on.
+///
+/// # Errors
+///
+/// A request of memory that was refused.
+#[tactic(auto, using(crate::proofs::ChainLaws::begun, crate::proofs::ChainLaws::begun_more, crate::proofs::ChainLaws::chain_is))]
+pub fn chain_of(
+    alloc: Global,
+    maker: &TreeMaker,
+    main: u8,
+    profile: Profile,
+) -> Result<Vec<u8>, AllocError>
+    ensures { IfOk result (λ chain. IsChain profile (told_trees maker.now.functions) main chain.items) }
+{
+    let functions = maker.functions();
+    let calls = all_needs(functions, profile);
+    let measure = Measure::most(calls.needs[main as usize], profile);
+    let mut chain = Vec::new(alloc);
+    let mut next = lengthen(&mut chain, main, functions, &calls, measure)?;
+    for _ in 0..functions.len() {
+        if let Some(number) = next {
+            next = lengthen(&mut chain, number, functions, &calls, measure)?;
+        }
+    }
+    Ok(chain)
+}
+
+/// Adds a function to a chain, and returns the next one; none behind one that was there before.
+fn lengthen(
+    chain: &mut Vec<u8>,
+    number: u8,
+    functions: &[Function],
+    calls: &Calls,
+    measure: Measure,
+) -> Result<Option<u8>, AllocError>
+    ensures added { OnOk result (chain.new.items ≡ chain.old.items ++ number ∷ []) }
+    ensures next { IfOk result (λ next. IfSome next (IsLink measure calls.now (told_trees functions.now) number)) }
+{
+    let is_back = chain.contains(&number);
+    chain.push(number)?;
+    if is_back {
+        return Ok(None);
+    }
+    Ok(behind(number, functions, calls, measure))
+}
+
+/// Returns the function by whose call that of this number needs what it needs, if there is one.
+#[tactic(auto, using(crate::proofs::ChainLaws::links))]
+fn behind(number: u8, functions: &[Function], calls: &Calls, measure: Measure) -> Option<u8>
+    ensures { IfSome result (IsLink measure calls.now (told_trees functions.now) number) }
+{
+    for caller in functions {
+        if caller.number == number {
+            return needed_by(caller, functions, calls, measure);
+        }
+    }
+    None
+}
+
+/// Returns the first function by whose call one needs what it needs; none if it needs that without any call.
+fn needed_by(
+    caller: &Function,
+    functions: &[Function],
+    calls: &Calls,
+    measure: Measure,
+) -> Option<u8>
+    ensures { IfSome result (λ j. NeedsBy measure calls.now (told caller.now.number (function_tree caller.now)) j) }
+{
+    let need = measure.of(function_need(caller, calls));
+    let alone = Calls {
+        short: calls.short,
+        needs: [words(0); NUMBERS],
+    };
+    if measure.of(function_need(caller, &alone)) == need {
+        return None;
+    }
+    for callee in functions {
+        let by_this = calls.only(callee.number);
+        if measure.of(function_need(caller, &by_this)) == need {
+            return Some(callee.number);
+        }
+    }
+    None
+}
+
+impl Calls {
+    /// Returns what functions would need if all but one needed nothing.
+    fn only(&self, number: u8) -> Calls
+        ensures short { result.short ≡ self.now.short }
+        ensures needs { result.needs ≡ only number self.now.needs }
+    {
+        let nothing = words(0);
+        let need = callee_need(Callee::Function(number), self);
+        let mut needs = [nothing; NUMBERS];
+        needs[number as usize] = need;
+        Calls {
+            short: self.short,
+            needs,
+        }
+    }
+}
