@@ -37,13 +37,13 @@ pub fn explain_robot(order: &Order, robots: &[RobotFile], sheet: &mut Sheet) -> 
     let words = words_of(robots)?;
     let settings = order.settings(words.as_slice())?;
     match robots {
-        [robot, ..] => Some(explained(settings.profile(), robot.source(), sheet)),
+        [robot, ..] => Some(explain_source(settings.profile(), robot.source(), sheet)),
         [] => None,
     }
 }
 
 /// Explains a source on a blank sheet.
-fn explained(profile: Profile, source: &[u8], sheet: &mut Sheet) -> Explained
+fn explain_source(profile: Profile, source: &[u8], sheet: &mut Sheet) -> Explained
     ensures good { result ≡ Explained.Good → Compiles profile source.now }
     ensures faulty { result ≡ Explained.Faulty → IsFaulty profile source.now }
 {
