@@ -97,6 +97,9 @@ class PlainEditor {
         this.field.dataset.line = line ?? "";
     }
 
+    /** A plain field can't mark lines. */
+    warn() {}
+
     /** Puts the cursor on a line. */
     goTo(line) {
         const at = line > 1 ? this.text.split("\n").slice(0, line - 1).join("\n").length + 1 : 0;
@@ -222,6 +225,17 @@ class ColouredEditor {
         // a screen reader has these words from the line above the field
         const told = Object.assign(document.createElement("p"), {className: "fault-words", textContent: words, ariaHidden: "true"});
         return {line: handle, words: mirror.addLineWidget(handle, told)};
+    }
+
+    /** Marks the lines of warnings, each {line, text}, of a source without a fault. */
+    warn(warnings) {
+        const {mirror} = this;
+        const words = new Map();
+        warnings.forEach(({line, text}) => words.set(line, [...words.get(line) ?? [], text]));
+        mirror.operation(() => words.forEach((texts, line) => {
+            const sign = Object.assign(document.createElement("span"), {className: "warning-sign", textContent: "▲", title: texts.join("\n")});
+            mirror.setGutterMarker(Math.min(line, mirror.lineCount()) - 1, "faults", sign);
+        }));
     }
 
     /** Puts the cursor on a line. */

@@ -104,6 +104,17 @@ export class Engine {
         return this.runIn(0, settings, robots, this.exports.film);
     }
 
+    /**
+     * Explains the first robot's source: the ending is DONE if it compiles, and the text has the warnings, or FAULTY, and the
+     * text explains its fault. It is FULL if there is no room. Returns {ending, text}.
+     */
+    explain(settings, robots) {
+        this.putOrder(0, settings);
+        this.putRobots(robots);
+        const ending = this.exports.explain(...[this.order, this.robots, robots.length, this.text].map(BigInt));
+        return {ending, text: this.textOf(this.text)};
+    }
+
     /** Plays the first match of the settings. Returns {ending, text, faults}, whose text is its film. */
     film(settings, robots) {
         return this.inParts(settings, robots, this.exports.film);

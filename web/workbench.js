@@ -1,6 +1,7 @@
 // The robots of the battle: a tab for each, its name, its source, its listing and its first fault.
 import {adviceOf} from "./advice.js";
 import {Limits, Ending} from "./engine.js";
+import {showExplanation, warningsOf} from "./explaining.js";
 import {Listing, linesOf} from "./listings.js";
 import {cleanName, freeName, nameInWork} from "./names.js";
 
@@ -148,17 +149,19 @@ export class Workbench {
         return answered(this.compiler.call(call, {profile: this.battle.settings.profile}, [{name: "robot", source}]));
     }
 
-    /** Compiles the robot that is edited, and shows its diagnostic, or its listing. */
+    /** Compiles the robot that is edited, and shows its diagnostic with what explains it, or its listing and warnings. */
     async compile() {
         const {robot, battle} = this;
         const {source} = robot;
-        const [listed, places] = await Promise.all([this.ask("list", robot), this.ask("places", robot)]);
+        const [listed, places, explained] = await Promise.all(["list", "places", "explain"].map(call => this.ask(call, robot)));
         if (robot === this.robot && battle === this.battle && source === robot.source) {
             const fault = this.take(robot, listed);
             this.editor.mark(fault?.line ?? null, fault ? `${fault.text}. ${adviceOf(fault.text)}` : "");
+            this.editor.warn(warningsOf(explained));
             this.listing.show(listed.text, linesOf(places.text));
             this.listing.mark(this.editor.line);
             this.showDiagnostic(fault, listed);
+            showExplanation(byId("explanation"), explained, line => this.editor.goTo(line));
         }
     }
 

@@ -63,7 +63,7 @@ def wanted(store: Store, season: Season, jobs: int, piece: int | None) -> Wanted
     series = by_gap(schedule, results, [*missing(schedule, results)])
     folder = laid(store, {it.sha256 for it in schedule.field.robots})
     robots = [Robot(f"{folder}/{it.sha256}", it.sha256) for it in schedule.field.robots]
-    most = piece or max(1, math.ceil(sum(it.count for it in series) / (8 * jobs)))
+    most = piece or max(1, math.ceil(sum(it.matches for it in series) / (8 * jobs)))
     return Wanted(Plan(schedule.settings, robots, most, tuple(series)), folder)
 
 
@@ -114,7 +114,7 @@ def play_round(store: Store, given: argparse.Namespace, found: Program, by: Rule
             with closing(Player(found, given.jobs, now.folder).play(now.records, glance)) as ended:
                 for record in ended:
                     keep_record(store, by, record, given.day or today())
-                    progress.count(record.series.count)
+                    progress.count(record.series.matches)
         except Stopped as why:
             progress.clear()
             said = f"{progress.done} of {progress.series} series were played, {progress.matches} matches"

@@ -60,6 +60,6 @@ def of_matches(store: Store, there: Field) -> list[tuple[str, str]]:
     shown = publications(store)
     played = store.one("SELECT count(*) FROM battle")[0]
     return [("played", f"{played} matches in all seasons"),
-            ("missing", f"{sum(it.count for it in left)} matches of {len(left)} seatings"),
+            ("missing", f"{sum(it.matches for it in left)} matches of {len(left)} seatings"),
             ("now", "is being played" if is_played(store.folder) else "nobody plays"),
             ("published", shown[-1].day if shown else "never")]

@@ -45,7 +45,7 @@ def end(store: Store, given: argparse.Namespace) -> None:
     """Ends the season that goes on, with its table."""
     season = seasons.running(store)
     schedule, results = Schedule(seasons.field(store, season)), Results(store, season.rules)
-    left = sum(it.count for it in missing(schedule, results))
+    left = sum(it.matches for it in missing(schedule, results))
     if left and not given.unfinished:
         raise Fault(f"{left} matches are missing; `play` plays them, and --unfinished ends the season without them")
     day = given.day or today()

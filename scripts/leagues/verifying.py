@@ -142,7 +142,7 @@ def replayed(store: Store, found: Program, given: argparse.Namespace, runs: list
 
         with closing(Player(found, given.jobs, folder).play(records, glance)) as played:
             for it in played:
-                progress.count(it.series.count)
+                progress.count(it.series.matches)
                 yield from changed(it, by_series[it.robots, it.series])
     progress.clear()
 

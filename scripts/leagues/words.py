@@ -121,6 +121,7 @@ class Words:
         does = "Runs a league of robots for years, in a folder."
         self.parser = Parser(prog=name, description=does, allow_abbrev=False)
         self.parser.set_defaults(script=name)
+        self.parser.add_version()
         self._commands = self.parser.add_subparsers(dest="command", metavar="COMMAND", required=True)
         self._entries()
         self._playing()

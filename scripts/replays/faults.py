@@ -11,3 +11,10 @@ class Fault(Exception):
     def __init__(self, why: str, status: int) -> None:
         super().__init__(why)
         self.status = status
+
+
+class Misuse(Fault):
+    """Wrong words: the user is told which, if that is known, and the usage."""
+
+    def __init__(self, why: str = "") -> None:
+        super().__init__(why, USAGE)

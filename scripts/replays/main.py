@@ -10,43 +10,36 @@ import subprocess
 import sys
 import tempfile
 
-from .faults import MEMORY, UNWRITTEN, USAGE, Fault
+from .faults import MEMORY, UNWRITTEN, USAGE, Fault, Misuse
 from .films import Film
 from .pages import page
+from .words import HELP, NAME, USAGE_LINE, Asked, plain, read
 
-NAME = "replay"
-USAGE_LINE = f"usage: {NAME} [-kMATCH] [-lCYCLES] [-sSEED] [-pPROFILE] [--from CYCLE] [--to CYCLE] FILE.. > match.html"
-# The long options that it takes.
-LONG = ("--from", "--to")
+HERE = os.path.dirname(os.path.realpath(__file__))
+# The version's number, in the repository and where this is installed.
+VERSION = os.path.normpath(os.path.join(HERE, "..", "..", "VERSION"))
+TRACE = "crobots-trace: "
 
 
 def program() -> str:
     """Finds `trace`: the one on the path, or the one built or installed with this script."""
-    here = os.path.dirname(os.path.realpath(__file__))
-    built = os.path.normpath(os.path.join(here, "..", "..", "crates", "trace", "out", "trace"))
-    installed = os.path.normpath(os.path.join(here, "..", "..", "..", "..", "bin", "crobots-trace"))
+    built = os.path.normpath(os.path.join(HERE, "..", "..", "crates", "trace", "out", "trace"))
+    installed = os.path.normpath(os.path.join(HERE, "..", "..", "..", "..", "bin", "crobots-trace"))
     found = next((path for place in ("crobots-trace", built, installed) if (path := shutil.which(place))), None)
     if not found:
         raise Fault("crobots-trace is not there, or is no program; README.md says how it is built", USAGE)
     return found
 
 
-def is_known(word: str) -> bool:
-    """Whether a word is no long option that only `trace` takes."""
-    return not word.startswith("--") or word.split("=")[0] in LONG
-
-
-def number_of(words: list[str]) -> int:
-    """The number of the match that words ask for, which `trace` took."""
-    for word, value in zip(words, [*words[1:], ""]):
-        if word.startswith("-k"):
-            return int(word[2:] or value)
-    return 1
+def version() -> str:
+    """The line of the version."""
+    with open(VERSION, encoding="utf-8") as file:
+        return f"{NAME} {file.readline().strip()}\n"
 
 
 def said(line: str) -> str:
     """A line of `trace` on standard error, with the name of this script."""
-    return f"{NAME}: {line.removeprefix('trace: ')}" if line.startswith("trace: ") else line
+    return f"{NAME}: {line.removeprefix(TRACE)}" if line.startswith(TRACE) else line
 
 
 def filmed(trace: str, words: list[str]) -> Film:
@@ -67,22 +60,37 @@ def filmed(trace: str, words: list[str]) -> Film:
 
 
 def pass_on(status: int, lines: list[str]) -> None:
-    """Passes on what `trace` said, and ends with its status if that is not 0."""
+    """Passes on what `trace` said, but its usage, and ends with its status if that is not 0."""
+    sys.stderr.writelines(said(line) for line in lines if not line.startswith("usage: "))
     if status == USAGE:
-        raise Fault("", USAGE)
-    sys.stderr.writelines(map(said, lines))
+        raise Misuse
     if status:
         sys.exit(status if status > 0 else 128 - status)
 
 
-def write(text: str) -> None:
-    """Writes the page at once."""
+def write(text: str, path: str = "") -> None:
+    """Writes a text at once, into a file or on standard output."""
     try:
-        sys.stdout.buffer.write(text.encode())
-        sys.stdout.buffer.flush()
+        if path:
+            with open(path, "wb") as file:
+                file.write(text.encode())
+        else:
+            sys.stdout.buffer.write(text.encode())
+            sys.stdout.buffer.flush()
     except OSError as why:
-        os.dup2(os.open(os.devnull, os.O_WRONLY), 1)
-        raise Fault("cannot write", UNWRITTEN) from why
+        if not path:
+            os.dup2(os.open(os.devnull, os.O_WRONLY), 1)
+        raise Fault(f"cannot write {plain(path)}".rstrip(), UNWRITTEN) from why
+
+
+def answer(asked: Asked) -> None:
+    """Writes what is asked for."""
+    if asked.flags & {"-h", "--help"}:
+        write(HELP)
+    elif asked.flags:
+        write(version())
+    else:
+        write(page(filmed(program(), asked.trace), asked.number), asked.file)
 
 
 def run(words: list[str]) -> int:
@@ -90,11 +98,10 @@ def run(words: list[str]) -> int:
     if isinstance(sys.stderr, io.TextIOWrapper):
         sys.stderr.reconfigure(errors="surrogateescape")
     try:
-        if not words or not all(map(is_known, words)):
-            raise Fault("", USAGE)
-        write(page(filmed(program(), words), number_of(words)))
+        answer(read(words))
     except Fault as why:
-        print(f"{NAME}: {why}" if str(why) else USAGE_LINE, file=sys.stderr)
+        lines = [f"{NAME}: {why}"] if str(why) else []
+        print(*lines, *([USAGE_LINE] if isinstance(why, Misuse) else []), sep="\n", file=sys.stderr)
         return why.status
     except MemoryError:
         print(f"{NAME}: out of memory", file=sys.stderr)

@@ -48,6 +48,11 @@ function merged(lists) {
   return all;
 }
 
+/** The cycles of the events that happened to a robot of this number; the number 0 is any robot. */
+function cyclesOf({ cycle, robot }, number) {
+  return number ? cycle.filter((_, at) => robot[at] === number) : cycle;
+}
+
 function mixed(from, to, part) {
   return from + (to - from) * part;
 }
@@ -86,17 +91,21 @@ class Match {
     return percent[Math.max(0, countAtMost(cycles, cycle) - 1)] ?? 0;
   }
 
-  /** The next cycle after one at which a robot is hurt, and the one before; none at the end. */
-  hitAfter(cycle) {
-    return this.hurts.cycle[countAtMost(this.hurts.cycle, cycle)];
+  /** The next cycle after one at which a robot is hurt, and the one before; none at the end. The number 0 is any robot. */
+  hitAfter(cycle, number = 0) {
+    const cycles = cyclesOf(this.hurts, number);
+    return cycles[countAtMost(cycles, cycle)];
   }
 
-  hitBefore(cycle) {
-    return this.hurts.cycle[countAtMost(this.hurts.cycle, Math.ceil(cycle) - 1) - 1];
+  hitBefore(cycle, number = 0) {
+    const cycles = cyclesOf(this.hurts, number);
+    return cycles[countAtMost(cycles, Math.ceil(cycle) - 1) - 1];
   }
 
-  restartAfter(cycle) {
-    return this.restarts.cycle[countAtMost(this.restarts.cycle, cycle)];
+  /** The next cycle after one in which a robot restarts; none at the end. */
+  restartAfter(cycle, number = 0) {
+    const cycles = cyclesOf(this.restarts, number);
+    return cycles[countAtMost(cycles, cycle)];
   }
 
   /** How many events there were up to a cycle. */

@@ -13,6 +13,8 @@ const SECONDS_BETWEEN_WORDS = 2;
 // For those who want no motion the match plays by still pictures, so many milliseconds apart.
 const CALM = matchMedia("(prefers-reduced-motion: reduce)");
 const MILLISECONDS_OF_A_STILL = 500;
+// How long the address stays as it is: browsers refuse to change it more often.
+const MILLISECONDS_OF_AN_ADDRESS = 500;
 
 const element = (id) => document.getElementById(id);
 const shown = (number) => number.toLocaleString("en");
@@ -25,13 +27,18 @@ function made(tag, name = "", text = "") {
   return it;
 }
 
-/** The cards of the robots: name, bar of damage, and how it moves. */
+/** The cards of the robots: name, bar of damage, and how it moves. The number of one chooses the robot. */
 class Cards {
-  constructor(list, match) {
-    this.cards = match.robots.map((robot) => this.#card(list, robot));
+  constructor(list, match, choose) {
+    this.cards = match.robots.map((robot) => this.#card(list, robot, choose));
   }
 
-  #card(list, { number, name }) {
+  /** Marks the chosen robot; none has the number 0. */
+  mark(chosen) {
+    this.cards.forEach(({ button }, at) => button.setAttribute("aria-pressed", `${at + 1 === chosen}`));
+  }
+
+  #card(list, { number, name }, choose) {
     const card = made("li");
     card.style.setProperty("--colour", `var(--robot-${number})`);
     const [bar, fill] = [made("span", "bar"), made("i")];
@@ -43,9 +50,15 @@ class Cards {
     bar.setAttribute("aria-label", `damage of ${number}) ${name}`);
     bar.setAttribute("aria-valuemin", "0");
     bar.setAttribute("aria-valuemax", "100");
-    card.append(made("span", "number", `${number}`), made("span", "name", name), percent, bar, state);
+    const button = made("button", "number", `${number}`);
+    button.type = "button";
+    button.title = `only hits and restarts of this robot (${number})`;
+    button.setAttribute("aria-label", `only hits and restarts of ${number}) ${name}`);
+    button.setAttribute("aria-pressed", "false");
+    button.addEventListener("click", () => choose(number));
+    card.append(button, made("span", "name", name), percent, bar, state);
     list.append(card);
-    return { card, bar, fill, percent, parts, damage: -1 };
+    return { card, button, bar, fill, percent, parts, damage: -1 };
   }
 
   show(moment) {
@@ -156,19 +169,21 @@ class Player {
   constructor(match) {
     this.match = match;
     this.cycle = match.first;
+    this.chosen = 0;
     this.isPlaying = false;
     this.stillAt = -Infinity;
     this.speed = this.#fittingSpeed();
     const colours = coloursOf(document.documentElement);
     this.field = new FieldDrawing(element("field"), colours);
     this.damage = new DamageDrawing(element("damage"), colours);
-    this.cards = new Cards(element("robots"), match);
+    this.cards = new Cards(element("robots"), match, (number) => this.#choose(number));
     this.events = new Events(element("events"), match, (cycle) => this.seek(cycle));
     this.speaker = new Speaker(element("said"), match);
     this.#limits();
     this.#listen();
     this.#marks();
     this.#follow(location.hash);
+    this.addressed = Math.floor(this.cycle);
     this.show();
   }
 
@@ -199,6 +214,7 @@ class Player {
     this.cards.show(moment);
     this.events.show(whole);
     this.#clock(whole);
+    if (whole !== this.addressed) this.#address();
     if (whole !== this.describedAt) element("described").textContent = "";
     if (!this.isPlaying) element("field").setAttribute("aria-label", this.#described(moment));
   }
@@ -269,8 +285,36 @@ class Player {
     const { cycle, robots } = this.match.moment(Math.floor(this.cycle), LEAST_GLOW);
     const texts = robots.map(({ number, dead, x, y, damage }) =>
       dead ? `${number} dead` : `${number} at ${Math.floor(x / 10)}, ${Math.floor(y / 10)}, damage ${damage} percent`);
-    element("described").textContent = `Cycle ${cycle}: ${texts.join("; ")}`;
-    this.describedAt = cycle;
+    this.#tell(`Cycle ${cycle}: ${texts.join("; ")}`);
+  }
+
+  /** Says something until the next cycle. */
+  #tell(text) {
+    element("described").textContent = text;
+    this.describedAt = Math.floor(this.cycle);
+  }
+
+  /** Chooses the robot whose hits and restarts keys lead to, or all robots if it is the one. */
+  #choose(number) {
+    if (!this.match.robots[number - 1]) return;
+    this.chosen = this.chosen === number ? 0 : number;
+    this.cards.mark(this.chosen);
+    const whose = this.chosen ? `robot ${number}, ${this.match.robots[number - 1].name}` : "all robots";
+    this.#tell(`hits and restarts of ${whose}`);
+  }
+
+  /** Has the address follow the cycle. A page within another one may have no address of its own. */
+  #address() {
+    if (this.addressing) return;
+    this.addressing = setTimeout(() => {
+      this.addressing = 0;
+      this.addressed = Math.floor(this.cycle);
+      try {
+        history.replaceState(null, "", `#${this.addressed}`);
+      } catch {
+        this.addressing = -1;
+      }
+    }, MILLISECONDS_OF_AN_ADDRESS);
   }
 
   /** Goes to the cycle of an address that ends with one, such as #4035. */
@@ -294,20 +338,27 @@ class Player {
     this.seek(cycle);
   }
 
+  /** Pauses, and goes to the next restart; stays if there is none. */
+  #restart() {
+    const cycle = this.match.restartAfter(this.cycle, this.chosen);
+    this.#step(cycle ?? this.cycle);
+    if (cycle === undefined) this.#tell("no restart follows");
+  }
+
   /** What each button does, by its name in the page, and what more keys do. */
   get #actions() {
-    const { match, cycle } = this, update = Math.floor(cycle / UPDATE) * UPDATE;
+    const { match, cycle, chosen } = this, update = Math.floor(cycle / UPDATE) * UPDATE;
     return {
       "play-pause": () => this.toggle(),
       "to-start": () => this.seek(match.first),
       "to-end": () => this.#step(match.cycles),
       "update-after": () => this.#step(update + UPDATE),
       "update-before": () => this.#step(update < cycle ? update : update - UPDATE),
-      "hit-after": () => this.#step(match.hitAfter(cycle) ?? match.cycles),
-      "hit-before": () => this.#step(match.hitBefore(cycle) ?? match.first),
+      "hit-after": () => this.#step(match.hitAfter(cycle, chosen) ?? match.cycles),
+      "hit-before": () => this.#step(match.hitBefore(cycle, chosen) ?? match.first),
       "cycle-after": () => this.#step(Math.floor(cycle) + 1),
       "cycle-before": () => this.#step(Math.ceil(cycle) - 1),
-      "restart-after": () => this.#step(match.restartAfter(cycle) ?? match.cycles),
+      "restart-after": () => this.#restart(),
       describe: () => this.#describe(),
       faster: () => this.#faster(1),
       slower: () => this.#faster(-1),
@@ -328,6 +379,7 @@ class Player {
   #press(event) {
     const tag = event.target.tagName, isBlankOnButton = event.key === " " && tag === "BUTTON";
     if (event.ctrlKey || event.metaKey || event.altKey || tag === "SELECT" || isBlankOnButton) return;
+    if (/^[1-4]$/.test(event.key)) return this.#choose(Number(event.key));
     const name = this.#named(event);
     if (!name) return;
     event.preventDefault();

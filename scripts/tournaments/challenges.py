@@ -181,7 +181,7 @@ def challenge(name: str, arguments: list[str]) -> None:
         settings = Settings(given.matches, given.cycles, given.seed, given.profile, program.sha256, len(among), (2,))
         tell_rounded(given, settings.sizes)
         only = tuple(series_of_both(settings, among))
-        most = max(1, -(-sum(it.count for it in only) // (8 * given.jobs)))
+        most = max(1, -(-sum(it.matches for it in only) // (8 * given.jobs)))
         it = Challenge(given, [robot.path for robot in among])
         done = session(given, Player(program, given.jobs, folder), plans.Plan(settings, among, most, only), it.add)
     with stopping(f"stopped while the answer was made: {done}"):

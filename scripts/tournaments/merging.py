@@ -60,7 +60,7 @@ class Merger:
             return lacking
         missing, twice, strange = Found("missing"), Found("there twice or more"), 0
         for series in whole_series(self.settings, self._keys()):
-            free, more = gaps(self._runs.pop(series.seats, []), series.count)
+            free, more = gaps(self._runs.pop(series.seats, []), series.matches)
             missing.add(series.seats, free)
             twice.add(series.seats, more)
             strange += not few and self._seeds.get(series.seats, series.seed) != series.seed

@@ -5,7 +5,7 @@ from __future__ import annotations
 import math
 import os
 import shlex
-from dataclasses import dataclass, replace
+from dataclasses import dataclass
 from itertools import groupby
 from typing import Iterable, Iterator
 
@@ -47,7 +47,7 @@ class Plan:
     def count(self) -> int:
         """How many series that are."""
         if self.only:
-            return sum(math.ceil(series.count / self.most) for series in self.only)
+            return sum(math.ceil(series.matches / self.most) for series in self.only)
         of_size = {size: size * math.ceil(self.settings.each(size) / self.most) for size in self.settings.sizes}
         return sum(count(self.settings, size) * series for size, series in of_size.items())
 
@@ -57,7 +57,7 @@ class Plan:
             kept = journal.matches(self.record(series))
             for there, numbers in groupby(range(series.first, series.last + 1), kept.__contains__):
                 run = list(numbers)
-                part = replace(series, first=run[0], count=len(run))
+                part = series._replace(first=run[0], matches=len(run))
                 if there:
                     yield True, self.record(part, ",".join(kept[number] for number in run))
                 else:
@@ -67,7 +67,7 @@ class Plan:
 def cut(series: Series, most: int) -> Iterator[Series]:
     """Cuts a series into some of at most so many matches."""
     for begin in range(series.first, series.last + 1, most):
-        yield replace(series, first=begin, count=min(most, series.last + 1 - begin))
+        yield series._replace(first=begin, matches=min(most, series.last + 1 - begin))
 
 
 def busy(settings: Settings, jobs: int) -> int:
@@ -95,5 +95,5 @@ def lines(plan: Plan, program: str) -> Iterator[str]:
     words = [shlex.quote(robot.path) for robot in plan.robots]
     for record in plan.planned():
         series = record.series
-        options = " ".join(plan.settings.options(series.seed, series.first, series.count))
+        options = " ".join(plan.settings.options(series.seed, series.first, series.matches))
         yield f"{begin} '{record.head()}' {ours} {options} {' '.join(words[at] for at in series.seats)}\n"

@@ -101,7 +101,7 @@ class Player:
         """The record of a series that ended with this status, with its results."""
         self._program.check()
         record, series = child.record, child.record.series
-        found = None if status else results(bytes(child.output), len(series.seats), series.first, series.count)
+        found = None if status else results(bytes(child.output), len(series.seats), series.first, series.matches)
         if found is None:
             raise Fault(self._failure(child, status), FAULTY if status == 1 else PROGRAM)
         done = Record(record.settings, series, record.robots, found)
@@ -136,4 +136,4 @@ class Player:
 def line(program: Program, record: Record, files: list[str]) -> list[str]:
     """The words that play a record's series with these files."""
     series = record.series
-    return [program.path, *record.settings.options(series.seed, series.first, series.count), *files]
+    return [program.path, *record.settings.options(series.seed, series.first, series.matches), *files]

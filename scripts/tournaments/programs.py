@@ -58,11 +58,19 @@ def found(given: str | None) -> str:
 
 def version(sha256: str) -> str:
     """The version of the program with this hash, if it is the one that was built or installed with this script."""
-    with contextlib.suppress(OSError, UnicodeDecodeError, Fault):
+    with contextlib.suppress(OSError, Fault):
         if any(program(path).sha256 == sha256 for path in OURS if shutil.which(path)):
-            with open(VERSION, encoding="utf-8") as file:
-                return f"crobots {file.readline().strip()}"
+            return f"crobots {number()}"
     return ""
+
+
+def number() -> str:
+    """The version's number, which this script has too."""
+    try:
+        with open(VERSION, encoding="utf-8", errors="replace") as file:
+            return file.readline().strip()
+    except OSError as why:
+        unreadable(VERSION, why)
 
 
 def stamp(path: str) -> Stamp | None:

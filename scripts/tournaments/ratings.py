@@ -7,7 +7,7 @@ from dataclasses import dataclass
 from typing import Sequence
 
 from .bootstrap import ROUNDS
-from .resampling import Round, Whole, resampled
+from .resampling import SCOUTS, Left, Round, Whole, left_by, resampled
 from .tallies import Tally
 
 SCALE = 400 / math.log(10)
@@ -33,14 +33,51 @@ def ratings(tally: Tally, robots: int, anchor: int | None = None) -> list[Rating
     With an anchor they say how far a robot is above the one with this position, whose own rating is 0 in all rounds."""
     whole = Whole(tally, robots)
     rounds = [*resampled(tally, whole)]
-    if not whole.is_firm():
-        for it in rounds:
-            it.finish()
-    while unsure := {at for robot in range(robots) for at in deciding(rounds, robot, anchor)}:
+    left = begun(rounds, whole.is_firm())
+    while True:
+        columns = [Column(rounds, left, robot, anchor) for robot in range(robots)]
+        unsure = {at for it in columns for at in it.unsure()}
+        if not unsure:
+            return [it.rating(rated(whole.strengths, robot, anchor)) for robot, it in enumerate(columns)]
         for at in unsure:
             rounds[at].go_on()
-    return [interval(rated(whole.strengths, robot, anchor), sorted(rated(it.strengths, robot, anchor) for it in rounds))
-            for robot in range(robots)]
+
+
+def begun(rounds: Sequence[Round], is_firm: bool) -> Left:
+    """Fits all rounds to the end, or so far that it is known what is left after a step."""
+    if not is_firm:
+        for it in rounds:
+            it.finish()
+        return Left()
+    left = left_by(rounds[:SCOUTS])
+    for it in rounds[SCOUTS:]:
+        it.go_on()
+    return left
+
+
+class Column:
+    """A robot's ratings in all rounds, each with how far it may be from the fit."""
+
+    def __init__(self, rounds: Sequence[Round], left: Left, robot: int, anchor: int | None) -> None:
+        # what is left of both strengths that make a rating
+        each = SCALE * (1 if anchor is None else 2 if anchor != robot else 0)
+        self._values = [rated(it.strengths, robot, anchor) for it in rounds]
+        self._far = [each * it.left(left.of_any) for it in rounds]
+        for at in self.unsure():
+            self._values[at] = alone(rounds[at], robot, anchor)
+            self._far[at] = each * rounds[at].left(left.of_one)
+
+    def rating(self, value: float) -> Rating:
+        """The rating with this value."""
+        return interval(value, sorted(self._values))
+
+    def unsure(self) -> set[int]:
+        """The rounds that have to be fitted better before the interval is known in whole numbers."""
+        lows, highs = ([value + sign * far for value, far in zip(self._values, self._far)] for sign in (-1, 1))
+        least, most = interval(0, sorted(lows)), interval(0, sorted(highs))
+        ends = [(one, other) for one, other in ((least.low, most.low), (least.high, most.high)) if not are_alike(one, other)]
+        return {at for at, (low, high) in enumerate(zip(lows, highs))
+                if low < high and any(low <= other and high >= one for one, other in ends)}
 
 
 def rated(strengths: Sequence[float], robot: int, anchor: int | None) -> float:
@@ -48,20 +85,14 @@ def rated(strengths: Sequence[float], robot: int, anchor: int | None) -> float:
     return SCALE * (strengths[robot] - (0 if anchor is None else strengths[anchor]))
 
 
+def alone(it: Round, robot: int, anchor: int | None) -> float:
+    """A robot's rating in a round, if the strengths of all others stay, but for the one with the anchor."""
+    return SCALE * (it.alone(robot) - (0 if anchor is None else it.alone(anchor)))
+
+
 def interval(value: float, rounds: list[float]) -> Rating:
     """A rating whose interval leaves out one round of forty on each side."""
     return Rating(value, rounds[OUTSIDE], rounds[-1 - OUTSIDE])
-
-
-def deciding(rounds: Sequence[Round], robot: int, anchor: int | None) -> set[int]:
-    """The rounds that have to be fitted better before the interval is known in whole numbers."""
-    there = [rated(it.strengths, robot, anchor) for it in rounds]
-    far = [SCALE * it.left * (1 if anchor is None else 2) for it in rounds]
-    lows, highs = ([value + sign * it for value, it in zip(there, far)] for sign in (-1, 1))
-    least, most = interval(0, sorted(lows)), interval(0, sorted(highs))
-    ends = [(one, other) for one, other in ((least.low, most.low), (least.high, most.high)) if not are_alike(one, other)]
-    return {at for at, (low, high) in enumerate(zip(lows, highs))
-            if low < high and any(low <= other and high >= one for one, other in ends)}
 
 
 def are_alike(one: float, other: float) -> bool:

@@ -7,7 +7,8 @@ import hashlib
 import os
 import re
 from dataclasses import dataclass
-from typing import Iterator
+from operator import lt
+from typing import Iterator, NamedTuple, Sequence
 from urllib.parse import quote, unquote_to_bytes
 
 from . import settings as setting
@@ -16,12 +17,10 @@ from .settings import NUMBER, Group, Settings
 
 # The number is that of the format.
 BEGIN, OLDER = "series 2 ", "series m="
-HEAD = re.compile(rf"{BEGIN}{setting.PATTERN} seats=(\d{{1,9}}(?:,\d{{1,9}}){{1,3}}) seed={NUMBER} "
-                  rf"first={NUMBER} count={NUMBER} sha256=([0-9a-f,]+) files=([^\s']+)")
-SETTINGS = 8
+HEAD = re.compile(rf"{BEGIN}({setting.PATTERN}) seats=(\d{{1,9}}(?:,\d{{1,9}}){{1,3}}) seed=({NUMBER}) "
+                  rf"first=({NUMBER}) count=({NUMBER}) sha256=([0-9a-f,]+) files=([^\s']+)")
 RESULT = r"\d{1,10}(?::\d{1,3})+"
-RESULTS = re.compile(rf" results=({RESULT}(?:,{RESULT})*)")
-SUM = re.compile(r" sum=([0-9a-f]{16})\n")
+WHOLE = re.compile(rf"({HEAD.pattern} results=({RESULT}(?:,{RESULT})*)) sum=([0-9a-f]{{16}})\n")
 DEAD, UPDATE = 100, 15
 
 
@@ -29,18 +28,17 @@ class NoRecord(Exception):
     """Why a line is no record."""
 
 
-@dataclass(frozen=True)
-class Series:
+class Series(NamedTuple):
     """Some matches of a seating, one after another: the robots' positions in the order of their seats, and the seed."""
 
     seats: Group
     seed: int
     first: int
-    count: int
+    matches: int
 
     @property
     def last(self) -> int:
-        return self.first + self.count - 1
+        return self.first + self.matches - 1
 
     @property
     def group(self) -> Group:
@@ -76,7 +74,7 @@ class Record:
         seats = ",".join(str(at + 1) for at in it.seats)
         hashes = ",".join(robot.sha256 for robot in self.robots)
         files = ",".join(encoded(robot.path) for robot in self.robots)
-        return (f"{BEGIN}{self.settings.text} seats={seats} seed={it.seed} first={it.first} count={it.count} "
+        return (f"{BEGIN}{self.settings.text} seats={seats} seed={it.seed} first={it.first} count={it.matches} "
                 f"sha256={hashes} files={files}")
 
     def line(self) -> str:
@@ -126,20 +124,19 @@ def letters(damage: str) -> str:
 def planned(text: str) -> Record | None:
     """The record whose head stands somewhere in a line."""
     found = HEAD.search(text)
-    return record(found) if found else None
+    return record(found.groups()) if found else None
 
 
 def played(line: str) -> Record:
     """The record that is a whole line, with its line feed."""
-    head = HEAD.match(line)
-    results = RESULTS.match(line, head.end()) if head else None
-    end = SUM.fullmatch(line, results.end()) if results else None
-    if not head or not results or not end:
+    whole = WHOLE.fullmatch(line)
+    if not whole:
         older = line.startswith(OLDER)
         raise NoRecord("is a record of an older format" if older else "is cut short, or is no record of a series")
-    if checksum(line[: results.end()]) != end[1]:
+    text, *head, results, wanted = whole.groups()
+    if checksum(text) != wanted:
         raise NoRecord("was changed: its checksum is another")
-    it = record(head, results[1])
+    it = record(head, results)
     if it is None:
         raise NoRecord("is no record of a series: its fields don't fit each other")
     check_results(it)
@@ -151,8 +148,8 @@ def check_results(record: Record) -> None:
 
     A match ends early only in an update after which at most one robot lives."""
     each, robots, limit = record.results.split(","), len(record.robots), record.settings.cycles
-    if len(each) != record.series.count:
-        raise NoRecord(f"has {len(each)} results of {record.series.count} matches")
+    if len(each) != record.series.matches:
+        raise NoRecord(f"has {len(each)} results of {record.series.matches} matches")
     for at, (result, ended) in enumerate(zip(each, record.ended)):
         cycles = int(result[: result.index(":")])
         early = 0 < cycles < limit and cycles % UPDATE == 0 and "t" not in ended
@@ -160,22 +157,22 @@ def check_results(record: Record) -> None:
             raise NoRecord(f"has a result that can't be: {result} of match {record.series.first + at}")
 
 
-def record(head: re.Match[str], results: str = "") -> Record | None:
+def record(head: Sequence[str], results: str = "") -> Record | None:
     """The record of the fields of a head, if they fit each other."""
-    settings = setting.parsed(*head.groups()[:SETTINGS])
-    seats_given, seed, first, count, hashes_given, files_given = head.groups()[SETTINGS:]
-    series = Series(tuple(int(it) - 1 for it in seats_given.split(",")), int(seed), int(first), int(count))
-    hashes, files = hashes_given.split(","), files_given.split(",")
-    size = len(series.seats)
-    if not size == len(hashes) == len(files) or size not in settings.sizes or not is_seating(series.seats, settings.robots):
+    by, seated, seed, first, count, hashes, files = head
+    settings, seats = setting.parsed(by), tuple([int(it) - 1 for it in seated.split(",")])
+    series = Series(seats, int(seed), int(first), int(count))
+    robots = tuple(map(robot, files.split(","), hashes.split(",")))
+    many = len(seats)
+    if not many == files.count(",") + 1 == hashes.count(",") + 1 or many not in settings.sizes:
         return None
-    if not 1 <= series.first <= series.last <= settings.each(size):
+    if not is_seating(seats, settings.robots) or not 1 <= series.first <= series.last <= settings.each(many):
         return None
-    return Record(settings, series, tuple(map(robot, files, hashes)), results)
+    return Record(settings, series, robots, results)
 
 
 def is_seating(seats: Group, robots: int) -> bool:
     """Reports whether these are positions of different robots, in their order if they begin with the first of them."""
     begin = seats.index(min(seats))
     turned = seats[begin:] + seats[:begin]
-    return 0 <= turned[0] and turned[-1] < robots and all(one < other for one, other in zip(turned, turned[1:]))
+    return 0 <= turned[0] and turned[-1] < robots and all(map(lt, turned, turned[1:]))

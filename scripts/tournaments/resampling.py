@@ -2,18 +2,24 @@
 
 A step takes the curvature of all matches in place of that of a round. What differs between both is mostly how often a robot
 plays in the round, and that a chance isn't a straight line of strengths. Both are known of each robot by itself. So its
-slope is bent first: to what leads to its score by the curvature of all matches, if its opponents are as one."""
+slope is bent first: to what leads to its score by the curvature of all matches, if its opponents are as one.
+
+A step of all robots costs a look at each pair. Its own strength, if all others' stay, costs a look at its own pairs alone,
+and is much nearer to the fit: what is left of the others' is below it and above it, and hardly counts together. How much is
+left of either shows in some rounds that are fitted to the end: chance has drawn all rounds alike."""
 
 from __future__ import annotations
 
 import math
+import random
+from dataclasses import dataclass
 from itertools import pairwise
 from operator import sub
 from statistics import fmean
 from typing import Iterable, Iterator, Sequence
 
 from . import matrices
-from .bootstrap import Packed, counts, rounds
+from .bootstrap import SEED, Packed, counts, rounds
 from .mixing import Mixing
 from .strengths import EXACT, STEP_MAX, Matches, Opponents, length
 from .tallies import Tally
@@ -24,9 +30,13 @@ ONE = 1 << 20
 SHORTER, STEPS = 0.7, 20
 # What is left after a step is taken for so much of what a sequence leaves whose steps get shorter by the same factor.
 SAFE, FASTEST = 3.0, 0.1
+# So many rounds are fitted to the end, and so many times what was left there at most may be left of others.
+SCOUTS, SAFER = 8, 2.0
 # Of few robots, or of strengths that are known less well than with this deviation, what is left can't be told from the first
 # steps: a way on which steps hardly get shorter shows itself when the others are at their end.
 MANY, SHARP, FINE = 20, 0.2, 1e-6
+# So often the factors of all matches are applied to find the way on which strengths are known worst.
+TURNS = 12
 # A robot's expected score is so much at least, and so much below all.
 LEAST = 0.01
 
@@ -38,17 +48,23 @@ class Whole:
         self.opponents = Opponents(robots, [*tally.pairs])
         played = [it.played for it in tally.pairs.values()]
         rows = self.opponents.cut([played[at] for at in self.opponents.order])
-        self._fit = matches(self.opponents, rows, scores(tally, robots)).fitted([0.0] * robots)
+        those = matches(self.opponents, rows, scores(tally, robots))
+        self._fit = those.fitted([*odds(those.scores, those.played)])
         self.strengths = self._fit.strengths
 
     def is_firm(self) -> bool:
         """Reports whether the first steps of a round tell what is left: there are many robots, whose strengths are known well."""
-        robots = range(len(self.strengths))
-        if len(robots) < MANY or not all(self.opponents.met):
-            return False
-        of_mean = matrices.solved(self._fit.factors, [1 / len(robots)] * len(robots))
-        own = (matrices.solved(self._fit.factors, [float(at == robot) for at in robots])[robot] for robot in robots)
-        return max(it - 2 * mean for it, mean in zip(own, of_mean)) + fmean(of_mean) <= SHARP**2
+        return len(self.strengths) >= MANY and all(self.opponents.met) and self._most_variance() <= SHARP**2
+
+    def _most_variance(self) -> float:
+        """About the largest variance that strengths have together, on any way on which their mean stays."""
+        chance, growth = random.Random(SEED).random, 1.0
+        way = [chance() for _ in self.strengths]
+        for _ in range(TURNS):
+            mean = fmean(way)
+            growth = math.dist(way, [mean] * len(way))
+            way = matrices.solved(self._fit.factors, [(it - mean) / growth for it in way])
+        return growth
 
     def step(self, those: Matches, slope: Sequence[float]) -> list[float]:
         """A step from a slope of other matches."""
@@ -83,15 +99,23 @@ def scores(tally: Tally, robots: int) -> list[float]:
     return found
 
 
+@dataclass(frozen=True)
+class Left:
+    """Which part of a round's last step may be left: of any strength, and of one that was fitted alone since then."""
+
+    of_any: float = math.inf
+    of_one: float = math.inf
+
+
 class Round:
-    """A round with its strengths so far, and how far from these the fit may be."""
+    """A round with its strengths so far."""
 
     def __init__(self, whole: Whole, those: Matches, slope: list[float]) -> None:
         self._whole = whole
         self._those = those
         self._mixing = Mixing()
         self._lengths: list[float] = []
-        self.strengths, self.left = whole.strengths, math.inf
+        self.strengths, self.last = whole.strengths, math.inf
         self._go(slope)
 
     def go_on(self) -> None:
@@ -100,17 +124,44 @@ class Round:
 
     def finish(self) -> None:
         """Goes on until hardly anything is left."""
-        while self.left > FINE:
+        while self.left() > FINE:
             self.go_on()
+
+    def left(self, part: float = math.inf) -> float:
+        """How far from the fit a strength may be, by the steps so far, and if no more than this part of the last one is left."""
+        return min(left(self._lengths), part * self.last) if self.last else 0.0
+
+    def alone(self, robot: int) -> float:
+        """A robot's strength, if those of all others stay."""
+        return self._those.alone(robot, self.strengths[robot], self._powers)
 
     def _go(self, slope: list[float]) -> None:
         """Goes a step from this slope, or to the fit itself if steps don't get shorter fast."""
         step = self._whole.step(self._those, slope)
         self._lengths.append(length(step))
         if is_slow(self._lengths):
-            self.strengths, self.left = self._those.fitted(self._whole.strengths).strengths, 0.0
+            self.strengths, self.last = self._those.fitted(self._whole.strengths).strengths, 0.0
         else:
-            self.strengths, self.left = self._mixing.after(self.strengths, step), left(self._lengths)
+            self.strengths, self.last = self._mixing.after(self.strengths, step), self._lengths[-1]
+        self._powers = [*map(math.exp, self.strengths)]
+
+
+def left_by(scouts: Iterable[Round]) -> Left:
+    """Fits some rounds to the end; answers what may be left of others after a step."""
+    return Left(*(SAFER * max(parts) for parts in zip(*map(left_of, scouts))))
+
+
+def left_of(it: Round) -> tuple[float, float]:
+    """Fits a round to the end; answers which part of its next step was left, of any strength and of each one alone."""
+    it.go_on()
+    after, alone, last = it.strengths, [*map(it.alone, range(len(it.strengths)))], it.last or 1.0
+    it.finish()
+    return apart(after, it.strengths) / last, apart(alone, it.strengths) / last
+
+
+def apart(one: Sequence[float], other: Sequence[float]) -> float:
+    """How far two points are from each other at most."""
+    return length([*map(sub, one, other)])
 
 
 def is_slow(lengths: list[float]) -> bool:

@@ -60,4 +60,4 @@ def play(player: Player, left: Iterator[Record], kept: Journal, add: Adds, progr
         for record in ended:
             kept.add(record)
             add(record)
-            progress.count(record.series.count)
+            progress.count(record.series.matches)

@@ -39,14 +39,15 @@ class Settings:
         return [f"-m{count}", f"-l{self.cycles}", f"-s{seed}", f"-p{self.profile}", f"-f{first}", "--"]
 
 
-NUMBER = r"(\d{1,20})"
-PATTERN = (rf"m={NUMBER} l={NUMBER} s={NUMBER} p={NUMBER} program=([0-9a-f]{{64}}) "
-           rf"robots={NUMBER} sizes=([2-4](?:,[2-4]){{0,2}}) sample={NUMBER}")
+NUMBER = r"\d{1,20}"
+PATTERN = (rf"m={NUMBER} l={NUMBER} s={NUMBER} p={NUMBER} program=[0-9a-f]{{64}} "
+           rf"robots={NUMBER} sizes=[2-4](?:,[2-4]){{0,2}} sample={NUMBER}")
 
 
 @cache
-def parsed(m: str, l: str, s: str, p: str, program: str, robots: str, sizes: str, sample: str) -> Settings:
-    """The settings of the fields that PATTERN finds."""
+def parsed(text: str) -> Settings:
+    """The settings of a text that PATTERN finds."""
+    m, l, s, p, program, robots, sizes, sample = (field.partition("=")[2] for field in text.split(" "))
     several = tuple(map(int, sizes.split(",")))
     return Settings(int(m), int(l), int(s), int(p), program, int(robots), several, int(sample))
 

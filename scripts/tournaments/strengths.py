@@ -8,7 +8,7 @@ from __future__ import annotations
 import itertools
 import math
 from dataclasses import dataclass
-from operator import add, itemgetter, truediv
+from operator import add, itemgetter, mul, truediv
 from typing import Callable, Sequence
 
 from . import matrices
@@ -69,6 +69,14 @@ class Matches:
         sums = (sum(map(truediv, row, map(add, itertools.repeat(power), pick(powers))))
                 for power, row, pick in zip(powers, self.rows, self.opponents.pickers))
         return [score - power * (it + 1 / (1 + power)) for score, power, it in zip(self.scores, powers, sums)]
+
+    def alone(self, robot: int, strength: float, powers: list[float]) -> float:
+        """A robot's strength by a step of Newton's method from this one, if all others' powers stay."""
+        power, others = powers[robot], self.opponents.pickers[robot](powers)
+        both = [*map(add, itertools.repeat(power), others)]
+        parts: list[float] = [*map(truediv, self.rows[robot], both)]
+        bend: float = sum(map(mul, parts, map(truediv, others, both))) + 1 / (1 + power) ** 2
+        return strength + (self.scores[robot] / power - sum(parts) - 1 / (1 + power)) / bend
 
     def curvature(self, strengths: Vector) -> Matrix:
         """The curvature of the likelihood, below the diagonal and on it."""

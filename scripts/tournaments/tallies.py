@@ -46,7 +46,7 @@ class Tally:
     """All matches of a tournament, added up. A robot's rounds are twice its score against all others."""
 
     def __init__(self) -> None:
-        self.scores: dict[int, dict[int, Score]] = {}
+        self.scores: defaultdict[int, defaultdict[int, Score]] = defaultdict(lambda: defaultdict(Score))
         self.pairs: defaultdict[tuple[int, int], Pair] = defaultdict(Pair)
         self.rounds: defaultdict[int, Packed] = defaultdict(int)
         self._weights = Weights()
@@ -65,9 +65,9 @@ class Tally:
                 self._add_pair(one, other, cell)
 
     def _add_scores(self, seats: Group, ended: str, matches: int) -> None:
-        of_size = self.scores.setdefault(len(seats), {})
+        of_size = self.scores[len(seats)]
         for robot, letter in zip(seats, ended):
-            score = of_size.setdefault(robot, Score())
+            score = of_size[robot]
             if letter == "w":
                 score.won += matches
             elif letter == "t":

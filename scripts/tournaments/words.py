@@ -10,6 +10,7 @@ from typing import Callable, NoReturn
 
 from .faults import Fault
 from .output import show
+from .programs import number
 
 MATCHES_MAX, CYCLES_MAX, SEED_MAX = 1_000_000, 1_000_000_000, 2**64 - 1
 
@@ -64,8 +65,20 @@ def target(text: str) -> tuple[str, str]:
     return form, path
 
 
+class Version(argparse.Action):
+    """Writes the version, and ends."""
+
+    def __call__(self, parser: argparse.ArgumentParser, *_: object) -> NoReturn:
+        show([f"{parser.prog} {number()}\n"])
+        parser.exit()
+
+
 class Parser(argparse.ArgumentParser):
     """A parser whose faults are told in one line, and whose help is written as other output is."""
+
+    def add_version(self) -> None:
+        """Takes `--version`, too."""
+        self.add_argument("--version", action=Version, nargs=0, help="show the version and exit")
 
     def error(self, message: str) -> NoReturn:
         raise Fault(message)
@@ -78,6 +91,7 @@ def common(name: str, does: str) -> Parser:
     """The words that both scripts take."""
     it = Parser(prog=name, description=does, allow_abbrev=False)
     it.set_defaults(script=name)
+    it.add_version()
     it.add_argument("-j", dest="jobs", metavar="JOBS", type=within(1, 1024), default=os.cpu_count() or 1, help="series at a time (default: the processors)")
     it.add_argument("-m", dest="matches", metavar="MATCHES", type=within(1, MATCHES_MAX), help="matches of each group, rounded up to a multiple of its size (default 100)")
     it.add_argument("-l", dest="cycles", metavar="CYCLES", type=within(1, CYCLES_MAX), help="cycles of a match (default 500000)")

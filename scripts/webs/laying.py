@@ -40,6 +40,8 @@ TIME = (1980, 1, 1, 0, 0, 0)
 LADDER = re.compile(r"^\| (\d+) \| \[(\w+\.r)\]", re.MULTILINE)
 IMPORT = re.compile(r'^import (\{.*\}) from "\./(\w+)\.js";$', re.MULTILINE)
 EXPORT = re.compile(r"^export ((?:async )?(?:const|function|class) (\w+))", re.MULTILINE)
+# A comment with lines of its own.
+COMMENT = re.compile(r"^ *(?://.*|/\*\*(?:.|\n)*?\*/)\n", re.MULTILINE)
 
 
 def in_order(name: str, before: tuple[str, ...] = ()) -> tuple[str, ...]:
@@ -49,9 +51,17 @@ def in_order(name: str, before: tuple[str, ...] = ()) -> tuple[str, ...]:
     return (*before, name)
 
 
+def bare(script: str) -> str:
+    """A script without the comments that have lines of their own, and without the blanks before its lines if no text goes over
+    several of them. The repository has the comments."""
+    lines = COMMENT.sub("", script).split("\n")
+    goes_on = any(line.count("`") % 2 or line.endswith("\\") for line in lines)
+    return "\n".join(lines if goes_on else [line.strip() for line in lines])
+
+
 def wrapped(name: str) -> str:
     """A module as a function, whose result is what it exports."""
-    text = text_of(WEB, f"{name}.js")
+    text = bare(text_of(WEB, f"{name}.js"))
     exports = ", ".join(found for _, found in EXPORT.findall(text))
     body = EXPORT.sub(r"\1", IMPORT.sub(r"const \1 = modules.\2;", text))
     return f"modules.{name} = (() => {{\n{body}return {{{exports}}};\n}})();\n"
@@ -72,7 +82,7 @@ def samples() -> list[dict[str, str | int]]:
 
 def player_script() -> str:
     """The script of the page that plays matches."""
-    return "".join(text_of(PLAYER, name) for name in PLAYER_SCRIPTS)
+    return "".join(bare(text_of(PLAYER, name)) for name in PLAYER_SCRIPTS)
 
 
 def player() -> str:

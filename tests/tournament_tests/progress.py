@@ -16,7 +16,7 @@ from typing import Iterator
 
 from tournaments import progress
 
-from .base import TABLE, Base, unrated
+from .base import TABLE, TOP, Base, read, unrated
 
 WORDS = ("-m10", "-l100", "a.r", "b.r", "c.r")
 
@@ -97,6 +97,18 @@ class Told(Base):
         ran = self._sh(f"{words} 2>&- <&-")
         fine = all(line.startswith("series 2 ") for line in self._lines("closed"))
         return [] if unrated(ran.stdout) == TABLE and fine and len(self._lines("closed")) > 5 else [f"{ran} {self._lines('closed')}"]
+
+    def help_and_version(self) -> list[str]:
+        """Both go to standard output, whatever else is lacking, and a disk that is full is told."""
+        version, wrong = f"{read(os.path.join(TOP, 'VERSION')).strip()}\n", []
+        for name in ("tournament", "challenge", "league"):
+            for option, begin in (("-h", f"usage: {name} "), ("--help", f"usage: {name} "), ("--version", f"{name} {version}")):
+                ran, full = self._sh(f"{name} {option}"), self._sh(f"{name} {option} > /dev/full")
+                right = ran.stdout.startswith(begin) and (ran.stderr, ran.returncode) == ("", 0)
+                wrong += [] if right else [f"{ran}"]
+                wrong += self._answers(full, "", f"{name}: cannot write: No space left on device\n", 3)
+            wrong += [] if self._sh(f"{name} --version").stdout == f"{name} {version}" else [f"{name} has more than its version"]
+        return wrong
 
     def standard_output_that_cannot_be_written(self) -> list[str]:
         """Closed, it is refused before anything is played; full, it is told; a pipe that is closed ends it as others."""

@@ -7,9 +7,10 @@ import math
 import os
 import random
 import statistics
+import unittest.mock
 from collections import defaultdict
 
-from tournaments import bootstrap, ratings, resampling, tallies
+from tournaments import bootstrap, ratings, resampling, strengths, tallies
 from tournaments.records import Record, Series
 from tournaments.settings import Settings
 
@@ -79,6 +80,21 @@ class Rated(Base):
                 if shown(one) != shown(other):
                     wrong.append(f"{len(pairs)} of {letters}: {one} and not {other}")
         return wrong
+
+    def few_looks_at_all_pairs(self) -> list[str]:
+        """Of many robots a round wants its first step, one look at all of its pairs, and a second one in few rounds."""
+        source, looks = random.Random(5), 0
+        slope = strengths.Matches.slope
+
+        def counted(matches: strengths.Matches, at: strengths.Vector) -> list[float]:
+            nonlocal looks
+            looks += 1
+            return slope(matches, at)
+
+        tally = tally_of({pair: "".join(source.choice("wwtll") for _ in range(6)) for pair in itertools.combinations(range(40), 2)})
+        with unittest.mock.patch.object(strengths.Matches, "slope", counted):
+            ratings.ratings(tally, 40)
+        return [] if looks <= 1.4 * bootstrap.ROUNDS else [f"{looks} looks"]
 
     def intervals_hold_the_truth(self) -> list[str]:
         """Of many made tournaments of three robots of odds 2, 1 and 1/2 about 95 % of the intervals have the true rating."""

@@ -17,6 +17,7 @@ from types import ModuleType
 
 HERE = os.path.dirname(os.path.abspath(__file__))
 ROBOTS = os.path.join(HERE, "..", "..", "robots")
+MISTAKES = os.path.join(HERE, "..", "..", "docs", "mistakes.md")
 SECONDS = 120
 VECTORS = "CROBOTS_VECTORS"
 
@@ -38,7 +39,7 @@ class Settings:
 
 @dataclass
 class Battle:
-    """Robots, by name and source, settings, and what is asked of the engine: run, list, places, film or windows; of windows
+    """Robots, by name and source, settings, and what is asked of the engine: run, list, places, explain, film or windows; of windows
     the update after which they begin, and how many there are."""
 
     robots: list[tuple[str, bytes]]
@@ -82,6 +83,34 @@ class Vector(Battle):
 
     def told(self, crobots: str) -> tuple[int, bytes, bytes]:
         return self.answer
+
+
+@dataclass
+class Mistake:
+    """A source of docs/mistakes.md, its profile, and what the page has of crobots-why on it, without the file's name."""
+
+    source: bytes
+    profile: int
+    told: bytes
+
+    @property
+    def is_faulty(self) -> bool:
+        """Whether it has a fault, and not warnings."""
+        return b": warning: " not in self.told
+
+
+def mistakes() -> list[Mistake]:
+    """The examples of docs/mistakes.md on which crobots-why says all that it has to say."""
+    with open(MISTAKES, encoding="utf-8") as file:
+        text = file.read()
+    found, sources = [], {}
+    for command, output in re.findall(r"^\$ (.*)\n((?:(?!\$ |```).*\n)*)", text, re.MULTILINE):
+        if made := re.fullmatch(r"printf '(.*)' > (\S+)", command):
+            sources[made[2]] = made[1].replace("\\n", "\n").encode("ascii")
+        elif (asked := re.fullmatch(r"crobots-why ((?:-\S+ )*)(\S+)", command)) and output:
+            told = re.sub(rf"^{re.escape(asked[2])}:", "", output, flags=re.MULTILINE)
+            found.append(Mistake(sources[asked[2]], 2 if "-p2" in asked[1] else 1, told.encode("ascii")))
+    return found
 
 
 def vectors(*kinds: str) -> list[Battle]:

@@ -10,7 +10,8 @@ const bytes = fs.readFileSync(path);
 const engine = await Engine.load(bytes);
 const ROBOT_BYTES = (engine.text - engine.robots) / 4;
 const SOURCE = new TextEncoder().encode("main(){ while (1) { cannon(rand(360), 99); drive(rand(360), 50); } }\x1a");
-const CALLS = ["run", "film", "film_windows"];
+// each call with how many words it takes
+const CALLS = {run: 5, film: 5, film_windows: 5, explain: 4};
 const MOST = 2 ** 32 - 1;
 const SIZES = [0, 1, 68, 69, 255, 256, 1048576, 1048577, 1048578, MOST];
 const NUMBERS = [0, 1, 2, 26, 27, 2 ** 31, MOST];
@@ -64,8 +65,8 @@ function call(codes) {
     }
     const robots = below(6) ? 1 + below(4) : 0;
     const addresses = [engine.order, engine.robots, robots, engine.text, engine.faults].map(BigInt);
-    const name = oneOf(CALLS);
-    const code = engine.exports[name](...addresses);
+    const name = oneOf(Object.keys(CALLS));
+    const code = engine.exports[name](...addresses.slice(0, CALLS[name]));
     codes[code] = (codes[code] ?? 0) + 1;
 }
 
@@ -75,7 +76,7 @@ const compiled = await WebAssembly.compile(bytes);
 function outside(call, at, word) {
     const {exports} = new WebAssembly.Instance(compiled);
     // there all is 0, which isn't within the limits
-    const words = [0n, 0n, 1n, 0n, 0n];
+    const words = [0n, 0n, 1n, 0n, 0n].slice(0, CALLS[call]);
     words[at] = word;
     try {
         return exports[call](...words);
@@ -91,8 +92,9 @@ for (let n = 0; n < Number(count); n++) {
 // the memory's end, numbers whose lower half is an address, and the last ones
 const beyond = size => [size, 1n << 32n, (1n << 32n) - 8n, (1n << 32n) + 4096n, 1n << 62n, (1n << 64n) - 9n];
 const sizes = beyond(BigInt(new WebAssembly.Instance(compiled).exports.memory.buffer.byteLength));
-const ends = CALLS.flatMap(call => [0, 1, 2, 3, 4].flatMap(at => sizes.map(word => outside(call, at, word))));
-const inside = CALLS.map(call => outside(call, 0, 0n));
+const ends = Object.entries(CALLS).flatMap(([call, count]) =>
+    [...Array(count).keys()].flatMap(at => sizes.map(word => outside(call, at, word))));
+const inside = Object.keys(CALLS).map(call => outside(call, 0, 0n));
 const imports = WebAssembly.Module.imports(compiled);
 const exports = WebAssembly.Module.exports(compiled).map(it => it.name);
 console.log(JSON.stringify({imports, exports, codes, inside, ends}));

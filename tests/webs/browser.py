@@ -10,7 +10,7 @@ import sys
 from typing import Any, Callable, ContextManager, Iterator
 
 from . import everyone, helping, keeping, paths, robust, seeing
-from .battles import Battle, Settings, outcome, random_battles, sample_battles, samples, script, vectors
+from .battles import Battle, Mistake, Settings, mistakes, outcome, random_battles, sample_battles, samples, script, vectors
 from .pages import Page, chromium, console, served, without
 
 DEBIAN = "/usr/lib/python3/dist-packages"
@@ -88,6 +88,36 @@ def marks(page: Page) -> list[str]:
         else:
             advice.add(shown[1])
     return wrong + ([] if len(found) == len(advice) == 16 else [f"{len(found)} diagnostics, {len(advice)} pieces of advice"])
+
+
+SAID = """return [[...document.querySelectorAll('#explanation pre, #explanation p, #explanation li')].map(it => it.textContent),
+    [...document.querySelectorAll('.CodeMirror .warning-sign')].map(it => it.title)]"""
+
+
+def said(it: Mistake) -> tuple[list[str], list[str]]:
+    """What stands below the diagnostic, and the words of the marks, by what crobots-why says."""
+    lines = it.told.decode().splitlines()
+    if it.is_faulty:
+        code = "\n".join(line[4:] for line in lines[1:] if line.startswith("    "))
+        return [code, *(line.strip() for line in lines[1:] if not line.startswith("    "))], []
+    warnings = [(int(line), text) for line, text in re.findall(r"^(\d+):\d+: warning: (.*)$", it.told.decode(), re.MULTILINE)]
+    marks_ = {line: "\n".join(text for at, text in warnings if at == line) for line, _ in warnings}
+    return [f"Line {line} {text}" for line, text in warnings], list(marks_.values())
+
+
+def explanations(page: Page) -> list[str]:
+    """Below the diagnostic stands what crobots-why says, as its page has it, and warnings are marks too."""
+    wrong = []
+    for it in mistakes():
+        page.show(Battle([("a.r", it.source)], Settings(profile=it.profile)))
+        got, wanted = page.js(SAID), [*said(it)]
+        wrong += [] if got == wanted else [f"{it.source!r}: {got}, not {wanted}"]
+    page.js("document.querySelector('#explanation button').click()")
+    at = page.js("return document.querySelector('.CodeMirror').CodeMirror.getCursor().line + 1")
+    wanted_line = int(mistakes()[-1].told.split(b":")[0])
+    page.show(Battle(samples()[:1]))
+    left = page.js(SAID)
+    return wrong + ([] if (at, left) == (wanted_line, [[], []]) else [f"line {at}, not {wanted_line}; then {left}"])
 
 
 def alive(page: Page, crobots: str, most: int = 1_048_577) -> list[str]:
@@ -346,6 +376,7 @@ def results(crobots: str, _stages: str, folder: str) -> Iterator[tuple[str, list
         yield "vectors", reports(page, crobots, [it for it in vectors("battles", "profiles") if it.call == "run"])
         yield "random robots", reports(page, crobots, random_battles(100, 6))
         yield "diagnostics", marks(page)
+        yield "explanations", explanations(page)
         yield "hostile sources", alive(page, crobots)
         yield "listing", listing(page)
         yield "links", links(page, crobots)

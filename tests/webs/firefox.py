@@ -24,6 +24,7 @@ def results(crobots: str, _stages: str, folder: str) -> Iterator[tuple[str, list
         page.open()
         yield "samples", browser.reports(page, crobots, sample_battles()[::3])
         yield "random robots", browser.reports(page, crobots, random_battles(10, 8))
+        yield "explanations", browser.explanations(page)
         yield "links", browser.links(page, crobots)
         yield "watched matches", browser.watched(page, crobots)
         yield "widths", everyone.widths(page)

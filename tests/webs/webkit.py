@@ -73,6 +73,7 @@ def results(crobots: str, _stages: str, folder: str) -> Iterator[tuple[str, list
         yield "samples", browser.reports(page, crobots, sample_battles())
         yield "random robots", browser.reports(page, crobots, random_battles(30, 7))
         yield "diagnostics", browser.marks(page)
+        yield "explanations", browser.explanations(page)
         yield "hostile sources", browser.alive(page, crobots, MOST_HOSTILE)
         yield "listing", browser.listing(page)
         yield "links", browser.links(page, crobots)

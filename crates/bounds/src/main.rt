@@ -9,15 +9,20 @@ use facts::{Facts, add_rows};
 use grammar::{ParseFault, Profile};
 use std::process::ExitCode;
 use tools::{
-    Draft, Fault, Frame, Known, Options, Output, Work, profile, source_of, tell_diagnostic,
+    Draft, Fault, Frame, Known, Options, Output, PROFILE_OPTIONS, Work, profile, source_of,
+    tell_diagnostic,
 };
 
 /// The program's name, its line of wrong usage, and its options.
 const FRAME: Frame = Frame {
-    name: "bounds",
-    usage: "usage: bounds [-pPROFILE] [--json] FILE..",
-    known: &[&[Known::Valued("p"), Known::Flag("json")]],
+    name: "crobots-bounds",
+    about: "Says what is known of robots before they fight: their stack, and the cycles of their functions and loops.",
+    usage: "[-pPROFILE] [--json] FILE..",
+    known: &[&PROFILE_OPTIONS, &FORM_OPTIONS],
 };
+
+/// The option of the form.
+const FORM_OPTIONS: [Known; 1] = [Known::Flag("json", "one object a file, as JSON")];
 
 /// Says what is known of the files that the command line names, and returns the status.
 fn main(rt: HostRuntime) -> ExitCode {

@@ -2,8 +2,11 @@
 
 use crate::locations::Located;
 use crate::steps::Derivation;
-use std::alloc::{AllocError, Global};
+use arrayvec::ArrayVec;
 use tokens::{Name, Punctuator, Token, Word};
+
+/// The most tokens that fit at a place: all.
+pub const MOST_FITTING: usize = PUNCTUATORS.len() + WORDS.len() + 3;
 
 /// All punctuators, in the order of their enum.
 static PUNCTUATORS: [Punctuator; 39] = [
@@ -63,53 +66,55 @@ pub fn spelled(punctuator: Punctuator) -> &'static str {
     SPELLINGS[punctuator as usize]
 }
 
+/// The tokens that fit at a place, each without a place of its own.
+pub type Fitting = ArrayVec<Located, MOST_FITTING>;
+
 /// Finds the tokens that fit in place of the one of an index, if those before it fit: punctuators, words, a name, a
 /// constant, the end. The table is asked for each of them. The token before decides anew what it begins, as it may be
 /// the token after it that chooses its production.
-pub fn fitting(alloc: Global, tokens: &[Located], index: usize) -> Result<Vec<Token>, AllocError> {
-    let before = Derivation::reached(alloc, tokens, index.saturating_sub(1))?;
-    let kept = tokens.get(index.saturating_sub(1)..index).unwrap_or(&[]);
-    let mut found = Vec::new(alloc);
+pub fn fitting(tokens: &[Located], index: usize) -> Fitting {
+    let gap = Gap::before(tokens, index);
+    let mut found = ArrayVec::new();
     for punctuator in &PUNCTUATORS {
-        add(
-            &mut found,
-            alloc,
-            &before,
-            kept,
-            &Token::Punctuator(*punctuator),
-        )?;
+        gap.add(&mut found, Token::Punctuator(*punctuator));
     }
     for word in &WORDS {
-        add(&mut found, alloc, &before, kept, &Token::Word(*word))?;
+        gap.add(&mut found, Token::Word(*word));
     }
-    add(&mut found, alloc, &before, kept, &Token::Name(Name::new()))?;
-    add(&mut found, alloc, &before, kept, &Token::Constant(0))?;
-    add(&mut found, alloc, &before, kept, &Token::End)?;
-    Ok(found)
+    for token in [Token::Name(Name::new()), Token::Constant(0), Token::End] {
+        gap.add(&mut found, token);
+    }
+    found
 }
 
-/// Adds a token to those found, if it fits after the kept ones.
-fn add(
-    found: &mut Vec<Token>,
-    alloc: Global,
-    before: &Derivation<'_>,
-    kept: &[Located],
-    token: &Token,
-) -> Result<(), AllocError> {
-    if before.matches_all(followed(alloc, kept, token)?.as_slice())? {
-        found.push(*token)?;
-    }
-    Ok(())
+/// A place between two tokens.
+#[derive(Drop)]
+struct Gap<'a> {
+    /// The derivation before the token that stands before the place.
+    before: Derivation<'a>,
+    /// That token, if there is one.
+    kept: &'a [Located],
 }
 
-/// Returns the kept tokens and then this one, which has no place.
-fn followed(alloc: Global, kept: &[Located], token: &Token) -> Result<Vec<Located>, AllocError> {
-    let mut tokens = Vec::new(alloc);
-    for located in kept {
-        tokens.push(*located)?;
+impl<'a> Gap<'a> {
+    /// Returns the place before the token of an index.
+    fn before(tokens: &'a [Located], index: usize) -> Gap<'a> {
+        let kept = index.saturating_sub(1);
+        Gap {
+            before: Derivation::reached(tokens, kept),
+            kept: tokens.get(kept..index).unwrap_or(&[]),
+        }
     }
-    tokens.push(placeless(token))?;
-    Ok(tokens)
+
+    /// Adds a token to those found, if it fits here.
+    fn add(&self, found: &mut Fitting, token: Token) {
+        let mut tokens: ArrayVec<Located, 2> = ArrayVec::new();
+        let _ = tokens.try_extend_from_slice(self.kept);
+        let _ = tokens.try_push(placeless(&token));
+        if self.before.matches_all(tokens.as_slice()) {
+            let _ = found.try_push(placeless(&token));
+        }
+    }
 }
 
 /// Returns a token without a place of its own.

@@ -13,9 +13,9 @@ mod symbols;
 mod trackers;
 
 pub use addresses::{MOST_PLACES, Place, Places, lines};
-pub use candidates::{fitting, spelled};
+pub use candidates::{Fitting, MOST_FITTING, fitting, spelled};
 pub use choices::{choice, enters};
 pub use emissions::{Emission, MOST_ACTIONS, Origin};
-pub use locations::{Located, locate};
+pub use locations::{Located, MOST_TOKENS, Tokens, locate, locate_in};
 pub use steps::{Derivation, Pending, StepEnd};
 pub use symbols::{Item, MOST_ITEMS, Production, Role, SemanticAction, Symbol};

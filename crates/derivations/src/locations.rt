@@ -2,8 +2,12 @@
 
 ghost use Rattle.std.specs.Prelude.{◌≤◌, length};
 
+use arrayvec::ArrayVec;
 use std::alloc::{AllocError, Global};
 use tokens::{Cursor, LexicalError, LocatedToken, Pieces, SOURCE_BYTES, Token, WINDOW};
+
+/// The most tokens that are found without asking for memory.
+pub const MOST_TOKENS: usize = 16_384;
 
 /// A token of a source in memory, with its place.
 #[derive(Clone, Copy)]
@@ -18,6 +22,18 @@ pub struct Located {
     pub start: usize,
     /// How many bytes of the source there are up to its last one.
     pub end: usize,
+}
+
+impl Default for Located {
+    fn default() -> Located {
+        Located {
+            token: Token::End,
+            line: 1,
+            column: 1,
+            start: 0,
+            end: 0,
+        }
+    }
 }
 
 /// Finds all tokens of a source, the last one included: the end, or a lexical error. The only error is that memory is
@@ -37,6 +53,26 @@ pub fn locate(alloc: Global, source: &[u8]) -> Result<Vec<Located>, AllocError> 
         }
     }
     Ok(tokens)
+}
+
+/// Tokens of a source that isn't too long, in memory of fixed size.
+pub type Tokens = ArrayVec<Located, MOST_TOKENS>;
+
+/// Finds all tokens of a source as `locate` does, without asking for memory. Answers whether there was room for all.
+pub fn locate_in(tokens: &mut Tokens, source: &[u8]) -> bool {
+    let mut feed = Pieces::new(source, WINDOW);
+    let Ok(mut cursor) = Cursor::open(&mut feed) else {
+        return true;
+    };
+    let mut places = Finder::new(source);
+    for _ in 0..MOST_TOKENS {
+        let token = *cursor.peek();
+        let _ = tokens.try_push(places.place(&token));
+        if token.token.is_last() || cursor.advance(&mut feed).is_err() {
+            return true;
+        }
+    }
+    false
 }
 
 /// How far the places of a source's tokens are known: to the end of a token.

@@ -1,6 +1,6 @@
 //! The leftmost derivation of a source, step by step.
 
-ghost use Rattle.std.specs.Prelude.{◌≡◌, ◌+◌, IfOk};
+ghost use Rattle.std.specs.Prelude.{◌≡◌, ◌≢◌, ◌+◌};
 ghost use Rattle.derivations.specs.Steps.{decided_of, end_of, front_of, is_wanted, outcome_of, token_at};
 ghost use Rattle.derivations.specs.Table.{item_of};
 
@@ -9,8 +9,12 @@ use crate::emissions::{Emission, Origin};
 use crate::locations::Located;
 use crate::scheme::emitted;
 use crate::symbols::{Item, Production, Symbol};
-use std::alloc::{AllocError, Global};
+use arrayvec::ArrayVec;
 use tokens::Token;
+
+/// The most items that are pending. A source has fewer up to its first fault: each of its levels, `grammar::MOST_LEVELS` at
+/// most, has at most 30, three for each level of operators.
+pub(crate) const MOST_PENDING: usize = 2048;
 
 /// How a step ended.
 #[derive(Clone, Copy, PartialEq, Eq)]
@@ -21,10 +25,13 @@ pub enum StepEnd {
     Misfit,
     /// Nothing is left to match. The derivation stays.
     Done,
+    /// There is no room for what is still to match: more levels are open than a source may have. The derivation is of no
+    /// more use.
+    Full,
 }
 
 /// An item that is still to be matched or done, and the token at which its production was chosen.
-#[derive(Clone, Copy)]
+#[derive(Clone, Copy, Default)]
 pub struct Pending {
     /// The item.
     pub item: Item,
@@ -37,58 +44,54 @@ pub struct Pending {
 pub struct Derivation<'a> {
     tokens: &'a [Located],
     place: usize,
-    stack: Vec<Pending>,
+    stack: ArrayVec<Pending, MOST_PENDING>,
     levels: usize,
 }
 
 impl<'a> Derivation<'a> {
     /// Starts the derivation of these tokens, of which the last is the end or a lexical error.
-    pub fn start(alloc: Global, tokens: &'a [Located]) -> Result<Derivation<'a>, AllocError> {
-        let mut stack = Vec::new(alloc);
-        stack.push(Pending {
+    pub fn start(tokens: &'a [Located]) -> Derivation<'a> {
+        let source = Pending {
             item: Item::Part(Symbol::Source),
             chosen_at: 0,
-        })?;
-        Ok(Derivation {
+        };
+        Derivation::over(tokens, &[source])
+    }
+
+    /// Starts where these items are still to match, the next last.
+    fn over(tokens: &'a [Located], items: &[Pending]) -> Derivation<'a> {
+        let mut stack = ArrayVec::new();
+        let _ = stack.try_extend_from_slice(items);
+        Derivation {
             tokens,
             place: 0,
             stack,
             levels: 0,
-        })
+        }
     }
 
     /// Derives tokens until the one of an index is next for the first time, or one doesn't fit, or the derivation is
     /// done.
-    pub(crate) fn reached(
-        alloc: Global,
-        tokens: &'a [Located],
-        index: usize,
-    ) -> Result<Derivation<'a>, AllocError> {
-        let mut derivation = Derivation::start(alloc, tokens)?;
-        derivation.run_to(index)?;
-        Ok(derivation)
+    pub(crate) fn reached(tokens: &'a [Located], index: usize) -> Derivation<'a> {
+        let mut derivation = Derivation::start(tokens);
+        derivation.run_to(index);
+        derivation
     }
 
     /// Steps on until the token of an index is next, or one doesn't fit, or the derivation is done.
-    fn run_to(&mut self, index: usize) -> Result<(), AllocError> {
+    fn run_to(&mut self, index: usize) {
         for _ in 0..u64::MAX {
-            if self.place >= index || self.step()? != StepEnd::Stepped {
-                break;
+            if self.place >= index || self.step() != StepEnd::Stepped {
+                return;
             }
         }
-        Ok(())
     }
 
     /// Reports whether all of these tokens fit here, in place of those that are left.
-    pub(crate) fn matches_all(&self, tokens: &[Located]) -> Result<bool, AllocError> {
-        let mut derivation = Derivation {
-            tokens,
-            place: 0,
-            stack: self.stack.clone()?,
-            levels: 0,
-        };
-        derivation.run_to(tokens.len())?;
-        Ok(derivation.place >= tokens.len())
+    pub(crate) fn matches_all(&self, tokens: &[Located]) -> bool {
+        let mut derivation = Derivation::over(tokens, self.stack());
+        derivation.run_to(tokens.len());
+        derivation.place >= tokens.len()
     }
 
     /// Returns the index of the next token.
@@ -114,7 +117,7 @@ impl<'a> Derivation<'a> {
     pub fn front(&self) -> Option<Pending>
         ensures { result ≡ front_of self.now.stack.items }
     {
-        self.stack.last().copied()
+        self.stack.as_slice().last().copied()
     }
 
     /// Returns what is still to match or to do, the next last.
@@ -135,22 +138,22 @@ impl<'a> Derivation<'a> {
         }
     }
 
-    /// Does one step. The only error is that memory is refused.
-    pub fn step(&mut self) -> Result<StepEnd, AllocError>
-        ensures { IfOk result (λ outcome. outcome ≡ outcome_of (front_of self.old.stack.items)
-            (token_at self.old.tokens.now self.old.place) (token_at self.old.tokens.now (self.old.place + 1))) }
+    /// Does one step.
+    pub fn step(&mut self) -> StepEnd
+        ensures { result ≢ StepEnd.Full → result ≡ outcome_of (front_of self.old.stack.items)
+            (token_at self.old.tokens.now self.old.place) (token_at self.old.tokens.now (self.old.place + 1)) }
     {
         let Some(pending) = self.front() else {
-            return Ok(StepEnd::Done);
+            return StepEnd::Done;
         };
         match decided(pending.item, &self.next(), &self.after()) {
-            Move::Misfit => Ok(StepEnd::Misfit),
+            Move::Misfit => StepEnd::Misfit,
             Move::Replace(production) => self.replace(pending.item, &production),
             Move::Pass(tokens) => {
                 if pending.item == Item::Close {
                     self.levels = self.levels.saturating_sub(1);
                 }
-                Ok(self.pass(tokens))
+                self.pass(tokens)
             }
         }
     }
@@ -165,8 +168,8 @@ impl<'a> Derivation<'a> {
     }
 
     /// Replaces the item in front by its production.
-    fn replace(&mut self, item: Item, production: &Production) -> Result<StepEnd, AllocError>
-        ensures { IfOk result (λ outcome. outcome ≡ StepEnd.Stepped) }
+    fn replace(&mut self, item: Item, production: &Production) -> StepEnd
+        ensures { result ≢ StepEnd.Full → result ≡ StepEnd.Stepped }
     {
         if let Item::Part(symbol) = item {
             let opens = enters(symbol, &self.next(), &self.after());
@@ -174,12 +177,15 @@ impl<'a> Derivation<'a> {
         }
         let _ = self.stack.pop();
         for item in production.items().iter().rev() {
-            self.stack.push(Pending {
+            let pending = Pending {
                 item: *item,
                 chosen_at: self.place,
-            })?;
+            };
+            if self.stack.try_push(pending).is_err() {
+                return StepEnd::Full;
+            }
         }
-        Ok(StepEnd::Stepped)
+        StepEnd::Stepped
     }
 
     /// Returns what the next step emits, by the translation scheme.
@@ -192,7 +198,8 @@ impl<'a> Derivation<'a> {
 
     /// Returns the two items after the one in front.
     fn behind(&self) -> [Option<Item>; 2] {
-        let mut items = self.stack.iter().rev().skip(1).map(|pending| pending.item);
+        let pending = self.stack().iter().rev().skip(1);
+        let mut items = pending.map(|pending| pending.item);
         let first = items.next();
         [first, items.next()]
     }

@@ -5,14 +5,10 @@ use crate::addresses::{MOST_PLACES, Place};
 use crate::emissions::{Emission, Origin};
 use crate::locations::Located;
 use crate::scheme::emitted;
-use crate::steps::{Move, decided};
+use crate::steps::{MOST_PENDING, Move, decided};
 use crate::symbols::{Item, Production, Symbol};
 use arrayvec::ArrayVec;
 use grammar::Profile;
-
-/// The most items that are pending. A source that compiles has fewer: each of its levels, `grammar::MOST_LEVELS` at most,
-/// has at most 30, three for each level of operators.
-pub(crate) const MOST_PENDING: usize = 2048;
 
 /// An item that is still to be matched or done, and the places of the token at which its production was chosen and of the
 /// one after that.

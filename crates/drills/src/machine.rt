@@ -41,7 +41,7 @@ pub fn compiled(source: &[u8]) -> Option<Program> {
     Some(maker.finish(&names))
 }
 
-/// Counts over so many cycles of a new machine, if each reply is 0.
+/// Counts questions and restarts in the first cycles of a machine whose replies are all 0.
 pub fn counted(program: &Program, cycles: u32) -> Counts
     ensures { result.asks + result.restarts ≤ cycles }
 {

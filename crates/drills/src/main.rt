@@ -1,4 +1,4 @@
-//! Drives a machine and a field many times: what a cycle, an update, a scan and a bearing cost is measured by it.
+//! Drives a machine and a field many times, to measure what a cycle, an update, a scan and a bearing cost.
 #![tactic(auto)]
 
 mod field;
@@ -38,7 +38,7 @@ fn do_all(rt: &HostRuntime) -> io::Result<()> {
     Ok(())
 }
 
-/// Does a drill so many times, and prints what came of it. A drill that there isn't is refused.
+/// Does a drill a number of times, and prints its result. Refuses a drill that doesn't exist.
 fn run(rt: &HostRuntime, drill: &str, times: u32) -> io::Result<()> {
     match drill {
         "machine" => run_machine(rt, times),
@@ -50,7 +50,7 @@ fn run(rt: &HostRuntime, drill: &str, times: u32) -> io::Result<()> {
     }
 }
 
-/// Runs the robot for so many cycles, and prints in how many it asked and restarted.
+/// Runs the robot for a number of cycles, and prints in how many it asked and restarted.
 fn run_machine(rt: &HostRuntime, cycles: u32) -> io::Result<()> {
     let program = compiled(ROBOT).ok_or(ErrorKind::InvalidData)?;
     let counts = counted(&program, cycles);

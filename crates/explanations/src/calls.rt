@@ -1,57 +1,46 @@
-//! Warnings about calls: their arguments, those on the right of `&&` and `||`, and functions that call themselves.
+//! Warnings about calls: their arguments, what they answer, and those on the right of `&&` and `||`.
 
 use crate::misnamed::name_at;
-use crate::nodes::{Body, Kind, Node, Nodes};
-use crate::told::text_of;
-use crate::warnings::Lint;
-use grammar::{Callee, MOST_NAMES, Op};
-use std::alloc::AllocError;
+use crate::nodes::{Kind, Node, Nodes};
+use crate::warnings::{Said, Subject, Warnings};
+use derivations::Located;
+use grammar::{Callee, Intrinsic, Op};
+use tokens::Name;
 
-/// Warns of calls with more or fewer arguments than the function has parameters.
-pub fn warn_of_arguments(lint: &mut Lint<'_>) -> Result<(), AllocError> {
-    for index in 0..lint.nodes().all().len() {
-        if let Some(node) = lint.nodes().get(index).copied() {
-            if let Kind::Call(callee, arguments) = node.kind {
-                warn_of_call(lint, node.token, callee, arguments)?;
-            }
-        }
-    }
-    Ok(())
-}
+/// How far a shot flies at most, in metres.
+const MOST_RANGE: i32 = 700;
 
-/// Warns of a call with so many arguments, if the function has another number of parameters.
-fn warn_of_call(
-    lint: &mut Lint<'_>,
-    token: usize,
+/// Warns of the call of a node's index, which has so many arguments.
+pub fn warn_of_call(
+    out: &mut Warnings,
+    subject: &Subject<'_>,
+    index: usize,
     callee: Callee,
     arguments: usize,
-) -> Result<(), AllocError> {
-    let wanted = parameters(lint.nodes(), callee);
-    let Some(name) = name_at(lint.tokens(), token) else {
-        return Ok(());
+) {
+    let nodes = subject.nodes;
+    let Some(node) = nodes.get(index) else {
+        return;
     };
-    if wanted == arguments {
-        return Ok(());
+    let wanted = parameters(nodes, callee);
+    if wanted != arguments {
+        out.warn(node.token, Said::Arguments(wanted, arguments));
+    } else if let (Callee::Intrinsic(intrinsic), 2) = (callee, arguments) {
+        warn_of_pair(out, subject, index, intrinsic);
     }
-    let name = text_of(&name);
-    let effect = if arguments < wanted {
-        "those that lack are 0"
-    } else {
-        "the others are dropped"
-    };
-    let mut text = lint.text();
-    write!(text, "`{name}` takes ")?;
-    add_count(&mut text, wanted)?;
-    write!(text, ", and is given {arguments}: {effect}")?;
-    lint.warn(token, text)
-}
-
-/// Adds a number of arguments.
-fn add_count(text: &mut String, count: usize) -> Result<(), AllocError> {
-    match count {
-        0 => text.push_str("no arguments"),
-        1 => text.push_str("1 argument"),
-        _ => write!(text, "{count} arguments"),
+    if !subject.profile.short_circuit()
+        && let Some(words) = on_right_side(nodes, index)
+    {
+        out.warn(node.token, Said::Named(words));
+    }
+    if let Callee::Function(number) = callee
+        && node.is_used
+        && !returns(nodes, number)
+    {
+        out.warn(
+            node.token,
+            Said::Named(" has no `return`: its value is always 0"),
+        );
     }
 }
 
@@ -73,105 +62,118 @@ fn parameters_of(nodes: &Nodes, number: u8) -> usize {
     0
 }
 
-/// Warns of calls on the right of `&&` and `||`, where both sides are always evaluated.
-pub fn warn_of_right_sides(lint: &mut Lint<'_>) -> Result<(), AllocError> {
-    for index in 0..lint.nodes().all().len() {
-        if let Some(node) = lint.nodes().get(index).copied() {
-            if let (Kind::Call(..), Some(op)) = (node.kind, logic_above(lint.nodes(), index)) {
-                warn_of_right_side(lint, &node, op)?;
-            }
+/// Reports whether the function of this number has a `return`.
+fn returns(nodes: &Nodes, number: u8) -> bool {
+    for body in nodes.bodies() {
+        if body.number == number {
+            return has_return(nodes.within(body.first, body.end));
         }
     }
-    Ok(())
+    true
 }
 
-/// Warns of a call on the right of an operator.
-fn warn_of_right_side(lint: &mut Lint<'_>, node: &Node, op: &str) -> Result<(), AllocError> {
-    let Some(name) = name_at(lint.tokens(), node.token) else {
-        return Ok(());
-    };
-    let mut text = lint.text();
-    write!(
-        text,
-        "`{}` is called whatever the left side of `{op}` is, in this profile",
-        text_of(&name)
-    )?;
-    lint.warn(node.token, text)
+/// Reports whether one of these nodes is a `return`.
+fn has_return(nodes: &[Node]) -> bool {
+    for node in nodes {
+        if node.kind == Kind::Return {
+            return true;
+        }
+    }
+    false
 }
 
-/// Returns the innermost `&&` or `||` on whose right side a node stands.
-fn logic_above(nodes: &Nodes, index: usize) -> Option<&'static str> {
+/// Returns what is said of the node of an index that stands on the right of `&&` or `||`, both of whose sides are always
+/// evaluated.
+fn on_right_side(nodes: &Nodes, index: usize) -> Option<&'static str> {
     for node in nodes.within(index, nodes.all().len()) {
         match node.kind {
-            Kind::Binary(Op::And) if node.middle <= index => return Some("&&"),
-            Kind::Binary(Op::Or) if node.middle <= index => return Some("||"),
+            Kind::Binary(Op::And) if node.middle <= index => {
+                return Some(" is called whatever the left side of `&&` is, in this profile");
+            }
+            Kind::Binary(Op::Or) if node.middle <= index => {
+                return Some(" is called whatever the left side of `||` is, in this profile");
+            }
             _ => {}
         }
     }
     None
 }
 
-/// Warns of functions that may call themselves.
-pub fn warn_of_recursion(lint: &mut Lint<'_>) -> Result<(), AllocError> {
-    let called = all_called(lint.nodes());
-    for number in 0..lint.nodes().bodies().len() {
-        if let Some(body) = lint.nodes().bodies().get(number).copied() {
-            if has(&called, body.number, body.number) {
-                lint.tell(
-                    body.token,
-                    "this function may call itself: each call that is open takes a part of the small stack",
-                )?;
-            }
+/// Warns of the two arguments of the call of a node's index: in the wrong order, or a range that no shot has.
+fn warn_of_pair(out: &mut Warnings, subject: &Subject<'_>, index: usize, intrinsic: Intrinsic) {
+    let second = index.saturating_sub(1);
+    let nodes = subject.nodes;
+    let (Some(node), Some(right)) = (nodes.get(index), nodes.get(second)) else {
+        return;
+    };
+    let Some(left) = nodes.get(right.first.saturating_sub(1)) else {
+        return;
+    };
+    let (tokens, values) = (subject.tokens, (left.value, right.value));
+    if may_be_swapped(intrinsic, values) || are_named_swapped(tokens, left, right) {
+        out.tell(node.token, order_of(intrinsic));
+    } else if let (Intrinsic::Cannon, Some(range)) = (intrinsic, right.value)
+        && range > MOST_RANGE
+    {
+        out.tell(node.token, "a shot flies at most 700 metres");
+    }
+}
+
+/// Reports whether two arguments, as far as they are known, fit better the other way round.
+fn may_be_swapped(intrinsic: Intrinsic, values: (Option<i32>, Option<i32>)) -> bool {
+    let (Some(first), Some(second)) = values else {
+        return false;
+    };
+    match intrinsic {
+        Intrinsic::Cannon => first >= 360 && first <= MOST_RANGE && second < 360,
+        Intrinsic::Drive => first <= 100 && second > 100,
+        Intrinsic::Scan => first <= 10 && second > 10,
+        _ => false,
+    }
+}
+
+/// Returns the order of the arguments of a function that takes two.
+fn order_of(intrinsic: Intrinsic) -> &'static str {
+    match intrinsic {
+        Intrinsic::Cannon => "the degree comes first: `cannon(degree, range)`",
+        Intrinsic::Drive => "the degree comes first: `drive(degree, speed)`",
+        _ => "the degree comes first: `scan(degree, resolution)`",
+    }
+}
+
+/// Names that say a degree.
+static DEGREES: [&str; 7] = [
+    "angle",
+    "degree",
+    "degrees",
+    "deg",
+    "dir",
+    "direction",
+    "heading",
+];
+
+/// Names that say the other argument.
+static OTHERS: [&str; 6] = ["range", "distance", "dist", "speed", "resolution", "res"];
+
+/// Reports whether two arguments are variables whose names say that they are in the wrong order.
+fn are_named_swapped(tokens: &[Located], left: &Node, right: &Node) -> bool {
+    is_named(tokens, left, &OTHERS) && is_named(tokens, right, &DEGREES)
+}
+
+/// Reports whether a node is a variable with one of these names.
+fn is_named(tokens: &[Located], node: &Node, names: &[&str]) -> bool {
+    match (node.kind, name_at(tokens, node.token)) {
+        (Kind::Fetch(_), Some(name)) => is_one_of(&name, names),
+        _ => false,
+    }
+}
+
+/// Reports whether a name is one of these.
+fn is_one_of(name: &Name, names: &[&str]) -> bool {
+    for other in names {
+        if name.is(other.as_bytes()) {
+            return true;
         }
     }
-    Ok(())
-}
-
-/// Which functions each function calls: a bit for each number.
-type Called = [u64; MOST_NAMES];
-
-/// Returns which functions are called by each function, directly or by others.
-fn all_called(nodes: &Nodes) -> Called {
-    let mut called = [0; MOST_NAMES];
-    for body in nodes.bodies() {
-        if let Some(own) = called.get_mut(usize::from(body.number)) {
-            *own = called_by(nodes, body);
-        }
-    }
-    for through in 0..64u8 {
-        add_through(&mut called, through);
-    }
-    called
-}
-
-/// Returns which functions a function calls itself.
-fn called_by(nodes: &Nodes, body: &Body) -> u64 {
-    let mut called = 0;
-    for node in nodes.within(body.first, body.end) {
-        if let Kind::Call(Callee::Function(number), _) = node.kind {
-            called |= bit(number);
-        }
-    }
-    called
-}
-
-/// Adds what is called through a function to each function that calls it.
-fn add_through(called: &mut Called, through: u8) {
-    let more = called.get(usize::from(through)).copied().unwrap_or(0);
-    for own in called.iter_mut() {
-        if *own & bit(through) != 0 {
-            *own |= more;
-        }
-    }
-}
-
-/// Reports whether a function calls another one.
-fn has(called: &Called, caller: u8, callee: u8) -> bool {
-    let own = called.get(usize::from(caller)).copied().unwrap_or(0);
-    own & bit(callee) != 0
-}
-
-/// Returns the bit of a function's number.
-fn bit(number: u8) -> u64 {
-    1u64.checked_shl(u32::from(number)).unwrap_or(0)
+    false
 }

@@ -2,7 +2,7 @@
 
 ghost use Rattle.std.specs.Prelude.{◌≡◌, ◌+◌, ◌<◌, ◌≤◌};
 
-use std::alloc::AllocError;
+use crate::notes::Note;
 
 /// The most bytes of a line that are shown before the marked one.
 const MOST_BEFORE: usize = 70;
@@ -12,26 +12,26 @@ const MOST_SHOWN: usize = 110;
 
 /// Adds the line of a source that has the byte of an index, and a mark below that byte. A long line is cut. A line of
 /// spaces alone is left out.
-pub fn add_marked(text: &mut String, source: &[u8], at: usize) -> Result<(), AllocError> {
+pub fn add_marked(note: &mut Note, source: &[u8], at: usize) {
     let start = line_start(source, at);
     let line = line_from(source.get(start..).unwrap_or(&[]));
     if is_blank(line) {
-        return Ok(());
+        return;
     }
     let marked = at.saturating_sub(start);
     let shown = line.get(first_shown(marked)..).unwrap_or(&[]);
     let shown = shown.get(..MOST_SHOWN).unwrap_or(shown);
     let before = marked.saturating_sub(first_shown(marked));
-    text.push_str("    ")?;
+    note.add("    ");
     for byte in shown {
-        text.push(char::from(printable(*byte)))?;
+        note.push(char::from(printable(*byte)));
     }
-    text.push_str("\n    ")?;
+    note.add("\n    ");
     for number in 0..before {
         let above = shown.get(number).copied().unwrap_or(b' ');
-        text.push(char::from(space_below(above)))?;
+        note.push(char::from(space_below(above)));
     }
-    text.push_str("^\n")
+    note.add("^\n");
 }
 
 /// Returns where the line begins that has the byte of an index.

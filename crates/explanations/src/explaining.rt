@@ -4,15 +4,15 @@ use crate::carets::add_marked;
 use crate::comments::nested;
 use crate::hints::{Hint, hint_on};
 use crate::misnamed::add_misnamed;
+use crate::notes::Note;
 use crate::reserved::{on_character, on_word};
 use crate::scenes::Scene;
 use crate::searches::Search;
 use crate::told::add_token;
 use crate::walks::Walk;
 use crate::wanted::add_wanted;
-use derivations::{Located, fitting, locate};
+use derivations::{Located, fitting};
 use grammar::{Code, Diagnostic, MOST_LEVELS, MOST_NAMES, Profile};
-use std::alloc::{AllocError, Global};
 use tokens::{CONSTANT_MAX, NAME_BYTES, SOURCE_BYTES};
 
 /// A fault whose token is found.
@@ -30,37 +30,39 @@ pub struct Found<'a> {
     pub profile: Profile,
 }
 
-/// Adds what explains the fault of the source of a file, which `compile` found by the same profile: its line with the
-/// column, in bytes from 1, the source's line with a mark, what was met and what fits there, and a hint. The path is
-/// written as it is. The only error is that memory is refused.
-pub fn add_explanation(
-    text: &mut String,
-    alloc: Global,
-    path: &str,
+/// Explains the fault of a source, which `compile` found by the same profile; the tokens are the source's. The note has
+/// the line with the column, in bytes from 1, the source's line with a mark, what was met and what fits there, and a hint.
+pub fn explain(
     source: &[u8],
+    tokens: &[Located],
     profile: Profile,
     diagnostic: &Diagnostic,
-) -> Result<(), AllocError> {
-    let tokens = locate(alloc, source)?;
-    let walk = Walk::start(alloc, tokens.as_slice(), profile)?;
-    let mut search = Search::along(alloc, walk);
+) -> Note {
+    let mut search = Search::along(Walk::start(tokens, profile));
     let found = Found {
         source,
-        tokens: tokens.as_slice(),
-        index: search.find(diagnostic)?,
+        tokens,
+        index: search.find(diagnostic),
         code: diagnostic.code,
         profile,
     };
-    add_head(text, path, diagnostic, &found)?;
+    let mut note = Note::new();
+    add_head(&mut note, diagnostic, &found);
+    add_reason(&mut note, &found, &search);
+    note
+}
+
+/// Adds what is known of a fault beside its place.
+fn add_reason(note: &mut Note, found: &Found<'_>, search: &Search<'_>) {
     match found.code {
         Code::SyntaxError | Code::ReservedWord | Code::BadCharacter => {
-            add_misfit(text, alloc, &found, &search)
+            add_misfit(note, found, search);
         }
         Code::FunctionDefinedTwice
         | Code::IntrinsicRedefined
         | Code::BadParameterDeclaration
         | Code::FunctionNotDefined
-        | Code::NoMainFunction => add_misnamed(text, &found, search.defined()),
+        | Code::NoMainFunction => add_misnamed(note, found, search.defined()),
         Code::CommentNotClosed
         | Code::NameTooLong
         | Code::ConstantTooLarge
@@ -68,38 +70,29 @@ pub fn add_explanation(
         | Code::NestedTooDeeply
         | Code::TooManyVariables
         | Code::TooManyFunctions
-        | Code::TooMuchCode => add_limit(text, &found),
+        | Code::TooMuchCode => add_limit(note, found),
     }
 }
 
 /// Adds the first line, and the source's line with a mark.
-fn add_head(
-    text: &mut String,
-    path: &str,
-    diagnostic: &Diagnostic,
-    found: &Found<'_>,
-) -> Result<(), AllocError> {
-    let (line, words) = (diagnostic.line, diagnostic.code.text());
+fn add_head(note: &mut Note, diagnostic: &Diagnostic, found: &Found<'_>) {
     let (column, start) = match found.tokens.get(found.index) {
         Some(located) => (located.column, located.start),
         None => (1, 0),
     };
-    write!(text, "{path}:{line}:{column}: {words}\n")?;
-    add_marked(text, found.source, start)
+    note.place(diagnostic.line, column);
+    note.add(diagnostic.code.text());
+    note.push('\n');
+    add_marked(note, found.source, start);
 }
 
 /// Adds what was met in place of what fits, and the hint on it.
-fn add_misfit(
-    text: &mut String,
-    alloc: Global,
-    found: &Found<'_>,
-    search: &Search<'_>,
-) -> Result<(), AllocError> {
-    let fits = fitting(alloc, found.tokens, found.index)?;
-    add_met(text, found)?;
-    text.push_str("  fits: ")?;
-    add_wanted(text, alloc, fits.as_slice())?;
-    text.push_str("\n")?;
+fn add_misfit(note: &mut Note, found: &Found<'_>, search: &Search<'_>) {
+    let fits = fitting(found.tokens, found.index);
+    add_met(note, found);
+    note.add("  fits: ");
+    add_wanted(note, fits.as_slice());
+    note.push('\n');
     let scene = Scene::at(
         found.source,
         found.tokens,
@@ -107,11 +100,10 @@ fn add_misfit(
         fits.as_slice(),
     );
     if let Some(hint) = hint_for(found, &scene) {
-        text.push_str("  hint: ")?;
-        hint.add(text)?;
-        text.push_str("\n")?;
+        note.add("  hint: ");
+        hint.add(note);
+        note.push('\n');
     }
-    Ok(())
 }
 
 /// Returns the hint on what was met: words and characters that aren't known have their own, but for a comment that was
@@ -135,40 +127,61 @@ fn hint_for(found: &Found<'_>, scene: &Scene<'_>) -> Option<Hint> {
 }
 
 /// Adds the token that was met.
-pub fn add_met(text: &mut String, found: &Found<'_>) -> Result<(), AllocError> {
+pub fn add_met(note: &mut Note, found: &Found<'_>) {
     if let Some(located) = found.tokens.get(found.index) {
-        text.push_str("  met: ")?;
-        add_token(text, found.source, located)?;
-        text.push_str("\n")?;
+        note.add("  met: ");
+        add_token(note, found.source, located);
+        note.push('\n');
     }
-    Ok(())
 }
 
 /// Adds the limit that a source passes.
-fn add_limit(text: &mut String, found: &Found<'_>) -> Result<(), AllocError> {
-    text.push_str("  hint: ")?;
+fn add_limit(note: &mut Note, found: &Found<'_>) {
+    note.add("  hint: ");
     match found.code {
-        Code::CommentNotClosed => text.push_str("the comment that begins here has no `*/`")?,
-        Code::NameTooLong => add_name_limit(text, length_of(found))?,
-        Code::ConstantTooLarge => write!(text, "the greatest number is {CONSTANT_MAX}")?,
-        Code::SourceTooLong => write!(text, "a source has at most {SOURCE_BYTES} bytes")?,
-        Code::NestedTooDeeply => write!(
-            text,
-            "at most {MOST_LEVELS} blocks, branches, loops, assignments, brackets and calls are open at once"
-        )?,
-        Code::TooManyVariables => write!(
-            text,
-            "a function has at most {MOST_NAMES} variables, and a file at most {MOST_NAMES} outside its functions"
-        )?,
-        Code::TooManyFunctions => write!(text, "a file has at most {MOST_NAMES} functions")?,
-        Code::TooMuchCode => {
-            let most = found.profile.instructions();
-            write!(
-                text,
-                "the code has at most {most} instructions in this profile; crobots -c lists it"
-            )?;
+        Code::CommentNotClosed => note.add("the comment that begins here has no `*/`"),
+        Code::NameTooLong => {
+            add_most(
+                note,
+                "a name has at most ",
+                NAME_BYTES,
+                " letters, and this one has ",
+            );
+            note.number(length_of(found));
         }
-        // no limit is passed: `add_explanation` asks others for these
+        Code::ConstantTooLarge => {
+            note.add("the greatest number is ");
+            note.number(u64::from(CONSTANT_MAX));
+        }
+        Code::SourceTooLong => add_most(
+            note,
+            "a source has at most ",
+            SOURCE_BYTES as usize,
+            " bytes",
+        ),
+        Code::NestedTooDeeply => add_most(
+            note,
+            "at most ",
+            usize::from(MOST_LEVELS),
+            " blocks, branches, loops, assignments, brackets and calls are open at once",
+        ),
+        Code::TooManyVariables => {
+            add_most(note, "a function has at most ", MOST_NAMES, " variables");
+            add_most(
+                note,
+                ", and a file at most ",
+                MOST_NAMES,
+                " outside its functions",
+            );
+        }
+        Code::TooManyFunctions => add_most(note, "a file has at most ", MOST_NAMES, " functions"),
+        Code::TooMuchCode => add_most(
+            note,
+            "the code has at most ",
+            usize::from(found.profile.instructions()),
+            " instructions in this profile: leave some out, or make a function of what is repeated",
+        ),
+        // no limit is passed: `add_reason` asks others for these
         Code::SyntaxError
         | Code::ReservedWord
         | Code::BadCharacter
@@ -178,15 +191,14 @@ fn add_limit(text: &mut String, found: &Found<'_>) -> Result<(), AllocError> {
         | Code::FunctionNotDefined
         | Code::NoMainFunction => {}
     }
-    text.push_str("\n")
+    note.push('\n');
 }
 
-/// Adds how long a name may be, and how long this one is.
-fn add_name_limit(text: &mut String, length: usize) -> Result<(), AllocError> {
-    write!(
-        text,
-        "a name has at most {NAME_BYTES} letters, and this one has {length}"
-    )
+/// Adds a number between words.
+fn add_most(note: &mut Note, before: &str, most: usize, behind: &str) {
+    note.add(before);
+    note.number(most as u64);
+    note.add(behind);
 }
 
 /// Returns where the fault's token begins.
@@ -198,9 +210,9 @@ pub fn start_of(found: &Found<'_>) -> usize {
 }
 
 /// Returns how many bytes the fault's token has.
-fn length_of(found: &Found<'_>) -> usize {
+fn length_of(found: &Found<'_>) -> u64 {
     match found.tokens.get(found.index) {
-        Some(located) => located.end.saturating_sub(located.start),
+        Some(located) => located.end.saturating_sub(located.start) as u64,
         None => 0,
     }
 }

@@ -1,23 +1,18 @@
-//! Warnings about what is reached: returns of `main`, statements that never run, loops that can't end by their condition.
+//! Warnings about functions: a `main` that returns, and functions that call themselves.
 
 use crate::misnamed::name_at;
 use crate::nodes::{Body, Kind, Node, Nodes};
-use crate::values::condition_of;
-use crate::warnings::Lint;
+use crate::warnings::{Subject, Warnings};
 use derivations::Located;
-use grammar::{Callee, Var};
-use std::alloc::AllocError;
+use grammar::{Callee, MOST_NAMES};
 
 /// Warns of a `main` that can return.
-pub fn warn_of_main(lint: &mut Lint<'_>) -> Result<(), AllocError> {
-    for number in 0..lint.nodes().bodies().len() {
-        if let Some(body) = lint.nodes().bodies().get(number).copied() {
-            if is_main(lint.tokens(), &body) {
-                warn_of_returns(lint, &body)?;
-            }
+pub fn warn_of_main(out: &mut Warnings, subject: &Subject<'_>) {
+    for body in subject.nodes.bodies() {
+        if is_main(subject.tokens, body) {
+            warn_of_returns(out, subject.nodes, body);
         }
     }
-    Ok(())
 }
 
 /// Reports whether a function is `main`.
@@ -29,12 +24,12 @@ fn is_main(tokens: &[Located], body: &Body) -> bool {
 }
 
 /// Warns of the first return of `main`, or of its end, if that is reached.
-fn warn_of_returns(lint: &mut Lint<'_>, main: &Body) -> Result<(), AllocError> {
+fn warn_of_returns(out: &mut Warnings, nodes: &Nodes, main: &Body) {
     let words = "`main` can return here: the robot then begins anew, with all variables 0";
-    match first_return(lint.nodes().within(main.first, main.end)) {
-        Some(token) => lint.tell(token, words),
-        None if main.falls => lint.tell(main.closing, words),
-        None => Ok(()),
+    match first_return(nodes.within(main.first, main.end)) {
+        Some(token) => out.tell(token, words),
+        None if main.falls => out.tell(main.closing, words),
+        None => {}
     }
 }
 
@@ -48,90 +43,64 @@ fn first_return(nodes: &[Node]) -> Option<usize> {
     None
 }
 
-/// Warns of statements that are never reached.
-pub fn warn_of_unreached(lint: &mut Lint<'_>) -> Result<(), AllocError> {
-    for number in 0..lint.nodes().unreached().len() {
-        let index = lint.nodes().unreached().get(number).copied().unwrap_or(0);
-        if let Some(node) = lint.nodes().get(index).copied() {
-            lint.tell(
-                node.token,
-                "this is never reached: what stands before it returns, or loops forever",
-            )?;
+/// Warns of functions that may call themselves.
+pub fn warn_of_recursion(out: &mut Warnings, subject: &Subject<'_>) {
+    let called = all_called(subject.nodes);
+    for body in subject.nodes.bodies() {
+        if has(&called, body.number, body.number) {
+            out.tell(
+                body.token,
+                "this function may call itself: each call that is open takes a part of the small stack",
+            );
         }
-    }
-    Ok(())
-}
-
-/// Warns of loops whose condition can't change, but for constants that say that the loop is to go on forever.
-pub fn warn_of_conditions(lint: &mut Lint<'_>) -> Result<(), AllocError> {
-    for index in 0..lint.nodes().all().len() {
-        if let Some(words) = on_condition(lint.nodes(), index) {
-            lint.tell(lint.nodes().token(index), words)?;
-        }
-    }
-    Ok(())
-}
-
-/// Returns what is said of the condition of the node of an index, if that is a loop whose condition can't change.
-fn on_condition(nodes: &Nodes, index: usize) -> Option<&'static str> {
-    let node = nodes.get(index)?;
-    if node.kind != Kind::While {
-        return None;
-    }
-    let condition = nodes.within(node.first, node.middle);
-    let whole = nodes.within(node.first, index);
-    match condition_of(nodes, index)?.value {
-        Some(0) => Some("the condition of this loop is always 0: its body never runs"),
-        Some(_) if asks(condition) => {
-            Some("the condition of this loop is never 0, whatever it asks")
-        }
-        None if is_fixed(condition, whole) => Some(
-            "the condition of this loop can't change: nothing in it sets its variables",
-        ),
-        _ => None,
     }
 }
 
-/// Reports whether a condition reads a variable, or calls a function.
-fn asks(condition: &[Node]) -> bool {
-    for node in condition {
-        if matches!(node.kind, Kind::Fetch(_) | Kind::Call(..)) {
-            return true;
+/// Which functions each function calls: a bit for each number.
+type Called = [u64; MOST_NAMES];
+
+/// Returns which functions are called by each function, directly or by others.
+fn all_called(nodes: &Nodes) -> Called {
+    let mut called = [0; MOST_NAMES];
+    for body in nodes.bodies() {
+        if let Some(own) = called.get_mut(usize::from(body.number)) {
+            *own = called_by(nodes, body);
         }
     }
-    false
+    for through in 0..64u8 {
+        add_through(&mut called, through);
+    }
+    called
 }
 
-/// Reports whether the condition of a loop reads variables, calls nothing, and sets none, and the whole loop sets none of
-/// those that it reads.
-fn is_fixed(condition: &[Node], whole: &[Node]) -> bool {
-    let mut is_read = false;
-    for node in condition {
-        match node.kind {
-            Kind::Fetch(var) if may_set(whole, var) => return false,
-            Kind::Fetch(_) => is_read = true,
-            Kind::Store(..) | Kind::Step(_) | Kind::Call(..) => return false,
-            _ => {}
+/// Returns which functions a function calls itself.
+fn called_by(nodes: &Nodes, body: &Body) -> u64 {
+    let mut called = 0;
+    for node in nodes.within(body.first, body.end) {
+        if let Kind::Call(Callee::Function(number), _) = node.kind {
+            called |= bit(number);
         }
     }
-    is_read
+    called
 }
 
-/// Reports whether one of these nodes may set a variable.
-fn may_set(nodes: &[Node], var: Var) -> bool {
-    for node in nodes {
-        if sets(node, var) {
-            return true;
+/// Adds what is called through a function to each function that calls it.
+fn add_through(called: &mut Called, through: u8) {
+    let more = called.get(usize::from(through)).copied().unwrap_or(0);
+    for own in called.iter_mut() {
+        if *own & bit(through) != 0 {
+            *own |= more;
         }
     }
-    false
 }
 
-/// Reports whether a node may set a variable: a function of the file may set each external.
-fn sets(node: &Node, var: Var) -> bool {
-    match node.kind {
-        Kind::Store(other, _) | Kind::Step(other) => other == var,
-        Kind::Call(Callee::Function(_), _) => matches!(var, Var::External(_)),
-        _ => false,
-    }
+/// Reports whether a function calls another one.
+fn has(called: &Called, caller: u8, callee: u8) -> bool {
+    let own = called.get(usize::from(caller)).copied().unwrap_or(0);
+    own & bit(callee) != 0
+}
+
+/// Returns the bit of a function's number.
+fn bit(number: u8) -> u64 {
+    1u64.checked_shl(u32::from(number)).unwrap_or(0)
 }

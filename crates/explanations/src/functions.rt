@@ -63,9 +63,11 @@ pub fn on_the_outside(scene: &Scene<'_>) -> Option<Hint> {
         return Some(Hint::Text("no `;` stands behind the `}` of a function"));
     }
     if scene.wants(Punctuator::OpenRound) || scene.fits(&Token::End) {
-        return Some(Hint::Text(
-            "outside functions stand declarations and functions alone: a `}` above may be one too many",
-        ));
+        return Some(Hint::Text(if is_behind_block(scene.tokens, scene.index) {
+            "outside functions stand declarations and functions alone: a `}` above may be one too many"
+        } else {
+            "outside functions stand declarations and functions alone: what is done stands in `main() { .. }`"
+        }));
     }
     None
 }

@@ -3,11 +3,11 @@
 use crate::functions::{on_heads, on_inner_functions, on_outer_calls, on_the_outside};
 use crate::lookalikes::{Lookalike, meant_by};
 use crate::misnamed::is_intrinsic;
+use crate::notes::Note;
 use crate::scenes::Scene;
 use crate::told::spelling_of;
 use derivations::{Item, Role};
 use grammar::{operator_from, store_operator};
-use std::alloc::AllocError;
 use tokens::{CONSTANT_MAX, Name, Punctuator, Token, Word};
 
 /// A hint.
@@ -15,40 +15,57 @@ use tokens::{CONSTANT_MAX, Name, Punctuator, Token, Word};
 pub enum Hint {
     /// This text.
     Text(&'static str),
-    /// A line lacks this at its end.
-    Lacks(u32, &'static str),
+    /// A line lacks a semicolon at its end.
+    LacksSemicolon(u32),
     /// The block that begins on a line isn't closed.
     Unclosed(u32),
     /// The comment that begins on a line ended earlier than was meant.
     Nested(u32),
     /// A hexadecimal number, with its value if it isn't too large.
     Hexadecimal(Option<u32>),
-    /// A name is spelled nearly as this word, or this word is written for it here.
+    /// What is perhaps meant.
     Meant(&'static str),
 }
 
 impl Hint {
     /// Adds the hint in words.
-    pub fn add(self, text: &mut String) -> Result<(), AllocError> {
+    pub fn add(self, note: &mut Note) {
+        let (before, number, behind) = self.parts();
+        note.add(before);
+        if let Some(number) = number {
+            note.number(u64::from(number));
+        }
+        note.add(behind);
+    }
+
+    /// Returns its words, with the number that stands between them.
+    fn parts(self) -> (&'static str, Option<u32>, &'static str) {
         match self {
-            Hint::Text(words) => text.push_str(words),
-            Hint::Lacks(line, what) => write!(text, "line {line} may lack {what} at its end"),
-            Hint::Unclosed(line) => write!(
-                text,
-                "the block that begins on line {line} isn't closed: a `}}` is missing"
+            Hint::Text(words) => (words, None, ""),
+            Hint::LacksSemicolon(line) => ("line ", Some(line), " may lack a `;` at its end"),
+            Hint::Unclosed(line) => (
+                "the block that begins on line ",
+                Some(line),
+                " isn't closed: a `}` is missing",
             ),
-            Hint::Nested(line) => write!(
-                text,
-                "comments don't nest: the one that begins on line {line} ends at its first `*/`"
+            Hint::Nested(line) => (
+                "comments don't nest: the one that begins on line ",
+                Some(line),
+                " ends at its first `*/`",
             ),
-            Hint::Hexadecimal(Some(value)) => write!(
-                text,
-                "numbers are decimal: hexadecimal ones aren't known; write {value}"
+            Hint::Hexadecimal(Some(value)) => (
+                "numbers are decimal: hexadecimal ones aren't known; write ",
+                Some(value),
+                "",
             ),
             Hint::Hexadecimal(None) => {
-                text.push_str("numbers are decimal: hexadecimal ones aren't known")
+                (
+                    "numbers are decimal: hexadecimal ones aren't known",
+                    None,
+                    "",
+                )
             }
-            Hint::Meant(word) => write!(text, "perhaps {word} is meant"),
+            Hint::Meant(word) => ("perhaps ", None, word),
         }
     }
 }
@@ -183,12 +200,16 @@ fn is_in_list(scene: &Scene<'_>) -> bool {
 
 /// Operators as beginners spell them: two marks, of which the second doesn't fit, and what is meant.
 static MISSPELLED: [(Punctuator, Punctuator, &str); 6] = [
-    (Punctuator::Less, Punctuator::Greater, "`!=`"),
-    (Punctuator::Equals, Punctuator::Less, "`<=`"),
-    (Punctuator::Equals, Punctuator::Greater, "`>=`"),
-    (Punctuator::Equals, Punctuator::Equals, "`==`"),
-    (Punctuator::EqualsEquals, Punctuator::Equals, "`==`"),
-    (Punctuator::Equals, Punctuator::Plus, "`+=`"),
+    (Punctuator::Less, Punctuator::Greater, "`!=` is meant"),
+    (Punctuator::Equals, Punctuator::Less, "`<=` is meant"),
+    (Punctuator::Equals, Punctuator::Greater, "`>=` is meant"),
+    (Punctuator::Equals, Punctuator::Equals, "`==` is meant"),
+    (
+        Punctuator::EqualsEquals,
+        Punctuator::Equals,
+        "`==` is meant",
+    ),
+    (Punctuator::Equals, Punctuator::Plus, "`+=` is meant"),
 ];
 
 /// Returns the hint on marks that are no operators here.
@@ -200,8 +221,8 @@ fn on_operators(scene: &Scene<'_>) -> Option<Hint> {
     }
     if scene.is_mark(Punctuator::Equals) {
         match scene.token(scene.index.saturating_add(1)) {
-            Token::Punctuator(Punctuator::Greater) => return Some(Hint::Meant("`>=`")),
-            Token::Punctuator(Punctuator::Less) => return Some(Hint::Meant("`<=`")),
+            Token::Punctuator(Punctuator::Greater) => return Some(Hint::Meant("`>=` is meant")),
+            Token::Punctuator(Punctuator::Less) => return Some(Hint::Meant("`<=` is meant")),
             _ => {}
         }
     }
@@ -278,6 +299,9 @@ fn on_operands(scene: &Scene<'_>) -> Option<Hint> {
 /// Returns the hint on brackets that aren't closed or not opened, and on arguments without a `,` between them.
 fn on_brackets(scene: &Scene<'_>) -> Option<Hint> {
     let may_close = scene.fits_mark(Punctuator::CloseRound);
+    if may_close && parts_arguments(scene) {
+        return Some(Hint::Text("a `,` parts the arguments of a call, not a `;`"));
+    }
     if may_close && scene.fits_mark(Punctuator::Comma) && begins_value(&scene.met()) {
         return Some(Hint::Text("a `,` or a `)` may be missing before it"));
     }
@@ -290,12 +314,23 @@ fn on_brackets(scene: &Scene<'_>) -> Option<Hint> {
     None
 }
 
+/// Reports whether a `;` stands where a `,` may, with a whole argument behind it.
+fn parts_arguments(scene: &Scene<'_>) -> bool {
+    let behind = scene.token(scene.index.saturating_add(2));
+    let ends = matches!(
+        behind,
+        Token::Punctuator(Punctuator::Comma | Punctuator::CloseRound)
+    );
+    let is_value = begins_value(&scene.token(scene.index.saturating_add(1)));
+    scene.is_mark(Punctuator::Semicolon) && scene.fits_mark(Punctuator::Comma) && is_value && ends
+}
+
 /// Returns the hint on statements and blocks that aren't ended.
 fn on_ends(scene: &Scene<'_>) -> Option<Hint> {
     let before = scene.before()?;
     if scene.fits_mark(Punctuator::Semicolon) && !scene.kinds.statement {
         if before.line < scene.line(scene.index) {
-            return Some(Hint::Lacks(before.line, "a `;`"));
+            return Some(Hint::LacksSemicolon(before.line));
         }
         return Some(Hint::Text("a `;` may be missing before it"));
     }

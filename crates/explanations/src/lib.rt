@@ -1,6 +1,8 @@
-//! Explains the faults of robots' sources in words for beginners, and warns of what compiles and is hardly meant.
+//! Explains the faults of robots' sources in words for beginners, and warns of what compiles and is hardly meant. No memory is
+//! asked for: the caller has the source's tokens, which `derivations` finds.
 #![tactic(auto)]
 
+mod branches;
 mod calls;
 mod carets;
 mod comments;
@@ -14,10 +16,12 @@ mod hints;
 mod lookalikes;
 mod misnamed;
 mod nodes;
+mod notes;
 mod reserved;
 mod scenes;
 mod searches;
 mod spelling;
+mod statements;
 mod told;
 mod values;
 mod variables;
@@ -26,5 +30,6 @@ mod wanted;
 mod warnings;
 
 pub use compiling::compile;
-pub use explaining::add_explanation;
-pub use warnings::add_warnings;
+pub use explaining::explain;
+pub use notes::Note;
+pub use warnings::{Warning, Warnings, warnings_of};

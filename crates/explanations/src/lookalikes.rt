@@ -5,23 +5,26 @@ use crate::spelling::{is_near, is_same_but_for_case};
 /// What a name may be written for.
 #[derive(Clone, Copy)]
 pub enum Lookalike {
-    /// This word, misspelled.
+    /// A misspelled word: what is said of it behind 'perhaps'.
     Word(&'static str),
     /// Something that this language says otherwise: a hint on it.
     Foreign(&'static str),
 }
 
-/// The words that a name may misspell, with how a hint has them.
+/// The words that a name may misspell, with what a hint says of them.
 static WORDS: [(&str, &str); 9] = [
-    ("if", "`if`"),
-    ("else", "`else`"),
-    ("while", "`while`"),
-    ("return", "`return`"),
-    ("int", "`int`"),
-    ("long", "`long`"),
-    ("auto", "`auto`"),
-    ("register", "`register`"),
-    ("for", "`for`, which isn't known here: write a `while`"),
+    ("if", "`if` is meant"),
+    ("else", "`else` is meant"),
+    ("while", "`while` is meant"),
+    ("return", "`return` is meant"),
+    ("int", "`int` is meant"),
+    ("long", "`long` is meant"),
+    ("auto", "`auto` is meant"),
+    ("register", "`register` is meant"),
+    (
+        "for",
+        "`for` is meant, which isn't known here: write a `while`",
+    ),
 ];
 
 /// Words of other languages, with a hint on each.

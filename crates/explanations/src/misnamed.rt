@@ -6,11 +6,11 @@ use crate::functions::STRAY_CALL;
 use crate::heads::{is_behind_block, is_call};
 use crate::hints::Hint;
 use crate::lookalikes::{Lookalike, meant_by};
+use crate::notes::Note;
 use crate::spelling::{is_near, is_same_but_for_case};
 use crate::told::text_of;
 use derivations::Located;
 use grammar::{Code, Intrinsic};
-use std::alloc::AllocError;
 use tokens::{Name, Punctuator, Token};
 
 /// All intrinsic functions.
@@ -35,27 +35,28 @@ static CALLED: [(&str, &str); 14] = [
 ];
 
 /// Adds the name of a fault, and a hint on it. The functions that are defined are known by the indices of their names.
-pub fn add_misnamed(
-    text: &mut String,
-    found: &Found<'_>,
-    defined: &[usize],
-) -> Result<(), AllocError> {
-    add_met(text, found)?;
+pub fn add_misnamed(note: &mut Note, found: &Found<'_>, defined: &[usize]) {
+    add_met(note, found);
     let name = name_at(found.tokens, found.index).unwrap_or(Name::new());
-    text.push_str("  hint: ")?;
-    if let Some(hint) = on_stray_code(found) {
-        hint.add(text)?;
-        return text.push_str("\n");
+    note.add("  hint: ");
+    match on_stray_code(found) {
+        Some(hint) => hint.add(note),
+        None => add_reason(note, found, defined, &name),
     }
+    note.push('\n');
+}
+
+/// Adds why a name is a fault.
+fn add_reason(note: &mut Note, found: &Found<'_>, defined: &[usize], name: &Name) {
     match found.code {
-        Code::FunctionDefinedTwice => add_first(text, found.tokens, defined, &name)?,
+        Code::FunctionDefinedTwice => add_first(note, found.tokens, defined, name),
         Code::IntrinsicRedefined => {
-            text.push_str("the robot has a function of this name already: give yours another one")?;
+            note.add("the robot has a function of this name already: give yours another one");
         }
-        Code::BadParameterDeclaration => add_parameter(text, found)?,
-        Code::FunctionNotDefined => add_meant(text, found, defined, &name)?,
-        Code::NoMainFunction => add_main(text, found, defined)?,
-        // these are no faults of names: `add_explanation` asks others for them
+        Code::BadParameterDeclaration => note.add(on_parameter(found)),
+        Code::FunctionNotDefined => add_meant(note, found, defined, name),
+        Code::NoMainFunction => add_main(note, found, defined),
+        // these are no faults of names: `explain` asks others for them
         Code::SyntaxError
         | Code::ReservedWord
         | Code::BadCharacter
@@ -68,7 +69,6 @@ pub fn add_misnamed(
         | Code::TooManyFunctions
         | Code::TooMuchCode => {}
     }
-    text.push_str("\n")
 }
 
 /// Returns the hint on a name that was hardly meant to be defined: it stands in a comment that has ended, or a call stands
@@ -119,29 +119,26 @@ pub fn name_at(tokens: &[Located], index: usize) -> Option<Name> {
 }
 
 /// Adds where a function is defined first.
-fn add_first(
-    text: &mut String,
-    tokens: &[Located],
-    defined: &[usize],
-    name: &Name,
-) -> Result<(), AllocError> {
+fn add_first(note: &mut Note, tokens: &[Located], defined: &[usize], name: &Name) {
     for index in defined {
         if let Some(first) = tokens.get(*index)
             && first.token == Token::Name(*name)
         {
-            return write!(text, "it is defined on line {} already", first.line);
+            note.add("it is defined on line ");
+            note.number(u64::from(first.line));
+            return note.add(" already");
         }
     }
-    text.push_str("it is defined already")
+    note.add("it is defined already");
 }
 
-/// Adds what is wrong with a parameter: it is twice in the list, or not in it.
-fn add_parameter(text: &mut String, found: &Found<'_>) -> Result<(), AllocError> {
-    text.push_str(if ends_in_brackets(before(found)) {
+/// Returns what is wrong with a parameter: it is twice in the list, or not in it.
+fn on_parameter(found: &Found<'_>) -> &'static str {
+    if ends_in_brackets(before(found)) {
         "the list has this name twice"
     } else {
         "the list in the brackets hasn't this name; locals are declared behind the `{`"
-    })
+    }
 }
 
 /// Reports whether the last bracket among some tokens opens.
@@ -158,26 +155,27 @@ fn ends_in_brackets(tokens: &[Located]) -> bool {
 }
 
 /// Adds which function may be meant by a name that none has.
-fn add_meant(
-    text: &mut String,
-    found: &Found<'_>,
-    defined: &[usize],
-    name: &Name,
-) -> Result<(), AllocError> {
+fn add_meant(note: &mut Note, found: &Found<'_>, defined: &[usize], name: &Name) {
     if let Some(hint) = on_called(name) {
-        return text.push_str(hint);
+        note.add(hint);
+    } else if let Some(intrinsic) = near_intrinsic(name) {
+        add_perhaps(note, intrinsic);
+    } else if let Some(function) = near_function(found.tokens, defined, name.as_bytes()) {
+        add_perhaps(note, text_of(&function));
+    } else {
+        match meant_by(name.as_bytes()) {
+            Some(Lookalike::Word(word)) => Hint::Meant(word).add(note),
+            Some(Lookalike::Foreign(words)) => note.add(words),
+            None => add_unknown(note, found, name),
+        }
     }
-    if let Some(intrinsic) = near_intrinsic(name) {
-        return write!(text, "perhaps `{intrinsic}` is meant");
-    }
-    if let Some(function) = near_function(found.tokens, defined, name.as_bytes()) {
-        return write!(text, "perhaps `{}` is meant", text_of(&function));
-    }
-    match meant_by(name.as_bytes()) {
-        Some(Lookalike::Word(word)) => write!(text, "perhaps {word} is meant"),
-        Some(Lookalike::Foreign(words)) => text.push_str(words),
-        None => add_unknown(text, found, name),
-    }
+}
+
+/// Adds that a name is perhaps meant.
+pub fn add_perhaps(note: &mut Note, name: &str) {
+    note.add("perhaps ");
+    note.quote(name);
+    note.add(" is meant");
 }
 
 /// Returns the hint on a name that beginners call.
@@ -201,19 +199,16 @@ fn near_intrinsic(name: &Name) -> Option<&'static str> {
 }
 
 /// Adds why a name may be no function's: its function is in a comment, or it is a variable's.
-fn add_unknown(text: &mut String, found: &Found<'_>, name: &Name) -> Result<(), AllocError> {
+fn add_unknown(note: &mut Note, found: &Found<'_>, name: &Name) {
     if let Some(line) = swallowed(found.source, name.as_bytes()) {
-        return write!(
-            text,
-            "a comment that isn't closed on line {line} has the function in it"
-        );
+        note.add("a comment that isn't closed on line ");
+        note.number(u64::from(line));
+        note.add(" has the function in it");
+    } else if is_variable(found.tokens, name) {
+        note.add("it is a variable: leave the brackets out, or call the function that is meant");
+    } else {
+        note.add("neither the file nor the robot has a function of this name");
     }
-    if is_variable(found.tokens, name) {
-        return text.push_str(
-            "it is a variable: leave the brackets out, or call the function that is meant",
-        );
-    }
-    text.push_str("neither the file nor the robot has a function of this name")
 }
 
 /// Reports whether a name stands somewhere without a bracket behind it.
@@ -240,16 +235,17 @@ pub fn is_intrinsic(name: &Name) -> bool {
 }
 
 /// Adds which function may be meant as `main`, or that it is in a comment.
-fn add_main(text: &mut String, found: &Found<'_>, defined: &[usize]) -> Result<(), AllocError> {
-    text.push_str("a robot begins in its function `main`")?;
+fn add_main(note: &mut Note, found: &Found<'_>, defined: &[usize]) {
+    note.add("a robot begins in its function `main`");
     if let Some(function) = near_function(found.tokens, defined, b"main") {
-        let name = text_of(&function);
-        return write!(text, ": perhaps `{name}` is to be it");
+        note.add(": perhaps ");
+        note.quote(text_of(&function));
+        note.add(" is to be it");
+    } else if let Some(line) = swallowed(found.source, b"main") {
+        note.add(": a comment that isn't closed on line ");
+        note.number(u64::from(line));
+        note.add(" has it");
     }
-    if let Some(line) = swallowed(found.source, b"main") {
-        write!(text, ": a comment that isn't closed on line {line} has it")?;
-    }
-    Ok(())
 }
 
 /// Returns the first function of the file whose name is spelled nearly as another one.

@@ -2,10 +2,20 @@
 //! comes after all below it, and these are next to each other.
 
 use crate::constants::operated;
+use crate::misnamed::name_at;
 use crate::walks::{Event, Meaning, Walk};
+use arrayvec::ArrayVec;
 use derivations::{Located, SemanticAction};
-use grammar::{Callee, Op, Profile, StoreOp, Var};
-use std::alloc::{AllocError, Global};
+use grammar::{Callee, MOST_LEVELS, MOST_NAMES, Op, Profile, StoreOp, Var};
+
+/// The most nodes of a source that compiles: each makes at least one instruction.
+const MOST_NODES: usize = 4000;
+
+/// The most roots: each is a node, or begins a body.
+const MOST_ROOTS: usize = MOST_NODES + MOST_OPEN;
+
+/// The most variables, calls and bodies that are open at once: more than levels.
+const MOST_OPEN: usize = 2 * MOST_LEVELS as usize;
 
 /// What a node is.
 #[derive(Clone, Copy, PartialEq, Eq)]
@@ -51,6 +61,8 @@ pub struct Node {
     pub ends: bool,
     /// Whether it is never reached itself.
     pub is_dead: bool,
+    /// Whether it is the first statement of a part that is never reached.
+    pub is_unreached: bool,
     /// Its value, if that is known before the robot runs.
     pub value: Option<i32>,
 }
@@ -66,13 +78,20 @@ impl Node {
             is_used: true,
             ends: kind == Kind::Return,
             is_dead: false,
+            is_unreached: false,
             value: None,
         }
     }
 }
 
+impl Default for Node {
+    fn default() -> Node {
+        Node::new(Kind::Constant(0), 0, 0, 0)
+    }
+}
+
 /// A function of the file, with the nodes of its body.
-#[derive(Clone, Copy)]
+#[derive(Clone, Copy, Default)]
 pub struct Body {
     /// Its number.
     pub number: u8,
@@ -98,10 +117,16 @@ enum Root {
     Mark(usize),
 }
 
+impl Default for Root {
+    fn default() -> Root {
+        Root::Mark(0)
+    }
+}
+
 /// A call whose arguments aren't all there.
-#[derive(Clone, Copy)]
+#[derive(Clone, Copy, Default)]
 struct Open {
-    callee: Callee,
+    callee: Option<Callee>,
     arguments: usize,
 }
 
@@ -113,59 +138,51 @@ struct Taken {
     ends: bool,
 }
 
-/// The nodes of a source, its functions, and the statements that are never reached.
+/// The nodes of a source, its functions, and what is declared.
 #[derive(Drop)]
 pub struct Nodes {
-    list: Vec<Node>,
-    bodies: Vec<Body>,
-    unreached: Vec<usize>,
-    externals: Vec<usize>,
-    roots: Vec<Root>,
-    variables: Vec<Var>,
-    calls: Vec<Open>,
+    list: ArrayVec<Node, MOST_NODES>,
+    bodies: ArrayVec<Body, MOST_NAMES>,
+    externals: ArrayVec<usize, MOST_NAMES>,
+    hiding: ArrayVec<usize, MOST_NAMES>,
+    roots: ArrayVec<Root, MOST_ROOTS>,
+    variables: ArrayVec<Option<Var>, MOST_OPEN>,
+    calls: ArrayVec<Open, MOST_OPEN>,
     begun: Body,
 }
 
 /// Makes the nodes of a source that compiles.
-pub fn nodes_of(alloc: Global, tokens: &[Located], profile: Profile) -> Result<Nodes, AllocError> {
-    let mut nodes = Nodes::new(alloc);
-    let mut walk = Walk::start(alloc, tokens, profile)?;
+pub fn nodes_of(tokens: &[Located], profile: Profile) -> Nodes {
+    let mut nodes = Nodes::new();
+    let mut walk = Walk::start(tokens, profile);
     for _ in 0..u64::MAX {
-        match walk.step()? {
+        match walk.step() {
             Event::Passed => {}
-            Event::Named { token, meaning } => nodes.name(token, meaning)?,
-            Event::Number { token, value } => nodes.constant(value, token)?,
+            Event::Named { token, meaning } => nodes.name(tokens, token, meaning),
+            Event::Number { token, value } => nodes.constant(value, token),
             Event::Made {
                 action,
                 chosen_at,
                 token,
-            } => nodes.make(action, chosen_at, token)?,
+            } => nodes.make(action, chosen_at, token),
             Event::Refused { .. } | Event::Done => break,
         }
     }
-    Ok(nodes)
+    nodes
 }
 
 impl Nodes {
     /// Makes a list without nodes.
-    fn new(alloc: Global) -> Nodes {
+    fn new() -> Nodes {
         Nodes {
-            list: Vec::new(alloc),
-            bodies: Vec::new(alloc),
-            unreached: Vec::new(alloc),
-            externals: Vec::new(alloc),
-            roots: Vec::new(alloc),
-            variables: Vec::new(alloc),
-            calls: Vec::new(alloc),
-            begun: Body {
-                number: 0,
-                token: 0,
-                closing: 0,
-                parameters: 0,
-                first: 0,
-                end: 0,
-                falls: false,
-            },
+            list: ArrayVec::new(),
+            bodies: ArrayVec::new(),
+            externals: ArrayVec::new(),
+            hiding: ArrayVec::new(),
+            roots: ArrayVec::new(),
+            variables: ArrayVec::new(),
+            calls: ArrayVec::new(),
+            begun: Body::default(),
         }
     }
 
@@ -181,15 +198,7 @@ impl Nodes {
 
     /// Returns the node of an index.
     pub fn get(&self, index: usize) -> Option<&Node> {
-        self.list.get(index)
-    }
-
-    /// Returns the index of the token that the node of an index is named by.
-    pub fn token(&self, index: usize) -> usize {
-        match self.list.get(index) {
-            Some(node) => node.token,
-            None => 0,
-        }
+        self.all().get(index)
     }
 
     /// Returns the functions, in the order of the file.
@@ -197,32 +206,55 @@ impl Nodes {
         self.bodies.as_slice()
     }
 
-    /// Returns the first statement of each part that is never reached.
-    pub fn unreached(&self) -> &[usize] {
-        self.unreached.as_slice()
-    }
-
     /// Returns the names of the file's variables, by the indices of their tokens.
     pub fn externals(&self) -> &[usize] {
         self.externals.as_slice()
     }
 
+    /// Returns the declared variables of functions that hide one of the file, by the indices of their names' tokens.
+    pub fn hiding(&self) -> &[usize] {
+        self.hiding.as_slice()
+    }
+
     /// Notes what a name means: a variable or a call for a later node, a function, a parameter, an external.
-    fn name(&mut self, token: usize, meaning: Meaning) -> Result<(), AllocError> {
+    fn name(&mut self, tokens: &[Located], token: usize, meaning: Meaning) {
         match meaning {
-            Meaning::Mentions(var) => self.variables.push(var)?,
-            Meaning::Calls(callee) => self.calls.push(Open {
-                callee,
-                arguments: 0,
-            })?,
+            Meaning::Mentions(var) => {
+                let _ = self.variables.try_push(Some(var));
+            }
+            Meaning::Calls(callee) => {
+                let _ = self.calls.try_push(Open {
+                    callee: Some(callee),
+                    arguments: 0,
+                });
+            }
             Meaning::Begins(number) => self.begin(number, token),
             Meaning::Parameter => {
                 self.begun.parameters = self.begun.parameters.saturating_add(1);
             }
-            Meaning::External => self.externals.push(token)?,
-            Meaning::Declares => {}
+            Meaning::External => {
+                let _ = self.externals.try_push(token);
+            }
+            Meaning::Declares => self.declare(tokens, token),
         }
-        Ok(())
+    }
+
+    /// Notes a declared variable of a function, if it hides one of the file.
+    fn declare(&mut self, tokens: &[Located], token: usize) {
+        if self.hides(tokens, token) {
+            let _ = self.hiding.try_push(token);
+        }
+    }
+
+    /// Reports whether a variable of the file has the name of a token.
+    fn hides(&self, tokens: &[Located], token: usize) -> bool {
+        let name = name_at(tokens, token);
+        for external in self.externals() {
+            if name_at(tokens, *external) == name {
+                return true;
+            }
+        }
+        false
     }
 
     /// Begins a function.
@@ -239,12 +271,7 @@ impl Nodes {
     }
 
     /// Adds the node of a semantic action. Most take the last roots below it.
-    fn make(
-        &mut self,
-        action: SemanticAction,
-        chosen_at: usize,
-        token: usize,
-    ) -> Result<(), AllocError> {
+    fn make(&mut self, action: SemanticAction, chosen_at: usize, token: usize) {
         match action {
             SemanticAction::Operate(op) => self.binary(op, chosen_at),
             SemanticAction::Negate | SemanticAction::Not | SemanticAction::Complement => {
@@ -257,12 +284,9 @@ impl Nodes {
             SemanticAction::Store(op) => self.store(op, chosen_at),
             SemanticAction::StepBefore(_) => self.step(chosen_at.saturating_add(1)),
             SemanticAction::StepBehind(_) => self.step(chosen_at),
-            SemanticAction::Pass => {
-                self.pass();
-                Ok(())
-            }
+            SemanticAction::Pass => self.pass(),
             SemanticAction::Invoke => self.invoke(chosen_at),
-            SemanticAction::Empty => Ok(self.roots.push(Root::Mark(chosen_at))?),
+            SemanticAction::Empty => self.root(Root::Mark(chosen_at)),
             SemanticAction::Evaluate => self.above(Kind::Evaluate, chosen_at, false),
             SemanticAction::Decide => self.decide(),
             SemanticAction::DecideElse => self.decide_else(),
@@ -274,36 +298,39 @@ impl Nodes {
     }
 
     /// Adds a node, and makes it a root.
-    fn add(&mut self, node: Node) -> Result<(), AllocError> {
+    fn add(&mut self, node: Node) {
         let index = self.list.len();
-        self.list.push(node)?;
-        self.roots.push(Root::Node(index))?;
-        Ok(())
+        let _ = self.list.try_push(node);
+        self.root(Root::Node(index));
+    }
+
+    /// Adds a root.
+    fn root(&mut self, root: Root) {
+        let _ = self.roots.try_push(root);
     }
 
     /// Adds a node without others below it.
-    fn leaf(&mut self, kind: Kind, token: usize) -> Result<(), AllocError> {
+    fn leaf(&mut self, kind: Kind, token: usize) {
         let here = self.list.len();
-        self.add(Node::new(kind, token, here, here))
+        self.add(Node::new(kind, token, here, here));
     }
 
     /// Adds the node of a constant.
-    fn constant(&mut self, value: u32, token: usize) -> Result<(), AllocError> {
-        self.leaf(Kind::Constant(value), token)?;
+    fn constant(&mut self, value: u32, token: usize) {
+        self.leaf(Kind::Constant(value), token);
         self.know(i32::try_from(value).ok());
-        Ok(())
     }
 
     /// Notes the value of the last node, if it is known.
     fn know(&mut self, value: Option<i32>) {
-        if let Some(node) = self.list.last_mut() {
+        if let Some(node) = self.list.as_mut_slice().last_mut() {
             node.value = value;
         }
     }
 
     /// Returns the value of the last root, if it is known.
     fn last_value(&self) -> Option<i32> {
-        match self.roots.last() {
+        match self.roots.as_slice().last() {
             Some(Root::Node(index)) => self.value_of(*index),
             _ => None,
         }
@@ -311,11 +338,11 @@ impl Nodes {
 
     /// Returns the value of the node of an index, if it is known.
     fn value_of(&self, index: usize) -> Option<i32> {
-        self.list.get(index)?.value
+        self.get(index)?.value
     }
 
     /// Adds the node of a sign.
-    fn sign(&mut self, action: SemanticAction, token: usize) -> Result<(), AllocError> {
+    fn sign(&mut self, action: SemanticAction, token: usize) {
         let operand = self.last_value();
         let value = match action {
             SemanticAction::Negate => operated(Op::Subtract, Some(0), operand),
@@ -323,82 +350,85 @@ impl Nodes {
             // (it is called of the three signs alone: this is `~`)
             _ => operated(Op::BitXor, operand, Some(-1)),
         };
-        self.above(Kind::Sign, token, true)?;
+        self.above(Kind::Sign, token, true);
         self.know(value);
-        Ok(())
     }
 
     /// Adds the node of an assignment, whose value is the one that it sets.
-    fn store(&mut self, op: StoreOp, token: usize) -> Result<(), AllocError> {
+    fn store(&mut self, op: StoreOp, token: usize) {
         let var = self.variable();
         let value = match op {
             StoreOp::Set => self.last_value(),
             // (what the variable had isn't known)
             _ => None,
         };
-        self.above(Kind::Store(var, op), token, true)?;
+        self.above(Kind::Store(var, op), token, true);
         self.know(value);
-        Ok(())
     }
 
     /// Adds a node above the last root, and notes whether it uses its value.
-    fn above(&mut self, kind: Kind, token: usize, is_used: bool) -> Result<(), AllocError> {
+    fn above(&mut self, kind: Kind, token: usize, is_used: bool) {
         let below = self.take_node();
         if let Some(node) = self.list.get_mut(below) {
             node.is_used = is_used;
         }
         let first = self.first_of(below);
-        self.add(Node::new(kind, token, first, first))
+        self.add(Node::new(kind, token, first, first));
     }
 
     /// Adds a node above the last two roots.
-    fn binary(&mut self, op: Op, token: usize) -> Result<(), AllocError> {
+    fn binary(&mut self, op: Op, token: usize) {
         let right = self.take_node();
         let left = self.take_node();
         let (first, middle) = (self.first_of(left), self.first_of(right));
         let value = operated(op, self.value_of(left), self.value_of(right));
-        self.add(Node::new(Kind::Binary(op), token, first, middle))?;
+        self.add(Node::new(Kind::Binary(op), token, first, middle));
         self.know(value);
-        Ok(())
     }
 
     /// Adds the node of `++` or `--`.
-    fn step(&mut self, token: usize) -> Result<(), AllocError> {
+    fn step(&mut self, token: usize) {
         let var = self.variable();
-        self.leaf(Kind::Step(var), token)
+        self.leaf(Kind::Step(var), token);
     }
 
     /// Counts an argument of the innermost call.
     fn pass(&mut self) {
-        if let Some(open) = self.calls.last_mut() {
+        if let Some(open) = self.calls.as_mut_slice().last_mut() {
             open.arguments = open.arguments.saturating_add(1);
         }
     }
 
     /// Adds the node of the innermost call, above its arguments.
-    fn invoke(&mut self, token: usize) -> Result<(), AllocError> {
-        let Some(Open { callee, arguments }) = self.calls.pop() else {
-            return Ok(());
+    fn invoke(&mut self, token: usize) {
+        let Some(
+            Open {
+                callee: Some(callee),
+                arguments,
+            },
+        ) = self.calls.pop()
+        else {
+            return;
         };
         let mut first = self.list.len();
         for _ in 0..arguments {
             let below = self.take_node();
             first = self.first_of(below);
         }
-        self.add(Node::new(Kind::Call(callee, arguments), token, first, first))
+        self.add(Node::new(Kind::Call(callee, arguments), token, first, first));
     }
 
     /// Adds the node of an `if` without `else`.
-    fn decide(&mut self) -> Result<(), AllocError> {
-        let (body, is_sure) = self.take_tested()?;
-        self.add_branch(Kind::If, body, body.ends && is_sure)
+    fn decide(&mut self) {
+        let (body, is_sure) = self.take_tested();
+        self.add_branch(Kind::If, body, body.ends && is_sure);
     }
 
     /// Adds the node of an `if` with `else`. One of its bodies doesn't run if its condition is known.
-    fn decide_else(&mut self) -> Result<(), AllocError> {
+    fn decide_else(&mut self) {
         let end = self.list.len();
-        let otherwise = self.take_body(end)?;
-        let body = self.take_body(otherwise.first)?;
+        let otherwise = self.take_body(end);
+        let body = self.take_body(otherwise.first);
         let ends = match self.last_value() {
             Some(0) => {
                 self.kill(body.first, otherwise.first);
@@ -410,51 +440,50 @@ impl Nodes {
             }
             None => body.ends && otherwise.ends,
         };
-        self.add_branch(Kind::If, body, ends)
+        self.add_branch(Kind::If, body, ends);
     }
 
     /// Adds the node of a `while`. What follows it isn't reached if its condition is known and isn't 0.
-    fn repeat(&mut self) -> Result<(), AllocError> {
-        let (body, is_sure) = self.take_tested()?;
-        self.add_branch(Kind::While, body, is_sure)
+    fn repeat(&mut self) {
+        let (body, is_sure) = self.take_tested();
+        self.add_branch(Kind::While, body, is_sure);
     }
 
     /// Takes the body of an `if` without `else` or of a `while`, and reports whether its condition is known and isn't 0.
     /// The body doesn't run if it is known to be 0.
-    fn take_tested(&mut self) -> Result<(Taken, bool), AllocError> {
+    fn take_tested(&mut self) -> (Taken, bool) {
         let end = self.list.len();
-        let body = self.take_body(end)?;
+        let body = self.take_body(end);
         let value = self.last_value();
         if value == Some(0) {
             self.kill(body.first, end);
         }
-        Ok((body, is_true(value)))
+        (body, is_true(value))
     }
 
     /// Adds the node of an `if` or a `while`, above its condition.
-    fn add_branch(&mut self, kind: Kind, body: Taken, ends: bool) -> Result<(), AllocError> {
+    fn add_branch(&mut self, kind: Kind, body: Taken, ends: bool) {
         let condition = self.take_node();
         let first = self.first_of(condition);
         let middle = condition.saturating_add(1);
         let mut node = Node::new(kind, body.mark, first, middle);
         node.ends = ends;
-        self.add(node)
+        self.add(node);
     }
 
     /// Ends the function that was begun.
-    fn define(&mut self, closing: usize) -> Result<(), AllocError> {
+    fn define(&mut self, closing: usize) {
         let end = self.list.len();
-        let body = self.take_body(end)?;
+        let body = self.take_body(end);
         self.begun.closing = closing;
         self.begun.end = self.list.len();
         self.begun.falls = !body.ends;
-        self.bodies.push(self.begun)?;
-        Ok(())
+        let _ = self.bodies.try_push(self.begun);
     }
 
     /// Takes the statements of the innermost body off the roots, up to its mark. What follows a statement that ends the
     /// body is never reached, up to the node of this index.
-    fn take_body(&mut self, end: usize) -> Result<Taken, AllocError> {
+    fn take_body(&mut self, end: usize) -> Taken {
         let mut taken = Taken {
             mark: 0,
             first: end,
@@ -478,26 +507,27 @@ impl Nodes {
                 None => break,
             }
         }
-        self.bury(unreached, end)?;
-        Ok(taken)
+        self.bury(unreached, end);
+        taken
     }
 
     /// Reports whether what follows the node of an index is never reached.
     fn ends(&self, index: usize) -> bool {
-        match self.list.get(index) {
+        match self.get(index) {
             Some(node) => node.ends,
             None => false,
         }
     }
 
     /// Notes that a statement is never reached, if there is one, nor are the nodes after it, up to another one.
-    fn bury(&mut self, statement: Option<usize>, end: usize) -> Result<(), AllocError> {
+    fn bury(&mut self, statement: Option<usize>, end: usize) {
         let Some(statement) = statement else {
-            return Ok(());
+            return;
         };
-        self.unreached.push(statement)?;
+        if let Some(node) = self.list.get_mut(statement) {
+            node.is_unreached = true;
+        }
         self.kill(self.first_of(statement), end);
-        Ok(())
     }
 
     /// Notes that the nodes from an index on are never reached, up to another one.
@@ -519,7 +549,7 @@ impl Nodes {
 
     /// Returns where the nodes below one of an index begin.
     fn first_of(&self, index: usize) -> usize {
-        match self.list.get(index) {
+        match self.get(index) {
             Some(node) => node.first,
             None => index,
         }
@@ -527,7 +557,10 @@ impl Nodes {
 
     /// Takes the variable that was mentioned last.
     fn variable(&mut self) -> Var {
-        self.variables.pop().unwrap_or(Var::Local(0))
+        match self.variables.pop() {
+            Some(Some(var)) => var,
+            _ => Var::Local(0),
+        }
     }
 }
 

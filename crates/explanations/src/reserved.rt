@@ -1,8 +1,8 @@
 //! Hints on words and characters that this language doesn't have.
 
-use crate::told::{byte_of, spelling_of};
+use crate::told::{character_at, spelling_of};
 use derivations::Located;
-use tokens::Token;
+use tokens::{Token, Word};
 
 /// The refused words, each with a hint.
 static WORDS: [(&str, &str); 20] = [
@@ -86,6 +86,9 @@ pub fn on_character(source: &[u8], tokens: &[Located], index: usize) -> Option<&
         b'#' => Some(
             "there is no `#define` and no `#include`: write the number, or use a variable",
         ),
+        b'[' if follows_test(before) => Some(
+            "the condition of an `if` or a `while` stands in brackets: write `(` and `)`",
+        ),
         b'[' | b']' => Some("there are no arrays: use several variables"),
         b'?' => Some("there is no `?:`: write `if (..) a = ..; else a = ..;`"),
         b':' if follows(source, located, b'=') => Some("an assignment is written with `=` alone"),
@@ -97,10 +100,34 @@ pub fn on_character(source: &[u8], tokens: &[Located], index: usize) -> Option<&
         }
         b'.' => Some("there are no structures and no methods: a name stands alone"),
         b'\\' => Some("a line needs no sign to go on in the next one"),
-        128.. => Some(
-            "outside comments only ASCII is read: retype what was copied from a text, as curly quotes or a long dash",
-        ),
+        0 | 128.. => Some(on_foreign_byte(source, located.start)),
         _ => None,
+    }
+}
+
+/// Returns the hint on a byte that is no letter of ASCII.
+fn on_foreign_byte(source: &[u8], at: usize) -> &'static str {
+    let is_wide = matches!(source, [255, 254, ..] | [254, 255, ..]) || source.get(at) == Some(&0);
+    match character_at(source, at) {
+        _ if is_wide => "the file seems to be UTF-16: save it as UTF-8, without a byte order mark",
+        Some('\u{feff}') => "the file begins with a byte order mark: save it as UTF-8 without one",
+        Some('\u{a0}') => "this is no usual space, but one that doesn't break: type it anew",
+        _ => {
+            "outside comments only ASCII is read: retype what was copied from a text, as curly quotes or a long dash"
+        }
+    }
+}
+
+/// Returns the first byte of a token.
+fn byte_of(source: &[u8], located: &Located) -> u8 {
+    source.get(located.start).copied().unwrap_or(0)
+}
+
+/// Reports whether the last of some tokens is `if` or `while`.
+fn follows_test(tokens: &[Located]) -> bool {
+    match tokens {
+        [.., before] => matches!(before.token, Token::Word(Word::If | Word::While)),
+        [] => false,
     }
 }
 

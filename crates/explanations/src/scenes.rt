@@ -1,7 +1,7 @@
 //! What a hint goes by: a fault's token, those around it, and what the derivation wanted there.
 
 use crate::heads::token_at;
-use crate::wanted::Kinds;
+use crate::wanted::{Kinds, has};
 use derivations::{Derivation, Item, Located, Pending, Symbol};
 use tokens::{Name, Punctuator, Token, Word};
 
@@ -19,7 +19,7 @@ pub struct Scene<'a> {
     /// How many levels were open.
     pub levels: usize,
     /// The tokens that fit there.
-    pub fitting: &'a [Token],
+    pub fitting: &'a [Located],
     /// Their large kinds.
     pub kinds: Kinds,
 }
@@ -30,7 +30,7 @@ impl<'a> Scene<'a> {
         source: &'a [u8],
         tokens: &'a [Located],
         derivation: &'a Derivation<'a>,
-        fitting: &'a [Token],
+        fitting: &'a [Located],
     ) -> Scene<'a> {
         Scene {
             source,
@@ -96,7 +96,7 @@ impl<'a> Scene<'a> {
 
     /// Reports whether a token fits.
     pub fn fits(&self, token: &Token) -> bool {
-        self.fitting.contains(token)
+        has(self.fitting, token)
     }
 
     /// Reports whether this mark fits.

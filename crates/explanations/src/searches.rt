@@ -1,25 +1,25 @@
 //! The search for the token of a source's fault.
 
 use crate::walks::{Event, Meaning, Walk};
+use arrayvec::ArrayVec;
 use derivations::Derivation;
 use grammar::{Callee, Code, Diagnostic, MOST_NAMES};
-use std::alloc::{AllocError, Global};
 
 /// A search: how far it has come, which functions are defined up to there, and which ones are mentioned.
 #[derive(Drop)]
 pub struct Search<'a> {
     walk: Walk<'a>,
-    defined: Vec<usize>,
+    defined: ArrayVec<usize, MOST_NAMES>,
     mentioned: [Option<usize>; MOST_NAMES],
     begun: [bool; MOST_NAMES],
 }
 
 impl<'a> Search<'a> {
     /// Begins where this walk is.
-    pub fn along(alloc: Global, walk: Walk<'a>) -> Search<'a> {
+    pub fn along(walk: Walk<'a>) -> Search<'a> {
         Search {
             walk,
-            defined: Vec::new(alloc),
+            defined: ArrayVec::new(),
             mentioned: [None; MOST_NAMES],
             begun: [false; MOST_NAMES],
         }
@@ -27,11 +27,11 @@ impl<'a> Search<'a> {
 
     /// Returns the index of the token of the source's fault, and stops there: the first that has this fault, or else the
     /// last token.
-    pub fn find(&mut self, wanted: &Diagnostic) -> Result<usize, AllocError> {
+    pub fn find(&mut self, wanted: &Diagnostic) -> usize {
         for _ in 0..u64::MAX {
-            match self.walk.step()? {
-                Event::Named { token, meaning } => self.note(token, meaning)?,
-                Event::Refused { token, code } if code == wanted.code => return Ok(token),
+            match self.walk.step() {
+                Event::Named { token, meaning } => self.note(token, meaning),
+                Event::Refused { token, code } if code == wanted.code => return token,
                 Event::Refused { .. } if self.is_stuck() => break,
                 Event::Done => break,
                 _ => {}
@@ -39,9 +39,9 @@ impl<'a> Search<'a> {
         }
         let last = self.walk.last();
         match wanted.code {
-            Code::FunctionNotDefined => Ok(self.undefined().unwrap_or(last)),
+            Code::FunctionNotDefined => self.undefined().unwrap_or(last),
             // the token of any other fault is refused in the walk, but for one at the end
-            _ => Ok(last),
+            _ => last,
         }
     }
 
@@ -61,7 +61,7 @@ impl<'a> Search<'a> {
     }
 
     /// Notes a function that is mentioned or defined.
-    fn note(&mut self, token: usize, meaning: Meaning) -> Result<(), AllocError> {
+    fn note(&mut self, token: usize, meaning: Meaning) {
         match meaning {
             Meaning::Calls(Callee::Function(number)) => self.mention(number, token),
             Meaning::Begins(number) => {
@@ -69,11 +69,10 @@ impl<'a> Search<'a> {
                 if let Some(begun) = self.begun.get_mut(usize::from(number)) {
                     *begun = true;
                 }
-                self.defined.push(token)?;
+                let _ = self.defined.try_push(token);
             }
             _ => {}
         }
-        Ok(())
     }
 
     /// Notes the first mention of a function.

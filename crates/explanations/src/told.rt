@@ -1,45 +1,87 @@
 //! Tokens as texts.
 
+use crate::notes::Note;
 use derivations::{Located, spelled};
-use std::alloc::AllocError;
 use std::str;
 use tokens::{Name, Token};
 
 /// Adds what a token is: its kind, and how it is spelled.
-pub fn add_token(text: &mut String, source: &[u8], located: &Located) -> Result<(), AllocError> {
+pub fn add_token(note: &mut Note, source: &[u8], located: &Located) {
     match located.token {
         Token::Name(name) => {
-            let spelling = text_of(&name);
-            write!(text, "the name `{spelling}`")
+            note.add("the name ");
+            note.quote(text_of(&name));
         }
         Token::Word(_) => {
-            let spelling = spelling_of(source, located);
-            write!(text, "the word `{spelling}`")
+            note.add("the word ");
+            note.quote(spelling_of(source, located));
         }
-        Token::Constant(value) => write!(text, "the number {value}"),
-        Token::Punctuator(punctuator) => {
-            let spelling = spelled(punctuator);
-            write!(text, "`{spelling}`")
+        Token::Constant(value) => {
+            note.add("the number ");
+            note.number(u64::from(value));
         }
-        Token::End => text.push_str("the end of the file"),
-        Token::Fault(_) => add_byte(text, byte_of(source, located)),
+        Token::Punctuator(punctuator) => note.quote(spelled(punctuator)),
+        Token::End => note.add("the end of the file"),
+        Token::Fault(_) => add_character(note, source, located.start),
+    }
+}
+
+/// Adds the character that a place of a source has: one that isn't ASCII by its number in Unicode.
+fn add_character(note: &mut Note, source: &[u8], at: usize) {
+    match character_at(source, at) {
+        Some(character) => add_known(note, character),
+        None => add_byte(note, source.get(at).copied().unwrap_or(0)),
+    }
+}
+
+/// Adds a character: one that isn't ASCII by its number in Unicode, and one that no terminal shows as a byte.
+fn add_known(note: &mut Note, character: char) {
+    let code = u32::from(character);
+    if code >= 128 {
+        note.add("the character U+");
+        add_hexadecimal(note, code);
+    } else if code > 32 && code < 127 {
+        note.add("the character `");
+        note.push(character);
+        note.push('`');
+    } else {
+        note.add("the byte ");
+        note.number(u64::from(code));
     }
 }
 
 /// Adds what a byte is.
-fn add_byte(text: &mut String, byte: u8) -> Result<(), AllocError> {
-    match byte {
-        33..127 => {
-            let character = char::from(byte);
-            write!(text, "the character `{character}`")
+fn add_byte(note: &mut Note, byte: u8) {
+    note.add("the byte ");
+    note.number(u64::from(byte));
+}
+
+/// The hexadecimal digits.
+static DIGITS: [char; 16] = [
+    '0', '1', '2', '3', '4', '5', '6', '7', '8', '9', 'A', 'B', 'C', 'D', 'E', 'F',
+];
+
+/// Adds a number of at most 24 bits, with at least four hexadecimal digits.
+fn add_hexadecimal(note: &mut Note, number: u32) {
+    let mut is_begun = false;
+    for part in [1_048_576u32, 65_536, 4096, 256, 16, 1] {
+        let digit = number.checked_div(part).unwrap_or(0) % 16;
+        is_begun = is_begun || digit != 0 || part < 65_536;
+        if is_begun {
+            note.push(DIGITS.get(digit as usize).copied().unwrap_or('?'));
         }
-        _ => write!(text, "the byte {byte}"),
     }
 }
 
-/// Returns the first byte of a token.
-pub fn byte_of(source: &[u8], located: &Located) -> u8 {
-    source.get(located.start).copied().unwrap_or(0)
+/// Returns the character that begins at a place of a source, if its bytes are one in UTF-8.
+pub fn character_at(source: &[u8], at: usize) -> Option<char> {
+    for size in 1..5usize {
+        let bytes = source.get(at..at.saturating_add(size))?;
+        if let Ok(text) = str::from_utf8(bytes) {
+            return text.chars().next();
+        }
+    }
+    None
 }
 
 /// Returns a token as the source spells it.

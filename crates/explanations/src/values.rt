@@ -1,111 +1,126 @@
-//! Warnings about statements without effect, empty ones behind an `if`, and `=` in conditions.
+//! Warnings about operators and assignments that are hardly meant as they are written.
 
-use crate::heads::behind_brackets;
+use crate::heads::token_at;
 use crate::nodes::{Kind, Node, Nodes};
-use crate::warnings::Lint;
+use crate::warnings::{Said, Subject, Warnings};
 use derivations::Located;
-use grammar::{Callee, Intrinsic, StoreOp};
-use std::alloc::AllocError;
-use tokens::{Punctuator, Token, Word};
+use grammar::{Callee, Intrinsic, Op};
+use tokens::{Punctuator, Token};
 
-/// Warns of statements that set nothing, and call nothing that does more than answer.
-pub fn warn_of_no_effect(lint: &mut Lint<'_>) -> Result<(), AllocError> {
-    for index in 0..lint.nodes().all().len() {
-        if let Some(node) = lint.nodes().get(index).copied() {
-            let below = lint.nodes().within(node.first, index);
-            if node.kind == Kind::Evaluate && !have_effect(below) {
-                lint.tell(node.token, "this statement has no effect")?;
-            }
-        }
+/// What sine, cosine and tangent are multiplied by.
+const PARTS: i32 = 100_000;
+
+/// Warns of the operator of a node's index.
+pub fn warn_of_operator(out: &mut Warnings, subject: &Subject<'_>, index: usize, op: Op) {
+    let nodes = subject.nodes;
+    let Some(node) = nodes.get(index) else {
+        return;
+    };
+    let (Some(left), Some(right)) = (
+        nodes.get(node.middle.saturating_sub(1)),
+        nodes.get(index.saturating_sub(1)),
+    ) else {
+        return;
+    };
+    if let Some(words) = on_operator(op, left, right) {
+        out.tell(node.token, words);
     }
-    Ok(())
+    if op == Op::Multiply && !has_value(nodes, PARTS) {
+        warn_of_parts(out, left);
+        warn_of_parts(out, right);
+    }
 }
 
-/// Reports whether one of these nodes sets something, or calls what does more than answer.
-fn have_effect(nodes: &[Node]) -> bool {
-    for node in nodes {
-        if has_effect(node) {
+/// Returns what is said of an operator by its two sides.
+fn on_operator(op: Op, left: &Node, right: &Node) -> Option<&'static str> {
+    match (op, left.kind, right.kind) {
+        (Op::Less | Op::LessOrEqual | Op::Greater | Op::GreaterOrEqual, Kind::Binary(inner), _)
+            if is_order(inner) => {
+            Some(
+                "this compares the answer of the comparison before it, 0 or 1: write `a < b && b < c`",
+            )
+        }
+        (Op::BitXor, _, Kind::Constant(2..=9)) => {
+            Some("`^` is no power: it is the exclusive or of bits; multiply instead")
+        }
+        (Op::Or, Kind::Binary(Op::Equal), Kind::Constant(1..)) => {
+            Some("the right side is always true: write `a == 5 || a == 10`")
+        }
+        (Op::Add | Op::Subtract | Op::Multiply, _, _) if wraps(op, left.value, right.value) => {
+            Some("this passes the greatest number, 2147483647, and goes on with the least")
+        }
+        _ => None,
+    }
+}
+
+/// Reports whether an operator compares by order.
+fn is_order(op: Op) -> bool {
+    matches!(
+        op,
+        Op::Less | Op::LessOrEqual | Op::Greater | Op::GreaterOrEqual
+    )
+}
+
+/// Reports whether the result of known values has more than 32 bits.
+fn wraps(op: Op, left: Option<i32>, right: Option<i32>) -> bool {
+    let (Some(left), Some(right)) = (left, right) else {
+        return false;
+    };
+    let (left, right) = (i64::from(left), i64::from(right));
+    let whole = match op {
+        Op::Add => left.saturating_add(right),
+        Op::Subtract => left.saturating_sub(right),
+        _ => left.saturating_mul(right),
+    };
+    i32::try_from(whole).is_err()
+}
+
+/// Reports whether some node has this value.
+fn has_value(nodes: &Nodes, value: i32) -> bool {
+    for node in nodes.all() {
+        if node.value == Some(value) {
             return true;
         }
     }
     false
 }
 
-/// Reports whether a node sets something, or calls what does more than answer.
-fn has_effect(node: &Node) -> bool {
-    match node.kind {
-        Kind::Store(..) | Kind::Step(_) | Kind::Call(Callee::Function(_), _) => true,
-        Kind::Call(Callee::Intrinsic(intrinsic), _) => acts(intrinsic),
+/// Warns of a factor that is a sine, a cosine or a tangent, if nothing divides.
+fn warn_of_parts(out: &mut Warnings, factor: &Node) {
+    if let Kind::Call(
+        Callee::Intrinsic(Intrinsic::Sin | Intrinsic::Cos | Intrinsic::Tan),
+        _,
+    ) = factor.kind
+    {
+        out.warn(
+            factor.token,
+            Said::Named(" answers in 100,000ths: divide the product by 100000"),
+        );
+    }
+}
+
+/// Warns of an assignment with `=-`.
+pub fn warn_of_store(out: &mut Warnings, subject: &Subject<'_>, node: &Node) {
+    let equals = node.token.saturating_add(1);
+    let minus = equals.saturating_add(1);
+    let is_joined = is_mark(subject.tokens, equals, Punctuator::Equals)
+        && is_mark(subject.tokens, minus, Punctuator::Minus)
+        && touches(subject.tokens, minus)
+        && !touches(subject.tokens, minus.saturating_add(1));
+    if is_joined {
+        out.tell(equals, "`=-` sets the negative; perhaps `-=` is meant");
+    }
+}
+
+/// Reports whether the token of an index is this mark.
+fn is_mark(tokens: &[Located], index: usize, punctuator: Punctuator) -> bool {
+    token_at(tokens, index) == Token::Punctuator(punctuator)
+}
+
+/// Reports whether nothing stands between the token of an index and the one before it.
+fn touches(tokens: &[Located], index: usize) -> bool {
+    match (tokens.get(index.saturating_sub(1)), tokens.get(index)) {
+        (Some(before), Some(here)) => before.end == here.start,
         _ => false,
     }
-}
-
-/// Reports whether an intrinsic function does more than answer. `rand` takes one of the random numbers, which are in a row.
-fn acts(intrinsic: Intrinsic) -> bool {
-    matches!(
-        intrinsic,
-        Intrinsic::Cannon | Intrinsic::Drive | Intrinsic::Rand
-    )
-}
-
-/// Warns of each `if` without `else` whose only statement is a `;` behind the condition.
-pub fn warn_of_empty_bodies(lint: &mut Lint<'_>) -> Result<(), AllocError> {
-    for index in 0..lint.nodes().all().len() {
-        if let Some(semicolon) = empty_body(lint, index) {
-            lint.tell(
-                semicolon,
-                "the `if` ends with this `;`: what follows it is always done",
-            )?;
-        }
-    }
-    Ok(())
-}
-
-/// Returns the index of the `;` that is the whole body of the `if` of a node's index, if it has no `else`.
-fn empty_body(lint: &Lint<'_>, index: usize) -> Option<usize> {
-    let node = lint.nodes().get(index)?;
-    if node.kind != Kind::If {
-        return None;
-    }
-    let tokens = lint.tokens();
-    let body = behind_brackets(tokens, node.token)?;
-    let is_empty = tokens.get(body)?.token == Token::Punctuator(Punctuator::Semicolon);
-    let is_last = tokens.get(body.saturating_add(1))?.token != Token::Word(Word::Else);
-    (is_empty && is_last).then_some(body)
-}
-
-/// Warns of conditions that are an assignment, if no further brackets say that it is meant.
-pub fn warn_of_assignments(lint: &mut Lint<'_>) -> Result<(), AllocError> {
-    for index in 0..lint.nodes().all().len() {
-        if let Some(condition) = condition_of(lint.nodes(), index).copied() {
-            let is_set = matches!(condition.kind, Kind::Store(_, StoreOp::Set));
-            if is_set && !is_in_brackets(lint.tokens(), condition.token) {
-                lint.tell(
-                    condition.token.saturating_add(1),
-                    "`=` sets the variable; to compare write `==`, or put it into brackets of its own",
-                )?;
-            }
-        }
-    }
-    Ok(())
-}
-
-/// Returns the condition of the `if` or `while` of an index.
-pub fn condition_of(nodes: &Nodes, index: usize) -> Option<&Node> {
-    let node = nodes.get(index)?;
-    match node.kind {
-        Kind::If | Kind::While => nodes.get(node.middle.checked_sub(1)?),
-        _ => None,
-    }
-}
-
-/// Reports whether two brackets are open before a token.
-fn is_in_brackets(tokens: &[Located], token: usize) -> bool {
-    let open = Token::Punctuator(Punctuator::OpenRound);
-    for before in tokens.get(token.saturating_sub(2)..token).unwrap_or(&[]) {
-        if before.token != open {
-            return false;
-        }
-    }
-    true
 }

@@ -1,77 +1,126 @@
-//! Warnings about variables of functions that are set and never read, or read and never set.
+//! Warnings about variables: set and never read, read and never set or before they are set, and names of the file's that
+//! mean another variable.
 
 use crate::misnamed::{is_intrinsic, may_mean, name_at};
-use crate::nodes::{Body, Kind, Node};
+use crate::nodes::{Body, Kind, Node, Nodes};
 use crate::spelling::is_same_but_for_case;
-use crate::told::text_of;
-use crate::warnings::Lint;
+use crate::warnings::{Meant, Said, Subject, Warnings};
 use derivations::Located;
 use grammar::{MOST_NAMES, StoreOp, Var};
-use std::alloc::AllocError;
 use tokens::Name;
 
-/// Where a variable of a function is first read and first set, by the tokens of its name.
+/// Where a variable of a function is first read and first set, by the indices of its nodes.
 #[derive(Clone, Copy, Default)]
 struct Use {
     read: Option<usize>,
     set: Option<usize>,
 }
 
+/// Where the variables of a function are first read and first set, by their numbers.
+type Uses = [Use; MOST_NAMES];
+
 /// Warns of the variables of all functions.
-pub fn warn_of_variables(lint: &mut Lint<'_>) -> Result<(), AllocError> {
-    for number in 0..lint.nodes().bodies().len() {
-        if let Some(body) = lint.nodes().bodies().get(number).copied() {
-            warn_of_body(lint, &body)?;
-        }
+pub fn warn_of_variables(out: &mut Warnings, subject: &Subject<'_>) {
+    for body in subject.nodes.bodies() {
+        warn_of_body(out, subject, body);
     }
-    Ok(())
+    for token in subject.nodes.hiding() {
+        out.warn(
+            *token,
+            Said::Named(" is a variable of the function alone: it hides that of the file"),
+        );
+    }
 }
 
 /// Warns of the variables of a function.
-fn warn_of_body(lint: &mut Lint<'_>, body: &Body) -> Result<(), AllocError> {
-    let uses = uses_of(lint.nodes().within(body.first, body.end));
-    for number in 0..MOST_NAMES {
-        let Some(own) = uses.get(number) else {
-            return Ok(());
-        };
+fn warn_of_body(out: &mut Warnings, subject: &Subject<'_>, body: &Body) {
+    let uses = uses_of(subject.nodes, body);
+    for (number, own) in uses.iter().enumerate() {
         match (own.read, own.set) {
-            (None, Some(token)) => {
-                warn_of(lint, &uses, token, "is set and never read")?;
+            (None, Some(set)) => {
+                let token = token_of(subject.nodes, set);
+                let meant = meant_as_set(subject, &uses, token);
+                out.warn(token, Said::Variable(" is set and never read", meant));
             }
-            (Some(token), None) if number >= body.parameters => {
-                warn_of(
-                    lint,
-                    &uses,
+            (Some(read), None) if number >= body.parameters => {
+                let token = token_of(subject.nodes, read);
+                let meant = meant_as_read(subject, &uses, token);
+                out.warn(
                     token,
-                    "is read and never set, so it is always 0",
-                )?;
+                    Said::Variable(" is read and never set, so it is always 0", meant),
+                );
+            }
+            (Some(read), Some(set)) if number >= body.parameters && read < set => {
+                warn_of_early(out, subject.nodes, read, set);
             }
             _ => {}
         }
     }
-    Ok(())
 }
 
-/// Warns of the variable of a name's token, and says which other one may be meant.
-fn warn_of(
-    lint: &mut Lint<'_>,
-    uses: &[Use; MOST_NAMES],
-    token: usize,
-    words: &str,
-) -> Result<(), AllocError> {
-    let Some(name) = name_at(lint.tokens(), token) else {
-        return Ok(());
-    };
-    let mut text = lint.text();
-    write!(text, "`{}` {words}", text_of(&name))?;
-    if let Some(other) = meant(lint, uses, token, &name) {
-        write!(text, "; perhaps `{}` is meant", text_of(&other))?;
-    } else if is_intrinsic(&name) {
-        write!(text, "; perhaps `{}()` is meant", text_of(&name))?;
-    } else if is_truth(&name) {
-        text.push_str("; write 1 for what is true, and 0 for what is false")?;
+/// Warns of a variable that is read before it is set, unless a loop has both.
+fn warn_of_early(out: &mut Warnings, nodes: &Nodes, read: usize, set: usize) {
+    for node in nodes.within(set, nodes.all().len()) {
+        if node.kind == Kind::While && node.first <= read {
+            return;
+        }
     }
-    lint.warn(token, text)
+    out.warn(
+        token_of(nodes, read),
+        Said::Named(" is still 0 here: it is set further down only"),
+    );
+}
+
+/// Returns the index of the token of the node of an index.
+fn token_of(nodes: &Nodes, index: usize) -> usize {
+    match nodes.get(index) {
+        Some(node) => node.token,
+        None => 0,
+    }
+}
+
+/// Returns what may be meant by the variable of a name's token that is never read.
+fn meant_as_set(subject: &Subject<'_>, uses: &Uses, token: usize) -> Meant {
+    match name_at(subject.tokens, token) {
+        Some(name) if name.is(b"speed") => Meant::Words(
+            "; the robot's speed is set by `drive(degree, speed)`",
+        ),
+        Some(name) => meant(subject, uses, token, &name),
+        None => Meant::Nothing,
+    }
+}
+
+/// Returns what may be meant by the variable of a name's token that is never set.
+fn meant_as_read(subject: &Subject<'_>, uses: &Uses, token: usize) -> Meant {
+    match name_at(subject.tokens, token) {
+        Some(name) => meant(subject, uses, token, &name),
+        None => Meant::Nothing,
+    }
+}
+
+/// Returns what may be meant by the name of a token: another variable, a call, or a truth value of other languages.
+fn meant(subject: &Subject<'_>, uses: &Uses, token: usize, name: &Name) -> Meant {
+    if is_declared_below(subject, token, name) {
+        return Meant::Words("; the variable of the file is declared further down only");
+    }
+    match near_variable(subject, uses, token, name) {
+        Some(other) => Meant::Name(other),
+        None if is_intrinsic(name) => Meant::Call,
+        None if is_truth(name) => {
+            Meant::Words("; write 1 for what is true, and 0 for what is false")
+        }
+        None => Meant::Nothing,
+    }
+}
+
+/// Reports whether a variable of the file that is declared behind a token has this name.
+fn is_declared_below(subject: &Subject<'_>, token: usize, name: &Name) -> bool {
+    for external in subject.nodes.externals() {
+        if *external > token && name_at(subject.tokens, *external) == Some(*name) {
+            return true;
+        }
+    }
+    false
 }
 
 /// Reports whether a name is a truth value of other languages.
@@ -80,49 +129,59 @@ fn is_truth(name: &Name) -> bool {
     is_same_but_for_case(bytes, b"true") || is_same_but_for_case(bytes, b"false")
 }
 
-/// Returns the name of another variable that may be meant by the one of a token: of the function, or else of the file if it
-/// is declared before that token.
-fn meant(lint: &Lint<'_>, uses: &[Use; MOST_NAMES], token: usize, name: &Name) -> Option<Name> {
+/// Returns the index of the token of another variable's name that may be meant by the one of a token: a variable of the
+/// function, or else of the file if it is declared before that token.
+fn near_variable(subject: &Subject<'_>, uses: &Uses, token: usize, name: &Name) -> Option<usize> {
     for own in uses {
-        if let Some(local) = own.read.or(own.set)
-            && let Some(other) = meant_at(lint.tokens(), local, name)
-        {
-            return Some(other);
+        if let Some(local) = own.read.or(own.set) {
+            let other = token_of(subject.nodes, local);
+            if may_be_meant(subject.tokens, other, name) {
+                return Some(other);
+            }
         }
     }
-    for external in lint.nodes().externals() {
-        if *external < token
-            && let Some(other) = meant_at(lint.tokens(), *external, name)
-        {
-            return Some(other);
+    for external in subject.nodes.externals() {
+        if *external < token && may_be_meant(subject.tokens, *external, name) {
+            return Some(*external);
         }
     }
     None
 }
 
-/// Returns the name of the token of an index, if it is another one and may be meant by this one.
-fn meant_at(tokens: &[Located], index: usize, name: &Name) -> Option<Name> {
-    let other = name_at(tokens, index)?;
-    (other != *name && may_mean(name.as_bytes(), other.as_bytes())).then_some(other)
+/// Reports whether the token of an index is another name, which may be meant by this one.
+fn may_be_meant(tokens: &[Located], index: usize, name: &Name) -> bool {
+    match name_at(tokens, index) {
+        Some(other) => other != *name && may_mean(name.as_bytes(), other.as_bytes()),
+        None => false,
+    }
 }
 
-/// Finds where the variables of a function are read and set, by its nodes.
-fn uses_of(nodes: &[Node]) -> [Use; MOST_NAMES] {
+/// Finds where the variables of a function are read and set.
+fn uses_of(nodes: &Nodes, body: &Body) -> Uses {
     let mut uses = [Use::default(); MOST_NAMES];
-    for node in nodes {
-        let (var, is_read, is_set) = match node.kind {
-            Kind::Fetch(var) => (var, true, false),
-            Kind::Store(var, StoreOp::Set) => (var, node.is_used, true),
-            Kind::Store(var, _) | Kind::Step(var) => (var, node.is_used, true),
-            _ => continue,
-        };
-        let Var::Local(number) = var else {
-            continue;
-        };
-        if let Some(own) = uses.get_mut(usize::from(number)) {
-            own.read = own.read.or(is_read.then_some(node.token));
-            own.set = own.set.or(is_set.then_some(node.token));
-        }
+    for (number, node) in nodes.within(body.first, body.end).iter().enumerate() {
+        note_use(&mut uses, body.first.saturating_add(number), node);
     }
     uses
+}
+
+/// Notes what the node of an index does with a variable.
+fn note_use(uses: &mut Uses, index: usize, node: &Node) {
+    let (var, is_read, is_set) = match node.kind {
+        Kind::Fetch(var) => (var, true, false),
+        Kind::Store(var, StoreOp::Set) => (var, node.is_used, true),
+        Kind::Store(var, _) | Kind::Step(var) => (var, node.is_used, true),
+        _ => return,
+    };
+    let Var::Local(number) = var else {
+        return;
+    };
+    if let Some(own) = uses.get_mut(usize::from(number)) {
+        if is_read && own.read.is_none() {
+            own.read = Some(index);
+        }
+        if is_set && own.set.is_none() {
+            own.set = Some(index);
+        }
+    }
 }

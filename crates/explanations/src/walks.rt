@@ -2,7 +2,6 @@
 
 use derivations::{Derivation, Item, Located, Role, SemanticAction, StepEnd};
 use grammar::{Callee, Code, MOST_LEVELS, Profile, Scope, Var, code_of};
-use std::alloc::{AllocError, Global};
 use tokens::{Name, Token, Word};
 
 /// What a name means where it stands.
@@ -74,19 +73,15 @@ pub struct Walk<'a> {
 
 impl<'a> Walk<'a> {
     /// Begins before the first of a source's tokens.
-    pub fn start(
-        alloc: Global,
-        tokens: &'a [Located],
-        profile: Profile,
-    ) -> Result<Walk<'a>, AllocError> {
-        Ok(Walk {
+    pub fn start(tokens: &'a [Located], profile: Profile) -> Walk<'a> {
+        Walk {
             tokens,
-            derivation: Derivation::start(alloc, tokens)?,
+            derivation: Derivation::start(tokens),
             scope: Scope::new(),
             profile,
             code: 1,
             is_stuck: false,
-        })
+        }
     }
 
     /// Returns the derivation as far as it has come.
@@ -105,13 +100,20 @@ impl<'a> Walk<'a> {
     }
 
     /// Does a step, and returns what it came upon. After a token that doesn't fit it stays there.
-    pub fn step(&mut self) -> Result<Event, AllocError> {
+    pub fn step(&mut self) -> Event {
         let event = self.coming();
         self.count();
         let were_too_many = self.has_too_many_levels();
-        let outcome = self.derivation.step()?;
+        let outcome = self.derivation.step();
         let token = self.derivation.place();
-        Ok(match outcome {
+        match outcome {
+            StepEnd::Full => {
+                self.is_stuck = true;
+                Event::Refused {
+                    token,
+                    code: Code::NestedTooDeeply,
+                }
+            }
             StepEnd::Misfit => {
                 self.is_stuck = true;
                 Event::Refused {
@@ -127,7 +129,7 @@ impl<'a> Walk<'a> {
                 }
             }
             StepEnd::Stepped => event,
-        })
+        }
     }
 
     /// Reports whether more levels are open than may be.

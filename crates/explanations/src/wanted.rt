@@ -1,8 +1,9 @@
 //! What may stand at a place, in few words, by the tokens that fit there.
 
-use derivations::spelled;
+use crate::notes::Note;
+use arrayvec::ArrayVec;
+use derivations::{Located, MOST_FITTING, spelled};
 use grammar::{operator_from, store_operator};
-use std::alloc::{AllocError, Global};
 use tokens::{Punctuator, Token, Word};
 
 /// A kind of what may stand at a place.
@@ -28,6 +29,12 @@ enum Wanted {
     Operator,
 }
 
+impl Default for Wanted {
+    fn default() -> Wanted {
+        Wanted::Name
+    }
+}
+
 /// Which large kinds fit at a place: a token of theirs isn't named alone.
 #[derive(Clone, Copy)]
 pub struct Kinds {
@@ -41,11 +48,11 @@ pub struct Kinds {
 
 impl Kinds {
     /// Finds the kinds, by the tokens that fit.
-    pub fn of(fitting: &[Token]) -> Kinds {
+    pub fn of(fitting: &[Located]) -> Kinds {
         Kinds {
-            statement: fitting.contains(&Token::Word(Word::While)),
-            expression: fitting.contains(&Token::Constant(0)),
-            operator: fitting.contains(&Token::Punctuator(Punctuator::Star)),
+            statement: has(fitting, &Token::Word(Word::While)),
+            expression: has(fitting, &Token::Constant(0)),
+            operator: has(fitting, &Token::Punctuator(Punctuator::Star)),
         }
     }
 
@@ -103,49 +110,55 @@ impl Wanted {
     }
 
     /// Adds it in words.
-    fn add(self, text: &mut String) -> Result<(), AllocError> {
+    fn add(self, note: &mut Note) {
         match self {
-            Wanted::Exactly(punctuator) => {
-                let spelling = spelled(punctuator);
-                write!(text, "`{spelling}`")
-            }
-            Wanted::Name => text.push_str("a name"),
-            Wanted::Type => text.push_str("a declaration"),
-            Wanted::Else => text.push_str("`else`"),
-            Wanted::End => text.push_str("the end of the file"),
-            Wanted::Statement => text.push_str("a statement"),
-            Wanted::Expression => text.push_str("an expression"),
-            Wanted::Assignment => text.push_str("an assignment such as `=`"),
-            Wanted::Operator => text.push_str("an operator such as `+`"),
+            Wanted::Exactly(punctuator) => note.quote(spelled(punctuator)),
+            Wanted::Name => note.add("a name"),
+            Wanted::Type => note.add("a declaration"),
+            Wanted::Else => note.add("`else`"),
+            Wanted::End => note.add("the end of the file"),
+            Wanted::Statement => note.add("a statement"),
+            Wanted::Expression => note.add("an expression"),
+            Wanted::Assignment => note.add("an assignment such as `=`"),
+            Wanted::Operator => note.add("an operator such as `+`"),
         }
     }
+}
+
+/// Reports whether a token is among those that fit.
+pub fn has(fitting: &[Located], token: &Token) -> bool {
+    for located in fitting {
+        if located.token == *token {
+            return true;
+        }
+    }
+    false
 }
 
 /// Adds what may stand at a place, by the tokens that fit there: marks and names first.
-pub fn add_wanted(text: &mut String, alloc: Global, fitting: &[Token]) -> Result<(), AllocError> {
+pub fn add_wanted(note: &mut Note, fitting: &[Located]) {
     let kinds = Kinds::of(fitting);
-    let mut wanted = Vec::new(alloc);
+    let mut wanted: ArrayVec<Wanted, MOST_FITTING> = ArrayVec::new();
     for is_small in [true, false] {
-        for token in fitting {
-            let kind = kinds.kind(token);
+        for located in fitting {
+            let kind = kinds.kind(&located.token);
             if kind.is_small() == is_small && !wanted.as_slice().contains(&kind) {
-                wanted.push(kind)?;
+                let _ = wanted.try_push(kind);
             }
         }
     }
-    add_list(text, wanted.as_slice())
+    add_list(note, wanted.as_slice());
 }
 
 /// Adds a list in words.
-fn add_list(text: &mut String, wanted: &[Wanted]) -> Result<(), AllocError> {
+fn add_list(note: &mut Note, wanted: &[Wanted]) {
     let last = wanted.len().saturating_sub(1);
     for (number, kind) in wanted.iter().enumerate() {
         match number {
             0 => {}
-            _ if number == last => text.push_str(" or ")?,
-            _ => text.push_str(", ")?,
+            _ if number == last => note.add(" or "),
+            _ => note.add(", "),
         }
-        kind.add(text)?;
+        kind.add(note);
     }
-    Ok(())
 }

@@ -1,105 +1,223 @@
 //! The warnings about a source that compiles.
 
-use crate::calls::{warn_of_arguments, warn_of_recursion, warn_of_right_sides};
-use crate::flow::{warn_of_conditions, warn_of_main, warn_of_unreached};
-use crate::nodes::{Nodes, nodes_of};
-use crate::values::{warn_of_assignments, warn_of_empty_bodies, warn_of_no_effect};
+use crate::branches::warn_of_branch;
+use crate::calls::warn_of_call;
+use crate::flow::{warn_of_main, warn_of_recursion};
+use crate::misnamed::name_at;
+use crate::nodes::{Kind, Node, Nodes, nodes_of};
+use crate::notes::Note;
+use crate::statements::warn_of_statement;
+use crate::told::text_of;
+use crate::values::{warn_of_operator, warn_of_store};
 use crate::variables::warn_of_variables;
-use derivations::{Located, locate};
+use arrayvec::ArrayVec;
+use derivations::Located;
 use grammar::Profile;
-use std::alloc::{AllocError, Global};
 
-/// What warnings are made from, and those made so far.
-#[derive(Drop)]
-pub struct Lint<'a> {
-    alloc: Global,
-    tokens: &'a [Located],
-    nodes: Nodes,
-    warnings: Vec<Warning>,
+/// The most warnings of a source: those that are found after so many are left out.
+const MOST_WARNINGS: usize = 1000;
+
+/// A source that compiles: its tokens, and the nodes that were made of them.
+#[derive(Clone, Copy)]
+pub struct Subject<'a> {
+    /// Its tokens.
+    pub tokens: &'a [Located],
+    /// Its nodes.
+    pub nodes: &'a Nodes,
+    /// The language profile.
+    pub profile: Profile,
 }
 
-/// A warning: the index of the token that it is about, and its text.
-#[derive(Drop)]
-struct Warning {
+/// What a warning says.
+#[derive(Clone, Copy)]
+pub enum Said {
+    /// These words.
+    Words(&'static str),
+    /// The name that it is about, and then these words.
+    Named(&'static str),
+    /// That a variable is as these words say, and what may be meant.
+    Variable(&'static str, Meant),
+    /// How many arguments a function takes, and how many it is given.
+    Arguments(usize, usize),
+}
+
+/// What may be meant by the name of a variable.
+#[derive(Clone, Copy)]
+pub enum Meant {
+    /// Nothing that is known.
+    Nothing,
+    /// The name that the token of this index is.
+    Name(usize),
+    /// A call of the robot's own function of this name.
+    Call,
+    /// What these words say.
+    Words(&'static str),
+}
+
+/// A warning: the index of the token that it is about, and what it says.
+#[derive(Clone, Copy)]
+pub struct Warning {
     token: usize,
-    text: String,
+    order: usize,
+    said: Said,
 }
 
-impl<'a> Lint<'a> {
-    /// Returns the source's tokens.
-    pub fn tokens(&self) -> &'a [Located] {
-        self.tokens
+impl Default for Warning {
+    fn default() -> Warning {
+        Warning {
+            token: 0,
+            order: 0,
+            said: Said::Words(""),
+        }
+    }
+}
+
+impl Warning {
+    /// Returns the warning as a line, with the place of its token, which is one of these: the source's.
+    pub fn note(&self, tokens: &[Located]) -> Note {
+        let mut note = Note::new();
+        if let Some(located) = tokens.get(self.token) {
+            note.place(located.line, located.column);
+        }
+        note.add("warning: ");
+        match self.said {
+            Said::Words(words) => note.add(words),
+            Said::Named(words) => {
+                add_name(&mut note, tokens, self.token);
+                note.add(words);
+            }
+            Said::Variable(words, meant) => {
+                add_name(&mut note, tokens, self.token);
+                note.add(words);
+                self.add_meant(&mut note, tokens, meant);
+            }
+            Said::Arguments(wanted, given) => {
+                add_name(&mut note, tokens, self.token);
+                add_arguments(&mut note, wanted, given);
+            }
+        }
+        note.push('\n');
+        note
     }
 
-    /// Returns the source's nodes.
-    pub fn nodes(&self) -> &Nodes {
-        &self.nodes
+    /// Adds what may be meant.
+    fn add_meant(&self, note: &mut Note, tokens: &[Located], meant: Meant) {
+        match meant {
+            Meant::Nothing => {}
+            Meant::Name(token) => {
+                note.add("; perhaps ");
+                add_name(note, tokens, token);
+                note.add(" is meant");
+            }
+            Meant::Call => {
+                note.add("; perhaps `");
+                if let Some(name) = name_at(tokens, self.token) {
+                    note.add(text_of(&name));
+                }
+                note.add("()` is meant");
+            }
+            Meant::Words(words) => note.add(words),
+        }
+    }
+}
+
+/// Adds the name that the token of an index is.
+fn add_name(note: &mut Note, tokens: &[Located], token: usize) {
+    if let Some(name) = name_at(tokens, token) {
+        note.quote(text_of(&name));
+    }
+}
+
+/// Adds how many arguments a function takes, and how many it is given.
+fn add_arguments(note: &mut Note, wanted: usize, given: usize) {
+    note.add(" takes ");
+    match wanted {
+        0 => note.add("no"),
+        _ => note.number(wanted as u64),
+    }
+    note.add(if wanted == 1 {
+        " argument"
+    } else {
+        " arguments"
+    });
+    note.add(", and is given ");
+    note.number(given as u64);
+    note.add(if given < wanted {
+        ": those that lack are 0"
+    } else {
+        ": the others are dropped"
+    });
+}
+
+/// The warnings about a source.
+#[derive(Drop)]
+pub struct Warnings {
+    list: ArrayVec<Warning, MOST_WARNINGS>,
+}
+
+impl Warnings {
+    /// Returns them, in the order of the source.
+    pub fn list(&self) -> &[Warning] {
+        self.list.as_slice()
     }
 
-    /// Returns an empty text.
-    pub fn text(&self) -> String {
-        String::new(self.alloc)
-    }
-
-    /// Adds a warning with this text.
-    pub fn warn(&mut self, token: usize, text: String) -> Result<(), AllocError> {
-        self.warnings.push(Warning { token, text })?;
-        Ok(())
+    /// Adds a warning. Those about a token are told in the order in which they are found.
+    pub(crate) fn warn(&mut self, token: usize, said: Said) {
+        let found = self.list.len();
+        let order = token.saturating_mul(MOST_WARNINGS).saturating_add(found);
+        let _ = self.list.try_push(Warning { token, order, said });
     }
 
     /// Adds a warning with these words.
-    pub fn tell(&mut self, token: usize, words: &str) -> Result<(), AllocError> {
-        let text = String::from_str(self.alloc, words)?;
-        self.warn(token, text)
+    pub(crate) fn tell(&mut self, token: usize, words: &'static str) {
+        self.warn(token, Said::Words(words));
     }
 
-    /// Finds all warnings.
-    fn find(&mut self, profile: Profile) -> Result<(), AllocError> {
-        warn_of_variables(self)?;
-        warn_of_arguments(self)?;
-        warn_of_no_effect(self)?;
-        warn_of_empty_bodies(self)?;
-        warn_of_assignments(self)?;
-        if !profile.short_circuit() {
-            warn_of_right_sides(self)?;
+    /// Warns of the nodes of a source.
+    fn warn_of_nodes(&mut self, subject: &Subject<'_>) {
+        for (index, node) in subject.nodes.all().iter().enumerate() {
+            self.warn_of_node(subject, index, node);
         }
-        warn_of_recursion(self)?;
-        warn_of_main(self)?;
-        warn_of_unreached(self)?;
-        warn_of_conditions(self)
     }
 
-    /// Adds the warnings as lines, in the order of the source.
-    fn add(&mut self, text: &mut String, path: &str) -> Result<(), AllocError> {
-        self.warnings.sort_by_key(|warning| warning.token)?;
-        for warning in &self.warnings {
-            let words = warning.text.as_str();
-            if let Some(located) = self.tokens.get(warning.token) {
-                let (line, column) = (located.line, located.column);
-                write!(text, "{path}:{line}:{column}: warning: {words}\n")?;
-            }
+    /// Warns of the node of an index.
+    fn warn_of_node(&mut self, subject: &Subject<'_>, index: usize, node: &Node) {
+        match node.kind {
+            Kind::Call(callee, arguments) => warn_of_call(self, subject, index, callee, arguments),
+            Kind::Binary(op) => warn_of_operator(self, subject, index, op),
+            Kind::Store(..) => warn_of_store(self, subject, node),
+            Kind::Evaluate => warn_of_statement(self, subject, index, node),
+            _ => {}
         }
-        Ok(())
+        if node.is_unreached {
+            self.tell(
+                node.token,
+                "this is never reached: what stands before it returns, or loops forever",
+            );
+        }
+        if matches!(node.kind, Kind::If | Kind::While) {
+            warn_of_branch(self, subject, index, node);
+        }
     }
 }
 
-/// Adds the warnings about the source of a file that compiles by this profile, a line for each, in the order of the
-/// source, and returns how many there are. The only error is that memory is refused.
-pub fn add_warnings(
-    text: &mut String,
-    alloc: Global,
-    path: &str,
-    source: &[u8],
-    profile: Profile,
-) -> Result<usize, AllocError> {
-    let tokens = locate(alloc, source)?;
-    let mut lint = Lint {
-        alloc,
-        tokens: tokens.as_slice(),
-        nodes: nodes_of(alloc, tokens.as_slice(), profile)?,
-        warnings: Vec::new(alloc),
+/// Finds the warnings about a source that compiles by this profile; the tokens are the source's. Those after the first
+/// thousand that are found are left out.
+pub fn warnings_of(tokens: &[Located], profile: Profile) -> Warnings {
+    let nodes = nodes_of(tokens, profile);
+    let subject = Subject {
+        tokens,
+        nodes: &nodes,
+        profile,
     };
-    lint.find(profile)?;
-    lint.add(text, path)?;
-    Ok(lint.warnings.len())
+    let mut warnings = Warnings {
+        list: ArrayVec::new(),
+    };
+    warn_of_variables(&mut warnings, &subject);
+    warnings.warn_of_nodes(&subject);
+    warn_of_recursion(&mut warnings, &subject);
+    warn_of_main(&mut warnings, &subject);
+    let list = warnings.list.as_mut_slice();
+    list.sort_unstable_by_key(|warning| warning.order);
+    warnings
 }

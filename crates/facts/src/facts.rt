@@ -35,6 +35,8 @@ pub struct Part {
     pub name: Name,
     /// The line on which it begins, from 1.
     pub line: u32,
+    /// The column in which its name or its word begins, in bytes from 1.
+    pub column: u32,
     /// The cycles of a call or a turn, if one ever ends.
     pub cycles: Option<Span>,
     /// Its questions by the functions that are asked, in the order of `Intrinsic::ALL`.
@@ -131,11 +133,13 @@ impl Finder<'_> {
     }
 
     /// Makes a part of the function of this number, which has asked nothing so far.
-    fn part(&self, function: u8, line: u32, cycles: Option<Span>) -> Part {
+    fn part(&self, function: u8, place: (u32, u32), cycles: Option<Span>) -> Part {
+        let (line, column) = place;
         Part {
             number: function,
             name: self.name(function),
             line,
+            column,
             cycles,
             questions: [None; KINDS],
             named: self.places.named(),
@@ -165,7 +169,8 @@ impl Finder<'_> {
         };
         for (index, function) in self.maker.functions().iter().enumerate() {
             if function.number == number {
-                link.line = self.places.function(index);
+                let (line, _) = self.places.function(index);
+                link.line = line;
                 link.variables = function.variables;
             }
         }

@@ -6,12 +6,12 @@ use grammar::Intrinsic;
 use std::alloc::{AllocError, Global};
 use tokens::{Punctuator, Token, Word};
 
-/// The lines on which functions and loops begin, from 1, each in the order of the source; and which intrinsic functions
-/// are named.
+/// Where functions and loops begin, each in the order of the source: the line and the column of the name or the word. And
+/// which intrinsic functions are named.
 #[derive(Drop)]
 pub struct Places {
-    functions: Vec<u32>,
-    loops: Vec<u32>,
+    functions: Vec<(u32, u32)>,
+    loops: Vec<(u32, u32)>,
     named: [bool; KINDS],
 }
 
@@ -42,10 +42,10 @@ impl Places {
         depth: u32,
     ) -> Result<(), AllocError> {
         match token.token {
-            Token::Word(Word::While) => self.loops.push(token.line)?,
+            Token::Word(Word::While) => self.loops.push((token.line, token.column))?,
             Token::Punctuator(Punctuator::OpenRound) if depth == 0 => {
                 if let Some(name) = before {
-                    self.functions.push(name.line)?;
+                    self.functions.push((name.line, name.column))?;
                 }
             }
             Token::Name(name) => {
@@ -64,14 +64,14 @@ impl Places {
         self.named
     }
 
-    /// Returns the line of a function, by how many begin before it; 0 if there is none.
-    pub fn function(&self, index: usize) -> u32 {
-        self.functions.get(index).copied().unwrap_or(0)
+    /// Returns the line and the column of a function, by how many begin before it; 0 if there is none.
+    pub fn function(&self, index: usize) -> (u32, u32) {
+        self.functions.get(index).copied().unwrap_or((0, 0))
     }
 
-    /// Returns the line of a loop, by how many begin before it; 0 if there is none.
-    pub fn of_loop(&self, index: usize) -> u32 {
-        self.loops.get(index).copied().unwrap_or(0)
+    /// Returns the line and the column of a loop, by how many begin before it; 0 if there is none.
+    pub fn of_loop(&self, index: usize) -> (u32, u32) {
+        self.loops.get(index).copied().unwrap_or((0, 0))
     }
 }
 

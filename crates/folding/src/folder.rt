@@ -14,8 +14,8 @@ const MOST_KNOWN: usize = 64;
 
 /// A folder: it finds out which code is constant, beside a builder that takes each action as it is.
 ///
-/// No value is passed on in place of what it was made of: a builder represents the actions of the file, and a `Maker`
-/// that was told others gives no program.
+/// It passes no value on in place of the actions that compute it: a builder has to represent the file's actions, and a
+/// `Maker` with others gives no program.
 #[derive(Drop)]
 pub struct Folder {
     profile: Profile,

@@ -1,3 +1,4 @@
+mod ExplainingLemmas
 mod RunningLemmas
 mod FilmLemmas
 mod FilmedRobots

@@ -1,3 +1,4 @@
+pub mod Explaining
 pub mod Films
 pub mod Orders
 pub mod Robots

@@ -1,9 +1,11 @@
 //! The calls of the module.
 
-ghost use Rattle.std.specs.Prelude.{◌≡◌, ◌≢◌};
+ghost use Rattle.std.specs.Prelude.{◌≡◌, ◌≢◌, ◌≤◌, ◌⊎◌};
+ghost use Rattle.page.specs.Explaining.{IsExplained, code_explained};
 ghost use Rattle.page.specs.Films.{IsFilm, IsOfFilm, IsOfShown, IsOfStretch, IsOfWindows, film_code};
 ghost use Rattle.page.specs.Running.{IsAccepted, IsFull, IsOfRun, IsOutput, code_of};
 
+use crate::explaining::{Explained, explain_robot};
 use crate::filming::film_robots;
 use crate::films::Shown;
 use crate::orders::Order;
@@ -82,6 +84,33 @@ pub extern "C" fn film_windows(
     ensures refused { result ≢ 2 → IsAccepted order.now robots.now }
 {
     film_code(film_robots(order, robots, Some(order.stretch()), text, faults))
+}
+
+/// Explains the source of the first robot in the language profile that the order asks for, as the program crobots-why does,
+/// but without a name in front: its first fault, or a line for each warning.
+///
+/// Answers 0 if it compiles, 1 if it has a fault, 2 as `run` does, and 4 if there is no room: the source has over 16,384
+/// tokens, or the sheet is full.
+#[unsafe(no_mangle)]
+pub extern "C" fn explain(order: &Order, robots: &[RobotFile], text: &mut Sheet) -> u32
+    ensures explained { IsExplained order.now robots.now result }
+    ensures codes { (result ≤ 2) ⊎ (result ≡ 4) }
+    ensures accepted { IsAccepted order.now robots.now → result ≢ 2 }
+    ensures refused { result ≢ 2 → IsAccepted order.now robots.now }
+{
+    explained_code(explain_robot(order, robots, text))
+}
+
+/// Returns the number that stands for what was explained.
+fn explained_code(explained: Option<Explained>) -> u32
+    ensures { result ≡ code_explained explained }
+{
+    match explained {
+        Some(Explained::Good) => 0,
+        Some(Explained::Faulty) => 1,
+        None => 2,
+        Some(Explained::Cut) => 4,
+    }
 }
 
 /// Returns the number that stands for what a film shows, if it was made.

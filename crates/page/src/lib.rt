@@ -1,6 +1,7 @@
 //! The engine for a page in a browser: runs over sources in memory that the caller lends.
 #![tactic(auto)]
 
+mod explaining;
 mod exports;
 mod filming;
 mod films;
@@ -14,7 +15,8 @@ mod sheets;
 mod sources;
 mod stretches;
 
-pub use exports::{film, film_windows, order_bytes, robot_bytes, run, sheet_bytes};
+pub use explaining::{Explained, explain_robot};
+pub use exports::{explain, film, film_windows, order_bytes, robot_bytes, run, sheet_bytes};
 pub use filming::film_robots;
 pub use films::Shown;
 pub use orders::Order;

@@ -9,7 +9,10 @@ use Rattle.grammar.specs.Building.{Meaning}
 use Rattle.grammar.specs.Compiled.{compiled}
 use Rattle.grammar.specs.Pools.{Names, names_of}
 use Rattle.grammar.specs.Tree.{File}
+use Rattle.code.specs.Finishing.{IsTold}
 use Rattle.code.specs.Generation.{ObjectCode, code_of}
+use Rattle.code.specs.Making.{Made}
+use Rattle.code.specs.Told.{Stands}
 use Rattle.parser.specs.Files.{IsFile}
 use Rattle.settings.specs.declared.settings.Mode.{Mode}
 use Rattle.series.specs.Compiling.{code_or_fault, compiled_code, listed, listing_piece, pieces_of}
@@ -18,9 +21,29 @@ use Rattle.series.specs.Keeping.{and_compiled, and_program, KeepsMore, status_by
 use Rattle.series.specs.declared.endings.Status.TheVariants.{Done}
 
 -- a file is that of its names, whoever has them
-pub file_of_names : (before after : Meaning) (told : Option (List ℕ)) (kept names : Names) → names ≡ kept →
+file_of_names : (before after : Meaning) (told : Option (List ℕ)) (kept names : Names) → names ≡ kept →
     IsFile before after told kept → IsFile before after told names
 file_of_names before after told kept names same file = rw same file
+
+-- a parsed file, whose bytes the device may have told: the maker was told it, and these are its names
+pub record IsGood (maker : Made) (profile : Profile) (bytes_told : Option (List ℕ)) (names : Names) : Type 0 where
+  pub file : File
+  pub told : IsTold maker profile names file
+  pub is : (bytes : List ℕ) → bytes_told ≡ Some bytes → compiled profile bytes ≡ Ok file
+
+-- what a new maker was told of a file
+pub good_file : (before after : Made) (profile : Profile) (bytes_told : Option (List ℕ)) (kept names : Names) →
+    Stands before profile [] → names ≡ kept →
+    IsFile (λ p acts. Stands before p acts) (λ p acts. Stands after p acts) bytes_told kept →
+    IsGood after profile bytes_told names
+good_file before after profile bytes_told kept names new same file =
+    let f =
+    file_of_names (λ p acts. Stands before p acts) (λ p acts. Stands after p acts) bytes_told kept names same file in
+    record {
+      file = f.file;
+      told = record { resolved = f.resolved; stands = f.built profile new; named = f.named; main = f.main };
+      is = λ bytes are. f.is bytes are profile new;
+    }
 
 -- a good file's code
 pub good_code : (profile : Profile) (bytes : List ℕ) (file : File) (code : ObjectCode) →

@@ -9,16 +9,19 @@ use tools::{Fault, Known, Options, number_of, profile};
 const MOST_CYCLES: u64 = 10_000;
 
 /// The options.
-pub const OPTIONS: [Known; 9] = [
-    Known::Flag("tokens"),
-    Known::Flag("tree"),
-    Known::Flag("dot"),
-    Known::Flag("code"),
-    Known::Flag("bounds"),
-    Known::Flag("html"),
-    Known::Valued("run"),
-    Known::Valued("replies"),
-    Known::Valued("p"),
+pub const OPTIONS: [Known; 8] = [
+    Known::Flag("tokens", "its tokens"),
+    Known::Flag("tree", "its tree"),
+    Known::Flag("dot", "its tree as a graph, for Graphviz"),
+    Known::Flag("code", "its code below its lines"),
+    Known::Flag("bounds", "what is known of it before a match"),
+    Known::Flag("html", "its code beside its lines, as a page"),
+    Known::Valued("run", "CYCLES", "the first cycles of its machine"),
+    Known::Valued(
+        "replies",
+        "LIST",
+        "with --run: what intrinsic functions reply",
+    ),
 ];
 
 /// What is shown of a source.

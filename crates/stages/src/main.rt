@@ -28,13 +28,17 @@ use crate::token_rows::token_rows;
 use facts::add_rows;
 use std::alloc::Global;
 use std::process::ExitCode;
-use tools::{Draft, Fault, Frame, Options, Work, name_of, source_of, tell_diagnostic, write_text};
+use tools::{
+    Draft, Fault, Frame, Options, PROFILE_OPTIONS, Work, name_of, source_of, tell_diagnostic,
+    write_text,
+};
 
 /// The program's name, its line of wrong usage, and its options.
 const FRAME: Frame = Frame {
-    name: "stages",
-    usage: "usage: stages (--tokens | --tree | --dot | --code | --bounds | --html | --run CYCLES [--replies LIST]) [-pPROFILE] FILE",
-    known: &[&OPTIONS],
+    name: "crobots-stages",
+    about: "Shows what the compiler makes of a robot, stage by stage.",
+    usage: "(--tokens | --tree | --dot | --code | --bounds | --html | --run CYCLES [--replies LIST]) [-pPROFILE] FILE",
+    known: &[&OPTIONS, &PROFILE_OPTIONS],
 };
 
 /// Shows what the command line asks for, and returns the status.
@@ -71,13 +75,24 @@ fn shown(alloc: Global, request: &Request<'_>, source: &[u8]) -> Result<String, 
         Form::Code => listing(alloc, source, &made, &found(alloc, request, source)?)?,
         Form::Bounds => {
             let mut rows = Draft::new(alloc);
-            add_rows(&mut rows, request.file, &known(alloc, source, request.profile)?);
+            add_rows(
+                &mut rows,
+                request.file,
+                &known(alloc, source, request.profile)?,
+            );
             rows.finish()?
         }
         Form::Html => {
             let facts = known(alloc, source, request.profile)?;
             let origins = found(alloc, request, source)?;
-            page(alloc, name_of(request.file), source, &made, &origins, &facts)?
+            page(
+                alloc,
+                name_of(request.file),
+                source,
+                &made,
+                &origins,
+                &facts,
+            )?
         }
         Form::Run(cycles) => execution(alloc, &made, cycles, request.replies.as_slice())?,
     };

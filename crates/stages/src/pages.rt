@@ -161,7 +161,7 @@ fn add_facts(text: &mut Draft, alloc: Global, facts: &Facts) -> Result<(), Alloc
     let mut room = Draft::new(alloc);
     add_room(&mut room, facts);
     let room = room.finish()?;
-    for line in room.trim_end().split('\n') {
+    for line in room.trim().split('\n') {
         text.add("<div>");
         text.add(line);
         text.add("</div>\n");

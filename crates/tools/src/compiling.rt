@@ -6,14 +6,15 @@ ghost use Rattle.tools.specs.Compiling.{CompilesTo};
 
 use crate::faults::Fault;
 use crate::files::opened;
+use crate::shown::Plain;
 use code::{Maker, Profile, Program};
 use grammar::{Diagnostic, ParseFault, Pools};
 use parser::parse;
 use settings::{FILES_MAX, Settings};
 use tokens::{DeviceFault, Feed, FileFeed};
 
-/// Compiles the files of a wish, and writes the diagnostic of each faulty one, or a line about the first that can't be
-/// opened or read, with the name of the program that asks.
+/// Compiles the files of a match. Writes the diagnostic of each faulty one, or a line about the first that can't be opened
+/// or read, which begins with the name of the program.
 pub fn programs(rt: &HostRuntime, program: &str, wish: &Settings<'_>) -> Result<Vec<Program>, Fault>
     ensures each { IfOk result (λ programs. length programs.items ≡ length wish.now.words) }
     ensures some { IfOk result (λ programs. 0 < length programs.items) }
@@ -30,7 +31,7 @@ pub fn programs(rt: &HostRuntime, program: &str, wish: &Settings<'_>) -> Result<
                 is_faulty = true;
             }
             Err(DeviceFault) => {
-                let _ = eprintln!(rt; "{program}: cannot read {word}");
+                let _ = eprintln!(rt; "{program}: cannot read {}", Plain(word));
                 return Err(Fault::Read);
             }
         }
@@ -73,10 +74,11 @@ pub fn compile<F: Feed>(
     }
 }
 
-/// Writes the diagnostic of the file of a word on standard error, as crobots does: its name, the line, the text.
+/// Writes the diagnostic of the file of a word on standard error, as crobots does: its name, the line, the text. Control
+/// characters of the name are shown as question marks.
 pub fn tell_diagnostic(rt: &HostRuntime, word: &str, diagnostic: &Diagnostic) {
     let Diagnostic { line, code } = diagnostic;
-    let _ = eprintln!(rt; "{}:{line}: {}", name_of(word), code.text());
+    let _ = eprintln!(rt; "{}:{line}: {}", Plain(name_of(word)), code.text());
 }
 
 /// Returns the name that texts give the file of this word: what follows its last `/`.

@@ -1,6 +1,7 @@
 //! Files by the words that name them: opened, and read whole.
 
 use crate::faults::Fault;
+use crate::shown::Plain;
 use std::alloc::Global;
 use std::fs::File;
 use std::io::{ErrorKind, Read};
@@ -12,19 +13,19 @@ pub fn opened(rt: &HostRuntime, program: &str, word: &str) -> Result<File, Fault
         Ok(file) => Ok(file),
         Err(fault) if fault.kind() == ErrorKind::OutOfMemory => Err(Fault::Memory),
         Err(_) => {
-            let _ = eprintln!(rt; "{program}: cannot open {word}");
+            let _ = eprintln!(rt; "{program}: cannot open {}", Plain(word));
             Err(Fault::Read)
         }
     }
 }
 
-/// Reads the file of a word: all of it, or so many bytes that the rest has no part in its meaning. If it can't be opened
-/// or read, a line with the program's name and the word is written.
+/// Reads the file of a word: all of it, or as many bytes as determine what it compiles to. If it can't be opened or read, a
+/// line with the program's name and the word is written.
 pub fn source_of(rt: &HostRuntime, program: &str, word: &str) -> Result<Vec<u8>, Fault> {
     let mut file = opened(rt, program, word)?;
     let source = read_whole(rt.alloc(), &mut file);
     if let Err(Fault::Read) = &source {
-        let _ = eprintln!(rt; "{program}: cannot read {word}");
+        let _ = eprintln!(rt; "{program}: cannot read {}", Plain(word));
     }
     source
 }

@@ -4,21 +4,29 @@
 
 mod command_line;
 mod compiling;
+mod complaints;
 mod faults;
 mod files;
 mod frames;
+mod helps;
+mod known;
 mod options;
 mod outputs;
+mod shown;
 mod spans;
 mod texts;
+mod version;
 mod wishes;
 
 pub use compiling::{Compiled, compile, name_of, programs, tell_diagnostic};
-pub use faults::Fault;
+pub use faults::{Fault, Wrong};
 pub use files::{opened, source_of};
 pub use frames::{Frame, Work};
-pub use options::{Known, Options, read_options};
-pub use outputs::{Output, write_text};
+pub use known::{COMMON_OPTIONS, Known, OUTPUT_OPTIONS};
+pub use options::{Misread, Options, read_options};
+pub use outputs::{Output, write_text, write_to};
+pub use shown::{Dashed, Plain, visible};
 pub use spans::{SPAN_OPTIONS, Span};
 pub use texts::{Draft, Text, add_left, add_right, add_signed};
-pub use wishes::{MATCH_OPTIONS, file_of, number_of, profile, wish};
+pub use version::VERSION;
+pub use wishes::{MATCH_OPTIONS, PROFILE_OPTIONS, file_of, number_of, profile, wish};

@@ -1,25 +1,8 @@
 //! Options: which ones a program knows, and how words give them.
 
-use crate::faults::Fault;
+use crate::faults::{Fault, Wrong};
+use crate::known::{Known, known_by};
 use std::alloc::Global;
-
-/// An option that a program knows: `-k` if its name is one letter, else `--name`.
-#[derive(Clone, Copy)]
-pub enum Known {
-    /// An option without a value.
-    Flag(&'static str),
-    /// An option with a value: `-kVALUE`, `-k VALUE`, `--name=VALUE` or `--name VALUE`.
-    Valued(&'static str),
-}
-
-impl Known {
-    /// Returns its name.
-    pub fn name(self) -> &'static str {
-        match self {
-            Known::Flag(name) | Known::Valued(name) => name,
-        }
-    }
-}
 
 /// What the words of a command line gave: options, each at most once, and files, in order.
 #[derive(Drop)]
@@ -36,6 +19,14 @@ struct Given<'a> {
 }
 
 impl<'a> Options<'a> {
+    /// Makes what no words give.
+    pub fn none(alloc: Global) -> Options<'a> {
+        Options {
+            given: Vec::new(alloc),
+            files: Vec::new(alloc),
+        }
+    }
+
     /// Reports whether the option of this name was given.
     pub fn has(&self, name: &str) -> bool {
         self.value(name).is_some()
@@ -53,17 +44,17 @@ impl<'a> Options<'a> {
 
     /// Returns which of these options was given, by what stands beside its name: none if none was. Two of them are wrong
     /// usage.
-    pub fn only<T: Copy>(&self, choices: &[(&str, T)]) -> Result<Option<T>, Fault> {
+    pub fn only<T: Copy>(&self, choices: &[(&'static str, T)]) -> Result<Option<T>, Fault> {
         let mut found = None;
         for (name, choice) in choices {
             if self.has(name) {
-                if found.is_some() {
-                    return Err(Fault::Usage);
+                if let Some((other, _)) = found {
+                    return Err(Fault::Wrong(Wrong::Both(other, *name)));
                 }
-                found = Some(*choice);
+                found = Some((*name, *choice));
             }
         }
-        Ok(found)
+        Ok(found.map(|(_, choice)| choice))
     }
 
     /// Returns the files, in order.
@@ -71,36 +62,49 @@ impl<'a> Options<'a> {
         self.files.as_slice()
     }
 
-    /// Keeps an option's value. One that was given before is wrong usage.
-    fn keep(&mut self, name: &'static str, value: &'a str) -> Result<(), Fault> {
+    /// Keeps an option's value, unless it was given before.
+    fn keep(&mut self, name: &'static str, value: &'a str) -> Result<(), Misread<'a>> {
         if self.has(name) {
-            return Err(Fault::Usage);
+            return Err(Misread::Twice(name));
         }
         match self.given.push(Given { name, value }) {
             Ok(()) => Ok(()),
-            Err(_) => Err(Fault::Memory),
+            Err(_) => Err(Misread::Memory),
         }
     }
 }
 
-/// Reads the words after the program's name: options of these lists, and files, in any order. After `--` each word is a
-/// file. Wrong usage is: an option that isn't known, one that is given twice, a value that is missing, one that is given
-/// to an option without values, and the word `-`.
+/// Why words give no options and files.
+#[derive(Clone, Copy, Debug, PartialEq, Eq)]
+pub enum Misread<'a> {
+    /// This word is no option that the program knows.
+    Unknown(&'a str),
+    /// This word asks for a number of matches, of a program that plays one.
+    Series(&'a str),
+    /// This option is given twice.
+    Twice(&'static str),
+    /// This option is the last word, and lacks its value.
+    Lacking(&'static str),
+    /// This option is given a value, and takes none.
+    Valued(&'static str),
+    /// Memory was refused.
+    Memory,
+}
+
+/// Reads the words after the program's name: options of these lists and of each program, and files, in any order. After
+/// `--` each word is a file.
 pub fn read_options<'a>(
     alloc: Global,
     words: &'a [String],
     known: &[&'static [Known]],
-) -> Result<Options<'a>, Fault> {
-    let mut options = Options {
-        given: Vec::new(alloc),
-        files: Vec::new(alloc),
-    };
+) -> Result<Options<'a>, Misread<'a>> {
+    let mut options = Options::none(alloc);
     let mut expected = Expected::Any;
     for word in words {
         expected = options.take(word.as_str(), known, expected)?;
     }
     match expected {
-        Expected::Value(_) => Err(Fault::Usage),
+        Expected::Value(name) => Err(Misread::Lacking(name)),
         Expected::Any | Expected::File => Ok(options),
     }
 }
@@ -123,7 +127,7 @@ impl<'a> Options<'a> {
         word: &'a str,
         known: &[&'static [Known]],
         expected: Expected,
-    ) -> Result<Expected, Fault> {
+    ) -> Result<Expected, Misread<'a>> {
         match expected {
             Expected::Value(name) => {
                 self.keep(name, word)?;
@@ -133,7 +137,7 @@ impl<'a> Options<'a> {
             Expected::Any if word.starts_with('-') => self.take_option(word, known),
             _ => match self.files.push(word) {
                 Ok(()) => Ok(expected),
-                Err(_) => Err(Fault::Memory),
+                Err(_) => Err(Misread::Memory),
             },
         }
     }
@@ -143,29 +147,26 @@ impl<'a> Options<'a> {
         &mut self,
         word: &'a str,
         known: &[&'static [Known]],
-    ) -> Result<Expected, Fault> {
-        let (name, value) = parted(word).ok_or(Fault::Usage)?;
-        let option = known_by(known, name).ok_or(Fault::Usage)?;
-        match (option, value) {
-            (Known::Valued(name), None) => return Ok(Expected::Value(name)),
-            (Known::Valued(name), Some(value)) => self.keep(name, value)?,
-            (Known::Flag(name), None) => self.keep(name, "")?,
-            (Known::Flag(_), Some(_)) => return Err(Fault::Usage),
+    ) -> Result<Expected, Misread<'a>> {
+        let (name, value) = parted(word).ok_or(Misread::Unknown(word))?;
+        match (known_by(known, name), value) {
+            (Some(Known::Valued(name, _, _)), None) => return Ok(Expected::Value(name)),
+            (Some(Known::Valued(name, _, _)), Some(value)) => self.keep(name, value)?,
+            (Some(Known::Flag(name, _)), None) => self.keep(name, "")?,
+            (Some(Known::Flag(name, _)), Some(_)) => return Err(Misread::Valued(name)),
+            (Some(Known::Also(..)) | None, _) => return Err(unknown(word, name, known)),
         }
         Ok(Expected::Any)
     }
 }
 
-/// Returns the option of this name, if one of these lists has it.
-fn known_by(known: &[&'static [Known]], name: &str) -> Option<Known> {
-    for options in known {
-        for option in *options {
-            if option.name() == name {
-                return Some(*option);
-            }
-        }
+/// Returns why the word of an option of this name is none that is known.
+fn unknown<'a>(word: &'a str, name: &str, known: &[&'static [Known]]) -> Misread<'a> {
+    if name == "m" && known_by(known, "k").is_some() {
+        Misread::Series(word)
+    } else {
+        Misread::Unknown(word)
     }
-    None
 }
 
 /// Parts the word of an option into its name and the value that is attached: `-kVALUE` or `--name=VALUE`.

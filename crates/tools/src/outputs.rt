@@ -1,7 +1,9 @@
 //! Standard output in large pieces.
 
 use crate::faults::Fault;
+use crate::options::Options;
 use std::alloc::Global;
+use std::fs::File;
 use std::io::Write;
 
 /// How many bytes are written at once, about.
@@ -14,7 +16,7 @@ pub struct Output {
 }
 
 impl Output {
-    /// Makes an output in which nothing is kept.
+    /// Makes an output that keeps no text yet.
     pub fn new(alloc: Global) -> Output {
         Output {
             kept: String::new(alloc),
@@ -46,6 +48,20 @@ impl Output {
 pub fn write_text(rt: &HostRuntime, text: &str) -> Result<(), Fault> {
     match rt.stdout().write_all(text.as_bytes()) {
         Ok(()) => Ok(()),
+        Err(_) => Err(Fault::Write),
+    }
+}
+
+/// Writes a text into the file that `-o` names, or on standard output if options don't have it.
+pub fn write_to(rt: &HostRuntime, options: &Options<'_>, text: &str) -> Result<(), Fault> {
+    let Some(word) = options.value("o") else {
+        return write_text(rt, text);
+    };
+    match File::create(rt, word) {
+        Ok(mut file) => match file.write_all(text.as_bytes()) {
+            Ok(()) => Ok(()),
+            Err(_) => Err(Fault::Write),
+        },
         Err(_) => Err(Fault::Write),
     }
 }

@@ -3,16 +3,25 @@
 ghost use Rattle.std.specs.Prelude.{◌≡◌, ◌≤◌, ◌↔◌, IfOk, IsTrue, None};
 ghost use Rattle.tools.specs.Span.{IsOfRobot, IsOfRobots};
 
-use crate::faults::Fault;
-use crate::options::{Known, Options};
+use crate::faults::{Fault, Wrong};
+use crate::known::Known;
+use crate::options::Options;
 use crate::wishes::number_of;
-use settings::CYCLES_MAX;
+use settings::{CYCLES_MAX, number};
 
 /// The options that a span is asked for by: the only robot, the first cycle, the last cycle.
 pub const SPAN_OPTIONS: [Known; 3] = [
-    Known::Valued("robot"),
-    Known::Valued("from"),
-    Known::Valued("to"),
+    Known::Valued("robot", "N", "only what concerns this robot, from 1"),
+    Known::Valued(
+        "from",
+        "CYCLE",
+        "only this cycle and later ones (default 0)",
+    ),
+    Known::Valued(
+        "to",
+        "CYCLE",
+        "only this cycle and earlier ones (default 1000000000)",
+    ),
 ];
 
 /// A span of cycles of one robot, or of all.
@@ -27,7 +36,7 @@ pub struct Span {
 }
 
 impl Span {
-    /// Reads the span that options ask for of so many robots: `--robot`, its number, from 1, by default all robots;
+    /// Reads the span of a match of this many robots that options ask for: `--robot`, its number, from 1, by default all robots;
     /// `--from` and `--to`, the first and the last cycle, 0 to 1,000,000,000, by default all cycles. Other values, and a
     /// last cycle before the first one, are wrong usage.
     pub fn read(options: &Options<'_>, robots: usize) -> Result<Span, Fault>
@@ -39,13 +48,13 @@ impl Span {
         let from = number_of(options, "from", 0, last, 0)? as u32;
         let to = number_of(options, "to", 0, last, last)? as u32;
         if to < from {
-            return Err(Fault::Usage);
+            return Err(Fault::Wrong(Wrong::Order));
         }
         let robot = robot_of(options, robots)?;
         Ok(Span { robot, from, to })
     }
 
-    /// Reports whether a robot is looked at.
+    /// Reports whether the span has a robot.
     pub fn has_robot(&self, robot: usize) -> bool
         ensures { IsTrue result ↔ IsOfRobot self.now.robot robot }
     {
@@ -55,21 +64,21 @@ impl Span {
         }
     }
 
-    /// Reports whether a cycle is looked at.
+    /// Reports whether the span has a cycle.
     pub fn has_cycle(&self, cycle: u32) -> bool
         ensures { IsTrue result ↔ ((self.now.from ≤ cycle) × (cycle ≤ self.now.to)) }
     {
         self.from <= cycle && cycle <= self.to
     }
 
-    /// Reports whether a robot is looked at in a cycle.
+    /// Reports whether the span has a robot in a cycle.
     pub fn has(&self, cycle: u32, robot: usize) -> bool
         ensures { IsTrue result ↔ (IsOfRobot self.now.robot robot × (self.now.from ≤ cycle) × (cycle ≤ self.now.to)) }
     {
         self.has_robot(robot) && self.has_cycle(cycle)
     }
 
-    /// Reports whether all robots are looked at, and each of so many cycles.
+    /// Reports whether the span has all robots, and each cycle of a match of this length.
     pub fn is_whole(&self, cycles: u32) -> bool
         ensures { IsTrue result ↔ ((self.now.robot ≡ None) × (self.now.from ≡ 0) × (cycles ≤ self.now.to)) }
     {
@@ -77,13 +86,15 @@ impl Span {
     }
 }
 
-/// Reads the number of the only robot that is looked at, from 1 to so many, if one is asked for.
+/// Reads the number of the only robot of the span, from 1 to the number of robots, if one is asked for.
 fn robot_of(options: &Options<'_>, robots: usize) -> Result<Option<usize>, Fault>
     ensures { IfOk result (λ robot. IsOfRobots robot robots) }
 {
-    match number_of(options, "robot", 0, robots as u64, 0)? {
-        0 if options.has("robot") => Err(Fault::Usage),
-        0 => Ok(None),
-        number => Ok(Some(number as usize - 1)),
+    let Some(text) = options.value("robot") else {
+        return Ok(None);
+    };
+    match number(text, 1, robots as u64) {
+        Some(number) => Ok(Some(number as usize - 1)),
+        None => Err(Fault::Wrong(Wrong::Robot(robots))),
     }
 }

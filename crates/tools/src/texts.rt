@@ -1,9 +1,9 @@
-//! Texts that can't fail: want of memory is noted, and told once at the end.
+//! Texts to which adding can't fail: want of memory is noted, and reported once at the end.
 
 use std::alloc::{AllocError, Global};
 
-/// A text that words are added to. One that has no room for some notes it, and nothing more is added: so what adds to it
-/// can't fail.
+/// A text that words are added to. If memory is refused for some of them, the text notes it, and takes nothing more: so
+/// adding can't fail.
 pub trait Text {
     /// Adds words.
     fn add(&mut self, words: &str);
@@ -41,7 +41,7 @@ impl Draft {
         self.kept.is_empty()
     }
 
-    /// Moves what was added behind a text, and begins anew. The only error is that memory was refused, now or before.
+    /// Appends what was added to a text, and begins anew. The only error is that memory was refused, now or before.
     pub fn move_behind(&mut self, text: &mut String) -> Result<(), AllocError> {
         let moved = text.push_str(self.kept.as_str());
         self.kept.clear();
@@ -76,7 +76,7 @@ impl Text for Draft {
     }
 }
 
-/// Adds a number on the right of so many columns. A longer one has all its digits.
+/// Adds a number, with blanks before it up to this width. A longer one has all its digits.
 pub fn add_right(text: &mut impl Text, number: u64, width: usize) {
     for _ in digits_of(number)..width {
         text.push(' ');
@@ -84,7 +84,7 @@ pub fn add_right(text: &mut impl Text, number: u64, width: usize) {
     text.number(number);
 }
 
-/// Adds words of ASCII on the left of so many columns. Longer ones are all added.
+/// Adds words of ASCII, with blanks after them up to this width. Longer ones are all added.
 pub fn add_left(text: &mut impl Text, words: &str, width: usize) {
     text.add(words);
     for _ in words.len()..width {

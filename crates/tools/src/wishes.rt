@@ -2,17 +2,33 @@
 
 ghost use Rattle.std.specs.Prelude.{◌≤◌, IfOk};
 
-use crate::faults::Fault;
-use crate::options::{Known, Options};
+use crate::faults::{Fault, Wrong};
+use crate::known::Known;
+use crate::options::Options;
 use grammar::{MOST_PROFILE, Profile};
-use settings::{Given, PROFILE_DEFAULT, Settings, number, settle};
+use settings::{CYCLES_MAX, FIRST_MAX, Given, PROFILE_DEFAULT, Settings, UseFault, number, settle};
 
-/// The options that a match is asked for by: its number, its most cycles, its seed, the profile.
-pub const MATCH_OPTIONS: [Known; 4] = [
-    Known::Valued("k"),
-    Known::Valued("l"),
-    Known::Valued("s"),
-    Known::Valued("p"),
+/// The option of the language profile.
+pub const PROFILE_OPTIONS: [Known; 1] = [PROFILE];
+
+/// The language profile.
+const PROFILE: Known = Known::Valued("p", "PROFILE", "language profile, 1 or 2 (default 1)");
+
+/// The options that a match is asked for by: its number, by two names, its most cycles, its seed, the profile.
+pub const MATCH_OPTIONS: [Known; 5] = [
+    Known::Valued("k", "MATCH", "number of the match (default 1)"),
+    Known::Also("f", "k"),
+    Known::Valued("l", "CYCLES", "most cycles of the match (default 500000)"),
+    Known::Valued("s", "SEED", "seed of the random numbers (default 1)"),
+    PROFILE,
+];
+
+/// The numbers that these options may give: the least and the most.
+const LIMITS: [(&str, u64, u64); 4] = [
+    ("k", 1, FIRST_MAX as u64),
+    ("l", 1, CYCLES_MAX as u64),
+    ("s", 0, u64::MAX),
+    ("p", 1, MOST_PROFILE as u64),
 ];
 
 /// Reads the match that options ask for, as a series of one match: `-k`, its number, 1 to 1,000,000, by default 1; `-l`,
@@ -34,8 +50,23 @@ pub fn wish<'a>(options: &Options<'a>) -> Result<Settings<'a>, Fault> {
     };
     match settle(given) {
         Ok(wish) => Ok(wish),
-        Err(_) => Err(Fault::Usage),
+        Err(UseFault::Number) => Err(wrong_number(options)),
+        Err(UseFault::TooMany) => Err(Fault::Wrong(Wrong::Files)),
+        Err(UseFault::Memory) => Err(Fault::Memory),
+        Err(UseFault::Usage | UseFault::NoMode) => Err(Fault::Usage),
     }
+}
+
+/// Returns which option of a match has a value that is no number within its limits.
+fn wrong_number(options: &Options<'_>) -> Fault {
+    for (name, least, most) in LIMITS {
+        if let Some(text) = options.value(name)
+            && number(text, least, most).is_none()
+        {
+            return Fault::Wrong(Wrong::Number(name, least, most));
+        }
+    }
+    Fault::Usage
 }
 
 /// Returns the word of the file that a robot of this number, from 0, comes from: a single file is both robots'.
@@ -49,7 +80,7 @@ pub fn file_of<'a>(wish: &Settings<'a>, robot: usize) -> &'a str {
 /// Reads the value of an option: a number from `least` to `most`, or the default one if it isn't given.
 pub fn number_of(
     options: &Options<'_>,
-    name: &str,
+    name: &'static str,
     least: u64,
     most: u64,
     default: u64,
@@ -59,7 +90,10 @@ pub fn number_of(
     ensures { IfOk result (λ n. (least ≤ n) × (n ≤ most)) }
 {
     match options.value(name) {
-        Some(text) => number(text, least, most).ok_or(Fault::Usage),
+        Some(text) => {
+            let wrong = Fault::Wrong(Wrong::Number(name, least, most));
+            number(text, least, most).ok_or(wrong)
+        }
         None => Ok(default),
     }
 }

@@ -5,7 +5,7 @@ use grammar::Callee;
 use std::alloc::{AllocError, Global};
 
 /// How many cycles something took, each time that it was done.
-#[derive(Clone, Copy, Default, Drop)]
+#[derive(Clone, Copy, Drop)]
 pub struct Taken {
     /// How often it was done.
     pub count: u64,
@@ -16,6 +16,14 @@ pub struct Taken {
     /// The cycles that it took in all.
     pub all: u64,
 }
+
+/// What was never done.
+const NEVER: Taken = Taken {
+    count: 0,
+    least: 0,
+    most: 0,
+    all: 0,
+};
 
 impl Taken {
     /// Counts one time.
@@ -51,18 +59,11 @@ enum Mark {
     Again(usize),
 }
 
-/// A call of the function of a number, or a turn of the loop of a number.
+/// A call of the function of a number or a turn of the loop of a number, and the cycle in which it began.
 #[derive(Clone, Copy)]
-enum Part {
-    Call(usize),
-    Turn(usize),
-}
-
-/// A part that goes on, and the cycle in which it began.
-#[derive(Clone, Copy)]
-struct Open {
-    part: Part,
-    begun: u32,
+enum Running {
+    Call(usize, u32),
+    Turn(usize, u32),
 }
 
 /// What measures a robot's calls and turns. A call goes from its `FCALL` to its `RETSUB`, a turn from the loop's test to the
@@ -72,7 +73,7 @@ pub struct Clock {
     /// What the instruction of each address begins or ends.
     marks: Vec<Mark>,
     /// The calls and turns that go on, each within those before it. Those of a call may have been left.
-    open: Vec<Open>,
+    running: Vec<Running>,
     /// What the calls of each function took, by its number.
     calls: Vec<Taken>,
     /// What the turns of each loop took, in the order of the source.
@@ -86,7 +87,7 @@ impl Clock {
     pub fn new(alloc: Global, program: &Program) -> Result<Clock, AllocError> {
         let mut clock = Clock {
             marks: Vec::new(alloc),
-            open: Vec::new(alloc),
+            running: Vec::new(alloc),
             calls: Vec::new(alloc),
             turns: Vec::new(alloc),
             is_whole: true,
@@ -95,12 +96,13 @@ impl Clock {
             clock.marks.push(mark_of(instruction))?;
         }
         for _ in program.addresses() {
-            clock.calls.push(Taken::default())?;
+            clock.calls.push(NEVER)?;
         }
         for (test, again) in loops(alloc, program.instructions())?.as_slice() {
-            clock.mark(*test, Mark::Test(clock.turns.len()));
-            clock.mark(*again, Mark::Again(clock.turns.len()));
-            clock.turns.push(Taken::default())?;
+            let number = clock.turns.len();
+            clock.mark(*test, Mark::Test(number));
+            clock.mark(*again, Mark::Again(number));
+            clock.turns.push(NEVER)?;
         }
         Ok(clock)
     }
@@ -119,47 +121,37 @@ impl Clock {
         };
         match mark {
             Mark::Nothing => {}
-            Mark::Call(number) => self.begin(Part::Call(number), cycle),
+            Mark::Call(number) => self.begin(Running::Call(number, cycle)),
             Mark::Return => self.end_call(cycle),
-            Mark::Test(number) => self.begin(Part::Turn(number), cycle),
+            Mark::Test(number) => self.begin(Running::Turn(number, cycle)),
             Mark::Again(number) => self.end_turn(number, cycle),
         }
     }
 
-    /// Begins a part.
-    fn begin(&mut self, part: Part, begun: u32) {
-        if self.open.push(Open { part, begun }).is_err() {
+    /// Begins a call or a turn.
+    fn begin(&mut self, begun: Running) {
+        if self.running.push(begun).is_err() {
             self.is_whole = false;
         }
     }
 
     /// Ends the innermost call, and the turns in it. One that began before the first cycle that is looked at isn't known.
     fn end_call(&mut self, cycle: u32) {
-        for _ in 0..self.open.len() {
-            if let Some(Open {
-                part: Part::Call(number),
-                begun,
-            }) = self.open.pop()
-            {
+        for _ in 0..self.running.len() {
+            if let Some(Running::Call(number, begun)) = self.running.pop() {
                 note(self.calls.as_mut_slice(), number, begun, cycle);
                 return;
             }
         }
     }
 
-    /// Ends the turn of a loop in the innermost call, and those in it: their loops were left. One that began before the first
-    /// cycle that is looked at isn't known.
+    /// Ends the turn of a loop, and those in it: their loops were left. One that began before the first cycle that is looked
+    /// at isn't known.
     fn end_turn(&mut self, ended: usize, cycle: u32) {
-        for _ in 0..self.open.len() {
-            let Some(Open {
-                part: Part::Turn(number),
-                begun,
-            }) = self.open.last().copied()
-            else {
-                return;
-            };
-            self.open.pop();
-            if number == ended {
+        for _ in 0..self.running.len() {
+            if let Some(Running::Turn(number, begun)) = self.running.pop()
+                && number == ended
+            {
                 note(self.turns.as_mut_slice(), number, begun, cycle);
                 return;
             }
@@ -168,17 +160,17 @@ impl Clock {
 
     /// Cuts off all that goes on: the robot restarts.
     pub fn restart(&mut self) {
-        self.open.clear();
+        self.running.clear();
     }
 
     /// Returns what the calls of the function of a number took.
     pub fn calls(&self, number: usize) -> Taken {
-        self.calls.get(number).copied().unwrap_or_default()
+        self.calls.get(number).copied().unwrap_or(NEVER)
     }
 
     /// Returns what the turns of a loop took, by how many loops begin before it.
     pub fn turns(&self, number: usize) -> Taken {
-        self.turns.get(number).copied().unwrap_or_default()
+        self.turns.get(number).copied().unwrap_or(NEVER)
     }
 
     /// Reports whether no memory was refused.

@@ -34,8 +34,9 @@ use tools::{Fault, Frame, MATCH_OPTIONS, Options, SPAN_OPTIONS, Work};
 
 /// The program's name, its line of wrong usage, and its options.
 const FRAME: Frame = Frame {
-    name: "trace",
-    usage: "usage: trace [-kMATCH] [-lCYCLES] [-sSEED] [-pPROFILE] [--robot N] [--from CYCLE] [--to CYCLE] [--sum | --events | --asks | --steps | --film] FILE..",
+    name: "crobots-trace",
+    about: "Plays one match, and reports what each robot did and suffered.",
+    usage: "[-kMATCH] [-lCYCLES] [-sSEED] [-pPROFILE] [--robot N] [--from CYCLE] [--to CYCLE] [--sum | --events | --asks | --steps | --film] FILE..",
     known: &[&MATCH_OPTIONS, &SPAN_OPTIONS, &FORM_OPTIONS],
 };
 

@@ -55,7 +55,8 @@ fn add_row(
     add_left(&mut row, proved(rows, part.cycles)?.as_str(), PROVED);
     row.add(what);
     row.add(subject.note.function_name(usize::from(part.number)));
-    for character in row.finish()?.chars().take(MOST_COLUMNS - 1) {
+    let row = row.finish()?;
+    for character in row.chars().take(MOST_COLUMNS - 1) {
         rows.push(character);
     }
     rows.add("\n");

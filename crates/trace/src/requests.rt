@@ -5,11 +5,11 @@ use tools::{Fault, Known, Options, Span, wish};
 
 /// The options that a form is asked for by.
 pub const FORM_OPTIONS: [Known; 5] = [
-    Known::Flag("sum"),
-    Known::Flag("events"),
-    Known::Flag("asks"),
-    Known::Flag("steps"),
-    Known::Flag("film"),
+    Known::Flag("sum", "sums of each robot, which is the default"),
+    Known::Flag("events", "a row for each event"),
+    Known::Flag("asks", "a row for each call of an intrinsic function"),
+    Known::Flag("steps", "a row for each cycle of a robot"),
+    Known::Flag("film", "the events, and where the robots were and looked"),
 ];
 
 /// In which form a match is told.

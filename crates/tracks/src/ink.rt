@@ -4,11 +4,11 @@ use crate::matches::Recording;
 use crate::requests::View;
 use arena::MOST_ROBOTS;
 use playing::UPDATE_CYCLES;
-use tools::{Draft, Text};
+use tools::{Draft, Text, visible};
 use trails::opacity;
 
-/// The colours of the robots, in order.
-const COLOURS: [&str; MOST_ROBOTS] = ["#1f6fb4", "#d1495b", "#2e8540", "#8a4fbe"];
+/// The colours of the robots, in order: those of replays in the light theme, which differ for the colour-blind too.
+const COLOURS: [&str; MOST_ROBOTS] = ["#0b6fb1", "#cd2d4d", "#00520e", "#7143d6"];
 
 /// The greatest width of a name that is shown, in characters.
 const MOST_WIDTH: usize = 24;
@@ -105,7 +105,6 @@ fn add_character(text: &mut Draft, c: char) {
         '&' => text.add("&amp;"),
         '<' => text.add("&lt;"),
         '>' => text.add("&gt;"),
-        '\0'..='\x1f' => text.push('?'),
-        _ => text.push(c),
+        _ => text.push(visible(c)),
     }
 }

@@ -1,5 +1,5 @@
-//! Plays one match, and writes a picture of it as SVG on standard output: the robots' paths, their shots, their damage
-//! over time, and how it ended.
+//! Plays one match, and writes a picture of it as SVG: the robots' paths, their shots, their damage over time, and how it
+//! ended.
 #![tactic(auto)]
 
 mod field;
@@ -19,13 +19,21 @@ use crate::picture::drawn;
 use crate::requests::{Request, VIEW_OPTIONS};
 use playing::pilots;
 use std::process::ExitCode;
-use tools::{Fault, Frame, MATCH_OPTIONS, Options, SPAN_OPTIONS, Work, programs, write_text};
+use tools::{
+    Fault, Frame, MATCH_OPTIONS, OUTPUT_OPTIONS, Options, SPAN_OPTIONS, Work, programs, write_to,
+};
 
 /// The program's name, its line of wrong usage, and its options.
 const FRAME: Frame = Frame {
-    name: "tracks",
-    usage: "usage: tracks [-kMATCH] [-lCYCLES] [-sSEED] [-pPROFILE] [--robot N] [--from CYCLE] [--to CYCLE] [--no-shots] FILE.. > match.svg",
-    known: &[&MATCH_OPTIONS, &SPAN_OPTIONS, &VIEW_OPTIONS],
+    name: "crobots-tracks",
+    about: "Plays one match, and draws it as SVG.",
+    usage: "[-kMATCH] [-lCYCLES] [-sSEED] [-pPROFILE] [--robot N] [--from CYCLE] [--to CYCLE] [--no-shots] [-o FILE] FILE..",
+    known: &[
+        &MATCH_OPTIONS,
+        &SPAN_OPTIONS,
+        &VIEW_OPTIONS,
+        &OUTPUT_OPTIONS,
+    ],
 };
 
 /// Draws the match that the command line asks for, and returns the status.
@@ -42,7 +50,7 @@ impl Work for Tracks {
         let request = Request::read(options)?;
         let recording = recorded(rt, &request)?;
         let picture = drawn(rt.alloc(), &request, &recording)?;
-        write_text(rt, picture.as_str())
+        write_to(rt, options, picture.as_str())
     }
 }
 

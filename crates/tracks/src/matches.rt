@@ -116,7 +116,7 @@ impl Recording {
     }
 }
 
-/// Plays the match that is wished for, and records what of it is drawn.
+/// Plays the match that is asked for, and records what of it is drawn.
 pub fn record(pilots: &mut [Pilot<'_>], wish: &Settings<'_>, view: View) -> Recording
     requires some { 2 ≤ length pilots.old }
     requires most { length pilots.old ≤ MOST_ROBOTS }

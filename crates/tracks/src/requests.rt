@@ -4,7 +4,7 @@ use settings::Settings;
 use tools::{Fault, Known, Options, Span, wish};
 
 /// The options of what is drawn besides a span.
-pub const VIEW_OPTIONS: [Known; 1] = [Known::Flag("no-shots")];
+pub const VIEW_OPTIONS: [Known; 1] = [Known::Flag("no-shots", "don't draw the shots")];
 
 /// What is asked for.
 #[derive(Drop)]
@@ -36,7 +36,7 @@ pub struct View {
 }
 
 impl View {
-    /// Reports whether all of a match of so many cycles is drawn.
+    /// Reports whether all of a match of this length, in cycles, is drawn.
     pub fn is_whole(&self, cycles: u32) -> bool {
         self.span.is_whole(cycles) && self.has_shots
     }

@@ -33,7 +33,7 @@ pub fn add_strip(text: &mut Draft, scene: &Scene<'_>) {
     text.add("</g>\n");
 }
 
-/// Adds the shade behind the cycles that are drawn in the field, and the strip's name.
+/// Adds the grey ground of the cycles that are drawn in the field, and the strip's name.
 fn add_period(text: &mut Draft, cycles: u32, period: Period) {
     let first = strip_column(cycle_of(period.first), cycles);
     let last = strip_column(cycle_of(period.last), cycles);

@@ -3,13 +3,17 @@
 use std::alloc::Global;
 use std::process::Abort;
 use std::test::Fail;
-use tools::{Fault, Known, SPAN_OPTIONS, Span, read_options};
+use tools::{Fault, Known, SPAN_OPTIONS, Span, Wrong, read_options};
 
 /// The options of a made-up program.
 const KNOWN: [&[Known]; 3] = [
-    &[Known::Valued("k"), Known::Valued("p")],
+    &[
+        Known::Valued("k", "MATCH", ""),
+        Known::Also("f", "k"),
+        Known::Valued("p", "PROFILE", ""),
+    ],
     &SPAN_OPTIONS,
-    &[Known::Flag("sum"), Known::Flag("steps")],
+    &[Known::Flag("sum", ""), Known::Flag("steps", "")],
 ];
 
 /// Splits a line into words.
@@ -42,14 +46,17 @@ fn check(
     Ok(())
 }
 
-/// Reports whether a line of words is wrong usage.
-fn is_refused(alloc: Global, line: &str) -> Result<bool, Fail> {
+/// Returns what is said of a line of words: nothing if it isn't refused.
+fn complaint(alloc: Global, line: &str) -> Result<String, Fail> {
     let words = split(alloc, line)?;
-    let refused = match read_options(alloc, words.as_slice(), &KNOWN) {
-        Err(fault) => fault == Fault::Usage,
-        Ok(_) => false,
+    let said = match read_options(alloc, words.as_slice(), &KNOWN) {
+        Err(misread) => misread.to_string(alloc),
+        Ok(_) => Ok(String::new(alloc)),
     };
-    Ok(refused)
+    match said {
+        Ok(said) => Ok(said),
+        Err(_) => Err(Fail::from("no memory")),
+    }
 }
 
 #[test]
@@ -62,25 +69,32 @@ fn values(rt: HostRuntime) -> Result<(), Fail> {
     check(&rt, alloc, "--robot=2 a.r", "robot", Some("2"))?;
     check(&rt, alloc, "--robot= a.r", "robot", Some(""))?;
     check(&rt, alloc, "--sum a.r", "sum", Some(""))?;
+    check(&rt, alloc, "-f7 a.r", "k", Some("7"))?;
+    check(&rt, alloc, "a.r --help", "h", Some(""))?;
+    check(&rt, alloc, "-h", "h", Some(""))?;
+    check(&rt, alloc, "--version", "version", Some(""))?;
     check(&rt, alloc, "-- -k7", "k", None)
 }
 
 #[test]
 fn refused(rt: HostRuntime) -> Result<(), Fail> {
     let alloc = rt.alloc();
-    for line in [
-        "-",
-        "-x1",
-        "-k",
-        "a.r -k",
-        "-k1 -k2",
-        "--k 1 --k 1",
-        "--sum=1",
-        "--other",
-        "--",
-        "-sum",
+    for (line, wanted) in [
+        ("-", "unknown option -"),
+        ("-x1", "unknown option -x1"),
+        ("-\x1b[31m", "unknown option -?[31m"),
+        ("-m3 a.r", "unknown option -m3 (the match is -k)"),
+        ("-k", "-k lacks its value"),
+        ("a.r -f", "-k lacks its value"),
+        ("-k1 -k2", "-k is given twice"),
+        ("-k1 -f2", "-k is given twice"),
+        ("--sum --sum", "--sum is given twice"),
+        ("--sum=1", "--sum takes no value"),
+        ("--other", "unknown option --other"),
+        ("--", ""),
+        ("-sum", "unknown option -sum"),
     ] {
-        assert_eq!(&rt; is_refused(alloc, line)?, line != "--");
+        assert_eq!(&rt; complaint(alloc, line)?.as_str(), wanted);
     }
     Ok(())
 }
@@ -97,13 +111,13 @@ fn files(rt: HostRuntime) -> Result<(), Fail> {
     Ok(())
 }
 
-/// Reads the span that a line of words asks for of two robots: none if it is wrong usage.
-fn span(alloc: Global, line: &str) -> Result<Option<Span>, Fail> {
+/// Reads the span of two robots that a line of words asks for.
+fn span(alloc: Global, line: &str) -> Result<Result<Span, Fault>, Fail> {
     let words = split(alloc, line)?;
     let Ok(options) = read_options(alloc, words.as_slice(), &KNOWN) else {
         return Err(Fail::from("wrong usage"));
     };
-    Ok(Span::read(&options, 2).ok())
+    Ok(Span::read(&options, 2))
 }
 
 #[test]
@@ -114,20 +128,20 @@ fn spans(rt: HostRuntime) -> Result<(), Fail> {
         from: 0,
         to: 1_000_000_000,
     };
-    assert_eq!(&rt; span(alloc, "a.r")?, Some(whole));
+    assert_eq!(&rt; span(alloc, "a.r")?, Ok(whole));
     let part = Span {
         robot: Some(1),
         from: 15,
         to: 30,
     };
-    assert_eq!(&rt; span(alloc, "a.r --robot 2 --from 15 --to 30")?, Some(part));
-    for line in [
-        "--robot 0",
-        "--robot 3",
-        "--from 2 --to 1",
-        "--to 1000000001",
+    assert_eq!(&rt; span(alloc, "a.r --robot 2 --from 15 --to 30")?, Ok(part));
+    for (line, wrong) in [
+        ("--robot 0", Wrong::Robot(2)),
+        ("--robot 3", Wrong::Robot(2)),
+        ("--from 2 --to 1", Wrong::Order),
+        ("--to 1000000001", Wrong::Number("to", 0, 1_000_000_000)),
     ] {
-        assert_eq!(&rt; span(alloc, line)?, None);
+        assert_eq!(&rt; span(alloc, line)?, Err(Fault::Wrong(wrong)));
     }
     Ok(())
 }
@@ -138,7 +152,10 @@ fn choices(rt: HostRuntime) -> Result<(), Fail> {
     for (line, wanted) in [
         ("a.r", Ok(None)),
         ("a.r --steps", Ok(Some(2))),
-        ("--sum --steps", Err(Fault::Usage)),
+        (
+            "--sum --steps",
+            Err(Fault::Wrong(Wrong::Both("sum", "steps"))),
+        ),
     ] {
         let words = split(alloc, line)?;
         let Ok(options) = read_options(alloc, words.as_slice(), &KNOWN) else {

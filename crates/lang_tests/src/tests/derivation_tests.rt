@@ -1,6 +1,6 @@
 //! The token that each instruction of a small source comes from, and the tokens that fit where a statement begins.
 
-use derivations::{Place, fitting, lines, locate};
+use derivations::{Fitting, Place, fitting, lines, locate};
 use grammar::Profile;
 use std::process::Abort;
 use std::test::Fail;
@@ -49,16 +49,22 @@ const BEGINS: [Token; 11] = [
     Token::Word(Word::Return),
 ];
 
+/// Reports whether a token is among those that fit.
+fn has(found: &Fitting, token: &Token) -> bool {
+    found
+        .as_slice()
+        .iter()
+        .any(|located| located.token == *token)
+}
+
 #[test]
 fn what_fits_where_a_block_begins(rt: HostRuntime) -> Result<(), Fail> {
     let Ok(tokens) = locate(rt.alloc(), b"main(){ }") else {
         return Err(Fail::from("no tokens"));
     };
-    let Ok(found) = fitting(rt.alloc(), tokens.as_slice(), 4) else {
-        return Err(Fail::from("nothing found"));
-    };
+    let found = fitting(tokens.as_slice(), 4);
     for token in &BEGINS {
-        assert_eq!(&rt; found.contains(token), true);
+        assert_eq!(&rt; has(&found, token), true);
     }
     let others = [
         Token::Punctuator(Punctuator::CloseCurly),
@@ -67,7 +73,7 @@ fn what_fits_where_a_block_begins(rt: HostRuntime) -> Result<(), Fail> {
         Token::Constant(0),
     ];
     for token in &others {
-        assert_eq!(&rt; found.contains(token), true);
+        assert_eq!(&rt; has(&found, token), true);
     }
     assert_eq!(&rt; found.len(), BEGINS.len() + others.len());
     Ok(())

@@ -1,0 +1,9 @@
+use Rattle.std.proofs.Common.{◌≡◌}
+use Rattle.tokens.specs.Window.{KnowsEnd}
+use Rattle.derivations.proofs.locations.locate_in.Given as goal
+
+abbrev pub invariant-loop : goal.invariant-loop
+invariant-loop l = record {
+  failures : l.feed.failures ≡ 0;
+  known : KnowsEnd l.cursor.behind.beyond l.feed.ended;
+}

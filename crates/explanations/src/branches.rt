@@ -1,0 +1,180 @@
+//! Warnings about `if` and `while`: empty bodies, `=` in conditions, conditions that can't change, and indentation.
+
+use crate::heads::{behind_brackets, token_at};
+use crate::nodes::{Kind, Node, Nodes};
+use crate::warnings::{Subject, Warnings};
+use derivations::Located;
+use grammar::{Callee, StoreOp, Var};
+use tokens::{Punctuator, Token, Word};
+
+/// Warns of the `if` or `while` of a node's index.
+pub fn warn_of_branch(out: &mut Warnings, subject: &Subject<'_>, index: usize, node: &Node) {
+    let tokens = subject.tokens;
+    if let Some(body) = behind_brackets(tokens, node.token) {
+        warn_of_body(out, tokens, node, body);
+    }
+    let Some(condition) = subject.nodes.get(node.middle.saturating_sub(1)) else {
+        return;
+    };
+    if is_assignment(subject.nodes, node, condition) && !is_in_brackets(tokens, condition.token) {
+        out.tell(
+            condition.token.saturating_add(1),
+            "`=` sets the variable; to compare write `==`, or put it into brackets of its own",
+        );
+    }
+    if node.kind == Kind::While
+        && let Some(words) = on_condition(subject.nodes, index, node, condition.value)
+    {
+        out.tell(node.token, words);
+    }
+}
+
+/// Warns of the body that begins at the token of an index: of a `;` alone, and of a statement behind it that looks as if it
+/// were a part of it.
+fn warn_of_body(out: &mut Warnings, tokens: &[Located], node: &Node, body: usize) {
+    let behind = token_at(tokens, body.saturating_add(1));
+    if token_at(tokens, body) != Token::Punctuator(Punctuator::Semicolon) {
+        warn_of_indentation(out, tokens, node.token, body);
+    } else if node.kind == Kind::While {
+        if behind == Token::Punctuator(Punctuator::OpenCurly) {
+            out.tell(
+                body,
+                "the `while` ends with this `;`: the block behind it is no part of it",
+            );
+        }
+    } else if behind != Token::Word(Word::Else) {
+        out.tell(
+            body,
+            "the `if` ends with this `;`: what follows it is always done",
+        );
+    }
+}
+
+/// Warns of the statement behind a body without braces that begins below the body's begin.
+fn warn_of_indentation(out: &mut Warnings, tokens: &[Located], head: usize, body: usize) {
+    let Some(behind) = behind_simple(tokens, body) else {
+        return;
+    };
+    let (Some(head), Some(first), Some(next)) = (
+        tokens.get(head),
+        tokens.get(body),
+        tokens.get(behind),
+    ) else {
+        return;
+    };
+    let is_below = head.line < first.line && first.line < next.line;
+    if is_below && first.column == next.column && head.column < next.column && may_begin(next) {
+        out.tell(
+            behind,
+            "this is no part of the branch or loop above, though it looks so: put both into braces",
+        );
+    }
+}
+
+/// Returns the index after the statement that begins at an index, if it is an expression.
+fn behind_simple(tokens: &[Located], begin: usize) -> Option<usize> {
+    if !matches!(token_at(tokens, begin), Token::Name(_)) {
+        return None;
+    }
+    for (number, located) in tokens.get(begin..)?.iter().enumerate() {
+        if located.token == Token::Punctuator(Punctuator::Semicolon) {
+            return Some(begin.saturating_add(number).saturating_add(1));
+        }
+    }
+    None
+}
+
+/// Reports whether a token may begin a further statement.
+fn may_begin(located: &Located) -> bool {
+    !matches!(
+        located.token,
+        Token::Word(Word::Else) | Token::Punctuator(Punctuator::CloseCurly) | Token::End
+    )
+}
+
+/// Reports whether the condition of a node is an assignment: not of what a call answers, which is often meant.
+fn is_assignment(nodes: &Nodes, node: &Node, condition: &Node) -> bool {
+    let value = nodes.get(node.middle.saturating_sub(2));
+    let is_call = match value {
+        Some(value) => matches!(value.kind, Kind::Call(..)),
+        None => false,
+    };
+    matches!(condition.kind, Kind::Store(_, StoreOp::Set)) && !is_call
+}
+
+/// Reports whether two brackets are open before a token.
+fn is_in_brackets(tokens: &[Located], token: usize) -> bool {
+    let open = Token::Punctuator(Punctuator::OpenRound);
+    for before in tokens.get(token.saturating_sub(2)..token).unwrap_or(&[]) {
+        if before.token != open {
+            return false;
+        }
+    }
+    true
+}
+
+/// Returns what is said of the condition of the loop of a node's index, if that can't change: constants that say that the
+/// loop is to go on forever are meant.
+fn on_condition(
+    nodes: &Nodes,
+    index: usize,
+    node: &Node,
+    value: Option<i32>,
+) -> Option<&'static str> {
+    let condition = nodes.within(node.first, node.middle);
+    let whole = nodes.within(node.first, index);
+    match value {
+        Some(0) => Some("the condition of this loop is always 0: its body never runs"),
+        Some(_) if asks(condition) => {
+            Some("the condition of this loop is never 0, whatever it asks")
+        }
+        None if is_fixed(condition, whole) => Some(
+            "the condition of this loop can't change: nothing in it sets its variables",
+        ),
+        _ => None,
+    }
+}
+
+/// Reports whether a condition reads a variable, or calls a function.
+fn asks(condition: &[Node]) -> bool {
+    for node in condition {
+        if matches!(node.kind, Kind::Fetch(_) | Kind::Call(..)) {
+            return true;
+        }
+    }
+    false
+}
+
+/// Reports whether the condition of a loop reads variables, calls nothing, and sets none, and the whole loop sets none of
+/// those that it reads.
+fn is_fixed(condition: &[Node], whole: &[Node]) -> bool {
+    let mut is_read = false;
+    for node in condition {
+        match node.kind {
+            Kind::Fetch(var) if may_set(whole, var) => return false,
+            Kind::Fetch(_) => is_read = true,
+            Kind::Store(..) | Kind::Step(_) | Kind::Call(..) => return false,
+            _ => {}
+        }
+    }
+    is_read
+}
+
+/// Reports whether one of these nodes may set a variable.
+fn may_set(nodes: &[Node], var: Var) -> bool {
+    for node in nodes {
+        if sets(node, var) {
+            return true;
+        }
+    }
+    false
+}
+
+/// Reports whether a node may set a variable: a function of the file may set each external.
+fn sets(node: &Node, var: Var) -> bool {
+    match node.kind {
+        Kind::Store(other, _) | Kind::Step(other) => other == var,
+        Kind::Call(Callee::Function(_), _) => matches!(var, Var::External(_)),
+        _ => false,
+    }
+}

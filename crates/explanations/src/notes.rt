@@ -1,0 +1,57 @@
+//! Texts of fixed size, which ask for no memory.
+
+use arrayvec::ArrayString;
+use std::fmt::Write;
+
+/// The most bytes of a note, more than an explanation or a warning has.
+const NOTE_BYTES: usize = 2048;
+
+/// What is said of a fault, or a warning: lines, each with its end. What finds no room is left out.
+#[derive(Drop)]
+pub struct Note {
+    text: ArrayString<NOTE_BYTES>,
+}
+
+impl Note {
+    /// Makes a note without words.
+    pub(crate) fn new() -> Note {
+        Note {
+            text: ArrayString::new(),
+        }
+    }
+
+    /// Returns the text.
+    pub fn as_str(&self) -> &str {
+        self.text.as_str()
+    }
+
+    /// Adds words.
+    pub(crate) fn add(&mut self, words: &str) {
+        let _ = self.text.try_push_str(words);
+    }
+
+    /// Adds a character.
+    pub(crate) fn push(&mut self, character: char) {
+        let _ = self.text.try_push(character);
+    }
+
+    /// Adds a number.
+    pub(crate) fn number(&mut self, number: u64) {
+        let _ = write!(self.text, "{number}");
+    }
+
+    /// Adds words as the source has them, between backquotes.
+    pub(crate) fn quote(&mut self, words: &str) {
+        self.push('`');
+        self.add(words);
+        self.push('`');
+    }
+
+    /// Adds a place, as a line and a column.
+    pub(crate) fn place(&mut self, line: u32, column: u32) {
+        self.number(u64::from(line));
+        self.push(':');
+        self.number(u64::from(column));
+        self.add(": ");
+    }
+}

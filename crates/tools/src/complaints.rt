@@ -1,0 +1,69 @@
+//! The lines that say what is wrong with the words of the command line.
+
+use crate::faults::Wrong;
+use crate::options::{Misread, Options};
+use crate::shown::{Dashed, Plain};
+use std::fmt;
+
+impl<'a> fmt::Display for Misread<'a> {
+    fn fmt<W: fmt::Write>(&self, f: &mut fmt::Formatter<W>) -> fmt::Result {
+        match *self {
+            Misread::Unknown(word) => write!(f, "unknown option {}", Plain(word)),
+            Misread::Series(word) => write!(f, "unknown option {} (the match is -k)", Plain(word)),
+            Misread::Twice(name) => write!(f, "{} is given twice", Dashed(name)),
+            Misread::Lacking(name) => write!(f, "{} lacks its value", Dashed(name)),
+            Misread::Valued(name) => write!(f, "{} takes no value", Dashed(name)),
+            Misread::Memory => write!(f, "out of memory"),
+        }
+    }
+}
+
+/// Writes a line on what is wrong with the values of options, or with the files, on standard error, with the name of the
+/// program.
+pub fn tell_wrong(rt: &HostRuntime, program: &str, options: &Options<'_>, wrong: Wrong) {
+    let _ = match wrong {
+        Wrong::Number(name, least, most) => {
+            let value = value_of(options, name);
+            let option = Dashed(name);
+            eprintln!(rt; "{program}: {option} {value}: no number from {least} to {most}")
+        }
+        Wrong::Robot(robots) => {
+            let value = value_of(options, "robot");
+            let count = spelled(robots);
+            eprintln!(rt; "{program}: --robot {value}: there are {count} robots")
+        }
+        Wrong::Order => {
+            let last = value_of(options, "to");
+            let first = value_of(options, "from");
+            eprintln!(rt; "{program}: --to {last}: before --from {first}")
+        }
+        Wrong::Both(one, other) => {
+            let (one, other) = (Dashed(one), Dashed(other));
+            eprintln!(rt; "{program}: {one} and {other} exclude each other")
+        }
+        Wrong::Files => eprintln!(rt; "{program}: over four files"),
+    };
+}
+
+/// Returns the value of an option as a line shows it.
+fn value_of<'a>(options: &Options<'a>, name: &str) -> Plain<'a> {
+    let value = options.value(name).unwrap_or("");
+    Plain(value)
+}
+
+/// Writes on standard error that the output can't be written, with the name of the program, and the file if it is one.
+pub fn tell_unwritten(rt: &HostRuntime, program: &str, file: Option<&str>) {
+    let _ = match file {
+        Some(file) => eprintln!(rt; "{program}: cannot write {}", Plain(file)),
+        None => eprintln!(rt; "{program}: cannot write"),
+    };
+}
+
+/// Returns how many robots fight, two to four, as a word.
+fn spelled(robots: usize) -> &'static str {
+    match robots {
+        2 => "two",
+        3 => "three",
+        _ => "four",
+    }
+}

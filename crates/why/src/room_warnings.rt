@@ -1,0 +1,50 @@
+//! The warning about a robot that may restart for want of room.
+
+use facts::{Facts, add_room};
+use grammar::Profile;
+use std::alloc::Global;
+use tools::{Draft, Fault, Text};
+
+/// Adds the warning about the robot of a source that compiles by this profile, if it may restart for want of room: a line
+/// as those of `add_warnings`, about its `main`. Reports whether it may. The only fault is that memory is refused.
+pub fn add_want_of_room(
+    text: &mut String,
+    alloc: Global,
+    path: &str,
+    source: &[u8],
+    profile: Profile,
+) -> Result<bool, Fault> {
+    let Ok(facts) = Facts::of(alloc, source, profile) else {
+        return Err(Fault::Memory);
+    };
+    if facts.bound.has_room {
+        return Ok(false);
+    }
+    let mut room = Draft::new(alloc);
+    add_room(&mut room, &facts);
+    let mut line = Draft::new(alloc);
+    line.add(path);
+    add_place(&mut line, &facts);
+    let room = room.finish()?;
+    let mut before = ": warning: ";
+    for words in room.trim().split('\n') {
+        line.add(before);
+        line.add(words.trim());
+        before = ", ";
+    }
+    line.add("\n");
+    line.move_behind(text)?;
+    Ok(true)
+}
+
+/// Adds the line and the column of `main`.
+fn add_place(line: &mut Draft, facts: &Facts) {
+    for part in &facts.functions {
+        if part.name.is(b"main") {
+            line.add(":");
+            line.number(u64::from(part.line));
+            line.add(":");
+            line.number(u64::from(part.column));
+        }
+    }
+}

@@ -1,0 +1,72 @@
+"""What tests share: how the methods of a class are run and counted, words of the command line, and tests that use another one.
+
+A test is a method whose name doesn't begin with `_`: it answers what is wrong, a line each, and nothing if all is right."""
+
+from __future__ import annotations
+
+import importlib.machinery
+import importlib.util
+import os
+import re
+import signal
+import sys
+from types import ModuleType
+from typing import Collection, Iterable
+
+HERE = os.path.dirname(os.path.abspath(__file__))
+sys.dont_write_bytecode = True
+
+
+def loaded(name: str) -> ModuleType:
+    """Another test of this folder as a module: its file has no ending."""
+    loader = importlib.machinery.SourceFileLoader(name, os.path.join(HERE, name))
+    spec = importlib.util.spec_from_loader(name, loader)
+    assert spec
+    module = importlib.util.module_from_spec(spec)
+    sys.modules[name] = module
+    loader.exec_module(module)
+    return module
+
+
+def refused(usage: str, words: list[str], count: int) -> bool:
+    """Says in a line if the words aren't as many programs as this; a usage is a test's name, and what its words are called."""
+    lacking = next((word for word in words if not os.access(word, os.X_OK)), None)
+    if len(words) != count or lacking is not None:
+        name = usage.partition(" ")[0]
+        print(f"usage: {usage}" if len(words) != count else f"{name}: {lacking} is no program", file=sys.stderr)
+        return True
+    return False
+
+
+def take_signals() -> None:
+    """Lets the programs that are run here be stopped: what runs the tests may ignore signals, and then so would they."""
+    for ending in (signal.SIGHUP, signal.SIGINT, signal.SIGTERM):
+        signal.signal(ending, signal.SIG_DFL)
+
+
+def run(tests: object, faults: tuple[type[Exception], ...] = (), but: Collection[str] = ()) -> tuple[int, int]:
+    """Runs the tests of an object but some; says what is wrong. These faults fail the test in which they come. Answers how
+    many passed and how many failed."""
+    passed = failed = 0
+    for name in [name for name in dir(tests) if not name.startswith("_") and name not in but]:
+        try:
+            wrong: Iterable[str] = getattr(tests, name)()
+        except faults as fault:
+            wrong = [f"{type(fault).__name__}: {fault}"]
+        passed, failed = passed + (not wrong), failed + bool(wrong)
+        for line in wrong:
+            print(f"{re.sub('_', ' ', name)}: {line}")
+    return passed, failed
+
+
+def counted(passed: int, failed: int) -> int:
+    """Writes the last line of a test; answers its status."""
+    print(f"{passed} passed, {failed} failed")
+    return 1 if failed else 0
+
+
+def is_usage(said: str, usage: str) -> bool:
+    """Whether a program said its line of usage, and before it at most a line on what is wrong, which begins with its name."""
+    name = usage.removeprefix("usage: ").partition(" ")[0]
+    before = said.removesuffix(usage)
+    return said.endswith(usage) and (not before or before.count("\n") == 1 and before.startswith(f"{name}: "))

@@ -1,0 +1,38 @@
+// What the engine says of a source: why it has a fault, or what compiles and is hardly meant.
+import {buttonOf} from "./asking.js";
+import {Ending} from "./engine.js";
+
+const WARNING = /^(\d+):\d+: warning: (.*)$/;
+const MOST_SHOWN = 20;
+
+/** Returns the warnings of an explanation, each {line, text}. */
+export function warningsOf({ending, text}) {
+    const found = ending === Ending.DONE ? text.split("\n").map(row => WARNING.exec(row)) : [];
+    return found.filter(Boolean).map(([, line, words]) => ({line: Number(line), text: words}));
+}
+
+/** Returns what explains a fault: the source's line with a mark, and what was met, what fits there, and a hint. */
+export function reasonOf({ending, text}) {
+    const lines = ending === Ending.FAULTY ? text.trimEnd().split("\n").slice(1) : [];
+    const isMarked = line => line.startsWith("    ");
+    return {marked: lines.filter(isMarked).map(line => line.slice(4)), said: lines.filter(line => !isMarked(line)).map(line => line.trim())};
+}
+
+const made = (tag, textContent, more) => Object.assign(document.createElement(tag), {textContent, ...more});
+
+/** Shows in a place why a source has a fault, or the warnings, which lead to their lines by `goTo`. */
+export function showExplanation(place, explained, goTo) {
+    const {marked, said} = reasonOf(explained);
+    const warnings = warningsOf(explained);
+    const rows = warnings.slice(0, MOST_SHOWN).map(({line, text}) => {
+        const row = made("li", ` ${text}`);
+        row.prepend(buttonOf(`Line ${line}`, () => goTo(line)));
+        return row;
+    });
+    const left = warnings.length > MOST_SHOWN ? [made("li", `${warnings.length - MOST_SHOWN} more`)] : [];
+    const list = made("ul", "", {ariaLabel: "Warnings"});
+    list.append(...rows, ...left);
+    const code = marked.length ? [made("pre", marked.join("\n"), {tabIndex: 0, ariaLabel: "The line with the fault"})] : [];
+    place.replaceChildren(...code, ...said.map(text => made("p", text)), ...rows.length ? [list] : []);
+    place.hidden = !place.children.length;
+}
