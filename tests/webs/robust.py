@@ -20,6 +20,8 @@ DISGUISED = "live.r\n  1) won 9 tied 0 lost 0 \u202egnp.evil\u2066\x07"
 # what a browser loads to play, and what else lies beside it to be read
 MOST_BYTES, MOST_PACKED = 800_000, 240_000
 MOST_READ, MOST_READ_PACKED = 200_000, 70_000
+# pages to read that lie beside the page, and not in the folder of the others
+BESIDE = ("manual.html", "about.html")
 LOST = ("codemirror/codemirror.js", "codemirror/matchbrackets.js", "codemirror/show-hint.js", "codemirror/show-hint.css")
 
 
@@ -133,7 +135,7 @@ def size(folder: str) -> list[str]:
         files = pack.infolist()
     wrong = [] if {os.path.join(folder, it.filename) for it in files} == set(paths) else ["the zip has other files than the folder"]
     for name, is_read, most in (("page", False, (MOST_BYTES, MOST_PACKED)), ("pages to read", True, (MOST_READ, MOST_READ_PACKED))):
-        part = [it for it in files if it.filename.startswith("pages/") == is_read]
+        part = [it for it in files if (it.filename.startswith("pages/") or it.filename in BESIDE) == is_read]
         sizes = sum(it.file_size for it in part), sum(it.compress_size for it in part)
         print(f"{name}: {sizes[0]:,} bytes, and {sizes[1]:,} packed")
         wrong += [] if sizes[0] <= most[0] and sizes[1] <= most[1] else [f"{name}: {sizes[0]} bytes, {sizes[1]} packed"]
