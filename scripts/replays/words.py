@@ -73,14 +73,16 @@ def take_option(asked: Asked, word: str, rest: list[str]) -> None:
         raise Misuse(f"unknown option {plain(word)}")
     elif name == "-m":
         raise Misuse(f"unknown option {plain(word)} (the match is -k)")
-    elif value is None and not rest:
-        raise Misuse(f"{name} lacks its value")
+    elif value is not None:
+        keep(asked, name, value, [word])
+    elif rest:
+        keep(asked, name, rest[0], [word, rest.pop(0)])
     else:
-        keep(asked, name, rest.pop(0) if value is None else value)
+        raise Misuse(f"{name} lacks its value")
 
 
-def keep(asked: Asked, name: str, value: str) -> None:
-    """Keeps an option's value."""
+def keep(asked: Asked, name: str, value: str, given: list[str]) -> None:
+    """Keeps an option's value, and hands on the words that gave it."""
     if name == "-o":
         if asked.file:
             raise Misuse("-o is given twice")
@@ -88,7 +90,7 @@ def keep(asked: Asked, name: str, value: str) -> None:
         return
     if name in ("-k", "-f") and value.isascii() and value.isdigit():
         asked.number = int(value[:9])
-    asked.trace += [name, value]
+    asked.trace += given
 
 
 def plain(word: str) -> str:

@@ -59,16 +59,23 @@ def narrowed(it: Packed, size: int) -> bytes:
     return bytes(narrow)
 
 
-def counts(sums: Sequence[Packed], order: Sequence[int]) -> list[Sequence[int]]:
-    """Of each round its part of each sum, the sums in this order, in as few bytes as they need."""
+def counts(sums: Sequence[Packed], rows: Iterable[Sequence[int]]) -> Iterator[list[Sequence[int]]]:
+    """Of each row of places among the sums, and of each round, its part of each sum there, in as few bytes as they need."""
     most = max(number for number, in rounds([functools.reduce(operator.or_, sums, 0)]))
     size = next(it for it in FORMATS if most >> 8 * it == 0)
     narrow = [narrowed(it, size) for it in sums]
-    packed = b"".join([narrow[at] for at in order])
+    # row by row, since a processor reads few bytes again and again faster than many
+    for row in rows:
+        packed = b"".join([narrow[at] for at in row])
+        yield [*split(packed, size)]
+
+
+def split(packed: bytes, size: int) -> Iterator[Sequence[int]]:
+    """Of each round its numbers, of so many bytes each."""
     if size == 1:
-        return [packed[at::ROUNDS] for at in range(ROUNDS)]
+        return (packed[at::ROUNDS] for at in range(ROUNDS))
     parts = memoryview(packed).cast(FORMATS[size])
-    return [array(FORMATS[size], parts[at::ROUNDS].tolist()) for at in range(ROUNDS)]
+    return (array(FORMATS[size], parts[at::ROUNDS].tolist()) for at in range(ROUNDS))
 
 
 class Weights:

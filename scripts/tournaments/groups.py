@@ -39,7 +39,7 @@ def series_of(settings: Settings, keys: Sequence[str], group: Group) -> Iterator
     """All matches of each seating of a group."""
     matches = settings.each(len(group))
     for it in seatings(settings.seed, [keys[at] for at in group]):
-        yield Series(tuple(group[at] for at in it.order), it.seed, 1, matches)
+        yield Series(tuple([group[at] for at in it.order]), it.seed, 1, matches)
 
 
 @lru_cache(1)

@@ -37,13 +37,13 @@ class Merger:
         """Refuses a record of another tournament or of other robots, also one that was not played."""
         if self.settings is None:
             self.settings = record.settings
-        elif self.settings != record.settings:
+        elif self.settings is not record.settings and self.settings != record.settings:
             raise Fault(f"{place} is of another tournament: {difference(self.settings, record.settings)}")
         if self._seeds.setdefault(record.series.seats, record.series.seed) != record.series.seed:
             raise Fault(f"{place} has another seed than others of its seating")
         for at, robot in zip(record.series.seats, record.robots):
             known = self._robots.setdefault(at, robot)
-            if known != robot:
+            if known is not robot and known != robot:
                 said = "other bytes" if known.path == robot.path else f"the name {robot.path}"
                 raise Fault(f"{place} is of other robots: {known.path} has {said} there")
 

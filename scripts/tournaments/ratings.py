@@ -35,7 +35,8 @@ def ratings(tally: Tally, robots: int, anchor: int | None = None) -> list[Rating
     rounds = [*resampled(tally, whole)]
     left = begun(rounds, whole.is_firm())
     while True:
-        columns = [Column(rounds, left, robot, anchor) for robot in range(robots)]
+        far = [(it.left(left.of_any), it.left(left.of_one)) for it in rounds]
+        columns = [Column(rounds, far, robot, anchor) for robot in range(robots)]
         unsure = {at for it in columns for at in it.unsure()}
         if not unsure:
             return [it.rating(rated(whole.strengths, robot, anchor)) for robot, it in enumerate(columns)]
@@ -56,16 +57,18 @@ def begun(rounds: Sequence[Round], is_firm: bool) -> Left:
 
 
 class Column:
-    """A robot's ratings in all rounds, each with how far it may be from the fit."""
+    """A robot's ratings in all rounds, each with how far it may be from the fit.
 
-    def __init__(self, rounds: Sequence[Round], left: Left, robot: int, anchor: int | None) -> None:
-        # what is left of both strengths that make a rating
+    What may be left of a round's strengths is given: of any of them, and of one that is fitted alone."""
+
+    def __init__(self, rounds: Sequence[Round], left: Sequence[tuple[float, float]], robot: int, anchor: int | None) -> None:
+        # both strengths that make a rating may be as far
         each = SCALE * (1 if anchor is None else 2 if anchor != robot else 0)
         self._values = [rated(it.strengths, robot, anchor) for it in rounds]
-        self._far = [each * it.left(left.of_any) for it in rounds]
+        self._far = [each * of_any for of_any, _ in left]
         for at in self.unsure():
             self._values[at] = alone(rounds[at], robot, anchor)
-            self._far[at] = each * rounds[at].left(left.of_one)
+            self._far[at] = each * left[at][1]
 
     def rating(self, value: float) -> Rating:
         """The rating with this value."""

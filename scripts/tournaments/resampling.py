@@ -47,8 +47,8 @@ class Whole:
     def __init__(self, tally: Tally, robots: int) -> None:
         self.opponents = Opponents(robots, [*tally.pairs])
         played = [it.played for it in tally.pairs.values()]
-        rows = self.opponents.cut([played[at] for at in self.opponents.order])
-        those = matches(self.opponents, rows, scores(tally, robots))
+        rows = [[played[at] for at in places] for places in self.opponents.places]
+        those = matches(self.opponents, rows, scores(tally, robots), [sum(row) for row in rows])
         self._fit = those.fitted([*odds(those.scores, those.played)])
         self.strengths = self._fit.strengths
 
@@ -85,9 +85,9 @@ def odds(scores: Iterable[float], played: Iterable[int]) -> Iterator[float]:
     return (math.log(score / max(many - score, LEAST)) for score, many in there)
 
 
-def matches(opponents: Opponents, rows: list[Sequence[int]], scored: Sequence[float]) -> Matches:
+def matches(opponents: Opponents, rows: Sequence[Sequence[int]], scored: Sequence[float], played: Sequence[int]) -> Matches:
     """Matches with the ties with the imagined robot."""
-    return Matches(opponents, rows, [it + 0.5 for it in scored], [1 + sum(row) for row in rows])
+    return Matches(opponents, rows, [it + 0.5 for it in scored], [1 + it for it in played])
 
 
 def scores(tally: Tally, robots: int) -> list[float]:
@@ -183,10 +183,19 @@ def left(lengths: list[float]) -> float:
 def resampled(tally: Tally, whole: Whole) -> Iterator[Round]:
     """All rounds, each after its first step."""
     robots, opponents = len(whole.strengths), whole.opponents
-    played = counts([it.rounds for it in tally.pairs.values()], opponents.order)
+    rows = zip(*counts([it.rounds for it in tally.pairs.values()], opponents.places))
     scored = rounds(tally.rounds[at] for at in range(robots))
-    for rows, twice, slope in zip(map(opponents.cut, played), scored, slopes(tally, whole.strengths)):
-        yield Round(whole, matches(opponents, rows, [it / 2 for it in twice]), slope)
+    for those, twice, played, slope in zip(rows, scored, rounds(sums(tally, robots)), slopes(tally, whole.strengths)):
+        yield Round(whole, matches(opponents, those, [it / 2 for it in twice], played), slope)
+
+
+def sums(tally: Tally, robots: int) -> list[Packed]:
+    """How many others each robot has met in each round, one that it met again counted again."""
+    found = [0] * robots
+    for place, pair in tally.pairs.items():
+        for robot in place:
+            found[robot] += pair.rounds
+    return found
 
 
 def slopes(tally: Tally, strengths: list[float]) -> Iterator[list[float]]:

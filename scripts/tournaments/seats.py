@@ -10,12 +10,10 @@ other, and those of a group don't depend on who else plays."""
 from __future__ import annotations
 
 import hashlib
-from dataclasses import dataclass
-from typing import Sequence
+from typing import NamedTuple, Sequence
 
 
-@dataclass(frozen=True)
-class Seating:
+class Seating(NamedTuple):
     """An order of a group's robots, as places in the group, and the seed of its matches."""
 
     order: tuple[int, ...]

@@ -31,16 +31,10 @@ class Opponents:
             self.met[other].append(one)
         for others in self.met:
             others.sort()
-        self._ends = [*itertools.accumulate(map(len, self.met), initial=0)]
         self.pickers = [picker(at, others, robots) for at, others in enumerate(self.met)]
-
-        numbers = {pair: number for number, pair in enumerate(pairs)}
+        places = {pair: place for place, pair in enumerate(pairs)}
         # which pair each robot is with each that it has met: so each pair twice
-        self.order = [numbers[min(at, other), max(at, other)] for at, others in enumerate(self.met) for other in others]
-
-    def cut(self, numbers: Numbers) -> list[Numbers]:
-        """Numbers in that order, robot by robot."""
-        return [numbers[begin:end] for begin, end in itertools.pairwise(self._ends)]
+        self.places = [[places[min(at, other), max(at, other)] for other in others] for at, others in enumerate(self.met)]
 
 
 def picker(robot: int, others: list[int], robots: int) -> Picker:
@@ -59,7 +53,7 @@ class Matches:
     The scores and the sums of what was played have the tie with the imagined robot, the rows don't."""
 
     opponents: Opponents
-    rows: list[Numbers]
+    rows: Sequence[Numbers]
     scores: list[float]
     played: list[int]
 

@@ -72,7 +72,8 @@ fn first_comment(text: &[u8], line: u32) -> Option<Comment<'_>> {
     })
 }
 
-/// Returns what follows the first place at which some bytes stand.
+/// Returns what follows the first place at which some bytes stand. It isn't inlined, since the page's module is to be small.
+#[inline(never)]
 fn after<'a>(text: &'a [u8], wanted: &[u8]) -> Option<&'a [u8]> {
     for at in 0..text.len() {
         let here = text.get(at..).unwrap_or(&[]);

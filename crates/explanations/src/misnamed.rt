@@ -110,7 +110,8 @@ fn before<'a>(found: &Found<'a>) -> &'a [Located] {
     found.tokens.get(..found.index).unwrap_or(&[])
 }
 
-/// Returns the name of the token of an index.
+/// Returns the name of the token of an index. It isn't inlined, since the page's module is to be small.
+#[inline(never)]
 pub fn name_at(tokens: &[Located], index: usize) -> Option<Name> {
     match tokens.get(index)?.token {
         Token::Name(name) => Some(name),

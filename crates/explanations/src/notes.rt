@@ -1,4 +1,6 @@
 //! Texts of fixed size, which ask for no memory.
+//!
+//! What adds to them isn't inlined: the page's module would have a copy for each piece of each text.
 
 use arrayvec::ArrayString;
 use std::fmt::Write;
@@ -26,21 +28,25 @@ impl Note {
     }
 
     /// Adds words.
+    #[inline(never)]
     pub(crate) fn add(&mut self, words: &str) {
         let _ = self.text.try_push_str(words);
     }
 
     /// Adds a character.
+    #[inline(never)]
     pub(crate) fn push(&mut self, character: char) {
         let _ = self.text.try_push(character);
     }
 
     /// Adds a number.
+    #[inline(never)]
     pub(crate) fn number(&mut self, number: u64) {
         let _ = write!(self.text, "{number}");
     }
 
     /// Adds words as the source has them, between backquotes.
+    #[inline(never)]
     pub(crate) fn quote(&mut self, words: &str) {
         self.push('`');
         self.add(words);

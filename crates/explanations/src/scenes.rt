@@ -1,4 +1,6 @@
 //! What a hint goes by: a fault's token, those around it, and what the derivation wanted there.
+//!
+//! What many hints ask isn't inlined: the page's module would have a copy for each of them.
 
 use crate::heads::token_at;
 use crate::wanted::{Kinds, has};
@@ -59,6 +61,7 @@ impl<'a> Scene<'a> {
     }
 
     /// Reports whether the token before is this one.
+    #[inline(never)]
     pub fn follows(&self, token: &Token) -> bool {
         match self.before() {
             Some(before) => before.token == *token,
@@ -85,6 +88,7 @@ impl<'a> Scene<'a> {
     }
 
     /// Reports whether the token that doesn't fit is this mark.
+    #[inline(never)]
     pub fn is_mark(&self, punctuator: Punctuator) -> bool {
         self.met() == Token::Punctuator(punctuator)
     }
@@ -95,6 +99,7 @@ impl<'a> Scene<'a> {
     }
 
     /// Reports whether a token fits.
+    #[inline(never)]
     pub fn fits(&self, token: &Token) -> bool {
         has(self.fitting, token)
     }
@@ -115,6 +120,7 @@ impl<'a> Scene<'a> {
     }
 
     /// Reports whether the derivation wanted this item first.
+    #[inline(never)]
     pub fn wants_item(&self, item: Item) -> bool {
         match self.wanted() {
             Some(pending) => pending.item == item,
@@ -136,6 +142,7 @@ impl<'a> Scene<'a> {
     }
 
     /// Returns the name of the token of an index, if it is one.
+    #[inline(never)]
     pub fn name(&self, index: usize) -> Option<Name> {
         match self.token(index) {
             Token::Name(name) => Some(name),

@@ -161,7 +161,9 @@ impl Warnings {
         self.list.as_slice()
     }
 
-    /// Adds a warning. Those about a token are told in the order in which they are found.
+    /// Adds a warning. Those about a token are told in the order in which they are found. It isn't inlined, since the page's
+    /// module is to be small.
+    #[inline(never)]
     pub(crate) fn warn(&mut self, token: usize, said: Said) {
         let found = self.list.len();
         let order = token.saturating_mul(MOST_WARNINGS).saturating_add(found);

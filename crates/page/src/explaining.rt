@@ -1,7 +1,7 @@
 //! Explanations of sources in memory: a fault's, or the warnings about a source without one.
 
-ghost use Rattle.std.specs.Prelude.{◌≡◌, IfSome, IsSome};
-ghost use Rattle.explanations.specs.Compiling.{Compiles};
+ghost use Rattle.std.specs.Prelude.{◌≡◌, IfErr, IfSome, IsSome, OnOk};
+ghost use Rattle.explanations.specs.Compiling.{Compiles, IsFirstFault};
 ghost use Rattle.page.specs.Explaining.{ExplainsRobots, IsFaulty};
 ghost use Rattle.page.specs.Running.{IsAccepted};
 
@@ -9,9 +9,12 @@ use crate::orders::Order;
 use crate::robots::RobotFile;
 use crate::running::words_of;
 use crate::sheets::{FRAME_BYTES, Sheet};
+use crate::sources::SourceFeed;
+use code::Maker;
 use derivations::{Located, Tokens, locate_in};
-use explanations::{compile, explain, warnings_of};
+use explanations::{explain, warnings_of};
 use grammar::{ParseFault, Profile};
+use parser::parse;
 
 /// What was explained.
 #[derive(Clone, Copy, Debug, PartialEq, Eq)]
@@ -37,13 +40,13 @@ pub fn explain_robot(order: &Order, robots: &[RobotFile], sheet: &mut Sheet) -> 
     let words = words_of(robots)?;
     let settings = order.settings(words.as_slice())?;
     match robots {
-        [robot, ..] => Some(explained(settings.profile(), robot.source(), sheet)),
+        [robot, ..] => Some(explain_source(settings.profile(), robot.source(), sheet)),
         [] => None,
     }
 }
 
 /// Explains a source on a blank sheet.
-fn explained(profile: Profile, source: &[u8], sheet: &mut Sheet) -> Explained
+fn explain_source(profile: Profile, source: &[u8], sheet: &mut Sheet) -> Explained
     ensures good { result ≡ Explained.Good → Compiles profile source.now }
     ensures faulty { result ≡ Explained.Faulty → IsFaulty profile source.now }
 {
@@ -63,6 +66,18 @@ fn explained(profile: Profile, source: &[u8], sheet: &mut Sheet) -> Explained
             told(Explained::Faulty, sheet)
         }
         Err(_) => Explained::Cut,
+    }
+}
+
+/// Compiles a source, and drops the code, as `explanations::compile` does. That reads another kind of device, and would bring
+/// a second parser into the module.
+fn compile(source: &[u8], profile: Profile) -> Result<(), ParseFault>
+    ensures compiles { OnOk result (Compiles profile source.now) }
+    ensures fault { IfErr result (IsFirstFault profile source.now) }
+{
+    match parse(&mut SourceFeed::new(source), &mut Maker::new(profile)) {
+        Ok(_) => Ok(()),
+        Err(fault) => Err(fault),
     }
 }
 

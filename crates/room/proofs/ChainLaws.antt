@@ -105,3 +105,10 @@ chain_is p fs main measure calls need chain next short needs by reads less begun
           AreLinked (scarce p (needs_in (all_needed p (told_trees fs)).needs main)) c (told_trees fs) chain) all
           (subst (λ (m : Measure). AreLinked m calls (told_trees fs) chain) measured begun.linked);
     }
+
+-- the same chain and the same function behind it
+pub kept : (measure : Measure) (calls : Calls) (fs : List Told) (main : ℕ) (one other : List ℕ) (next last : Option ℕ) →
+    one ≡ other → next ≡ last → IsBegun measure calls fs main other last → IsBegun measure calls fs main one next
+kept measure calls fs main one other next last chains functions begun =
+    subst (λ (ks : List ℕ). IsBegun measure calls fs main ks next) (sym chains)
+    (subst (λ (o : Option ℕ). IsBegun measure calls fs main other o) (sym functions) begun)
