@@ -1,6 +1,6 @@
 -- A pilot's turn is its robot's step, and what is played is the battle.
-use Rattle.std.proofs.Common.{◌≡◌, ℕ, ℤ, ◌+◌, ◌-◌, ◌<◌, zero, suc, true, false, Bool, List, [], ◌∷◌, length, map, take, set, get_or, replicate, Some, refl, sym, ap, ◌∙◌, arith, inl, inr, ◌≢◌, ◌%◌}
-use Rattle.std.specs.Prelude.{nat_eq, nat_le, nat_lt, option_map, slice_get}
+use Rattle.std.proofs.Common.{◌≡◌, ℕ, ℤ, ◌+◌, ◌-◌, ◌<◌, ◌≤◌, ◌⊎◌, zero, suc, true, false, Bool, List, [], ◌∷◌, length, map, take, set, get_or, replicate, Some, refl, sym, ap, ◌∙◌, arith, inl, inr, ◌≢◌, ◌%◌}
+use Rattle.std.specs.Prelude.{◌==◌, ◌||◌, nat_eq, nat_le, nat_lt, option_map, slice_get}
 use Rattle.std.proofs.lemmas.Bool.{cases_Bool, cases_eq, true≢false}
 use Rattle.std.proofs.lemmas.Bool.Decides.{nat_tests}
 use Rattle.std.proofs.lemmas.List.{get_or-map, length-map, map-append, map-set, take_more_set}
@@ -20,15 +20,16 @@ use Rattle.engine.specs.Executables.{Executable}
 use Rattle.code.specs.Machine.{State, want_code}
 use Rattle.code.specs.Standing.{IsReached}
 use Rattle.code.proofs.Correct.{want_code_is_want}
-use Rattle.battles.specs.Battle.{Behaviour, Stage, first_above, granted, is_over, last_cycle, stage_after, step, turns}
-use Rattle.battles.specs.Carrying.{AreRobotsOf, EachIsAt, IsRobotOf}
-use Rattle.battles.proofs.Cycles.{cycle_alone, cycle_updates, first_ends, first_is, first_more, over_if_few, stage_more}
+use Rattle.battles.specs.Battle.{Behaviour, Stage, first_above, granted, is_over, last_cycle, robot_of, stage_after, step, turns}
+use Rattle.battles.specs.Carrying.{AreRobotsOf, EachIsAt, IsRobotOf, Runner}
+use Rattle.battles.proofs.Cycles.{cycle_alone, cycle_updates, first_here, first_later, first_none, goes_on, over_if_few, stage_more}
 use Rattle.battles.proofs.Running.{at_end, end_at}
-use Rattle.battles.proofs.Stages.{HasStepped, turn_reached, turns_more}
+use Rattle.battles.proofs.Stages.{HasStepped, robot_at, robots_length, stands_at, turn_reached, turns_more}
 use Rattle.battles.specs.Pairing.{paired, robots_of}
 use Rattle.battles.proofs.Beginnings.{robots_are, stands_more}
 use Rattle.playing.specs.Pilot.{Seat, TakesTurn}
-use Rattle.playing.specs.Played.{HavePlayed, HaveUpdated, codes_of, engine_of, exes_of, plainly, runner_of, runners_of}
+use Rattle.playing.specs.Games.{Game, HasCome, HaveRun}
+use Rattle.playing.specs.Played.{EndsAt, HavePlayed, HaveUpdated, codes_of, engine_of, exes_of, plainly, runner_of, runners_of}
 
 -- what a want makes of the field and of the machine
 granted_takes : (code : ObjectCode) (i : ℕ) (trace : List ℤ) (w : Want) (machine : State) (before after : Ground)
@@ -51,7 +52,7 @@ unfolding step
 step_dead r i f trace dead = rw dead refl
 
 -- a robot wants what its program wants
-wants_code : (r : Behaviour) (code : ObjectCode) (trace : List ℤ) → IsRobotOf (plainly code) r →
+pub wants_code : (r : Behaviour) (code : ObjectCode) (trace : List ℤ) → IsRobotOf (plainly code) r →
     r trace ≡ want_code code trace
 wants_code r code trace is =
     ap (λ (q : Behaviour). q trace) is.wants ∙ sym (want_code_is_want is.profile is.file is.resolved trace)
@@ -121,25 +122,163 @@ over_due robots s n arena decides due updated =
     (stage_more robots s n ∙ cycle_updates robots (n + 1) (stage_after robots s n) due)
     ∙ sym updated.decided
 
--- the least of some numbers that passes lies beyond them
-beyond : (passes : ℕ → Bool) (n count : ℕ) → n < first_above passes n (suc count)
-unfolding first_above
-beyond passes n zero = elim (cases_Bool (passes (n + 1))) [
-  | inl here ↦ rw here (omega arith)
-  | inr later ↦ rw later (omega arith)
-]
-beyond passes n (suc count) = elim (cases_Bool (passes (n + 1))) [
-  | inl here ↦ rw here (omega arith)
-  | inr later ↦ rw later (omega (arith, beyond passes (n + 1) count))
+-- So a cycle was run, with an update or without one.
+pub run_due : (robots : List Behaviour) (codes : List ObjectCode) (seats others : List Seat) (old before after : Ground)
+    (s : Stage) (n : ℕ) (decides : Bool) → (n + 1) % 15 ≡ 0
+    → (HavePlayed codes seats old (stage_after robots s n)
+    → HavePlayed codes others before (turns robots (length robots) (stage_after robots s n)))
+    → ((f : Field) → StandsFor before f → HaveUpdated f after decides)
+    → HaveRun codes robots s n seats old others after decides
+run_due robots codes seats others old before after s n decides due turned updates = λ played.
+    let now = turned played in
+    let updated = updates (turns robots (length robots) (stage_after robots s n)).field now.field in (
+      cycle_due robots codes others before after s n decides due now updated,
+      over_due robots s n after decides due updated,
+    )
+
+pub run_plain : (robots : List Behaviour) (codes : List ObjectCode) (seats others : List Seat) (old after : Ground)
+    (s : Stage) (n : ℕ) → (n + 1) % 15 ≢ 0
+    → (HavePlayed codes seats old (stage_after robots s n)
+    → HavePlayed codes others after (turns robots (length robots) (stage_after robots s n)))
+    → HaveRun codes robots s n seats old others after false
+run_plain robots codes seats others old after s n plain turned = λ played. (
+  cycle_plain robots codes others after s n plain (turned played),
+  goes_on (n + 1) (stage_after robots s (n + 1)) plain,
+)
+
+-- The least of some numbers that passes, or the last of them: no number that passes is less.
+least : (passes : ℕ → Bool) (n count k : ℕ) → n < k → k ≤ n + count → passes k ≡ true → first_above passes n count ≤ k
+least passes n zero k above within here = absurd (omega arith)
+least passes n (suc count) k above within here = elim (cases_Bool (passes (n + 1))) [
+  | inl holds ↦ let now = first_here passes n count holds in omega (arith, now)
+  | inr fails ↦
+      let distinct : n + 1 ≢ k = λ same. true≢false (sym here ∙ ap passes (sym same) ∙ fails) in
+      let later = first_later passes n count fails in
+      let rest = least passes (n + 1) count k (omega (arith, distinct)) (omega arith) here in
+      omega (arith, later, rest)
 ]
 
--- the match goes on after a cycle that isn't its last
-pub goes_beyond : (passes : ℕ → Bool) (n limit last : ℕ) → n < limit → first_above passes n (limit - n) ≡ last
-    → n < last
-goes_beyond passes n limit last within so =
-    let e : limit - n ≡ suc (limit - (n + 1)) = omega arith in
-    let more : first_above passes n (suc (limit - (n + 1))) ≡ last = rw e at so in
-    omega (arith, beyond passes n (limit - (n + 1)), more)
+-- it passes, or is the last
+passes_or_last : (passes : ℕ → Bool) (n count : ℕ) →
+    (passes (first_above passes n count) ≡ true) ⊎ (first_above passes n count ≡ n + count)
+passes_or_last passes n zero = inr (first_none passes n ∙ omega arith)
+passes_or_last passes n (suc count) = elim (cases_Bool (passes (n + 1))) [
+  | inl holds ↦ inl (ap passes (first_here passes n count holds) ∙ holds)
+  | inr fails ↦
+      let later = first_later passes n count fails in
+      elim (passes_or_last passes (n + 1) count) [
+        | inl here ↦ inl (ap passes later ∙ here)
+        | inr last ↦ inr (later ∙ last ∙ omega arith)
+      ]
+]
+
+no_more : (passes : ℕ → Bool) (n count : ℕ) → first_above passes n count ≤ n + count
+no_more passes n zero = let none = first_none passes n in omega (arith, none)
+no_more passes n (suc count) = elim (cases_Bool (passes (n + 1))) [
+  | inl holds ↦ let now = first_here passes n count holds in omega (arith, now)
+  | inr fails ↦
+      let later = first_later passes n count fails in
+      let rest = no_more passes (n + 1) count in
+      omega (arith, later, rest)
+]
+
+beyond : (passes : ℕ → Bool) (n count : ℕ) → 0 < count → n < first_above passes n count
+beyond passes n zero some = absurd (omega arith)
+beyond passes n (suc zero) some = elim (cases_Bool (passes (n + 1))) [
+  | inl holds ↦ let now = first_here passes n zero holds in omega (arith, now)
+  | inr fails ↦
+      let later = first_later passes n zero fails in
+      let none = first_none passes (n + 1) in
+      omega (arith, later, none)
+]
+beyond passes n (suc (suc count)) some = elim (cases_Bool (passes (n + 1))) [
+  | inl holds ↦ let now = first_here passes n (suc count) holds in omega (arith, now)
+  | inr fails ↦
+      let later = first_later passes n (suc count) fails in
+      let rest = beyond passes (n + 1) (suc count) (omega arith) in
+      omega (arith, later, rest)
+]
+
+last_is : (robots : List Behaviour) (s : Stage) (limit : ℕ)
+    → last_cycle robots s limit ≡ first_above (λ n. is_over n (stage_after robots s n)) 0 limit
+unfolding last_cycle
+last_is robots s limit = refl
+
+-- A match that has begun is over if its limit is 0.
+pub ends_begun : (robots : List Behaviour) (s : Stage) (limit : ℕ) → EndsAt (last_cycle robots s limit)
+    (record { cycles = 0; is_over = nat_eq limit 0 })
+ends_begun robots s limit =
+    let last = last_is robots s limit in
+    let most = no_more (λ n. is_over n (stage_after robots s n)) 0 limit in
+    elim (cases_eq limit 0) [
+      | inl none ↦ (
+        λ over. omega (arith, last, most, none),
+        λ on. absurd (true≢false (sym (grind (arith, nat_tests)) ∙ on)),
+      )
+      | inr some ↦ (
+        λ over. absurd (true≢false (sym over ∙ grind (arith, nat_tests))),
+        λ on. let later = beyond (λ n. is_over n (stage_after robots s n)) 0 limit (omega arith) in
+            omega (arith, last, later),
+      )
+    ]
+
+-- It is over after a further cycle that decides it, or that is the last of its limit.
+pub ends_decided : (robots : List Behaviour) (s : Stage) (n limit : ℕ) → n < limit → n < last_cycle robots s limit
+    → (is_over (n + 1) (stage_after robots s (n + 1)) ≡ true) ⊎ (n + 1 ≡ limit)
+    → EndsAt (last_cycle robots s limit) (record { cycles = n + 1; is_over = true })
+ends_decided robots s n limit within before ends =
+    let last = last_is robots s limit in
+    elim ends as (λ e. EndsAt (last_cycle robots s limit) (record { cycles = n + 1; is_over = true })) [
+      | inl over ↦
+          let first = least (λ k. is_over k (stage_after robots s k)) 0 limit (n + 1) (omega arith) (omega arith) over
+          in
+          (λ is. omega (arith, last, first, before), λ on. absurd (true≢false on))
+      | inr all ↦
+          let most = no_more (λ k. is_over k (stage_after robots s k)) 0 limit in
+          (λ is. omega (arith, last, most, before, all), λ on. absurd (true≢false on))
+    ]
+
+-- and else it goes on
+pub ends_later : (robots : List Behaviour) (s : Stage) (n limit : ℕ) → n < limit → n < last_cycle robots s limit
+    → is_over (n + 1) (stage_after robots s (n + 1)) ≡ false → n + 1 ≢ limit
+    → EndsAt (last_cycle robots s limit) (record { cycles = n + 1; is_over = false })
+ends_later robots s n limit within before later less =
+    let last = last_is robots s limit in
+    let here : n + 1 ≢ last_cycle robots s limit = λ same.
+        elim (passes_or_last (λ k. is_over k (stage_after robots s k)) 0 limit) [
+          | inl over ↦
+              true≢false (sym over ∙ ap (λ k. is_over k (stage_after robots s k)) (sym last ∙ sym same) ∙ later)
+          | inr all ↦ less (same ∙ last ∙ all ∙ omega arith)
+        ] in
+    (λ over. absurd (true≢false (sym over)), λ on. omega (arith, before, here))
+
+pub ends_next : (robots : List Behaviour) (s : Stage) (n limit : ℕ) (decided ended : Bool) → n < limit
+    → n < last_cycle robots s limit → is_over (n + 1) (stage_after robots s (n + 1)) ≡ decided
+    → ended ≡ (decided || n + 1 == limit)
+    → EndsAt (last_cycle robots s limit) (record { cycles = n + 1; is_over = ended })
+ends_next robots s n limit true ended within before over is =
+    rw is (ends_decided robots s n limit within before (inl over))
+ends_next robots s n limit false ended within before over is = elim (cases_eq (n + 1) limit) [
+  | inl all ↦
+      let yes : (n + 1 == limit) ≡ true = grind (arith, nat_tests) in
+      rw (is, yes) (ends_decided robots s n limit within before (inr all))
+  | inr less ↦
+      let no : (n + 1 == limit) ≡ false = grind (arith, nat_tests) in
+      rw (is, no) (ends_later robots s n limit within before over less)
+]
+
+-- A game has come further by a cycle.
+pub comes_on : (codes : List ObjectCode) (robots : List Behaviour) (s : Stage) (seats others : List Seat)
+    (old new : Game) (decided : Bool) → old.ending.cycles < old.limit → old.ending.is_over ≡ false
+    → new.ending.cycles ≡ old.ending.cycles + 1 → new.limit ≡ old.limit
+    → new.ending.is_over ≡ (decided || old.ending.cycles + 1 == old.limit)
+    → HaveRun codes robots s old.ending.cycles seats old.arena others new.arena decided
+    → HasCome codes robots s seats old → HasCome codes robots s others new
+comes_on codes robots s seats others old new decided within on more same over run come =
+    let ran = run come.played in
+    let before = come.ends.1 on in
+    let ends = ends_next robots s old.ending.cycles old.limit decided new.ending.is_over within before ran.1 over in
+    record { played = rw more ran.0; ends = rw (same, more) ends }
 
 -- the programs of pilots stay when one of them goes on
 pub codes_stay : (seats : List Seat) (i : ℕ) (none new : Seat) → new.code ≡ (get_or seats i none).code
@@ -195,53 +334,62 @@ one_begun codes seats i none new same inside begins begun =
     (stands_more (runners_of (take i seats)) (exes_of codes) i (runner_of new) (plainly code) begun
     (exe_here codes i code here) (at_end (engine_of new.state) 0 (plainly code) [] refl (sym begins)))
 
+each_length : (runners : List Runner) (exes : List Executable) (traces : List (List ℤ)) → EachIsAt runners exes traces
+    → length traces ≡ length runners
+each_length [] [] [] each = refl
+each_length (runner ∷ runners) (exe ∷ exes) (trace ∷ traces) each = ap suc (each_length runners exes traces each.1)
+each_length _ _ _ each = absurd each
+
+-- A pilot's machine is where the replies of its robot lead.
+pub seat_reached : (codes : List ObjectCode) (seats : List Seat) (arena : Ground) (s : Stage) (i : ℕ) (none : Seat)
+    → codes_of seats ≡ codes → i < length seats → HavePlayed codes seats arena s
+    → IsReached (get_or seats i none).state (get_or seats i none).code (get_or s.traces i [])
+seat_reached codes seats arena s i none same inside played =
+    let seat = get_or seats i none in
+    let here : slice_get codes i ≡ Some seat.code = rw same at (code_here seats i none inside) in
+    let runner : get_or (runners_of seats) i (runner_of none) ≡ runner_of seat =
+    get_or-map runner_of seats i none (runner_of none) inside in
+    let at = stands_at (runners_of seats) (exes_of codes) s.traces i (plainly seat.code) (runner_of none) played.traces
+    (exe_here codes i seat.code here) in
+    sym (end_at (runner_of seat) (plainly seat.code) (get_or s.traces i []) refl (rw runner at at))
+
+-- and its robot wants what its program wants
+pub robot_wants : (codes : List ObjectCode) (robots : List Behaviour) (seats : List Seat) (i : ℕ) (none : Seat)
+    (trace : List ℤ) → AreRobotsOf (exes_of codes) robots → codes_of seats ≡ codes → i < length seats
+    → robot_of robots i trace ≡ want_code (get_or seats i none).code trace
+unfolding robot_of
+robot_wants codes robots seats i none trace are same inside =
+    let code = (get_or seats i none).code in
+    let here : slice_get codes i ≡ Some code = rw same at (code_here seats i none inside) in
+    wants_code (get_or robots i (λ trace. Quiet)) code trace
+    (robot_at (exes_of codes) robots i (plainly code) (λ trace. Quiet) are (exe_here codes i code here))
+
+some_same : {A : Type 0} {x y : A} → Some x ≡ Some y → x ≡ y
+some_same e = cc
+
+-- a pilot keeps its program
+pub code_same : (codes : List ObjectCode) (seats others : List Seat) (i : ℕ) (none new : Seat) → codes_of seats ≡ codes
+    → codes_of others ≡ codes → i < length seats → (get_or others i new).code ≡ (get_or seats i none).code
+code_same codes seats others i none new same still inside =
+    let count = seats_length seats others (still ∙ sym same) in
+    some_same (sym (rw still at (code_here others i new (omega (arith, inside, count))))
+    ∙ rw same at (code_here seats i none inside))
+
+-- there are as many robots and traces as pilots
+pub robots_as_seats : (codes : List ObjectCode) (robots : List Behaviour) (seats : List Seat)
+    → AreRobotsOf (exes_of codes) robots → codes_of seats ≡ codes → length robots ≡ length seats
+robots_as_seats codes robots seats are same =
+    robots_length (exes_of codes) robots are ∙ length-map codes plainly ∙ sym (ap length same) ∙ codes_length seats
+
+pub traces_as_seats : (codes : List ObjectCode) (seats : List Seat) (arena : Ground) (s : Stage)
+    → HavePlayed codes seats arena s → length s.traces ≡ length seats
+traces_as_seats codes seats arena s played =
+    each_length (runners_of seats) (exes_of codes) s.traces played.traces ∙ length-map seats runner_of
+
 -- a robot of the field lives if it is alive
 pub lives_are : (g : Ground) (f : Field) (i : ℕ) → StandsFor g f → lives g i ≡ is_live f i
 unfolding lives is_live is_alive body_of
 lives_are g f i stands = ap (λ (b : Body). nat_lt b.damage 100) (body_at g f i stands)
-
--- A match goes on after a cycle that doesn't decide it; one that was stopped at an update ends there only if the limit
--- is reached.
-abbrev pub EndsThere : List Behaviour → Stage → (n limit : ℕ) → Bool → Type 0
-EndsThere robots s n limit ended =
-    (ended ≡ true → n ≡ last_cycle robots s limit) × (ended ≡ false → n < last_cycle robots s limit)
-
-pub goes_to : (robots : List Behaviour) (s : Stage) (n limit : ℕ) → n < limit
-    → first_above (λ k. is_over k (stage_after robots s k)) n (limit - n) ≡ last_cycle robots s limit
-    → is_over (n + 1) (stage_after robots s (n + 1)) ≡ false
-    → first_above (λ k. is_over k (stage_after robots s k)) (n + 1) (limit - (n + 1)) ≡ last_cycle robots s limit
-goes_to robots s n limit within so later =
-    first_more (λ k. is_over k (stage_after robots s k)) n limit _ within so later
-
-pub ends_decided : (robots : List Behaviour) (s : Stage) (n limit : ℕ) (ended : Bool) → ended ≡ true → n < limit
-    → first_above (λ k. is_over k (stage_after robots s k)) n (limit - n) ≡ last_cycle robots s limit
-    → is_over (n + 1) (stage_after robots s (n + 1)) ≡ true → EndsThere robots s (n + 1) limit ended
-ends_decided robots s n limit ended is within so over = (
-  λ _. first_is (λ k. is_over k (stage_after robots s k)) n limit _ within so over,
-  λ going. absurd (true≢false (sym is ∙ going)),
-)
-
-pub ends_stopped : (robots : List Behaviour) (s : Stage) (n limit : ℕ) (ended : Bool) → ended ≡ nat_eq (n + 1) limit
-    → n < limit
-    → first_above (λ k. is_over k (stage_after robots s k)) n (limit - n) ≡ last_cycle robots s limit
-    → is_over (n + 1) (stage_after robots s (n + 1)) ≡ false → EndsThere robots s (n + 1) limit ended
-ends_stopped robots s n limit ended is within so later =
-    let on = goes_to robots s n limit within so later in
-    elim (cases_eq (n + 1) limit) [
-      | inl all ↦ (
-        λ _. all ∙ first_ends (λ k. is_over k (stage_after robots s k)) (n + 1) limit _ all on,
-        λ going. absurd (true≢false (sym (grind (arith, nat_tests)) ∙ sym is ∙ going)),
-      )
-      | inr less ↦ (
-        λ over. absurd (true≢false (sym over ∙ is ∙ grind (arith, nat_tests))),
-        λ _. goes_beyond (λ k. is_over k (stage_after robots s k)) (n + 1) limit _ (omega arith) on,
-      )
-    ]
-
-pub ends_at_limit : (robots : List Behaviour) (s : Stage) (n limit : ℕ) → n ≡ limit
-    → first_above (λ k. is_over k (stage_after robots s k)) n (limit - n) ≡ last_cycle robots s limit
-    → limit ≡ last_cycle robots s limit
-ends_at_limit robots s n limit all so = first_ends (λ k. is_over k (stage_after robots s k)) n limit _ all so
 
 -- what plain machines run has these codes, so their robots want what the files' trees want
 plain_programs : (codes : List ObjectCode) → map (λ (e : Executable). e.program) (exes_of codes) ≡ codes

@@ -1,2 +1,3 @@
 pub mod Pilot
 pub mod Played
+pub mod Games

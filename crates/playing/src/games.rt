@@ -1,17 +1,19 @@
-//! Plays a match before a watcher: in each cycle a turn of each live robot, after each 15th cycle an update.
+//! Plays a match before a watcher, cycle by cycle: a turn of each live robot, and after each 15th cycle an update.
 
-ghost use Rattle.std.specs.Prelude.{◌≡◌, ◌⊎◌, ◌+◌, ◌*◌, ◌/◌, ◌≤◌, ◌<◌, [], List, length, replicate};
+ghost use Rattle.std.specs.Prelude.{◌≡◌, ◌⊎◌, ◌==◌, ◌||◌, ℕ, ◌≢◌, ◌+◌, ◌*◌, ◌/◌, ◌%◌, ◌≤◌, ◌<◌, false, true, [], List, length, replicate};
 ghost use Rattle.arena.specs.Field.{Field};
 ghost use Rattle.arena.specs.Ground.{most_updates};
 ghost use Rattle.arena.specs.Standing.{StandsFor};
-ghost use Rattle.battles.specs.Battle.{Behaviour, Stage, turns};
+ghost use Rattle.battles.specs.Battle.{Behaviour, Stage, opening, turns};
 ghost use Rattle.battles.specs.Carrying.{AreRobotsOf, EachIsAt};
-ghost use Rattle.playing.specs.Played.{HavePlayed, HaveUpdated, IsEndOf, IsPlayed, codes_of, exes_of, runners_of};
+ghost use Rattle.playing.specs.Games.{EndsWell, GoesOn, HasCome, HaveRun};
+ghost use Rattle.playing.specs.Played.{HavePlayed, HaveUpdated, IsPlayed, codes_of, exes_of, runners_of};
 
 use crate::pilot::Pilot;
 use crate::watcher::{Turn, Watcher};
 use arena::{Arena, MOST_ROBOTS};
 use settings::CYCLES_MAX;
+use std::marker::Model;
 
 /// An update follows each cycle whose number is a multiple of this.
 pub const UPDATE_CYCLES: u32 = 15;
@@ -24,6 +26,95 @@ pub struct Ending {
     /// Whether the match is over: at most one robot lives after an update, or the limit of cycles is reached. If not, the
     /// watcher wanted no more.
     pub is_over: bool,
+}
+
+/// A match as it is played: its field, how far it has come, and its limit of cycles.
+#[derive(Drop)]
+pub struct Game {
+    arena: Arena,
+    ending: Ending,
+    limit: u32,
+}
+
+impl Model for Game {
+    ghost use Rattle.std.specs.Prelude.{◌≤◌};
+    ghost use Rattle.settings.specs.declared.limits.TheConstants.{CYCLES_MAX};
+    ghost use Rattle.playing.specs.Games.{Game, IsCounted};
+
+    ghost Value = { Game };
+
+    ghost view = { λ g. record { arena = g.arena; ending = g.ending; limit = g.limit } };
+
+    ghost invariant = { λ g. IsCounted (view g) × (g.limit ≤ CYCLES_MAX) };
+}
+
+impl Game {
+    /// Begins the match of this number and seed, of at most `limit` cycles: each pilot is put at the start of its program,
+    /// whatever it did before.
+    pub fn new(pilots: &mut [Pilot<'_>], seed: u64, number: u32, limit: u32) -> Game
+        requires some { 2 ≤ length pilots.old }
+        requires most { length pilots.old ≤ MOST_ROBOTS }
+        requires limit { limit ≤ CYCLES_MAX }
+        ensures battle { (robots : List Behaviour) → AreRobotsOf (exes_of (codes_of pilots.old)) robots
+            → HasCome (codes_of pilots.old) robots (opening (length robots) seed number) pilots.new result }
+        ensures codes { codes_of pilots.new ≡ codes_of pilots.old }
+        ensures manned { length result.arena.robots ≡ length pilots.new }
+        ensures begins { result.ending.cycles ≡ 0 }
+        ensures limit { result.limit ≡ limit }
+        ensures ends { EndsWell result }
+    {
+        begin(pilots);
+        Game {
+            arena: Arena::new(seed, u64::from(number), pilots.len()),
+            ending: Ending {
+                cycles: 0,
+                is_over: limit == 0,
+            },
+            limit,
+        }
+    }
+
+    /// Returns the field.
+    pub fn arena(&self) -> &Arena
+        ensures { result.now ≡ self.now.arena }
+    {
+        &self.arena
+    }
+
+    /// Returns how far the match was played.
+    pub fn ending(&self) -> Ending
+        ensures ending { result ≡ self.now.ending }
+        ensures most { result.cycles ≤ CYCLES_MAX }
+    {
+        self.ending
+    }
+
+    /// Plays the next cycle of a match that isn't over, before a watcher.
+    pub fn cycle<W: Watcher>(&mut self, pilots: &mut [Pilot<'_>], watcher: &mut W)
+        requires manned { length self.old.arena.robots ≡ length pilots.old }
+        requires goes_on { self.old.ending.is_over ≡ false }
+        ensures battle { (robots : List Behaviour) (s : Stage) → AreRobotsOf (exes_of (codes_of pilots.old)) robots
+            → HasCome (codes_of pilots.old) robots s pilots.old self.old
+            → HasCome (codes_of pilots.old) robots s pilots.new self.new }
+        ensures codes { codes_of pilots.new ≡ codes_of pilots.old }
+        ensures manned { length self.new.arena.robots ≡ length pilots.new }
+        ensures next { GoesOn self.old self.new }
+        ensures ends { EndsWell self.new }
+    {
+        let cycle = self.ending.cycles + 1;
+        let is_decided = run_cycle(pilots, &mut self.arena, watcher, cycle);
+        self.ending = Ending {
+            cycles: cycle,
+            is_over: is_last(is_decided, cycle, self.limit),
+        };
+    }
+}
+
+/// Reports whether a cycle is a match's last one: it decides the match, or reaches the limit.
+fn is_last(is_decided: bool, cycle: u32, limit: u32) -> bool
+    ensures { result ≡ (is_decided || cycle == limit) }
+{
+    is_decided || cycle == limit
 }
 
 /// Plays the match of this number and seed before a watcher, up to its end, or until the watcher wants no more: at most
@@ -43,10 +134,10 @@ pub fn play<W: Watcher>(
     ensures limit { result.cycles ≤ limit }
     ensures ends { (result.cycles ≡ limit) ⊎ (result.cycles ≡ result.cycles / UPDATE_CYCLES * UPDATE_CYCLES) }
 {
-    begin(pilots);
-    let mut arena = Arena::new(seed, u64::from(number), pilots.len());
-    watcher.begins(&arena);
-    run(pilots, &mut arena, watcher, limit)
+    let mut game = Game::new(pilots, seed, number, limit);
+    watcher.begins(game.arena());
+    run(&mut game, pilots, watcher);
+    game.ending()
 }
 
 /// Puts each pilot at the start of its program.
@@ -59,40 +150,50 @@ fn begin(pilots: &mut [Pilot<'_>])
     }
 }
 
-/// Runs cycles until at most one robot lives, the limit is reached, or the watcher wants no more.
-fn run<W: Watcher>(
+/// Plays on until the match is over, or the watcher wants no more.
+fn run<W: Watcher>(game: &mut Game, pilots: &mut [Pilot<'_>], watcher: &mut W)
+    requires manned { length game.old.arena.robots ≡ length pilots.old }
+    requires begins { game.old.ending.cycles ≡ 0 }
+    requires ends { EndsWell game.old }
+    ensures battle { (robots : List Behaviour) (s : Stage) → AreRobotsOf (exes_of (codes_of pilots.old)) robots
+        → HasCome (codes_of pilots.old) robots s pilots.old game.old
+        → HasCome (codes_of pilots.old) robots s pilots.new game.new }
+    ensures limit { game.new.limit ≡ game.old.limit }
+    ensures ends { (game.new.ending.cycles ≡ game.new.limit)
+        ⊎ (game.new.ending.cycles ≡ game.new.ending.cycles / UPDATE_CYCLES * UPDATE_CYCLES) }
+{
+    let limit = game.limit;
+    for _ in 0..limit {
+        if game.ending().is_over {
+            return;
+        }
+        game.cycle(pilots, watcher);
+        if game.ending().cycles % UPDATE_CYCLES == 0 && !watcher.wants_more() {
+            return;
+        }
+    }
+}
+
+/// Runs one cycle: the turns of the robots, and after each 15th cycle the update. Reports whether that decides the match.
+fn run_cycle<W: Watcher>(
     pilots: &mut [Pilot<'_>],
     arena: &mut Arena,
     watcher: &mut W,
-    limit: u32,
-) -> Ending
+    cycle: u32,
+) -> bool
     requires manned { length arena.old.robots ≡ length pilots.old }
-    requires updates { arena.old.updates ≡ 0 }
-    requires limit { limit ≤ CYCLES_MAX }
-    ensures battle { (robots : List Behaviour) (s : Stage) → AreRobotsOf (exes_of (codes_of pilots.old)) robots
-        → HavePlayed (codes_of pilots.old) pilots.old arena.old s → IsEndOf robots s limit result }
-    ensures limit { result.cycles ≤ limit }
-    ensures ends { (result.cycles ≡ limit) ⊎ (result.cycles ≡ result.cycles / UPDATE_CYCLES * UPDATE_CYCLES) }
-    // There was one update for each 15 of these cycles.
-    ensures updates { arena.new.updates ≡ result.cycles / UPDATE_CYCLES }
+    requires most { cycle ≤ CYCLES_MAX }
+    requires updates { arena.old.updates < most_updates }
+    ensures battle { (robots : List Behaviour) (s : Stage) (before : ℕ) → cycle ≡ before + 1
+        → AreRobotsOf (exes_of (codes_of pilots.old)) robots
+        → HaveRun (codes_of pilots.old) robots s before pilots.old arena.old pilots.new arena.new result }
+    ensures codes { codes_of pilots.new ≡ codes_of pilots.old }
+    ensures manned { length arena.new.robots ≡ length pilots.new }
+    ensures due { cycle % UPDATE_CYCLES ≡ 0 → arena.new.updates ≡ arena.old.updates + 1 }
+    ensures between { cycle % UPDATE_CYCLES ≢ 0 → (arena.new.updates ≡ arena.old.updates) × (result ≡ false) }
 {
-    for before in 0..limit {
-        let cycle = before + 1;
-        turns(pilots, arena, watcher, cycle);
-        if cycle % UPDATE_CYCLES == 0 {
-            let is_over = decides(arena, watcher, cycle) || cycle == limit;
-            if is_over || !watcher.wants_more() {
-                return Ending {
-                    cycles: cycle,
-                    is_over,
-                };
-            }
-        }
-    }
-    Ending {
-        cycles: limit,
-        is_over: true,
-    }
+    turns(pilots, arena, watcher, cycle);
+    cycle % UPDATE_CYCLES == 0 && decides(arena, watcher, cycle)
 }
 
 /// Runs the turns of one cycle, in the order of the robots.

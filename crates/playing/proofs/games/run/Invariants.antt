@@ -1,20 +1,19 @@
-use Rattle.std.proofs.Common.{◌≡◌, ◌-◌, ◌/◌, List, length}
-use Rattle.battles.specs.Battle.{Behaviour, Stage, first_above, is_over, last_cycle, stage_after}
+use Rattle.std.proofs.Common.{◌≡◌, List, length}
+use Rattle.battles.specs.Battle.{Behaviour, Stage}
 use Rattle.battles.specs.Carrying.{AreRobotsOf}
-use Rattle.playing.specs.Played.{HavePlayed, codes_of, exes_of}
+use Rattle.playing.specs.Games.{EndsWell, HasCome}
+use Rattle.playing.specs.Played.{codes_of, exes_of}
 use Rattle.playing.proofs.games.run.Given as goal
 
--- each robot of the field has its pilot, the updates so far are done, and the match is at the stage after these cycles
-abbrev pub invariant-loop-before : goal.invariant-loop-before
-invariant-loop-before g l = record {
-  manned : length l.arena.robots ≡ length l.pilots;
-  updates : l.arena.updates ≡ l.before / 15;
+-- so many cycles were played of the same match
+abbrev pub invariant-loop : goal.invariant-loop
+invariant-loop g l = record {
+  manned : length l.game.arena.robots ≡ length l.pilots;
   codes : codes_of l.pilots ≡ codes_of l.initial.pilots;
-  stage : (robots : List Behaviour) (s : Stage) → AreRobotsOf (exes_of (codes_of l.initial.pilots)) robots
-      → HavePlayed (codes_of l.initial.pilots) l.initial.pilots l.initial.arena s
-      → HavePlayed (codes_of l.initial.pilots) l.pilots l.arena (stage_after robots s l.before);
-  cycles : (robots : List Behaviour) (s : Stage) → AreRobotsOf (exes_of (codes_of l.initial.pilots)) robots
-      → HavePlayed (codes_of l.initial.pilots) l.initial.pilots l.initial.arena s
-      → first_above (λ n. is_over n (stage_after robots s n)) l.before (l.limit - l.before)
-      ≡ last_cycle robots s l.limit;
+  limit : l.game.limit ≡ l.initial.game.limit;
+  cycles : l.game.ending.cycles ≡ l.counter;
+  ends : EndsWell l.game;
+  battle : (robots : List Behaviour) (s : Stage) → AreRobotsOf (exes_of (codes_of l.initial.pilots)) robots
+      → HasCome (codes_of l.initial.pilots) robots s l.initial.pilots l.initial.game
+      → HasCome (codes_of l.initial.pilots) robots s l.pilots l.game;
 }

@@ -1,0 +1,135 @@
+-- The reply to a question is on top of the machine's stack, and is the last one that the robot got.
+use Rattle.std.proofs.Common.{◌≡◌, ℕ, ◌+◌, ◌-◌, ◌<◌, zero, suc, Bool, true, false, ℤ, pos, List, [], ◌∷◌, ◌++◌, length, take, get_or, Option, Some, None, inl, inr, refl, sym, ap, ◌∙◌, arith}
+use Rattle.std.specs.Prelude.{if◌then◌else◌}
+use Rattle.std.proofs.lemmas.Bool.{cases_Bool}
+use Rattle.std.proofs.lemmas.List.{length-append}
+use Rattle.arena.specs.Field.{is_live}
+use Rattle.arena.specs.Ground.{Ground, lives}
+use Rattle.grammar.specs.declared.names.Callee.TheVariants as callee
+use Rattle.grammar.specs.declared.names.Intrinsic.{Intrinsic}
+use Rattle.code.specs.declared.instr.Instr.{Instr}
+use Rattle.code.specs.declared.instr.Instr.TheVariants.{Fcall}
+use Rattle.code.specs.declared.want.Want.{Want}
+use Rattle.code.specs.declared.want.Want.TheVariants.{Ask, Quiet, Restart}
+use Rattle.code.specs.Generation.{ObjectCode}
+use Rattle.code.specs.Machine.{State, after, done_with, event_of, frame_of, instr_at, is_fitting, reached, start_state, want_code, want_next}
+use Rattle.code.specs.Standing.{IsReached}
+use Rattle.code.proofs.Machines.{reached-last}
+use Rattle.battles.specs.Battle.{Behaviour, Stage, robot_of, stage_after}
+use Rattle.battles.specs.Carrying.{AreRobotsOf}
+use Rattle.playing.specs.Games.{Game, HasCome}
+use Rattle.playing.specs.Pilot.{Seat}
+use Rattle.playing.specs.Played.{codes_of, exes_of}
+use Rattle.playing.proofs.Playing.{code_same, lives_are, robot_wants, robots_as_seats, seat_reached, traces_as_seats}
+use Rattle.moments.specs.Moments.{asked_in, last_of, question_in, replies_of, wanted}
+use Rattle.moments.proofs.Replies.{reply_comes}
+
+-- the last of some numbers with one behind them
+at_end : (l : List ℤ) (x : ℤ) → get_or (l ++ x ∷ []) (length l) (pos 0) ≡ x
+at_end [] x = refl
+at_end (y ∷ l) x = at_end l x
+
+last_one : (l : List ℤ) (x : ℤ) → last_of (l ++ x ∷ []) ≡ x
+last_one l x =
+    let end : length (l ++ x ∷ []) - 1 ≡ length l = omega (arith, length-append l (x ∷ [])) in
+    ap (λ n. get_or (l ++ x ∷ []) n (pos 0)) end ∙ at_end l x
+
+-- what asks fits
+asks_if : (fits : Bool) (w : Want) (k : Intrinsic) (a : List ℤ) → (if fits then w else Restart) ≡ Ask k a
+    → (fits ≡ true) × (w ≡ Ask k a)
+asks_if true w k a asks = (refl, asks)
+asks_if false w k a asks = absurd (cc)
+
+-- after it the reply is on top
+reply_done : (code : ObjectCode) (reply : ℤ) (s : State) (o : Option Instr) (k : Intrinsic) (a : List ℤ)
+    → event_of s o ≡ Ask k a → last_of (done_with code reply s o).words ≡ reply
+reply_done code reply s (Some (Fcall (callee.Intrinsic i))) k a asks =
+    last_one (take (frame_of s.frames).base s.words) reply
+reply_done code reply s _ k a asks = absurd (cc)
+
+reply_on_top : (code : ObjectCode) (reply : ℤ) (s : State) (k : Intrinsic) (a : List ℤ)
+    → want_next code s ≡ Ask k a → last_of (after code reply s).words ≡ reply
+reply_on_top code reply s k a asks =
+    let o = instr_at code s.at in
+    let asked = asks_if (is_fitting code s o) (event_of s o) k a asks in
+    ap (λ (fits : Bool). last_of (if fits then done_with code reply s o else s).words) asked.0
+    ∙ reply_done code reply s o k a asked.1
+
+-- a question has the reply that is given, and no other want has one
+asked_alike : (w : Want) (cycle : ℕ) (one other : ℤ)
+    → ((k : Intrinsic) (a : List ℤ) → w ≡ Ask k a → one ≡ other) → asked_in w cycle one ≡ asked_in w cycle other
+asked_alike (Ask k a) cycle one other same = ap (λ reply. asked_in (Ask k a) cycle reply) (same k a refl)
+asked_alike Quiet cycle one other same = refl
+asked_alike Restart cycle one other same = refl
+
+-- what a robot wants of the next cycle, by its machine
+pub wanted_is : (codes : List ObjectCode) (robots : List Behaviour) (seats : List Seat) (arena : Ground) (s : Stage)
+    (i : ℕ) (none : Seat) (w : Want) → AreRobotsOf (exes_of codes) robots → codes_of seats ≡ codes → i < length seats
+    → (game : Game) → HasCome codes robots s seats game → game.arena ≡ arena
+    → ((trace : List ℤ) → IsReached (get_or seats i none).state (get_or seats i none).code trace
+    → w ≡ (if lives arena i then want_code (get_or seats i none).code trace else Quiet))
+    → w ≡ wanted robots i (stage_after robots s game.ending.cycles)
+unfolding wanted
+wanted_is codes robots seats arena s i none w are same inside game come is by =
+    let now = stage_after robots s game.ending.cycles in
+    let at = seat_reached codes seats game.arena now i none same inside come.played in
+    let live : lives arena i ≡ is_live now.field i =
+    ap (λ (g : Ground). lives g i) (sym is) ∙ lives_are game.arena now.field i come.played.field in
+    by (replies_of now i) at
+    ∙ ap (λ (b : Bool). if b then want_code (get_or seats i none).code (replies_of now i) else Quiet) live
+    ∙ ap (λ (v : Want). if is_live now.field i then v else Quiet)
+    (sym (robot_wants codes robots seats i none (replies_of now i) are same inside))
+
+-- a robot that is found to ask lives, and asks by its replies
+asks_live : (robots : List Behaviour) (i : ℕ) (s : Stage) (k : Intrinsic) (a : List ℤ) → wanted robots i s ≡ Ask k a
+    → (is_live s.field i ≡ true) × (robot_of robots i (replies_of s i) ≡ Ask k a)
+unfolding wanted
+asks_live robots i s k a asks = elim (cases_Bool (is_live s.field i)) [
+  | inl live ↦ (live, rw live at asks)
+  | inr dead ↦ absurd (let quiet : Quiet ≡ Ask k a = rw dead at asks in cc)
+]
+
+-- The question of the next cycle, from its want before and the machine after it.
+pub question_is : (codes : List ObjectCode) (robots : List Behaviour) (s : Stage) (seats others : List Seat) (i : ℕ)
+    (none new : Seat) (w : Want) (game next : Game) → AreRobotsOf (exes_of codes) robots → codes_of seats ≡ codes
+    → codes_of others ≡ codes → i < length seats → HasCome codes robots s seats game
+    → HasCome codes robots s others next → next.ending.cycles ≡ game.ending.cycles + 1
+    → w ≡ wanted robots i (stage_after robots s game.ending.cycles)
+    → asked_in w next.ending.cycles (last_of (get_or others i new).state.words)
+    ≡ question_in robots i s game.ending.cycles
+unfolding question_in
+question_is codes robots s seats others i none new w game next are same still inside come came one is =
+    let n = game.ending.cycles in
+    let now = stage_after robots s n in
+    let later = stage_after robots s (n + 1) in
+    let seat = get_or others i new in
+    let count : length others ≡ length seats =
+    sym (robots_as_seats codes robots others are still) ∙ robots_as_seats codes robots seats are same in
+    let old_at : IsReached (get_or seats i none).state (get_or seats i none).code (replies_of now i) =
+    seat_reached codes seats game.arena now i none same inside come.played in
+    let new_at : IsReached seat.state seat.code (replies_of later i) =
+    rw one at (seat_reached codes others next.arena (stage_after robots s next.ending.cycles) i new still
+    (omega (arith, inside, count)) came.played) in
+    let code_stays : seat.code ≡ (get_or seats i none).code = code_same codes seats others i none new same still inside
+    in
+    ap (λ (m : ℕ). asked_in w m (last_of seat.state.words)) one
+    ∙ ap (λ (v : Want). asked_in v (n + 1) (last_of seat.state.words)) is
+    ∙ asked_alike (wanted robots i now) (n + 1) (last_of seat.state.words) (last_of (replies_of later i))
+    (λ k a asks.
+    let asked = asks_live robots i now k a asks in
+    let comes = reply_comes robots i n s k a
+    (omega (arith, inside, robots_as_seats codes robots seats are same))
+    (omega (arith, inside, traces_as_seats codes seats game.arena now come.played)) asked.0 asked.1 in
+    let code = (get_or seats i none).code in
+    let wants : want_next code (get_or seats i none).state ≡ Ask k a =
+    ap (want_next code) old_at
+    ∙ sym (robot_wants codes robots seats i none (replies_of now i) are same inside) ∙ asked.1 in
+    let stands : seat.state ≡ after code comes.0 (get_or seats i none).state =
+    new_at ∙ ap (λ (c : ObjectCode). reached c (start_state c) (replies_of later i)) code_stays
+    ∙ ap (reached code (start_state code)) comes.1
+    ∙ reached-last code (start_state code) (replies_of now i) comes.0
+    ∙ ap (after code comes.0) (sym old_at) in
+    ap (λ (t : State). last_of t.words) stands
+    ∙ reply_on_top code comes.0 (get_or seats i none).state k a wants
+    ∙ sym (last_one (replies_of now i) comes.0)
+    ∙ ap last_of (sym comes.1))

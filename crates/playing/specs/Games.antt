@@ -1,0 +1,45 @@
+-- A match that is played cycle by cycle, by the definition of a battle.
+use Rattle.std.specs.Prelude.{◌≡◌, ◌⊎◌, ◌<◌, ◌≤◌, ◌+◌, ◌*◌, ◌/◌, ℕ, Bool, true, false, List}
+use Rattle.arena.specs.Ground.{Ground}
+use Rattle.battles.specs.Battle.{Behaviour, Stage, is_over, stage_after}
+use Rattle.code.specs.Generation.{ObjectCode}
+use Rattle.playing.specs.Pilot.{Seat}
+use Rattle.playing.specs.Played.{HavePlayed, IsEndOf}
+use Rattle.playing.specs.declared.games.Ending.{Ending}
+
+-- its field, how far it has come, and its limit of cycles
+pub record Game : Type 0 where
+  pub arena : Ground
+  pub ending : Ending
+  pub limit : ℕ
+
+-- The pilots and the field are at the stage after the cycles that were played since the opening. The match is over
+-- exactly if its last cycle was played.
+pub record HasCome (codes : List ObjectCode) (robots : List Behaviour) (opening : Stage) (seats : List Seat)
+    (game : Game) : Type 0 where
+  pub played : HavePlayed codes seats game.arena (stage_after robots opening game.ending.cycles)
+  pub ends : IsEndOf robots opening game.limit game.ending
+
+-- one cycle more of the same match
+pub record GoesOn (old new : Game) : Type 0 where
+  pub cycles : new.ending.cycles ≡ old.ending.cycles + 1
+  pub limit : new.limit ≡ old.limit
+
+-- there was an update for each 15 cycles, and a match that isn't over is below its limit
+pub record IsCounted (game : Game) : Type 0 where
+  pub updates : game.arena.updates ≡ game.ending.cycles / 15
+  pub most : game.ending.cycles ≤ game.limit
+  pub goes_on : game.ending.is_over ≡ false → game.ending.cycles < game.limit
+
+-- a match that is over ends at its limit or with an update
+abbrev pub EndsWell : Game → Type 0
+EndsWell game = game.ending.is_over ≡ true
+    → (game.ending.cycles ≡ game.limit) ⊎ (game.ending.cycles ≡ game.ending.cycles / 15 * 15)
+
+-- the cycle after so many was run, which may decide the match
+abbrev pub HaveRun : List ObjectCode → List Behaviour → Stage → (before : ℕ) → List Seat → Ground → List Seat → Ground
+    → Bool → Type 0
+HaveRun codes robots opening before seats arena seats' arena' decides =
+    HavePlayed codes seats arena (stage_after robots opening before)
+    → HavePlayed codes seats' arena' (stage_after robots opening (before + 1))
+    × (is_over (before + 1) (stage_after robots opening (before + 1)) ≡ decides)
