@@ -89,6 +89,45 @@ asks_live robots i s k a asks = elim (cases_Bool (is_live s.field i)) [
   | inr dead ↦ absurd (let quiet : Quiet ≡ Ask k a = rw dead at asks in cc)
 ]
 
+-- After a question of the next cycle the machine has the robot's last reply on top.
+pub reply_is : (codes : List ObjectCode) (robots : List Behaviour) (s : Stage) (seats others : List Seat) (i : ℕ)
+    (none new : Seat) (game next : Game) (k : Intrinsic) (a : List ℤ) → AreRobotsOf (exes_of codes) robots
+    → codes_of seats ≡ codes → codes_of others ≡ codes → i < length seats → HasCome codes robots s seats game
+    → HasCome codes robots s others next → next.ending.cycles ≡ game.ending.cycles + 1
+    → wanted robots i (stage_after robots s game.ending.cycles) ≡ Ask k a
+    → last_of (get_or others i new).state.words
+    ≡ last_of (replies_of (stage_after robots s (game.ending.cycles + 1)) i)
+reply_is codes robots s seats others i none new game next k a are same still inside come came one asks =
+    let n = game.ending.cycles in
+    let now = stage_after robots s n in
+    let later = stage_after robots s (n + 1) in
+    let old = get_or seats i none in
+    let seat = get_or others i new in
+    let count : length others ≡ length seats =
+    sym (robots_as_seats codes robots others are still) ∙ robots_as_seats codes robots seats are same in
+    let old_at : IsReached old.state old.code (replies_of now i) =
+    seat_reached codes seats game.arena now i none same inside come.played in
+    let new_at : IsReached seat.state seat.code (replies_of later i) =
+    rw one at (seat_reached codes others next.arena (stage_after robots s next.ending.cycles) i new still
+    (omega (arith, inside, count)) came.played) in
+    let kept : seat.code ≡ old.code = code_same codes seats others i none new same still inside in
+    let asked = asks_live robots i now k a asks in
+    let comes = reply_comes robots i n s k a
+    (omega (arith, inside, robots_as_seats codes robots seats are same))
+    (omega (arith, inside, traces_as_seats codes seats game.arena now come.played)) asked.0 asked.1 in
+    let wants : want_next old.code old.state ≡ Ask k a =
+    ap (want_next old.code) old_at
+    ∙ sym (robot_wants codes robots seats i none (replies_of now i) are same inside) ∙ asked.1 in
+    let stands : seat.state ≡ after old.code comes.0 old.state =
+    new_at ∙ ap (λ (c : ObjectCode). reached c (start_state c) (replies_of later i)) kept
+    ∙ ap (reached old.code (start_state old.code)) comes.1
+    ∙ reached-last old.code (start_state old.code) (replies_of now i) comes.0
+    ∙ ap (after old.code comes.0) (sym old_at) in
+    ap (λ (t : State). last_of t.words) stands
+    ∙ reply_on_top old.code comes.0 old.state k a wants
+    ∙ sym (last_one (replies_of now i) comes.0)
+    ∙ ap last_of (sym comes.1)
+
 -- The question of the next cycle, from its want before and the machine after it.
 pub question_is : (codes : List ObjectCode) (robots : List Behaviour) (s : Stage) (seats others : List Seat) (i : ℕ)
     (none new : Seat) (w : Want) (game next : Game) → AreRobotsOf (exes_of codes) robots → codes_of seats ≡ codes
@@ -101,35 +140,8 @@ unfolding question_in
 question_is codes robots s seats others i none new w game next are same still inside come came one is =
     let n = game.ending.cycles in
     let now = stage_after robots s n in
-    let later = stage_after robots s (n + 1) in
-    let seat = get_or others i new in
-    let count : length others ≡ length seats =
-    sym (robots_as_seats codes robots others are still) ∙ robots_as_seats codes robots seats are same in
-    let old_at : IsReached (get_or seats i none).state (get_or seats i none).code (replies_of now i) =
-    seat_reached codes seats game.arena now i none same inside come.played in
-    let new_at : IsReached seat.state seat.code (replies_of later i) =
-    rw one at (seat_reached codes others next.arena (stage_after robots s next.ending.cycles) i new still
-    (omega (arith, inside, count)) came.played) in
-    let code_stays : seat.code ≡ (get_or seats i none).code = code_same codes seats others i none new same still inside
-    in
-    ap (λ (m : ℕ). asked_in w m (last_of seat.state.words)) one
-    ∙ ap (λ (v : Want). asked_in v (n + 1) (last_of seat.state.words)) is
-    ∙ asked_alike (wanted robots i now) (n + 1) (last_of seat.state.words) (last_of (replies_of later i))
-    (λ k a asks.
-    let asked = asks_live robots i now k a asks in
-    let comes = reply_comes robots i n s k a
-    (omega (arith, inside, robots_as_seats codes robots seats are same))
-    (omega (arith, inside, traces_as_seats codes seats game.arena now come.played)) asked.0 asked.1 in
-    let code = (get_or seats i none).code in
-    let wants : want_next code (get_or seats i none).state ≡ Ask k a =
-    ap (want_next code) old_at
-    ∙ sym (robot_wants codes robots seats i none (replies_of now i) are same inside) ∙ asked.1 in
-    let stands : seat.state ≡ after code comes.0 (get_or seats i none).state =
-    new_at ∙ ap (λ (c : ObjectCode). reached c (start_state c) (replies_of later i)) code_stays
-    ∙ ap (reached code (start_state code)) comes.1
-    ∙ reached-last code (start_state code) (replies_of now i) comes.0
-    ∙ ap (after code comes.0) (sym old_at) in
-    ap (λ (t : State). last_of t.words) stands
-    ∙ reply_on_top code comes.0 (get_or seats i none).state k a wants
-    ∙ sym (last_one (replies_of now i) comes.0)
-    ∙ ap last_of (sym comes.1))
+    let top = last_of (get_or others i new).state.words in
+    ap (λ (m : ℕ). asked_in w m top) one
+    ∙ ap (λ (v : Want). asked_in v (n + 1) top) is
+    ∙ asked_alike (wanted robots i now) (n + 1) top (last_of (replies_of (stage_after robots s (n + 1)) i))
+    (λ k a asks. reply_is codes robots s seats others i none new game next k a are same still inside come came one asks)

@@ -1,2 +1,3 @@
 pub mod Replies
 pub mod Asking
+pub mod Moments

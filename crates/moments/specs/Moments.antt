@@ -1,5 +1,5 @@
 -- Moments of a match: where a robot is after a cycle, and what it asked last.
-use Rattle.std.specs.Prelude.{◌≡◌, ℕ, ℤ, pos, zero, suc, ◌+◌, ◌-◌, min, Bool, if◌then◌else◌, List, [], length, slice_index_or, Option, Some, None}
+use Rattle.std.specs.Prelude.{◌≡◌, ℕ, ℤ, pos, zero, suc, ◌+◌, ◌-◌, min, Bool, if◌then◌else◌, List, [], length, slice_get, slice_index_or, Option, Some, None}
 use Rattle.std.specs.Option.{option_or}
 use Rattle.arena.specs.Field.{is_live}
 use Rattle.arena.specs.Ground.{lives}
@@ -77,5 +77,5 @@ pub record IsMoment (robots : List Behaviour) (opening : Stage) (limit i cycle :
   pub cycles : moment.game.ending.cycles ≡ min cycle (last_cycle robots opening limit)
   pub alive : moment.is_alive ≡ is_live (stage_after robots opening moment.game.ending.cycles).field i
   pub next : moment.next ≡ wanted robots i (stage_after robots opening moment.game.ending.cycles)
-  pub cause : (none : Seat) → moment.cause ≡ cause_of moment.is_alive (slice_index_or seats i none)
+  pub cause : (seat : Seat) → slice_get seats i ≡ Some seat → moment.cause ≡ cause_of moment.is_alive seat
   pub asked : moment.last ≡ last_question robots i opening moment.game.ending.cycles

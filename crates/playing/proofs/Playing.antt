@@ -204,6 +204,13 @@ last_is : (robots : List Behaviour) (s : Stage) (limit : ℕ)
 unfolding last_cycle
 last_is robots s limit = refl
 
+-- no match goes past its limit
+pub last_within : (robots : List Behaviour) (s : Stage) (limit : ℕ) → last_cycle robots s limit ≤ limit
+last_within robots s limit =
+    let last = last_is robots s limit in
+    let most = no_more (λ n. is_over n (stage_after robots s n)) 0 limit in
+    omega (arith, last, most)
+
 -- A match that has begun is over if its limit is 0.
 pub ends_begun : (robots : List Behaviour) (s : Stage) (limit : ℕ) → EndsAt (last_cycle robots s limit)
     (record { cycles = 0; is_over = nat_eq limit 0 })
@@ -364,7 +371,7 @@ robot_wants codes robots seats i none trace are same inside =
     wants_code (get_or robots i (λ trace. Quiet)) code trace
     (robot_at (exes_of codes) robots i (plainly code) (λ trace. Quiet) are (exe_here codes i code here))
 
-some_same : {A : Type 0} {x y : A} → Some x ≡ Some y → x ≡ y
+pub some_same : {A : Type 0} {x y : A} → Some x ≡ Some y → x ≡ y
 some_same e = cc
 
 -- a pilot keeps its program

@@ -84,6 +84,7 @@ impl Game {
     /// Returns how far the match was played.
     pub fn ending(&self) -> Ending
         ensures ending { result ≡ self.now.ending }
+        ensures limit { result.cycles ≤ self.now.limit }
         ensures most { result.cycles ≤ CYCLES_MAX }
     {
         self.ending
