@@ -252,11 +252,11 @@ pub ends_later : (robots : List Behaviour) (s : Stage) (n limit : ℕ) → n < l
 ends_later robots s n limit within before later less =
     let last = last_is robots s limit in
     let here : n + 1 ≢ last_cycle robots s limit = λ same.
-        elim (passes_or_last (λ k. is_over k (stage_after robots s k)) 0 limit) [
-          | inl over ↦
-              true≢false (sym over ∙ ap (λ k. is_over k (stage_after robots s k)) (sym last ∙ sym same) ∙ later)
-          | inr all ↦ less (same ∙ last ∙ all ∙ omega arith)
-        ] in
+    elim (passes_or_last (λ k. is_over k (stage_after robots s k)) 0 limit) [
+      | inl over ↦
+          true≢false (sym over ∙ ap (λ k. is_over k (stage_after robots s k)) (sym last ∙ sym same) ∙ later)
+      | inr all ↦ less (same ∙ last ∙ all ∙ omega arith)
+    ] in
     (λ over. absurd (true≢false (sym over)), λ on. omega (arith, before, here))
 
 pub ends_next : (robots : List Behaviour) (s : Stage) (n limit : ℕ) (decided ended : Bool) → n < limit
