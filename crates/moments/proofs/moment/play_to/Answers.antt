@@ -34,7 +34,7 @@ loop-preserved c =
           (rw c.loop.invariant.codes at (c.go_on.ensures.asks robots s)) are
           (c.loop.invariant.battle robots s are come)
           ∙ ap (question_in robots c.args.robot s) c.loop.invariant.cycles in
-          c.or.ensures ∙ ap (λ q. option_or q c.loop.last) question
+          c.or-last.ensures ∙ ap (λ q. option_or q c.loop.last) question
           ∙ ap (option_or now) (c.loop.invariant.asked robots s are come)
           ∙ sym (one_asked robots c.args.robot c.loop.counter s);
     }
