@@ -1,4 +1,5 @@
-use Rattle.std.proofs.Common.{◌∙◌, ap, refl}
+use Rattle.std.proofs.Common.{◌∙◌, ap, refl, w32}
+use Rattle.std.proofs.lemmas.Int.{to_z-of_z}
 use Rattle.code.specs.Machine.{State}
 use Rattle.playing.specs.Played.{codes_of}
 use Rattle.playing.specs.declared.games.Ending.{Ending}
@@ -14,6 +15,8 @@ returns-clause-asks c = λ robots s are come.
     wanted_is codes robots c.args.pilots.now c.args.game.now.arena s c.args.robot c.index-pilots-robot.result
     c.wanted-wanted.result are refl c.requires.inside c.args.game.now come refl c.wanted-wanted.ensures in
     c.asked_in.ensures
+    ∙ ap (asked_in c.wanted-wanted.result c.ending.result.cycles)
+    (to_z-of_z w32 c.top_word.result (record { sfits = c.top_word.type_inv }))
     ∙ ap (λ (ending : Ending). asked_in c.wanted-wanted.result ending.cycles c.top_word.result)
     c.ending.ensures.ending
     ∙ ap (asked_in c.wanted-wanted.result c.cycle.new.self.ending.cycles)
