@@ -1,3 +1,5 @@
 pub mod Replies
 pub mod Asking
 pub mod Moments
+pub mod Happening
+pub mod Searching

@@ -24,7 +24,7 @@ pub struct Asked {
 
 /// A watcher that does nothing.
 #[derive(Drop)]
-struct Nobody;
+pub(crate) struct Nobody;
 
 impl Watcher for Nobody {}
 
@@ -57,7 +57,11 @@ pub(crate) fn go_on(game: &mut Game, pilots: &mut [Pilot<'_>], robot: usize) -> 
 {
     let wanted = wanted(game, &pilots[robot], robot);
     game.cycle(pilots, &mut Nobody);
-    asked_in(wanted, game.ending().cycles, top_word(pilots[robot].machine()))
+    asked_in(
+        wanted,
+        game.ending().cycles,
+        top_word(pilots[robot].machine()),
+    )
 }
 
 /// Returns the question of a cycle in which a robot wanted this and got a reply.
@@ -78,7 +82,7 @@ fn asked_in(wanted: Want, cycle: u32, reply: i32) -> Option<Asked>
 }
 
 /// Returns the word on top of a machine's stack, 0 if there is none. After a question it is the reply.
-fn top_word(machine: &Machine) -> i32
+pub(crate) fn top_word(machine: &Machine) -> i32
     ensures { result ≡ last_of machine.now.words }
 {
     let words = machine.words();

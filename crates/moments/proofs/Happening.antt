@@ -1,0 +1,129 @@
+-- What two glances show is what happens between two stages.
+use Rattle.std.proofs.Common.{◌≡◌, ◌≢◌, ℕ, ◌+◌, ◌<◌, true, false, ℤ, List, length, get_or, Some, refl, sym, ap, ◌∙◌, arith}
+use Rattle.std.specs.Prelude.{option_map, slice_get}
+use Rattle.std.proofs.lemmas.Option.{slice_get-get_or, slice_get-map}
+use Rattle.arena.specs.Field.{damage_of, robot_at}
+use Rattle.grammar.specs.declared.names.Intrinsic.{Intrinsic}
+use Rattle.battles.specs.Battle.{Behaviour, Stage, stage_after}
+use Rattle.battles.specs.Carrying.{AreRobotsOf}
+use Rattle.code.specs.declared.want.Want.TheVariants.{Ask}
+use Rattle.code.specs.Generation.{ObjectCode}
+use Rattle.code.specs.Machine.{State, reached, start_state}
+use Rattle.playing.specs.Games.{Game, HasCome}
+use Rattle.playing.specs.Pilot.{Seat}
+use Rattle.playing.specs.Played.{codes_of, exes_of}
+use Rattle.playing.proofs.Playing.{code_same, lives_are, robots_as_seats, seat_reached, some_same}
+use Rattle.moments.specs.declared.sought.Glance.{Glance}
+use Rattle.moments.specs.declared.sought.Sought.{Sought}
+use Rattle.moments.specs.declared.sought.Sought.TheVariants.{Place, Question, Restart, Hurt, Change, Value}
+use Rattle.moments.specs.Moments.{last_of, replies_of, wanted}
+use Rattle.moments.specs.Searches.{Happens, IsGlanced, Seems, Shows, state_at, value_of}
+use Rattle.moments.proofs.Asking.{reply_is, wanted_is}
+
+-- two glances see a robot at two stages
+pub record See (robots : List Behaviour) (code : ObjectCode) (i : ℕ) (sought : Sought) (now later : Stage)
+    (before after : Glance) : Type 0 where
+  pub want : before.wanted ≡ wanted robots i now
+  pub damage : before.damage ≡ damage_of (robot_at now.field i)
+  pub damage_then : after.damage ≡ damage_of (robot_at later.field i)
+  pub value : before.value ≡ value_of sought (state_at code i now)
+  pub value_then : after.value ≡ value_of sought (state_at code i later)
+  pub address : after.address ≡ (state_at code i later).at
+  pub frames : after.frames ≡ length (state_at code i later).frames
+  pub word : (k : Intrinsic) (a : List ℤ) → wanted robots i now ≡ Ask k a → after.word ≡ last_of (replies_of later i)
+
+pub shows_so : (sought : Sought) (robots : List Behaviour) (code : ObjectCode) (i : ℕ) (now later : Stage)
+    (before after : Glance) → See robots code i sought now later before after → Seems sought before after
+    → Shows sought robots code i now later
+shows_so (Place marks most) robots code i now later before after see (here, few) =
+    (ap (λ n. get_or marks.now n false) (sym see.address) ∙ here, omega (arith, see.frames, few))
+shows_so (Question k least most) robots code i now later before after see ((a, asks), low, high) =
+    let asked = sym see.want ∙ asks in
+    let word = see.word k a asked in ((a, asked), rw word at low, rw word at high)
+shows_so Restart robots code i now later before after see restarts = sym see.want ∙ restarts
+shows_so Hurt robots code i now later before after see grows = omega (arith, see.damage, see.damage_then, grows)
+shows_so (Change variable) robots code i now later before after see differs =
+    λ same. differs (see.value_then ∙ same ∙ sym see.value)
+shows_so (Value variable value) robots code i now later before after see is = sym see.value_then ∙ is
+
+pub seems_so : (sought : Sought) (robots : List Behaviour) (code : ObjectCode) (i : ℕ) (now later : Stage)
+    (before after : Glance) → See robots code i sought now later before after → Shows sought robots code i now later
+    → Seems sought before after
+seems_so (Place marks most) robots code i now later before after see (here, few) =
+    (ap (λ n. get_or marks.now n false) see.address ∙ here, omega (arith, see.frames, few))
+seems_so (Question k least most) robots code i now later before after see ((a, asked), low, high) =
+    let word = see.word k a asked in ((a, see.want ∙ asked), rw word low, rw word high)
+seems_so Restart robots code i now later before after see restarts = see.want ∙ restarts
+seems_so Hurt robots code i now later before after see grows = omega (arith, see.damage, see.damage_then, grows)
+seems_so (Change variable) robots code i now later before after see differs =
+    λ same. differs (sym see.value_then ∙ same ∙ see.value)
+seems_so (Value variable value) robots code i now later before after see is = see.value_then ∙ is
+
+-- glances before and after a cycle do so
+pub glances_see : (codes : List ObjectCode) (robots : List Behaviour) (s : Stage) (seats others : List Seat) (i : ℕ)
+    (none new : Seat) (game next : Game) (code : ObjectCode) (sought : Sought) (before after : Glance)
+    → AreRobotsOf (exes_of codes) robots → codes_of seats ≡ codes → codes_of others ≡ codes → i < length seats
+    → HasCome codes robots s seats game → HasCome codes robots s others next
+    → next.ending.cycles ≡ game.ending.cycles + 1 → (get_or seats i none).code ≡ code
+    → IsGlanced game (get_or seats i none) i sought before → IsGlanced next (get_or others i new) i sought after
+    → See robots code i sought (stage_after robots s game.ending.cycles)
+    (stage_after robots s (game.ending.cycles + 1)) before after
+glances_see codes robots s seats others i none new game next code sought before after are same still inside come came
+    one is first second =
+    let now = stage_after robots s game.ending.cycles in
+    let later = stage_after robots s (game.ending.cycles + 1) in
+    let old = get_or seats i none in
+    let seat = get_or others i new in
+    let count : length others ≡ length seats =
+    sym (robots_as_seats codes robots others are still) ∙ robots_as_seats codes robots seats are same in
+    let old_at : old.state ≡ state_at code i now =
+    rw is at (seat_reached codes seats game.arena now i none same inside come.played) in
+    let kept : seat.code ≡ code = code_same codes seats others i none new same still inside ∙ is in
+    let new_at : seat.state ≡ state_at code i later =
+    rw (one, kept) at (seat_reached codes others next.arena (stage_after robots s next.ending.cycles) i new still
+    (omega (arith, inside, count)) came.played) in
+    record {
+      want = wanted_is codes robots seats game.arena s i none before.wanted are same inside game come refl first.wanted;
+      damage = first.damage now.field come.played.field;
+      damage_then = rw one at (second.damage (stage_after robots s next.ending.cycles).field came.played.field);
+      value = first.value ∙ ap (value_of sought) old_at;
+      value_then = second.value ∙ ap (value_of sought) new_at;
+      address = second.address ∙ ap (λ (t : State). t.at) new_at;
+      frames = second.frames ∙ ap (λ (t : State). length t.frames) new_at;
+      word = λ k a asks.
+          second.word
+          ∙ reply_is codes robots s seats others i none new game next k a are same still inside come came one asks;
+    }
+
+-- the program of the robot of a number
+pub code_is : (seats : List Seat) (i : ℕ) (none : Seat) (code : ObjectCode) → i < length seats
+    → slice_get (codes_of seats) i ≡ Some code → (get_or seats i none).code ≡ code
+code_is seats i none code inside here =
+    some_same (sym (slice_get-map (λ (seat : Seat). seat.code) seats i
+    ∙ ap (option_map (λ (seat : Seat). seat.code)) (slice_get-get_or seats i none inside)) ∙ here)
+
+-- So what seems to happen happens, and nothing else does.
+pub happens_so : (codes : List ObjectCode) (robots : List Behaviour) (s : Stage) (seats others : List Seat) (i : ℕ)
+    (none new : Seat) (game next : Game) (code : ObjectCode) (sought : Sought) (before after : Glance)
+    → AreRobotsOf (exes_of codes) robots → codes_of seats ≡ codes → codes_of others ≡ codes → i < length seats
+    → HasCome codes robots s seats game → HasCome codes robots s others next
+    → next.ending.cycles ≡ game.ending.cycles + 1 → slice_get codes i ≡ Some code
+    → IsGlanced game (get_or seats i none) i sought before → IsGlanced next (get_or others i new) i sought after
+    → ((before.is_alive ≡ true) × Seems sought before after → Happens robots code s i sought game.ending.cycles)
+    × (Happens robots code s i sought game.ending.cycles → (before.is_alive ≡ true) × Seems sought before after)
+happens_so codes robots s seats others i none new game next code sought before after are same still inside come came one
+    here first second =
+    let now = stage_after robots s game.ending.cycles in
+    let later = stage_after robots s (game.ending.cycles + 1) in
+    let is = code_is seats i none code inside (rw same here) in
+    let see =
+    glances_see codes robots s seats others i none new game next code sought before after are same still inside
+    come came one is first second in
+    let lives_now = first.alive ∙ lives_are game.arena now.field i come.played.field in (
+      λ seems. record {
+        lives = sym lives_now ∙ seems.0;
+        shows = shows_so sought robots code i now later before after see seems.1;
+      },
+      λ happens.
+          (lives_now ∙ happens.lives, seems_so sought robots code i now later before after see happens.shows),
+    )

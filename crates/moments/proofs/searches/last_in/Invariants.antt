@@ -1,0 +1,28 @@
+use Rattle.std.proofs.Common.{◌≡◌, List, Some, length}
+use Rattle.std.specs.Prelude.{slice_get}
+use Rattle.battles.specs.Battle.{Behaviour, Stage}
+use Rattle.battles.specs.Carrying.{AreRobotsOf}
+use Rattle.code.specs.Generation.{ObjectCode}
+use Rattle.playing.specs.Games.{HasCome}
+use Rattle.playing.specs.Played.{codes_of, exes_of}
+use Rattle.moments.specs.Searches.{Happens}
+use Rattle.moments.proofs.Searching.{LastOf}
+use Rattle.moments.proofs.searches.last_in.Given as goal
+
+-- so many cycles of the same match were played, and this is the last one found
+abbrev pub invariant-loop : goal.invariant-loop
+invariant-loop l = record {
+  manned : length l.game.arena.robots ≡ length l.pilots;
+  pilots : length l.pilots ≡ length l.initial.pilots;
+  codes : codes_of l.pilots ≡ codes_of l.initial.pilots;
+  limit : l.game.limit ≡ l.initial.game.limit;
+  cycles : l.game.ending.cycles ≡ l.counter;
+  battle : (robots : List Behaviour) (s : Stage) → AreRobotsOf (exes_of (codes_of l.initial.pilots)) robots
+      → HasCome (codes_of l.initial.pilots) robots s l.initial.pilots l.initial.game
+      → HasCome (codes_of l.initial.pilots) robots s l.pilots l.game;
+  last : (robots : List Behaviour) (s : Stage) (code : ObjectCode)
+      → AreRobotsOf (exes_of (codes_of l.initial.pilots)) robots
+      → slice_get (codes_of l.initial.pilots) l.robot ≡ Some code
+      → HasCome (codes_of l.initial.pilots) robots s l.initial.pilots l.initial.game
+      → LastOf (Happens robots code s l.robot l.sought) l.counter l.found;
+}

@@ -1,0 +1,85 @@
+-- In which cycle of a match something happens to a robot.
+use Rattle.std.specs.Prelude.{◌≡◌, ◌≢◌, ◌<◌, ◌≤◌, ◌+◌, ◌≤ℤ◌, ℕ, ℤ, pos, Bool, true, false, if◌then◌else◌, List, get_or, length, Option, Some, None}
+use Rattle.arena.specs.Field.{Field, damage_of, is_live, robot_at}
+use Rattle.arena.specs.Ground.{lives}
+use Rattle.arena.specs.Standing.{StandsFor}
+use Rattle.grammar.specs.declared.names.Intrinsic.{Intrinsic}
+use Rattle.battles.specs.Battle.{Behaviour, Stage, stage_after}
+use Rattle.code.specs.declared.want.Want.TheVariants.{Ask, Quiet}
+use Rattle.code.specs.declared.want.Want.TheVariants as want
+use Rattle.code.specs.Generation.{ObjectCode}
+use Rattle.code.specs.Machine.{State, reached, read_variable, start_state, want_code}
+use Rattle.code.specs.Standing.{IsReached}
+use Rattle.playing.specs.Games.{Game}
+use Rattle.playing.specs.Pilot.{Seat}
+use Rattle.moments.specs.declared.sought.Glance.{Glance}
+use Rattle.moments.specs.declared.sought.Sought.{Sought}
+use Rattle.moments.specs.declared.sought.Sought.TheVariants.{Place, Question, Restart, Hurt, Change, Value}
+use Rattle.moments.specs.Moments.{last_of, replies_of, wanted}
+
+-- where a robot's code stands at a stage
+abbrev pub state_at : ObjectCode → ℕ → Stage → State
+state_at code i stage = reached code (start_state code) (replies_of stage i)
+
+-- what is sought shows between the stages before and after a cycle
+abbrev pub Shows : Sought → List Behaviour → ObjectCode → ℕ → (before after : Stage) → Type 0
+Shows (Place marks most) robots code i before after =
+    (get_or marks.now (state_at code i after).at false ≡ true) × (length (state_at code i after).frames ≤ most)
+Shows (Question function least most) robots code i before after =
+    ((arguments : List ℤ) × (wanted robots i before ≡ Ask function arguments))
+    × (least ≤ℤ last_of (replies_of after i)) × (last_of (replies_of after i) ≤ℤ most)
+Shows Restart robots code i before after = wanted robots i before ≡ want.Restart
+Shows Hurt robots code i before after = damage_of (robot_at before.field i) < damage_of (robot_at after.field i)
+Shows (Change variable) robots code i before after =
+    read_variable (state_at code i after) variable ≢ read_variable (state_at code i before) variable
+Shows (Value variable value) robots code i before after = read_variable (state_at code i after) variable ≡ value
+
+-- it happens to a robot in the cycle after so many: the robot lives to begin it, and it shows
+pub record Happens (robots : List Behaviour) (code : ObjectCode) (opening : Stage) (i : ℕ) (sought : Sought) (n : ℕ) :
+    Type 0 where
+  pub lives : is_live (stage_after robots opening n).field i ≡ true
+  pub shows : Shows sought robots code i (stage_after robots opening n) (stage_after robots opening (n + 1))
+
+-- The least cycle behind one, up to the last of a match, in which something happens: `Happens n` is of cycle n + 1.
+abbrev pub IsNext : (ℕ → Type 0) → (after last : ℕ) → Option ℕ → Type 0
+IsNext H after last None = (n : ℕ) → after ≤ n → n < last → H n → ⊥
+IsNext H after last (Some cycle) = (before : ℕ) × (cycle ≡ before + 1) × (after ≤ before) × (before < last) × H before
+    × ((n : ℕ) → after ≤ n → n < before → H n → ⊥)
+
+-- the greatest cycle before one
+abbrev pub IsLast : (ℕ → Type 0) → (limit last : ℕ) → Option ℕ → Type 0
+IsLast H limit last None = (n : ℕ) → n + 1 < limit → n < last → H n → ⊥
+IsLast H limit last (Some cycle) = (before : ℕ) × (cycle ≡ before + 1) × (cycle < limit) × (before < last) × H before
+    × ((n : ℕ) → before < n → n + 1 < limit → n < last → H n → ⊥)
+
+-- it happens in the cycle after so many, which is behind another one, or isn't found there
+abbrev pub IsFound : (ℕ → Type 0) → (n after : ℕ) → Option ℕ → Type 0
+IsFound H n after None = after ≤ n → H n → ⊥
+IsFound H n after (Some cycle) = (cycle ≡ n + 1) × (after < cycle) × H n
+
+-- the value of the variable that is sought, 0 if none is
+abbrev pub value_of : Sought → State → ℤ
+value_of (Change variable) state = read_variable state variable
+value_of (Value variable value) state = read_variable state variable
+value_of _ state = pos 0
+
+-- what a glance at a robot sees
+pub record IsGlanced (game : Game) (seat : Seat) (i : ℕ) (sought : Sought) (glance : Glance) : Type 0 where
+  pub alive : glance.is_alive ≡ lives game.arena i
+  pub wanted : (trace : List ℤ) → IsReached seat.state seat.code trace
+      → glance.wanted ≡ (if lives game.arena i then want_code seat.code trace else Quiet)
+  pub word : glance.word ≡ last_of seat.state.words
+  pub damage : (f : Field) → StandsFor game.arena f → glance.damage ≡ damage_of (robot_at f i)
+  pub value : glance.value ≡ value_of sought seat.state
+  pub address : glance.address ≡ seat.state.at
+  pub frames : glance.frames ≡ length seat.state.frames
+
+-- what is sought seems to happen between two glances
+abbrev pub Seems : Sought → (before after : Glance) → Type 0
+Seems (Place marks most) before after = (get_or marks.now after.address false ≡ true) × (after.frames ≤ most)
+Seems (Question function least most) before after = ((arguments : List ℤ) × (before.wanted ≡ Ask function arguments))
+    × (least ≤ℤ after.word) × (after.word ≤ℤ most)
+Seems Restart before after = before.wanted ≡ want.Restart
+Seems Hurt before after = before.damage < after.damage
+Seems (Change variable) before after = after.value ≢ before.value
+Seems (Value variable value) before after = after.value ≡ value
