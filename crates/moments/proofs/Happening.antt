@@ -1,5 +1,5 @@
 -- What two glances show is what happens between two stages.
-use Rattle.std.proofs.Common.{◌≡◌, ◌≢◌, ℕ, ◌+◌, ◌<◌, true, false, ℤ, List, length, get_or, Some, refl, sym, ap, ◌∙◌, arith}
+use Rattle.std.proofs.Common.{◌≡◌, ℕ, ◌+◌, ◌<◌, true, false, ℤ, List, length, get_or, Some, refl, sym, ap, ◌∙◌, arith}
 use Rattle.std.specs.Prelude.{option_map, slice_get}
 use Rattle.std.proofs.lemmas.Option.{slice_get-get_or, slice_get-map}
 use Rattle.arena.specs.Field.{damage_of, robot_at}
@@ -8,7 +8,7 @@ use Rattle.battles.specs.Battle.{Behaviour, Stage, stage_after}
 use Rattle.battles.specs.Carrying.{AreRobotsOf}
 use Rattle.code.specs.declared.want.Want.TheVariants.{Ask}
 use Rattle.code.specs.Generation.{ObjectCode}
-use Rattle.code.specs.Machine.{State, reached, start_state}
+use Rattle.code.specs.Machine.{State}
 use Rattle.playing.specs.Games.{Game, HasCome}
 use Rattle.playing.specs.Pilot.{Seat}
 use Rattle.playing.specs.Played.{codes_of, exes_of}

@@ -1,23 +1,20 @@
--- Which question was the last, and how far a match was played.
-use Rattle.std.proofs.Common.{◌≡◌, ℕ, ◌+◌, ◌<◌, Bool, true, false, List, length, get_or, Option, None, inl, inr, refl, sym, ap, ◌∙◌, arith, add-one}
-use Rattle.std.specs.Prelude.{min}
+-- Which question was the last, and what is seen of a robot.
+use Rattle.std.proofs.Common.{◌≡◌, ℕ, ◌+◌, ◌<◌, Bool, List, length, get_or, Option, None, refl, sym, ap, ◌∙◌, add-one}
 use Rattle.std.proofs.lemmas.Option.{slice_get-get_or}
 use Rattle.std.specs.Option.{option_or}
-use Rattle.std.proofs.lemmas.Bool.{cases_Bool}
 use Rattle.battles.specs.Battle.{Behaviour, Stage, stage_after}
 use Rattle.battles.specs.Carrying.{AreRobotsOf}
 use Rattle.code.specs.Generation.{ObjectCode}
 use Rattle.playing.specs.Games.{Game}
 use Rattle.playing.specs.Pilot.{Seat}
-use Rattle.playing.specs.Played.{EndsAt, codes_of, exes_of}
-use Rattle.playing.specs.declared.games.Ending.{Ending}
+use Rattle.playing.specs.Played.{codes_of, exes_of}
 use Rattle.playing.proofs.Playing.{lives_are, some_same}
 use Rattle.moments.specs.declared.asked.Asked.{Asked}
 use Rattle.moments.specs.declared.moment.Moment.{Moment}
 use Rattle.moments.specs.Moments.{HasPlayedTo, IsMoment, IsSeen, cause_of, last_question, question_in}
 use Rattle.moments.proofs.Asking.{wanted_is}
 
--- in no cycle nothing was asked
+-- before the first cycle nothing was asked
 pub none_asked : (robots : List Behaviour) (i : ℕ) (s : Stage) → last_question robots i s 0 ≡ None
 unfolding last_question
 none_asked robots i s = refl
@@ -27,18 +24,6 @@ pub one_asked : (robots : List Behaviour) (i n : ℕ) (s : Stage) →
     last_question robots i s (n + 1) ≡ option_or (question_in robots i s n) (last_question robots i s n)
 unfolding last_question
 one_asked robots i n s = rw add-one refl
-
--- A match that is over before a cycle was played as far as it goes, and else up to the cycle.
-pub played_all : (cycle last : ℕ) (ending : Ending) → EndsAt last ending → ending.is_over ≡ true
-    → ending.cycles < cycle → ending.cycles ≡ min cycle last
-played_all cycle last ending ends over before = let all = ends.0 over in omega (arith, all, before)
-
-pub played_to : (cycle last : ℕ) (ending : Ending) → EndsAt last ending → ending.cycles ≡ cycle
-    → ending.cycles ≡ min cycle last
-played_to cycle last ending ends all = elim (cases_Bool ending.is_over) [
-  | inl over ↦ let there = ends.0 over in omega (arith, there, all)
-  | inr on ↦ let before = ends.1 on in omega (arith, before, all)
-]
 
 -- What is seen of a robot of a match that was played so far is its moment.
 pub moment_is : (codes : List ObjectCode) (robots : List Behaviour) (s : Stage) (limit i cycle : ℕ) (seats : List Seat)

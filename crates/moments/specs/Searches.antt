@@ -1,9 +1,8 @@
 -- In which cycle of a match something happens to a robot.
-use Rattle.std.specs.Prelude.{◌≡◌, ◌≢◌, ◌<◌, ◌≤◌, ◌+◌, ◌≤ℤ◌, ℕ, ℤ, pos, Bool, true, false, if◌then◌else◌, List, get_or, length, Option, Some, None}
+use Rattle.std.specs.Prelude.{◌≡◌, ◌≢◌, ◌<◌, ◌≤◌, ◌+◌, ◌≤ℤ◌, ℕ, ℤ, pos, true, false, if◌then◌else◌, List, get_or, length, Option, Some, None}
 use Rattle.arena.specs.Field.{Field, damage_of, is_live, robot_at}
 use Rattle.arena.specs.Ground.{lives}
 use Rattle.arena.specs.Standing.{StandsFor}
-use Rattle.grammar.specs.declared.names.Intrinsic.{Intrinsic}
 use Rattle.battles.specs.Battle.{Behaviour, Stage, stage_after}
 use Rattle.code.specs.declared.want.Want.TheVariants.{Ask, Quiet}
 use Rattle.code.specs.declared.want.Want.TheVariants as want

@@ -1,6 +1,6 @@
 //! What may be sought in the cycles of a match, and whether it happens in one.
 
-ghost use Rattle.std.specs.Prelude.{◌≡◌, ◌≢◌, ◌<◌, ◌≤◌, ◌≤ℤ◌, ◌+◌, true, false, List, get_or, length, slice_get, ℤ, Some};
+ghost use Rattle.std.specs.Prelude.{◌≡◌, ◌<◌, true, false, List, get_or, length, slice_get, ℤ, Some};
 ghost use Rattle.battles.specs.Battle.{Behaviour, Stage};
 ghost use Rattle.battles.specs.Carrying.{AreRobotsOf};
 ghost use Rattle.code.specs.Generation.{ObjectCode};

@@ -1,5 +1,5 @@
 -- A pilot's turn is its robot's step, and what is played is the battle.
-use Rattle.std.proofs.Common.{◌≡◌, ℕ, ℤ, ◌+◌, ◌-◌, ◌<◌, ◌≤◌, ◌⊎◌, zero, suc, true, false, Bool, List, [], ◌∷◌, length, map, take, set, get_or, replicate, Some, refl, sym, ap, ◌∙◌, arith, inl, inr, ◌≢◌, ◌%◌}
+use Rattle.std.proofs.Common.{◌≡◌, ℕ, ℤ, ◌+◌, ◌<◌, ◌≤◌, ◌⊎◌, zero, suc, true, false, Bool, List, [], ◌∷◌, length, map, take, set, get_or, replicate, Some, refl, sym, ap, ◌∙◌, arith, inl, inr, ◌≢◌, ◌%◌}
 use Rattle.std.specs.Prelude.{◌==◌, ◌||◌, nat_eq, nat_le, nat_lt, option_map, slice_get}
 use Rattle.std.proofs.lemmas.Bool.{cases_Bool, cases_eq, true≢false}
 use Rattle.std.proofs.lemmas.Bool.Decides.{nat_tests}

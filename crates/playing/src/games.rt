@@ -1,6 +1,6 @@
 //! Plays a match before a watcher, cycle by cycle: a turn of each live robot, and after each 15th cycle an update.
 
-ghost use Rattle.std.specs.Prelude.{◌≡◌, ◌⊎◌, ◌==◌, ◌||◌, ℕ, ◌≢◌, ◌+◌, ◌*◌, ◌/◌, ◌%◌, ◌≤◌, ◌<◌, false, true, [], List, length, replicate};
+ghost use Rattle.std.specs.Prelude.{◌≡◌, ◌⊎◌, ◌==◌, ◌||◌, ℕ, ◌≢◌, ◌+◌, ◌*◌, ◌/◌, ◌%◌, ◌≤◌, ◌<◌, false, [], List, length, replicate};
 ghost use Rattle.arena.specs.Field.{Field};
 ghost use Rattle.arena.specs.Ground.{most_updates};
 ghost use Rattle.arena.specs.Standing.{StandsFor};

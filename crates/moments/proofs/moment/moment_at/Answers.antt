@@ -1,4 +1,4 @@
-use Rattle.std.proofs.Common.{length, ◌∙◌, arith, ap}
+use Rattle.std.proofs.Common.{length, ◌∙◌, arith}
 use Rattle.battles.specs.Battle.{opening}
 use Rattle.playing.specs.Played.{codes_of}
 use Rattle.playing.proofs.Playing.{seats_length}

@@ -2,7 +2,7 @@ use Rattle.std.proofs.Common.{◌≡◌, ◌+◌, ◌∙◌, ap, refl, sym}
 use Rattle.std.specs.Option.{option_or}
 use Rattle.playing.proofs.Playing.{seats_length}
 use Rattle.moments.specs.Moments.{question_in}
-use Rattle.moments.proofs.Moments.{none_asked, one_asked, played_all, played_to}
+use Rattle.moments.proofs.Moments.{none_asked, one_asked}
 use Rattle.moments.proofs.moment.play_to.Goals as goal
 
 pub loop-init : goal.loop-init

@@ -1,4 +1,4 @@
-use Rattle.std.proofs.Common.{◌≡◌, ◌+◌, ◌∙◌, ap, arith, refl, sym}
+use Rattle.std.proofs.Common.{◌+◌, ◌∙◌, ap, arith, sym}
 use Rattle.battles.specs.Battle.{last_cycle}
 use Rattle.playing.proofs.Playing.{last_within, seats_length}
 use Rattle.moments.specs.Searches.{Happens}

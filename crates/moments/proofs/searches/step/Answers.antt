@@ -1,6 +1,6 @@
 use Rattle.std.proofs.Common.{◌∙◌, ap}
 use Rattle.playing.specs.declared.games.Ending.{Ending}
-use Rattle.moments.specs.Searches.{Happens, IsFound}
+use Rattle.moments.specs.Searches.{Happens}
 use Rattle.moments.proofs.Searching.{found_so}
 use Rattle.moments.proofs.searches.step.Goals as goal
 
