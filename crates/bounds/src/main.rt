@@ -35,8 +35,12 @@ struct Bounds;
 impl Work for Bounds {
     /// Tells of the files one after the other. What is known of the files before one that can't be read is written.
     fn work(&self, rt: &HostRuntime, options: &Options<'_>) -> Result<(), Fault> {
+        let wish = match Wish::read(options) {
+            Ok(wish) => wish,
+            Err(fault) => return Err(fault),
+        };
         let mut output = Output::new(rt.alloc());
-        let told = tell_all(rt, &mut output, &Wish::read(options)?, options.files());
+        let told = tell_all(rt, &mut output, &wish, options.files());
         output.finish(rt)?;
         match told {
             Ok(false) => Ok(()),
@@ -59,10 +63,13 @@ impl Wish {
         if options.files().is_empty() {
             return Err(Fault::Usage);
         }
-        Ok(Wish {
-            profile: profile(options)?,
-            as_json: options.has("json"),
-        })
+        match profile(options) {
+            Ok(profile) => Ok(Wish {
+                profile,
+                as_json: options.has("json"),
+            }),
+            Err(fault) => Err(fault),
+        }
     }
 }
 

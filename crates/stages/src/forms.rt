@@ -77,12 +77,16 @@ impl<'a> Request<'a> {
         if options.has("replies") && !matches!(form, Form::Run(_)) {
             return Err(Fault::Usage);
         }
-        Ok(Request {
-            form,
-            profile: profile(options)?,
-            replies: replies_of(alloc, options)?,
-            file: *file,
-        })
+        let replies = replies_of(alloc, options)?;
+        match profile(options) {
+            Ok(profile) => Ok(Request {
+                form,
+                profile,
+                replies,
+                file: *file,
+            }),
+            Err(fault) => Err(fault),
+        }
     }
 }
 

@@ -40,8 +40,12 @@ struct Why;
 impl Work for Why {
     /// Explains the files one after the other. What is known of the files before one that can't be read is written.
     fn work(&self, rt: &HostRuntime, options: &Options<'_>) -> Result<(), Fault> {
+        let wish = match Wish::read(options) {
+            Ok(wish) => wish,
+            Err(fault) => return Err(fault),
+        };
         let mut output = Output::new(rt.alloc());
-        let explained = explain_all(rt, &mut output, &Wish::read(options)?, options.files());
+        let explained = explain_all(rt, &mut output, &wish, options.files());
         output.finish(rt)?;
         match explained {
             Ok(false) => Ok(()),
@@ -62,15 +66,18 @@ struct Wish {
 impl Wish {
     /// Reads what options ask for. No file is wrong usage, and so is `--strict` without `--lint`.
     fn read(options: &Options<'_>) -> Result<Wish, Fault> {
-        let wish = Wish {
-            profile: profile(options)?,
-            lint: options.has("lint"),
-            strict: options.has("strict"),
-        };
-        if options.files().is_empty() || wish.strict && !wish.lint {
+        let (lint, strict) = (options.has("lint"), options.has("strict"));
+        if options.files().is_empty() || strict && !lint {
             return Err(Fault::Usage);
         }
-        Ok(wish)
+        match profile(options) {
+            Ok(profile) => Ok(Wish {
+                profile,
+                lint,
+                strict,
+            }),
+            Err(fault) => Err(fault),
+        }
     }
 }
 

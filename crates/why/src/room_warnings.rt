@@ -26,11 +26,14 @@ pub fn add_want_of_room(
     line.add(path);
     add_place(&mut line, &facts);
     let room = room.finish()?;
-    let mut before = ": warning: ";
+    line.add(": warning: ");
+    let mut is_first = true;
     for words in room.trim().split('\n') {
-        line.add(before);
+        if !is_first {
+            line.add(", ");
+        }
         line.add(words.trim());
-        before = ", ";
+        is_first = false;
     }
     line.add("\n");
     line.move_behind(text)?;
