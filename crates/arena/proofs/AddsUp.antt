@@ -6,12 +6,12 @@ use Rattle.std.proofs.lemmas.List.{get_or-map, length-map}
 use Rattle.std.proofs.lemmas.List.FromFn.{get_or-map-range_with_len}
 use Rattle.std.proofs.lemmas.List.Sums.{length-filter}
 use Rattle.arena.specs.Leg.{place_x, place_y, tried, hits_wall}
-use Rattle.arena.specs.Field.{Shot, Robot, Field, damage_of, is_alive, no_robot, robot_at, is_live}
+use Rattle.arena.specs.Field.{Shot, FieldRobot, Field, damage_of, is_alive, no_robot, robot_at, is_live}
 use Rattle.arena.specs.Collisions.{mover, collides, square, others, touches}
 use Rattle.arena.specs.Shots.{ring, bursts}
 use Rattle.arena.specs.Moved.{leg_after, moved_robot, moved}
 use Rattle.arena.specs.Due.{harm}
-use Rattle.arena.specs.Outlook.{Burst, due, meets_wall, meets, next_leg, taken_by, taken, AddsUp}
+use Rattle.arena.specs.Outlook.{Burst, due, meets_wall, meets, next_leg, taken_by, damage_taken, AddsUp}
 use Rattle.arena.proofs.SlotLaws.{sum-cons, totals, totals_same, both_more}
 use Rattle.arena.proofs.DueBursts.{harm_like_shots}
 use Rattle.arena.proofs.Wear.{dead_is, worn_is}
@@ -25,7 +25,7 @@ moved_at f i inside =
     (λ k. moved_robot (f.updates + 1) f.shots (touches (map mover f.robots) k) (get_or f.robots k no_robot)) 0
     (length f.robots) i i no_robot inside (omega arith)
 
-live_takes : (r : Robot) (update : ℕ) (shots : List Shot) (touched : ℕ) → is_alive r ≡ true →
+live_takes : (r : FieldRobot) (update : ℕ) (shots : List Shot) (touched : ℕ) → is_alive r ≡ true →
     damage_of (moved_robot update shots touched r) ≡
     min
     (damage_of r + cond (hits_wall (tried r.leg)) 2 0 + 2 * touched +
@@ -145,8 +145,8 @@ taken_are f i (b ∷ bs) live =
     (taken_are f i bs live))
 
 live_adds_up : (f : Field) (i : ℕ) → i < length f.robots → All (λ s. s.owner < length f.robots) f.shots →
-    is_live f i ≡ true → damage_of (robot_at (moved f) i) ≡ min (damage_of (robot_at f i) + taken f i) 100
-unfolding is_live taken meets_wall next_leg
+    is_live f i ≡ true → damage_of (robot_at (moved f) i) ≡ min (damage_of (robot_at f i) + damage_taken f i) 100
+unfolding is_live damage_taken meets_wall next_leg
 live_adds_up f i inside owned live =
     let r = robot_at f i in
     let touched = touches (map mover f.robots) i in
@@ -180,8 +180,8 @@ none_taken f i (b ∷ bs) dead =
     omega arith
 
 dead_adds_up : (f : Field) (i : ℕ) → i < length f.robots → is_live f i ≡ false →
-    damage_of (robot_at (moved f) i) ≡ min (damage_of (robot_at f i) + taken f i) 100
-unfolding is_live taken meets_wall damage_of
+    damage_of (robot_at (moved f) i) ≡ min (damage_of (robot_at f i) + damage_taken f i) 100
+unfolding is_live damage_taken meets_wall damage_of
 dead_adds_up f i inside dead =
     let r = robot_at f i in
     let ks = range_with_len 0 (length f.robots) in
@@ -197,6 +197,6 @@ pub adds_up : (f : Field) → All (λ s. s.owner < length f.robots) f.shots → 
 adds_up f owned i inside = by_life (is_live f i) refl
   where
     by_life : (live : Bool) → is_live f i ≡ live →
-        damage_of (robot_at (moved f) i) ≡ min (damage_of (robot_at f i) + taken f i) 100
+        damage_of (robot_at (moved f) i) ≡ min (damage_of (robot_at f i) + damage_taken f i) 100
     by_life true e = live_adds_up f i inside owned e
     by_life false e = dead_adds_up f i inside e

@@ -9,8 +9,8 @@ use Rattle.std.proofs.lemmas.Simd.{map-map}
 use Rattle.arena.specs.Field.{Shot}
 use Rattle.arena.specs.Shots.{in_air, due_at, bursts}
 use Rattle.arena.specs.Due.{harm, HarmLikeShots}
-use Rattle.arena.specs.Ground.{Missile, shot_of}
-use Rattle.arena.specs.Standing.{HoldsShots}
+use Rattle.arena.specs.Arena.{Missile, shot_of}
+use Rattle.arena.specs.Representing.{HoldsShots}
 use Rattle.arena.specs.Outlook.{Burst, burst_of, burst_by, own_bursts}
 use Rattle.arena.proofs.SlotLaws.{inside_is, totals, totals_same, shares}
 

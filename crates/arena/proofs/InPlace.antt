@@ -4,21 +4,21 @@ use Rattle.std.specs.List.{range_with_len}
 use Rattle.std.proofs.lemmas.Bool.{cases_lt}
 use Rattle.std.proofs.lemmas.List.{get_or-set_same, get_or-set_other, get_or-map, length-map, ext_get_or}
 use Rattle.std.proofs.lemmas.List.FromFn.{get_or-range_with_len, length-range_with_len}
-use Rattle.arena.specs.Field.{Robot, Field, no_robot, robot_at}
+use Rattle.arena.specs.Field.{FieldRobot, Field, no_robot, robot_at}
 use Rattle.arena.specs.Collisions.{mover, touches}
 use Rattle.arena.specs.Shots.{bursts}
 use Rattle.arena.specs.Moved.{moved}
-use Rattle.arena.specs.Ground.{Body, body_of}
-use Rattle.arena.specs.Drive.{ahead}
+use Rattle.arena.specs.Arena.{Robot, robot_of}
+use Rattle.arena.specs.Ahead.{robot_ahead}
 use Rattle.arena.proofs.Loops.{after_at, after_all}
 use Rattle.arena.proofs.Wear.{ahead_is}
 
 -- what is read past the last robot
-abbrev pub none : Body
-none = body_of no_robot
+abbrev pub none : Robot
+none = robot_of no_robot
 
 -- what holds of those so far holds of one more
-pub one_more : (P : ℕ → Body → Type 0) (now : List Body) (i : ℕ) (b : Body) → i < length now →
+pub one_more : (P : ℕ → Robot → Type 0) (now : List Robot) (i : ℕ) (b : Robot) → i < length now →
     ((k : ℕ) → k < i → P k (get_or now k none)) → P i b →
     (k : ℕ) → k < i + 1 → P k (get_or (set now i b) k none)
 one_more P now i b inside done here k l = by_place (cases_lt k i)
@@ -32,12 +32,13 @@ one_more P now i b inside done here k l = by_place (cases_lt k i)
         (subst (P i) (sym (get_or-set_same now i b none inside)) here)
 
 -- and the others stay
-pub others_stay : (now old : List Body) (i : ℕ) (b : Body) → ((k : ℕ) → i ≤ k → get_or now k none ≡ get_or old k none) →
+pub others_stay : (now old : List Robot) (i : ℕ) (b : Robot) →
+    ((k : ℕ) → i ≤ k → get_or now k none ≡ get_or old k none) →
     (k : ℕ) → i + 1 ≤ k → get_or (set now i b) k none ≡ get_or old k none
 others_stay now old i b rest k l = get_or-set_other now i k b none (λ e. absurd (omega arith)) ∙ rest k (omega arith)
 
 -- at the end all are mapped
-pub all_mapped : (f : Robot → Body) (rs : List Robot) (now : List Body) → length now ≡ length rs →
+pub all_mapped : (f : FieldRobot → Robot) (rs : List FieldRobot) (now : List Robot) → length now ≡ length rs →
     ((k : ℕ) → k < length rs → get_or now k none ≡ f (get_or rs k no_robot)) → now ≡ map f rs
 all_mapped f rs now size each =
     ext_get_or none now (map f rs) (size ∙ sym (length-map rs f))
@@ -45,8 +46,8 @@ all_mapped f rs now size each =
     sym (get_or-map f rs k no_robot none inside))
 
 -- each where it is after the update
-pub all_after : (f : Field) (now : List Body) → length now ≡ length f.robots →
-    ((k : ℕ) → k < length f.robots → get_or now k none ≡ after_at f k) → now ≡ map body_of (moved f).robots
+pub all_after : (f : Field) (now : List Robot) → length now ≡ length f.robots →
+    ((k : ℕ) → k < length f.robots → get_or now k none ≡ after_at f k) → now ≡ map robot_of (moved f).robots
 all_after f now size each =
     let n = length f.robots in
     let count : length (range_with_len 0 n) ≡ n = length-range_with_len 0 n in
@@ -61,9 +62,10 @@ all_after f now size each =
 
 -- where nothing bursts and none touches another, each is where it drove on its own
 pub ahead_of_all : (f : Field) → ((i : ℕ) → i < length f.robots → touches (map mover f.robots) i ≡ 0) →
-    ((x y : ℕ) → sum (bursts (f.updates + 1) f.shots x y) ≡ 0) → map ahead f.robots ≡ map body_of (moved f).robots
+    ((x y : ℕ) → sum (bursts (f.updates + 1) f.shots x y) ≡ 0) →
+    map robot_ahead f.robots ≡ map robot_of (moved f).robots
 unfolding robot_at
 ahead_of_all f untouched quiet =
-    all_after f (map ahead f.robots) (length-map f.robots ahead)
-    (λ k l. get_or-map ahead f.robots k no_robot none l ∙
+    all_after f (map robot_ahead f.robots) (length-map f.robots robot_ahead)
+    (λ k l. get_or-map robot_ahead f.robots k no_robot none l ∙
     rw (untouched k l) (ahead_is (get_or f.robots k no_robot) (f.updates + 1) f.shots quiet))

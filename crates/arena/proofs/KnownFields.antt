@@ -15,11 +15,12 @@ use Rattle.arena.specs.Scan.{apart, east_to, north_to, in_arc, sees, range_of, n
 use Rattle.arena.specs.Random.{generator, random_word}
 use Rattle.arena.specs.Start.{standing, quadrant, drawn_place, drawn_robot, start}
 use Rattle.arena.specs.Placed.{placed}
-use Rattle.arena.specs.Answer.{argument, fired, wanting, directed, random_limit, random_number, answer}
+use Rattle.arena.specs.Answer.{argument_at, fired, wanting, directed, random_limit, random_number, answer}
 use Rattle.arena.specs.KnownFields.{Scans, Starts, Drives, Knocks, Rings, Missiles}
 
 pub scans : Scans
-unfolding answer scanned nearest sees in_arc east_to north_to apart range_of argument degree_of clamped robot_at others
+unfolding answer scanned nearest sees in_arc east_to north_to apart range_of argument_at degree_of clamped robot_at
+    others
     placed standing is_alive damage_of no_robot metres_x metres_y place_x place_y end_x end_y way_east way_north along
     square root_of root_by_quarters bearing_of first_greatest reaches reach_of cosine_at sine_at sines
 scans = record {
@@ -33,7 +34,7 @@ scans = record {
 
 pub starts : Starts
 unfolding start drawn_robot drawn_place quadrant random_word generator standing answer random_number random_limit
-    argument clamped place_x place_y end_x end_y way_east way_north along cosine_at sine_at sines
+    argument_at clamped place_x place_y end_x end_y way_east way_north along cosine_at sine_at sines
 starts = record {
   words = refl;
   quadrants = refl;
@@ -46,7 +47,7 @@ starts = record {
 }
 
 pub drives : Drives
-unfolding answer directed wanting argument degree_of clamped robot_at placed standing is_alive damage_of no_robot
+unfolding answer directed wanting argument_at degree_of clamped robot_at placed standing is_alive damage_of no_robot
     place_x place_y end_x end_y way_east way_north along leg_anew steered approached sped grown is_outside hits_wall
     walled tried driven candidate mover moves square is_close is_no_further collides others touches due_at ring bursts
     put_back leg_after knocks moved_robot moved moved_times cosine_at sine_at sines
@@ -61,7 +62,7 @@ drives = record {
 }
 
 pub knocks_ : Knocks
-unfolding answer directed wanting argument degree_of clamped robot_at placed standing is_alive damage_of no_robot
+unfolding answer directed wanting argument_at degree_of clamped robot_at placed standing is_alive damage_of no_robot
     place_x place_y metres_x end_x end_y way_east way_north along leg_anew steered approached sped grown is_outside
     hits_wall walled tried driven candidate mover moves square is_close is_no_further collides others touches due_at
     ring bursts put_back leg_after knocks moved_robot moved moved_times cosine_at sine_at sines
@@ -89,7 +90,8 @@ knocks_ = record {
 }
 
 pub rings : Rings
-unfolding answer fired shot aimed_x aimed_y flight in_air argument degree_of clamped robot_at placed standing is_alive
+unfolding answer fired shot aimed_x aimed_y flight in_air argument_at degree_of clamped robot_at placed standing
+    is_alive
     damage_of no_robot place_x place_y end_x end_y way_east way_north along leg_anew steered approached sped grown
     is_outside hits_wall walled tried driven candidate mover moves square is_close is_no_further collides others touches
     due_at ring bursts put_back leg_after knocks moved_robot moved moved_times cosine_at sine_at sines
@@ -106,7 +108,7 @@ rings = record {
 
 pub missiles : Missiles
 unfolding answer scanned nearest sees in_arc east_to north_to apart range_of metres_x metres_y root_of root_by_quarters
-    bearing_of first_greatest reaches reach_of fired shot aimed_x aimed_y flight in_air argument degree_of clamped
+    bearing_of first_greatest reaches reach_of fired shot aimed_x aimed_y flight in_air argument_at degree_of clamped
     robot_at placed standing is_alive damage_of no_robot place_x place_y end_x end_y way_east way_north along leg_anew
     steered approached sped grown is_outside hits_wall walled tried driven candidate mover moves square is_close
     is_no_further collides others touches due_at ring bursts put_back leg_after knocks moved_robot moved moved_times

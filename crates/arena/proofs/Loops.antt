@@ -6,7 +6,7 @@ use Rattle.std.proofs.lemmas.Simd.{map-map}
 use Rattle.arena.specs.Field.{Field, no_robot, robot_at}
 use Rattle.arena.specs.Collisions.{mover, touches}
 use Rattle.arena.specs.Moved.{moved_robot, moved}
-use Rattle.arena.specs.Ground.{Body, body_of}
+use Rattle.arena.specs.Arena.{Robot, robot_of}
 
 -- an element of a mapped list
 pub mapped_is : {X Y : Type 0} (f : X → Y) (ys : List Y) (xs : List X) (i : ℕ) (y : Y) (d : X) → ys ≡ map f xs →
@@ -29,17 +29,17 @@ pushed_map f g ys xs out more i y z d e inside at made so_far m =
     m ∙ ap (λ l. l ++ z ∷ []) so_far ∙ ap (λ x. map g (take i xs) ++ x ∷ []) is ∙ sym (map_more g xs i d within)
 
 -- a robot after the update, from its number
-abbrev pub after_at : Field → ℕ → Body
-after_at f i = body_of (moved_robot (f.updates + 1) f.shots (touches (map mover f.robots) i) (robot_at f i))
+abbrev pub after_at : Field → ℕ → Robot
+after_at f i = robot_of (moved_robot (f.updates + 1) f.shots (touches (map mover f.robots) i) (robot_at f i))
 
-pub after_all : (f : Field) → map (after_at f) (range_with_len 0 (length f.robots)) ≡ map body_of (moved f).robots
+pub after_all : (f : Field) → map (after_at f) (range_with_len 0 (length f.robots)) ≡ map robot_of (moved f).robots
 unfolding moved
 after_all f =
     sym
-    (map-map body_of (λ i. moved_robot (f.updates + 1) f.shots (touches (map mover f.robots) i) (robot_at f i))
+    (map-map robot_of (λ i. moved_robot (f.updates + 1) f.shots (touches (map mover f.robots) i) (robot_at f i))
     (range_with_len 0 (length f.robots)))
 
 pub at_is : (f : Field) (i update touched : ℕ) → update ≡ f.updates + 1 → touched ≡ touches (map mover f.robots) i →
-    body_of (moved_robot update f.shots touched (get_or f.robots i no_robot)) ≡ after_at f i
+    robot_of (moved_robot update f.shots touched (get_or f.robots i no_robot)) ≡ after_at f i
 unfolding robot_at
 at_is f i update touched u t = rw (u, t) refl

@@ -7,7 +7,7 @@ use Rattle.std.proofs.lemmas.List.Sums.{fold-append}
 use Rattle.std.proofs.lemmas.Bool.{ne_eqb, cases_lt}
 use Rattle.arith.specs.Root.{root_of}
 use Rattle.arena.proofs.Roots.{root_grows, root_of_0, root_of_1}
-use Rattle.arena.specs.Field.{Robot, Field, robot_at}
+use Rattle.arena.specs.Field.{FieldRobot, Field, robot_at}
 use Rattle.arena.specs.Collisions.{square, others}
 use Rattle.arena.specs.Scan.{sees, range_of, nearest, scanned}
 use Rattle.arena.specs.Nearer.{square_to, out_of_sight, IsSquare, IsLeast, range_at}
@@ -128,7 +128,7 @@ at_least_1 (suc n) =
     let same : max (suc n) 1 ≡ suc n = omega arith in
     rw same (omega arith)
 
-range_is : (a b : Robot) → range_of a b ≡ whole (square_to a b)
+range_is : (a b : FieldRobot) → range_of a b ≡ whole (square_to a b)
 unfolding range_of square_to
 range_is a b = refl
 

@@ -4,68 +4,68 @@ use Rattle.std.specs.List.{count_by, fold, refill}
 use Rattle.std.proofs.lemmas.List.{length-map, get_or-map, get_or_past, get_or-set_same, map-set, take_at, length-set}
 use Rattle.std.proofs.lemmas.Bool.{cases_lt, ltb-true}
 use Rattle.arena.specs.Leg.{place_x, place_y}
-use Rattle.arena.specs.Field.{Shot, Robot, Field, damage_of, is_alive, no_robot, robot_at}
+use Rattle.arena.specs.Field.{Shot, FieldRobot, Field, damage_of, is_alive, no_robot, robot_at}
 use Rattle.arena.specs.Shots.{aimed_x, aimed_y, flight, shot, in_air}
 use Rattle.arena.specs.Moved.{moved}
 use Rattle.arena.specs.Answer.{fired, wanting, directed}
-use Rattle.arena.specs.Ground.{Body, Missile, Ground, body_of, shot_of, lives}
-use Rattle.arena.specs.Standing.{HoldsShots, StandsFor}
+use Rattle.arena.specs.Arena.{Robot, Missile, Arena, robot_of, shot_of, lives}
+use Rattle.arena.specs.Representing.{HoldsShots, RepresentsField}
 
 -- a list that was lent and written in place
 pub refill_is : {X : Type 0} (xs ws : List X) → length ws ≡ length xs → refill (length xs) xs ws ≡ ws
 refill_is xs ws e = take_at ws (drop (length ws) xs) (length xs) e
 
 -- the body of a number is that of the field's robot, past the last one too
-pub bodies_at : (rs : List Robot) (i : ℕ) →
-    get_or (map body_of rs) i (body_of no_robot) ≡ body_of (get_or rs i no_robot)
+pub bodies_at : (rs : List FieldRobot) (i : ℕ) →
+    get_or (map robot_of rs) i (robot_of no_robot) ≡ robot_of (get_or rs i no_robot)
 bodies_at rs i = by_place (cases_lt i (length rs))
   where
     by_place : ((i < length rs) ⊎ (length rs ≤ i)) →
-        get_or (map body_of rs) i (body_of no_robot) ≡ body_of (get_or rs i no_robot)
-    by_place (inl h) = get_or-map body_of rs i no_robot (body_of no_robot) h
+        get_or (map robot_of rs) i (robot_of no_robot) ≡ robot_of (get_or rs i no_robot)
+    by_place (inl h) = get_or-map robot_of rs i no_robot (robot_of no_robot) h
     by_place (inr h) =
-        get_or_past (map body_of rs) i (body_of no_robot) (omega (arith, length-map rs body_of)) ∙
-        ap body_of (sym (get_or_past rs i no_robot h))
+        get_or_past (map robot_of rs) i (robot_of no_robot) (omega (arith, length-map rs robot_of)) ∙
+        ap robot_of (sym (get_or_past rs i no_robot h))
 
-pub body_at : (g : Ground) (f : Field) (i : ℕ) → StandsFor g f →
-    get_or g.robots i (body_of no_robot) ≡ body_of (robot_at f i)
+pub body_at : (g : Arena) (f : Field) (i : ℕ) → RepresentsField g f →
+    get_or g.robots i (robot_of no_robot) ≡ robot_of (robot_at f i)
 unfolding robot_at
-body_at g f i s = ap (λ l. get_or l i (body_of no_robot)) s.robots ∙ bodies_at f.robots i
+body_at g f i s = ap (λ l. get_or l i (robot_of no_robot)) s.robots ∙ bodies_at f.robots i
 
-pub manned : (g : Ground) (f : Field) → StandsFor g f → length g.robots ≡ length f.robots
-manned g f s = ap length s.robots ∙ length-map f.robots body_of
+pub manned : (g : Arena) (f : Field) → RepresentsField g f → length g.robots ≡ length f.robots
+manned g f s = ap length s.robots ∙ length-map f.robots robot_of
 
 -- who lives is one of the robots
-pub inside_if_lives : (g : Ground) (i : ℕ) → lives g i ≡ true → i < length g.robots
-unfolding lives body_of damage_of no_robot
+pub inside_if_lives : (g : Arena) (i : ℕ) → lives g i ≡ true → i < length g.robots
+unfolding lives robot_of damage_of no_robot
 inside_if_lives g i h = by_place (cases_lt i (length g.robots))
   where
     by_place : ((i < length g.robots) ⊎ (length g.robots ≤ i)) → i < length g.robots
     by_place (inl inside) = inside
     by_place (inr past) =
-        let none = get_or_past g.robots i (body_of no_robot) past in
+        let none = get_or_past g.robots i (robot_of no_robot) past in
         let dead : nat_lt 100 100 ≡ true = rw none at h in
         absurd (omega (arith, ltb-true 100 100 dead))
 
 -- the same robots live as they did
-pub same_live : (g h : Ground) (i : ℕ) → h.robots ≡ g.robots → lives h i ≡ lives g i
+pub same_live : (g h : Arena) (i : ℕ) → h.robots ≡ g.robots → lives h i ≡ lives g i
 unfolding lives
-same_live g h i e = ap (λ (rs : List Body). nat_lt (get_or rs i (body_of no_robot)).damage 100) e
+same_live g h i e = ap (λ (rs : List Robot). nat_lt (get_or rs i (robot_of no_robot)).damage 100) e
 
 -- a robot of the same damage in its place lives as it did
-pub lives_as : (g : Ground) (i : ℕ) (b : Body) → i < length g.robots →
-    b.damage ≡ (get_or g.robots i (body_of no_robot)).damage →
+pub lives_as : (g : Arena) (i : ℕ) (b : Robot) → i < length g.robots →
+    b.damage ≡ (get_or g.robots i (robot_of no_robot)).damage →
     lives (record g { robots = set g.robots i b }) i ≡ lives g i
 unfolding lives
 lives_as g i b inside e =
-    ap (λ (c : Body). nat_lt c.damage 100) (get_or-set_same g.robots i b (body_of no_robot) inside) ∙
+    ap (λ (c : Robot). nat_lt c.damage 100) (get_or-set_same g.robots i b (robot_of no_robot) inside) ∙
     ap (λ (d : ℕ). nat_lt d 100) e
 
 -- who lives is alive in the field
-pub alive_if_lives : (g : Ground) (f : Field) (i : ℕ) → StandsFor g f → lives g i ≡ true →
+pub alive_if_lives : (g : Arena) (f : Field) (i : ℕ) → RepresentsField g f → lives g i ≡ true →
     is_alive (robot_at f i) ≡ true
-unfolding lives is_alive body_of
-alive_if_lives g f i s h = sym (ap (λ (b : Body). nat_lt b.damage 100) (body_at g f i s)) ∙ h
+unfolding lives is_alive robot_of
+alive_if_lives g f i s h = sym (ap (λ (b : Robot). nat_lt b.damage 100) (body_at g f i s)) ∙ h
 
 -- the living, counted on bodies
 fold_map : {X Y : Type 0} (f : X → Y) (g : Y → ℕ) (a : ℕ) (xs : List X) →
@@ -73,11 +73,12 @@ fold_map : {X Y : Type 0} (f : X → Y) (g : Y → ℕ) (a : ℕ) (xs : List X) 
 fold_map f g a [] = refl
 fold_map f g a (x ∷ xs) = fold_map f g (a + g (f x)) xs
 
-pub living : (rs : List Robot) → count_by (λ (b : Body). nat_lt b.damage 100) (map body_of rs) ≡ count_by is_alive rs
-unfolding body_of is_alive
-living rs = fold_map body_of (λ (b : Body). cond (nat_lt b.damage 100) 1 0) 0 rs
+pub living : (rs : List FieldRobot) →
+    count_by (λ (b : Robot). nat_lt b.damage 100) (map robot_of rs) ≡ count_by is_alive rs
+unfolding robot_of is_alive
+living rs = fold_map robot_of (λ (b : Robot). cond (nat_lt b.damage 100) 1 0) 0 rs
 
-shot_is : (g : Ground) (f : Field) (i degree range : ℕ) (missile : Missile) → g.updates ≡ f.updates →
+shot_is : (g : Arena) (f : Field) (i degree range : ℕ) (missile : Missile) → g.updates ≡ f.updates →
     missile ≡
     record {
       burst = g.updates + flight range;
@@ -90,14 +91,14 @@ shot_is : (g : Ground) (f : Field) (i degree range : ℕ) (missile : Missile) �
 unfolding shot shot_of
 shot_is g f i degree range missile u m = rw (m, u) refl
 
-bursts_later : (g : Ground) (f : Field) (range : ℕ) (missile : Missile) → g.updates ≡ f.updates →
+bursts_later : (g : Arena) (f : Field) (range : ℕ) (missile : Missile) → g.updates ≡ f.updates →
     missile.burst ≡ g.updates + flight range → f.updates < missile.burst
 unfolding flight
 bursts_later g f range missile u b = omega arith
 
 -- a robot that fires
-pub fires : (g : Ground) (f : Field) (i degree range : ℕ) (slots : List (List Missile)) (missile : Missile) →
-    StandsFor g f → nat_lt (length (in_air f.updates i f.shots)) 2 ≡ true →
+pub fires : (g : Arena) (f : Field) (i degree range : ℕ) (slots : List (List Missile)) (missile : Missile) →
+    RepresentsField g f → nat_lt (length (in_air f.updates i f.shots)) 2 ≡ true →
     missile ≡
     record {
       burst = g.updates + flight range;
@@ -108,7 +109,7 @@ pub fires : (g : Ground) (f : Field) (i degree range : ℕ) (slots : List (List 
     } →
     ((updates : ℕ) (shots : List Shot) → updates < missile.burst → HoldsShots updates g.slots shots →
     HoldsShots updates slots (shots ++ shot_of i missile ∷ [])) →
-    StandsFor (record g { slots = slots }) (fired f i degree range).1
+    RepresentsField (record g { slots = slots }) (fired f i degree range).1
 unfolding fired
 fires g f i degree range slots missile s free m holds =
     rw free (record {
@@ -132,22 +133,23 @@ unfolding fired
 keeps_fire f i degree range full = rw full (refl, refl)
 
 -- a robot that wants another way
-pub directs : (g : Ground) (f : Field) (i degree speed : ℕ) (b : Body) → StandsFor g f →
-    b ≡ body_of (record (robot_at f i) { leg = wanting (robot_at f i).leg degree speed }) →
-    StandsFor (record g { robots = set g.robots i b }) (directed f i degree speed)
+pub directs : (g : Arena) (f : Field) (i degree speed : ℕ) (b : Robot) → RepresentsField g f →
+    b ≡ robot_of (record (robot_at f i) { leg = wanting (robot_at f i).leg degree speed }) →
+    RepresentsField (record g { robots = set g.robots i b }) (directed f i degree speed)
 unfolding directed
 directs g f i degree speed b s e = record {
   updates = s.updates;
-  robots = ap (λ l. set l i b) s.robots ∙ ap (λ x. set (map body_of f.robots) i x) e ∙
-      sym (map-set body_of f.robots i (record (robot_at f i) { leg = wanting (robot_at f i).leg degree speed }));
+  robots = ap (λ l. set l i b) s.robots ∙ ap (λ x. set (map robot_of f.robots) i x) e ∙
+      sym (map-set robot_of f.robots i (record (robot_at f i) { leg = wanting (robot_at f i).leg degree speed }));
   missiles = s.missiles;
   random = s.random;
 }
 
 -- an update
-pub updates : (g next : Ground) (f : Field) → StandsFor g f → next.updates ≡ g.updates + 1 → next.random ≡ g.random →
-    next.robots ≡ map body_of (moved f).robots → HoldsShots (f.updates + 1) next.slots f.shots →
-    StandsFor next (moved f)
+pub updates : (g next : Arena) (f : Field) → RepresentsField g f → next.updates ≡ g.updates + 1 →
+    next.random ≡ g.random →
+    next.robots ≡ map robot_of (moved f).robots → HoldsShots (f.updates + 1) next.slots f.shots →
+    RepresentsField next (moved f)
 unfolding moved
 updates g next f s u r robots slots = record {
   updates = u ∙ ap (λ n. n + 1) s.updates;

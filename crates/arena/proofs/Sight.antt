@@ -6,7 +6,7 @@ use Rattle.std.proofs.lemmas.Int.{ints}
 use Rattle.std.proofs.lemmas.Bool.Decides.{Decides-int_eq, Decides-eqb, Decides-like, same_from_decides}
 use Rattle.arith.specs.Degree.{apart}
 use Rattle.arith.specs.Bearing.{bearing_of}
-use Rattle.arena.specs.Field.{Robot, is_alive, metres_x, metres_y}
+use Rattle.arena.specs.Field.{FieldRobot, is_alive, metres_x, metres_y}
 use Rattle.arena.specs.Collisions.{square}
 use Rattle.arena.specs.Scan.{east_to, north_to, in_arc, sees}
 use Rattle.arena.specs.Nearer.{leads_into, square_of, square_to}
@@ -53,21 +53,21 @@ same_place a b =
     (Decides-like _ (λ e. omega (arith, ints, e)) (λ e. omega (arith, ints, e))
     (Decides-int_eq (pos b -ℤ pos a) (pos 0)))
 
-sees_by_way : (a b : Robot) (degree resolution : ℕ) →
+sees_by_way : (a b : FieldRobot) (degree resolution : ℕ) →
     sees a degree resolution b ≡ (is_alive b && leads_into (east_to a b) (north_to a b) degree resolution)
 unfolding sees in_arc east_to north_to leads_into
 sees_by_way a b degree resolution =
     rw (same_place (metres_x a) (metres_x b), same_place (metres_y a) (metres_y b)) refl
 
-pub dead_unseen : (a : Robot) (degree resolution : ℕ) (b : Robot) → is_alive b ≡ false →
+pub dead_unseen : (a : FieldRobot) (degree resolution : ℕ) (b : FieldRobot) → is_alive b ≡ false →
     sees a degree resolution b ≡ false
 dead_unseen a degree resolution b dead = sees_by_way a b degree resolution ∙ rw dead refl
 
-pub beside_unseen : (a : Robot) (degree resolution : ℕ) (b : Robot) →
+pub beside_unseen : (a : FieldRobot) (degree resolution : ℕ) (b : FieldRobot) →
     leads_into (east_to a b) (north_to a b) degree resolution ≡ false → sees a degree resolution b ≡ false
 beside_unseen a degree resolution b beside = sees_by_way a b degree resolution ∙ rw beside (neither (is_alive b))
 
-pub seen_leads : (a b : Robot) (degree resolution : ℕ) → sees a degree resolution b ≡ true →
+pub seen_leads : (a b : FieldRobot) (degree resolution : ℕ) → sees a degree resolution b ≡ true →
     leads_into (east_to a b) (north_to a b) degree resolution ≡ true
 seen_leads a b degree resolution seen = second (is_alive b) _ (sym (sees_by_way a b degree resolution) ∙ seen)
   where
@@ -78,11 +78,11 @@ seen_leads a b degree resolution seen = second (is_alive b) _ (sym (sees_by_way 
 way_length : (a b : ℕ) → unsigned_abs (pos b -ℤ pos a) ≡ abs_diff a b
 way_length a b = omega (arith, ints)
 
-square_by_way : (a b : Robot) → square_to a b ≡ square_of (east_to a b) (north_to a b)
+square_by_way : (a b : FieldRobot) → square_to a b ≡ square_of (east_to a b) (north_to a b)
 unfolding square_to square square_of east_to north_to
 square_by_way a b = rw (way_length (metres_x a) (metres_x b), way_length (metres_y a) (metres_y b)) refl
 
-pub seen_so_far : (a : Robot) (degree resolution : ℕ) (b : Robot) (so_far : ℕ) → is_alive b ≡ true →
+pub seen_so_far : (a : FieldRobot) (degree resolution : ℕ) (b : FieldRobot) (so_far : ℕ) → is_alive b ≡ true →
     cond (sees a degree resolution b) (min so_far (square_to a b)) so_far ≡
     cond (leads_into (east_to a b) (north_to a b) degree resolution)
     (min so_far (square_of (east_to a b) (north_to a b))) so_far

@@ -9,9 +9,9 @@ use Rattle.std.proofs.lemmas.List.Sums.{sum_by-append}
 use Rattle.arena.specs.Field.{Shot}
 use Rattle.arena.specs.Collisions.{square}
 use Rattle.arena.specs.Shots.{ring, in_air, due_at, bursts}
-use Rattle.arena.specs.Ground.{Missile, shot_of}
-use Rattle.arena.specs.Still.{NoneBefore}
-use Rattle.arena.specs.Standing.{HoldsShots}
+use Rattle.arena.specs.Arena.{Missile, shot_of}
+use Rattle.arena.specs.Still.{NoBurstBefore}
+use Rattle.arena.specs.Representing.{HoldsShots}
 
 pub sum-cons : (n : ℕ) (ns : List ℕ) → sum (n ∷ ns) ≡ n + sum ns
 sum-cons n ns = let e = sum_by-append (λ x. x) (n ∷ []) ns in omega arith
@@ -90,8 +90,8 @@ two_fired slots robot held own m inside free e two =
     All-set (λ (s : List Missile). length s ≤ 2) slots robot own (omega (arith, few, size)) two
 
 pub before_fired : (update : ℕ) (slots : List (List Missile)) (robot : ℕ) (held own : List Missile) (m : Missile) →
-    robot < length slots → own ≡ get_or slots robot held ++ m ∷ [] → update ≤ m.burst → NoneBefore update slots →
-    NoneBefore update (set slots robot own)
+    robot < length slots → own ≡ get_or slots robot held ++ m ∷ [] → update ≤ m.burst → NoBurstBefore update slots →
+    NoBurstBefore update (set slots robot own)
 before_fired update slots robot held own m inside e sooner before =
     let P : List Missile → Type 0 = λ ms. All (λ (m : Missile). update ≤ m.burst) ms in
     All-set P slots robot own
@@ -360,7 +360,7 @@ sum_zero f (s ∷ slots) h =
     omega arith
 
 pub quiet_hurts : (updates update before x y : ℕ) (slots : List (List Missile)) (shots : List Shot) →
-    update ≡ updates + 1 → update < before → NoneBefore before slots → HoldsShots updates slots shots →
+    update ≡ updates + 1 → update < before → NoBurstBefore before slots → HoldsShots updates slots shots →
     sum (bursts update shots x y) ≡ 0
 quiet_hurts updates update before x y slots shots e early later holds =
     sym (all_hurts updates update x y slots shots e holds) ∙
@@ -376,7 +376,7 @@ all_later update before (m ∷ ms) early h =
     rw (flies, all_later update before ms early (λ k d l. h (suc k) d (omega arith))) refl
 
 pub holds_quiet : (updates update before : ℕ) (slots : List (List Missile)) (shots : List Shot) → update ≡ updates + 1 →
-    update < before → NoneBefore before slots → HoldsShots updates slots shots → HoldsShots update slots shots
+    update < before → NoBurstBefore before slots → HoldsShots updates slots shots → HoldsShots update slots shots
 holds_quiet updates update before slots shots e early later holds =
     holds_landed updates update slots slots shots e refl
     (λ i l. sym (all_later update before (get_or slots i []) early (later i [] l))) holds
@@ -391,12 +391,13 @@ least_more ms i m n next l e low here h =
 pub sooner : (n next : ℕ) (ms : List Missile) → next ≤ n → All (λ m. n ≤ m.burst) ms → All (λ m. next ≤ m.burst) ms
 sooner n next ms low h = λ k d inside. omega (arith, h k d inside)
 
-pub sooner_all : (n next : ℕ) (slots : List (List Missile)) → next ≤ n → NoneBefore n slots → NoneBefore next slots
+pub sooner_all : (n next : ℕ) (slots : List (List Missile)) → next ≤ n → NoBurstBefore n slots →
+    NoBurstBefore next slots
 sooner_all n next slots low h = λ k d l. sooner n next (get_or slots k d) low (h k d l)
 
 -- with nothing in the air none bursts
-pub before_none : (n update : ℕ) (slots : List (List Missile)) → slots ≡ replicate n [] → NoneBefore update slots
-before_none n update slots e = subst (λ (slots : List (List Missile)). NoneBefore update slots) (sym e)
+pub before_none : (n update : ℕ) (slots : List (List Missile)) → slots ≡ replicate n [] → NoBurstBefore update slots
+before_none n update slots e = subst (λ (slots : List (List Missile)). NoBurstBefore update slots) (sym e)
     (λ k d l. subst (λ (ms : List Missile). All (λ m. update ≤ m.burst) ms) (sym (at_none n k d l))
     (λ k2 d2 l2. absurd (omega (arith, l2))))
   where

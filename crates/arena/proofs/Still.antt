@@ -6,13 +6,13 @@ use Rattle.std.proofs.lemmas.List.{map_more, get_or-map, length-map, take_all}
 use Rattle.std.proofs.lemmas.List.Elements.{All-get_or, All-take, All-drop}
 use Rattle.std.proofs.lemmas.List.FromFn.{map-range_with_len_more}
 use Rattle.arena.specs.Leg.{Leg, place_x, place_y, tried, driven, walled, hits_wall}
-use Rattle.arena.specs.Field.{Shot, Robot, Field, damage_of, is_alive, no_robot, robot_at}
+use Rattle.arena.specs.Field.{Shot, FieldRobot, Field, damage_of, is_alive, no_robot, robot_at}
 use Rattle.arena.specs.Collisions.{Mover, candidate, mover, moves, is_close, is_no_further, collides, touches}
 use Rattle.arena.specs.Shots.{bursts}
 use Rattle.arena.specs.Moved.{moved_robot, moved}
-use Rattle.arena.specs.Ground.{Ground, body_of}
-use Rattle.arena.specs.Standing.{StandsFor}
-use Rattle.arena.specs.Drive.{ahead}
+use Rattle.arena.specs.Arena.{Arena, robot_of}
+use Rattle.arena.specs.Representing.{RepresentsField}
+use Rattle.arena.specs.Ahead.{robot_ahead}
 use Rattle.arena.specs.Still.{Stays, IsStill, moved_times}
 use Rattle.arena.proofs.Loops.{after_at, after_all}
 use Rattle.arena.proofs.SlotLaws.{none_hurt, holds_still}
@@ -22,8 +22,8 @@ use Rattle.arena.proofs.Wear.{ahead_is}
 use Rattle.arena.proofs.Represents.{updates}
 
 -- a live robot that stays is at rest
-live_rests : (robot : Robot) → Stays (body_of robot) → is_alive robot ≡ true → StandsFree robot.leg
-unfolding is_alive body_of
+live_rests : (robot : FieldRobot) → Stays (robot_of robot) → is_alive robot ≡ true → StandsFree robot.leg
+unfolding is_alive robot_of
 live_rests robot (inl dead) live =
     let none : nat_lt 100 100 ≡ true = rw dead at live in
     absurd (omega (arith, ltb-true 100 100 none))
@@ -33,7 +33,7 @@ driven_is : (leg : Leg) → StandsFree leg → driven leg ≡ leg
 unfolding driven walled
 driven_is leg r = ap walled r.stands ∙ rw r.free refl
 
-candidate_is : (robot : Robot) → Stays (body_of robot) → candidate robot ≡ robot.leg
+candidate_is : (robot : FieldRobot) → Stays (robot_of robot) → candidate robot ≡ robot.leg
 unfolding candidate
 candidate_is robot stays = by_life (is_alive robot) refl
   where
@@ -45,7 +45,7 @@ candidate_is robot stays = by_life (is_alive robot) refl
 same_is : (n m : ℕ) → n ≡ m → not (n == m) ≡ false
 same_is n m e = rw (eq-eqb n m e) refl
 
-moves_not : (robot : Robot) → Stays (body_of robot) → moves (mover robot) ≡ false
+moves_not : (robot : FieldRobot) → Stays (robot_of robot) → moves (mover robot) ≡ false
 unfolding moves mover
 moves_not robot stays =
     let still = candidate_is robot stays in
@@ -76,8 +76,8 @@ touches_still movers i inside still =
     (λ k d l. collides_not m (get_or (drop (i + 1) movers) k d) here (All-drop Still (i + 1) movers still k d l))
 
 -- the robot after the update
-ahead_stays : (robot : Robot) → Stays (body_of robot) → ahead robot ≡ body_of robot
-unfolding ahead body_of damage_of
+ahead_stays : (robot : FieldRobot) → Stays (robot_of robot) → robot_ahead robot ≡ robot_of robot
+unfolding robot_ahead robot_of damage_of
 ahead_stays robot stays =
     let free : (is_alive robot && hits_wall (tried robot.leg)) ≡ false = by_life (is_alive robot) refl in
     let same : min (min (sum robot.hurts) 100 + 0) 100 ≡ min (sum robot.hurts) 100 = omega arith in
@@ -87,25 +87,26 @@ ahead_stays robot stays =
     by_life true e = let r = live_rests robot stays e in ap hits_wall r.stands ∙ r.free
     by_life false e = refl
 
-stays_as_is : (robot : Robot) (update : ℕ) (shots : List Shot) → Stays (body_of robot) →
-    ((x y : ℕ) → sum (bursts update shots x y) ≡ 0) → body_of robot ≡ body_of (moved_robot update shots 0 robot)
+stays_as_is : (robot : FieldRobot) (update : ℕ) (shots : List Shot) → Stays (robot_of robot) →
+    ((x y : ℕ) → sum (bursts update shots x y) ≡ 0) → robot_of robot ≡ robot_of (moved_robot update shots 0 robot)
 stays_as_is robot update shots stays none = sym (ahead_stays robot stays) ∙ ahead_is robot update shots none
 
 -- all robots
-robot_stays : (robots : List Robot) (i : ℕ) → i < length robots → All Stays (map body_of robots) →
-    Stays (body_of (get_or robots i no_robot))
+robot_stays : (robots : List FieldRobot) (i : ℕ) → i < length robots → All Stays (map robot_of robots) →
+    Stays (robot_of (get_or robots i no_robot))
 robot_stays robots i inside all =
-    subst Stays (get_or-map body_of robots i no_robot (body_of no_robot) inside)
-    (all i (body_of no_robot) (omega (arith, length-map robots body_of)))
+    subst Stays (get_or-map robot_of robots i no_robot (robot_of no_robot) inside)
+    (all i (robot_of no_robot) (omega (arith, length-map robots robot_of)))
 
-movers_still : (robots : List Robot) → All Stays (map body_of robots) → All (λ m. moves m ≡ false) (map mover robots)
+movers_still : (robots : List FieldRobot) → All Stays (map robot_of robots) →
+    All (λ m. moves m ≡ false) (map mover robots)
 movers_still robots all k d l =
     let inside : k < length robots = omega (arith, length-map robots mover) in
     rw (get_or-map mover robots k no_robot d inside)
     (moves_not (get_or robots k no_robot) (robot_stays robots k inside all))
 
-each_stays : (f : Field) (i : ℕ) → i < length f.robots → All Stays (map body_of f.robots) →
-    ((x y : ℕ) → sum (bursts (f.updates + 1) f.shots x y) ≡ 0) → body_of (get_or f.robots i no_robot) ≡ after_at f i
+each_stays : (f : Field) (i : ℕ) → i < length f.robots → All Stays (map robot_of f.robots) →
+    ((x y : ℕ) → sum (bursts (f.updates + 1) f.shots x y) ≡ 0) → robot_of (get_or f.robots i no_robot) ≡ after_at f i
 unfolding robot_at
 each_stays f i inside all none =
     let untouched =
@@ -113,32 +114,32 @@ each_stays f i inside all none =
     rw untouched
     (stays_as_is (get_or f.robots i no_robot) (f.updates + 1) f.shots (robot_stays f.robots i inside all) none)
 
-all_stay : (f : Field) → ((i : ℕ) → i < length f.robots → body_of (get_or f.robots i no_robot) ≡ after_at f i) →
-    (n : ℕ) → n ≤ length f.robots → map body_of (take n f.robots) ≡ map (after_at f) (range_with_len 0 n)
+all_stay : (f : Field) → ((i : ℕ) → i < length f.robots → robot_of (get_or f.robots i no_robot) ≡ after_at f i) →
+    (n : ℕ) → n ≤ length f.robots → map robot_of (take n f.robots) ≡ map (after_at f) (range_with_len 0 n)
 all_stay f each zero h = refl
 all_stay f each (suc n) h =
-    let Same : ℕ → Type 0 = λ k. map body_of (take k f.robots) ≡ map (after_at f) (range_with_len 0 k) in
+    let Same : ℕ → Type 0 = λ k. map robot_of (take k f.robots) ≡ map (after_at f) (range_with_len 0 k) in
     subst Same (add-one n)
-    (map_more body_of f.robots n no_robot h ∙
-    ap (λ bs. bs ++ body_of (get_or f.robots n no_robot) ∷ []) (all_stay f each n (omega arith)) ∙
+    (map_more robot_of f.robots n no_robot h ∙
+    ap (λ bs. bs ++ robot_of (get_or f.robots n no_robot) ∷ []) (all_stay f each n (omega arith)) ∙
     ap (λ b. map (after_at f) (range_with_len 0 n) ++ b ∷ []) (each n h) ∙
     sym (map-range_with_len_more (after_at f) 0 n n (omega arith)))
 
 -- the arena that only counts represents the field after the update
-pub only_counts : (g : Ground) (f : Field) → StandsFor g f → IsStill g.robots g.slots →
-    StandsFor (record g { updates = g.updates + 1 }) (moved f)
+pub only_counts : (g : Arena) (f : Field) → RepresentsField g f → IsStill g.robots g.slots →
+    RepresentsField (record g { updates = g.updates + 1 }) (moved f)
 only_counts g f s still =
     let stay = subst (λ bs. All Stays bs) s.robots still.stay in
     let none = λ (x y : ℕ). none_hurt f.updates (f.updates + 1) x y g.slots f.shots refl s.missiles still.none_flies in
     let robots =
-    ap (map body_of) (sym (take_all (length f.robots) f.robots (omega arith))) ∙
+    ap (map robot_of) (sym (take_all (length f.robots) f.robots (omega arith))) ∙
     all_stay f (λ i l. each_stays f i l stay none) (length f.robots) (omega arith) ∙ after_all f in
     updates g (record g { updates = g.updates + 1 }) f s refl refl (s.robots ∙ robots)
     (holds_still f.updates (f.updates + 1) g.slots f.shots refl s.missiles still.none_flies)
 
 -- and so for some updates
-pub only_rests : (g : Ground) (f : Field) (n : ℕ) → StandsFor g f → IsStill g.robots g.slots →
-    StandsFor (record g { updates = g.updates + n }) (moved_times n f)
+pub only_rests : (g : Arena) (f : Field) (n : ℕ) → RepresentsField g f → IsStill g.robots g.slots →
+    RepresentsField (record g { updates = g.updates + n }) (moved_times n f)
 unfolding moved_times
 only_rests g f zero s still =
     let none : g.updates + 0 ≡ g.updates = omega arith in

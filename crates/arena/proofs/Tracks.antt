@@ -9,7 +9,7 @@ use Rattle.arena.specs.Rules.{last_place}
 use Rattle.arena.specs.Leg.{Leg, clamped, along, way_east, way_north, end_x, end_y, place_x, place_y, approached, leg_anew, steered, sped, grown, hits_wall, walled, tried}
 use Rattle.arena.specs.Sums.{sum_from, sum_east, sum_north, step_east, step_north, place_of, is_beyond, place_near}
 use Rattle.arena.specs.Start.{standing}
-use Rattle.arena.specs.Ground.{Track, track_of, is_steady}
+use Rattle.arena.specs.Arena.{Motion, motion_of, is_steady}
 use Rattle.arena.specs.Still.{Rests, OnlyTurns}
 use Rattle.arena.proofs.Sums.{Leads, leads, beyond_is, near_is, place_is, field_is_free, free_is_field, grown_bits}
 
@@ -22,7 +22,7 @@ way-none : (z : ℤ) → pos 0 *ℤ z ≡ pos 0
 way-none z = omega (arith, ints)
 
 -- a track whose leg starts at a place
-abbrev pub begun : Track → ℕ → ℕ → Track
+abbrev pub begun : Motion → ℕ → ℕ → Motion
 begun t x y = record t {
   east = sum_from x (cosine_at t.heading) (pos 0);
   north = sum_from y (sine_at t.heading) (pos 0);
@@ -35,7 +35,7 @@ begun t x y = record t {
 
 -- what is kept of a leg that starts at a place
 from_place : (x y heading speed wanted_heading wanted_speed : ℕ) →
-    track_of
+    motion_of
     (record {
       origin_x = x;
       origin_y = y;
@@ -59,7 +59,7 @@ from_place : (x y heading speed wanted_heading wanted_speed : ℕ) →
       wanted_speed = wanted_speed;
       steady = is_steady heading wanted_heading speed wanted_speed;
     }
-unfolding track_of place_x place_y end_x end_y way_east way_north sum_east sum_north step_east step_north
+unfolding motion_of place_x place_y end_x end_y way_east way_north sum_east sum_north step_east step_north
 from_place x y heading speed wanted_heading wanted_speed = simp (way-none, along-none)
 
 pub standing_is : (x y : ℕ) →
@@ -76,50 +76,50 @@ pub standing_is : (x y : ℕ) →
       wanted_speed = 0;
       steady = is_steady 0 0 0 0;
     }
-    ≡ track_of (standing x y).leg
+    ≡ motion_of (standing x y).leg
 unfolding standing
 standing_is x y = sym (from_place x y 0 0 0 0)
 
-pub stopped_is : (t : Track) (leg : Leg) (x y : ℕ) → t ≡ track_of leg →
+pub stopped_is : (t : Motion) (leg : Leg) (x y : ℕ) → t ≡ motion_of leg →
     begun (record t { speed = 0; wanted_speed = 0 }) x y ≡
-    track_of (record leg { origin_x = x; origin_y = y; distance = 0; speed = 0; wanted_speed = 0 })
-unfolding track_of
+    motion_of (record leg { origin_x = x; origin_y = y; distance = 0; speed = 0; wanted_speed = 0 })
+unfolding motion_of
 stopped_is t leg x y e =
-    ap (λ (t : Track). begun (record t { speed = 0; wanted_speed = 0 }) x y) e ∙ sym (from_place _ _ _ _ _ _)
+    ap (λ (t : Motion). begun (record t { speed = 0; wanted_speed = 0 }) x y) e ∙ sym (from_place _ _ _ _ _ _)
 
-pub turned_is : (t : Track) (leg : Leg) (x y : ℕ) → t ≡ track_of leg → x ≡ place_x leg → y ≡ place_y leg →
+pub turned_is : (t : Motion) (leg : Leg) (x y : ℕ) → t ≡ motion_of leg → x ≡ place_x leg → y ≡ place_y leg →
     begun (record t { heading = t.wanted_heading }) x y ≡
-    track_of (record (leg_anew leg) { heading = leg.wanted_heading })
-unfolding track_of leg_anew
+    motion_of (record (leg_anew leg) { heading = leg.wanted_heading })
+unfolding motion_of leg_anew
 turned_is t leg x y e p q =
     rw (p, q)
-    (ap (λ (t : Track). begun (record t { heading = t.wanted_heading }) (place_x leg) (place_y leg)) e ∙
+    (ap (λ (t : Motion). begun (record t { heading = t.wanted_heading }) (place_x leg) (place_y leg)) e ∙
     sym (from_place _ _ _ _ _ _))
 
 -- the steps on what is kept
-pub wanting_is : (t : Track) (leg : Leg) (degree speed : ℕ) → t ≡ track_of leg →
+pub wanting_is : (t : Motion) (leg : Leg) (degree speed : ℕ) → t ≡ motion_of leg →
     record t { wanted_heading = degree; wanted_speed = speed; steady = is_steady t.heading degree t.speed speed } ≡
-    track_of (wanting leg degree speed)
-unfolding track_of wanting place_x place_y end_x end_y way_east way_north sum_east sum_north step_east step_north
+    motion_of (wanting leg degree speed)
+unfolding motion_of wanting place_x place_y end_x end_y way_east way_north sum_east sum_north step_east step_north
 wanting_is t leg degree speed e =
     ap
-    (λ (t : Track). record t {
+    (λ (t : Motion). record t {
       wanted_heading = degree;
       wanted_speed = speed;
       steady = is_steady t.heading degree t.speed speed;
     }) e
 
-pub sped_is : (t : Track) (leg : Leg) → t ≡ track_of leg →
+pub sped_is : (t : Motion) (leg : Leg) → t ≡ motion_of leg →
     record t {
       speed = approached t.speed t.wanted_speed;
       step_east = pos (approached t.speed t.wanted_speed) *ℤ cosine_at t.heading;
       step_north = pos (approached t.speed t.wanted_speed) *ℤ sine_at t.heading;
       steady = is_steady t.heading t.wanted_heading (approached t.speed t.wanted_speed) t.wanted_speed;
-    } ≡ track_of (sped leg)
-unfolding track_of sped place_x place_y end_x end_y way_east way_north sum_east sum_north step_east step_north
+    } ≡ motion_of (sped leg)
+unfolding motion_of sped place_x place_y end_x end_y way_east way_north sum_east sum_north step_east step_north
 sped_is t leg e =
     ap
-    (λ (t : Track). record t {
+    (λ (t : Motion). record t {
       speed = approached t.speed t.wanted_speed;
       step_east = pos (approached t.speed t.wanted_speed) *ℤ cosine_at t.heading;
       step_north = pos (approached t.speed t.wanted_speed) *ℤ sine_at t.heading;
@@ -127,9 +127,9 @@ sped_is t leg e =
     }) e
 
 -- a robot that wants to go where it heads keeps its leg; at a low speed it turns, else it brakes
-pub keeps_heading : (t : Track) (leg : Leg) → t ≡ track_of leg → t.wanted_heading ≡ t.heading →
-    t ≡ track_of (steered leg)
-unfolding track_of steered
+pub keeps_heading : (t : Motion) (leg : Leg) → t ≡ motion_of leg → t.wanted_heading ≡ t.heading →
+    t ≡ motion_of (steered leg)
+unfolding motion_of steered
 keeps_heading t leg e h =
     let same : leg.wanted_heading ≡ leg.heading = cc in
     let test = eq-eqb leg.wanted_heading leg.heading same in
@@ -141,24 +141,24 @@ steers_low : (leg : Leg) → (leg.wanted_heading ≡ leg.heading → ⊥) → le
 unfolding steered
 steers_low leg h slow = rw (ne_eqb leg.wanted_heading leg.heading h, le-leb leg.speed 50 slow) refl
 
-pub turns_is : (t b : Track) (leg : Leg) → t ≡ track_of leg →
-    b ≡ track_of (record (leg_anew leg) { heading = leg.wanted_heading }) → (t.wanted_heading ≡ t.heading → ⊥) →
-    t.speed ≤ 50 → b ≡ track_of (steered leg)
-unfolding track_of
+pub turns_is : (t b : Motion) (leg : Leg) → t ≡ motion_of leg →
+    b ≡ motion_of (record (leg_anew leg) { heading = leg.wanted_heading }) → (t.wanted_heading ≡ t.heading → ⊥) →
+    t.speed ≤ 50 → b ≡ motion_of (steered leg)
+unfolding motion_of
 turns_is t b leg e f h slow =
     let differs : leg.wanted_heading ≡ leg.heading → ⊥ = λ s. h cc in
-    let low : leg.speed ≤ 50 = omega (arith, ap (λ (t : Track). t.speed) e) in
-    f ∙ ap track_of (sym (steers_low leg differs low))
+    let low : leg.speed ≤ 50 = omega (arith, ap (λ (t : Motion). t.speed) e) in
+    f ∙ ap motion_of (sym (steers_low leg differs low))
 
-pub brakes_is : (t : Track) (leg : Leg) → t ≡ track_of leg → (t.wanted_heading ≡ t.heading → ⊥) → 50 < t.speed →
-    record t { wanted_speed = 0; steady = is_steady t.heading t.wanted_heading t.speed 0 } ≡ track_of (steered leg)
-unfolding track_of steered place_x place_y end_x end_y way_east way_north sum_east sum_north step_east step_north
+pub brakes_is : (t : Motion) (leg : Leg) → t ≡ motion_of leg → (t.wanted_heading ≡ t.heading → ⊥) → 50 < t.speed →
+    record t { wanted_speed = 0; steady = is_steady t.heading t.wanted_heading t.speed 0 } ≡ motion_of (steered leg)
+unfolding motion_of steered place_x place_y end_x end_y way_east way_north sum_east sum_north step_east step_north
 brakes_is t leg e h fast =
     let differs : leg.wanted_heading ≡ leg.heading → ⊥ = λ s. h cc in
-    let quick : 50 < leg.speed = omega (arith, ap (λ (t : Track). t.speed) e) in
+    let quick : 50 < leg.speed = omega (arith, ap (λ (t : Motion). t.speed) e) in
     rw (ne_eqb leg.wanted_heading leg.heading differs, lt-leb leg.speed 50 quick)
     (ap
-    (λ (t : Track). record t { wanted_speed = 0; steady = is_steady t.heading t.wanted_heading t.speed 0 }) e)
+    (λ (t : Motion). record t { wanted_speed = 0; steady = is_steady t.heading t.wanted_heading t.speed 0 }) e)
 
 -- the way after an update
 way_more : (d s : ℕ) (z : ℤ) → pos (d + s) *ℤ z ≡ pos d *ℤ z +ℤ pos s *ℤ z
@@ -201,13 +201,13 @@ out_is leg =
     refl
 
 -- what the code works out when a robot drives on: the sums, and whether they lead beyond a wall
-pub record Forward (t : Track) (east north : ℤ) (out : Bool) : Type 0 where
+pub record Forward (t : Motion) (east north : ℤ) (out : Bool) : Type 0 where
   pub goes_east : east ≡ t.east +ℤ t.step_east
   pub goes_north : north ≡ t.north +ℤ t.step_north
   pub is_out : out ≡ (is_beyond east || is_beyond north)
 
 -- the same from what the calls ensure
-pub forward_from : (t : Track) (out : Bool) →
+pub forward_from : (t : Motion) (out : Bool) →
     out ≡ (is_beyond (grown_bits t.east t.step_east) || is_beyond (grown_bits t.north t.step_north)) →
     grown_bits t.east t.step_east ≡ t.east +ℤ t.step_east → grown_bits t.north t.step_north ≡ t.north +ℤ t.step_north →
     Forward t (t.east +ℤ t.step_east) (t.north +ℤ t.step_north) out
@@ -223,14 +223,14 @@ record Grown (leg : Leg) (east north : ℤ) (out : Bool) : Type 0 where
   goes_north : north ≡ sum_north (grown leg)
   is_out : out ≡ hits_wall (grown leg)
 
-grown_is : (t : Track) (leg : Leg) (east north : ℤ) (out : Bool) → t ≡ track_of leg → Forward t east north out →
+grown_is : (t : Motion) (leg : Leg) (east north : ℤ) (out : Bool) → t ≡ motion_of leg → Forward t east north out →
     Grown leg east north out
-unfolding track_of
+unfolding motion_of
 grown_is t leg east north out e f =
     let to_x : east ≡ sum_east (grown leg) =
-    f.goes_east ∙ ap (λ (t : Track). t.east +ℤ t.step_east) e ∙ sym (grown_east leg) in
+    f.goes_east ∙ ap (λ (t : Motion). t.east +ℤ t.step_east) e ∙ sym (grown_east leg) in
     let to_y : north ≡ sum_north (grown leg) =
-    f.goes_north ∙ ap (λ (t : Track). t.north +ℤ t.step_north) e ∙ sym (grown_north leg) in
+    f.goes_north ∙ ap (λ (t : Motion). t.north +ℤ t.step_north) e ∙ sym (grown_north leg) in
     record {
       goes_east = to_x;
       goes_north = to_y;
@@ -238,15 +238,15 @@ grown_is t leg east north out e f =
           ap (λ (z : ℤ). is_beyond (sum_east (grown leg)) || is_beyond z) to_y ∙ out_is (grown leg);
     }
 
-pub walled_is : (t : Track) (leg : Leg) (east north : ℤ) (out : Bool) → t ≡ track_of leg → Forward t east north out →
+pub walled_is : (t : Motion) (leg : Leg) (east north : ℤ) (out : Bool) → t ≡ motion_of leg → Forward t east north out →
     out ≡ hits_wall (grown leg)
 walled_is t leg east north out e f = (grown_is t leg east north out e f).is_out
 
 -- a robot that a wall stops
-pub stops_is : (t stopped : Track) (leg : Leg) (east north : ℤ) (x y : ℕ) (out : Bool) → t ≡ track_of leg →
+pub stops_is : (t stopped : Motion) (leg : Leg) (east north : ℤ) (x y : ℕ) (out : Bool) → t ≡ motion_of leg →
     Forward t east north out → out ≡ true → x ≡ place_near east → y ≡ place_near north →
-    stopped ≡ track_of (record leg { origin_x = x; origin_y = y; distance = 0; speed = 0; wanted_speed = 0 }) →
-    stopped ≡ track_of (walled (grown leg))
+    stopped ≡ motion_of (record leg { origin_x = x; origin_y = y; distance = 0; speed = 0; wanted_speed = 0 }) →
+    stopped ≡ motion_of (walled (grown leg))
 unfolding walled grown
 stops_is t stopped leg east north x y out e f h p q s =
     let g = grown_is t leg east north out e f in
@@ -257,10 +257,10 @@ stops_is t stopped leg east north x y out e f h p q s =
     rw (sym g.is_out ∙ h, sym to_x, sym to_y) s
 
 -- one that none stops
-pub drives_is : (t : Track) (leg : Leg) (east north : ℤ) (out : Bool) → t ≡ track_of leg → Forward t east north out →
+pub drives_is : (t : Motion) (leg : Leg) (east north : ℤ) (out : Bool) → t ≡ motion_of leg → Forward t east north out →
     out ≡ false →
-    record t { east = east; north = north; x = place_of east; y = place_of north } ≡ track_of (walled (grown leg))
-unfolding walled track_of grown place_x place_y step_east step_north
+    record t { east = east; north = north; x = place_of east; y = place_of north } ≡ motion_of (walled (grown leg))
+unfolding walled motion_of grown place_x place_y step_east step_north
 drives_is t leg east north out e f h =
     let g = grown_is t leg east north out e f in
     let free = or_parts (is_beyond east) (is_beyond north) (sym f.is_out ∙ h) in
@@ -274,7 +274,7 @@ drives_is t leg east north out e f h =
     (free_is_field _ (ap is_beyond (sym g.goes_north) ∙ free.1)) in
     rw (sym g.is_out ∙ h, to_x, to_y, g.goes_east, g.goes_north)
     (ap
-    (λ (t : Track). record t {
+    (λ (t : Motion). record t {
       east = sum_east (grown leg);
       north = sum_north (grown leg);
       x = place_x (grown leg);
@@ -309,8 +309,8 @@ at_rest leg s w h free = record {
   free = free;
 }
 
-pub rests_is : (leg : Leg) → Rests (track_of leg) → StandsFree leg
-unfolding track_of
+pub rests_is : (leg : Leg) → Rests (motion_of leg) → StandsFree leg
+unfolding motion_of
 rests_is leg r =
     let free =
     sym (out_is leg) ∙ rw (field_is_free (sum_east leg) r.inside.0, field_is_free (sum_north leg) r.inside.1) refl in
@@ -329,25 +329,25 @@ keeps_pace leg e =
     ap (λ n. record leg { speed = n }) same
 
 -- one that only turns has turned then
-pub only_turns_is : (t b : Track) (leg : Leg) → t ≡ track_of leg → OnlyTurns t →
-    b ≡ track_of (record (leg_anew leg) { heading = leg.wanted_heading }) → b ≡ track_of (sped (steered leg))
-unfolding track_of leg_anew
+pub only_turns_is : (t b : Motion) (leg : Leg) → t ≡ motion_of leg → OnlyTurns t →
+    b ≡ motion_of (record (leg_anew leg) { heading = leg.wanted_heading }) → b ≡ motion_of (sped (steered leg))
+unfolding motion_of leg_anew
 only_turns_is t b leg e only f =
-    let speed : t.speed ≡ leg.speed = ap (λ (t : Track). t.speed) e in
-    let wanted : t.wanted_speed ≡ leg.wanted_speed = ap (λ (t : Track). t.wanted_speed) e in
+    let speed : t.speed ≡ leg.speed = ap (λ (t : Motion). t.speed) e in
+    let wanted : t.wanted_speed ≡ leg.wanted_speed = ap (λ (t : Motion). t.wanted_speed) e in
     let low : leg.speed ≤ 50 = omega (arith, speed, only.slow) in
     let same : leg.speed ≡ leg.wanted_speed = sym speed ∙ only.keeps ∙ wanted in
     let differs : leg.wanted_heading ≡ leg.heading → ⊥ = λ s.
     only.turns
-    (ap (λ (t : Track). t.wanted_heading) e ∙ s ∙ sym (ap (λ (t : Track). t.heading) e)) in
-    f ∙ ap track_of (sym (ap sped (steers_low leg differs low) ∙ keeps_pace _ same))
+    (ap (λ (t : Motion). t.wanted_heading) e ∙ s ∙ sym (ap (λ (t : Motion). t.heading) e)) in
+    f ∙ ap motion_of (sym (ap sped (steers_low leg differs low) ∙ keeps_pace _ same))
 
-pub keeps_course : (t : Track) (leg : Leg) → t ≡ track_of leg → t.steady ≡ true → t ≡ track_of (sped (steered leg))
-unfolding track_of is_steady
+pub keeps_course : (t : Motion) (leg : Leg) → t ≡ motion_of leg → t.steady ≡ true → t ≡ motion_of (sped (steered leg))
+unfolding motion_of is_steady
 keeps_course t leg e steady =
     let both =
     and_parts (leg.wanted_heading == leg.heading) (leg.speed == leg.wanted_speed)
-    (sym (ap (λ (t : Track). t.steady) e) ∙ steady) in
+    (sym (ap (λ (t : Motion). t.steady) e) ∙ steady) in
     let same_heading : leg.wanted_heading ≡ leg.heading = eqb-true leg.wanted_heading leg.heading both.0 in
     let same_speed : leg.speed ≡ leg.wanted_speed = eqb-true leg.speed leg.wanted_speed both.1 in
-    e ∙ ap track_of (sym (ap sped (keeps_way leg same_heading) ∙ keeps_pace leg same_speed))
+    e ∙ ap motion_of (sym (ap sped (keeps_way leg same_heading) ∙ keeps_pace leg same_speed))

@@ -5,15 +5,15 @@ use Rattle.std.proofs.lemmas.Bool.Decides.{nat_tests}
 use Rattle.std.proofs.lemmas.List.Sums.{sum_by-append}
 use Rattle.std.proofs.lemmas.List.Folds.{sum_by-replicate}
 use Rattle.arena.specs.Leg.{Leg, place_x, place_y, tried, driven, hits_wall}
-use Rattle.arena.specs.Field.{Shot, Robot, damage_of, is_alive}
+use Rattle.arena.specs.Field.{Shot, FieldRobot, damage_of, is_alive}
 use Rattle.arena.specs.Collisions.{candidate}
 use Rattle.arena.specs.Shots.{bursts}
 use Rattle.arena.specs.Moved.{leg_after, knocks, moved_robot}
-use Rattle.arena.specs.Ground.{Track, track_of, Body, body_of}
-use Rattle.arena.specs.Drive.{ahead}
+use Rattle.arena.specs.Arena.{Motion, motion_of, Robot, robot_of}
+use Rattle.arena.specs.Ahead.{robot_ahead}
 
 -- a dead robot stays as it is
-pub dead_is : (robot : Robot) (update : ℕ) (shots : List Shot) (touched : ℕ) → is_alive robot ≡ false →
+pub dead_is : (robot : FieldRobot) (update : ℕ) (shots : List Shot) (touched : ℕ) → is_alive robot ≡ false →
     robot ≡ moved_robot update shots touched robot
 unfolding moved_robot
 dead_is robot update shots touched h = rw h refl
@@ -44,18 +44,19 @@ worn_is hurts leg touched burst =
     )
 
 -- a live robot gets its new motion and its new damage, of which walls took theirs first
-pub alive_is : (robot : Robot) (motion : Track) (update : ℕ) (shots : List Shot) (touched walled burst damage : ℕ) →
-    is_alive robot ≡ true → motion ≡ track_of (leg_after robot.leg touched) →
+pub alive_is : (robot : FieldRobot) (motion : Motion) (update : ℕ) (shots : List Shot) (touched walled burst damage : ℕ)
+    →
+    is_alive robot ≡ true → motion ≡ motion_of (leg_after robot.leg touched) →
     walled ≡ min (damage_of robot + cond (is_alive robot && hits_wall (tried robot.leg)) 2 0) 100 →
     burst ≡ sum (bursts update shots motion.x motion.y) →
     damage ≡ min (walled + 2 * touched + burst) 100 →
-    record { track = motion; damage = damage } ≡ body_of (moved_robot update shots touched robot)
-unfolding moved_robot body_of damage_of track_of
+    record { motion = motion; damage = damage } ≡ robot_of (moved_robot update shots touched robot)
+unfolding moved_robot robot_of damage_of motion_of
 alive_is robot motion update shots touched walled burst damage live m w b d =
     let leg = leg_after robot.leg touched in
     let wall : walled ≡ min (damage_of robot + cond (hits_wall (tried robot.leg)) 2 0) 100 = rw live at w in
     let burst_is : burst ≡ sum (bursts update shots (place_x leg) (place_y leg)) =
-    b ∙ ap (λ (t : Track). sum (bursts update shots t.x t.y)) m in
+    b ∙ ap (λ (t : Motion). sum (bursts update shots t.x t.y)) m in
     let sum_is = worn_is robot.hurts robot.leg touched (bursts update shots (place_x leg) (place_y leg)) in
     let damage_is : damage ≡
     min (sum (robot.hurts ++ knocks robot.leg touched ++ bursts update shots (place_x leg) (place_y leg))) 100 =
@@ -63,75 +64,76 @@ alive_is robot motion update shots touched walled burst damage live m w b d =
     rw (live, m, damage_is) refl
 
 -- a dead robot stays where it is
-pub dead_stays : (robot : Robot) → is_alive robot ≡ false → ahead robot ≡ body_of robot
-unfolding ahead candidate body_of damage_of
+pub dead_stays : (robot : FieldRobot) → is_alive robot ≡ false → robot_ahead robot ≡ robot_of robot
+unfolding robot_ahead candidate robot_of damage_of
 dead_stays robot dead =
     let same : min (min (sum robot.hurts) 100 + 0) 100 ≡ min (sum robot.hurts) 100 = omega arith in rw (dead, same) refl
 
 -- one that touches none, with no burst, is where it drove on its own
-live_is : (robot : Robot) (update : ℕ) (shots : List Shot) → ((x y : ℕ) → sum (bursts update shots x y) ≡ 0) →
-    is_alive robot ≡ true → ahead robot ≡ body_of (moved_robot update shots 0 robot)
-unfolding ahead candidate leg_after
+live_is : (robot : FieldRobot) (update : ℕ) (shots : List Shot) → ((x y : ℕ) → sum (bursts update shots x y) ≡ 0) →
+    is_alive robot ≡ true → robot_ahead robot ≡ robot_of (moved_robot update shots 0 robot)
+unfolding robot_ahead candidate leg_after
 live_is robot update shots none live =
-    let t = track_of (driven robot.leg) in
+    let t = motion_of (driven robot.leg) in
     let d = min (damage_of robot + cond (is_alive robot && hits_wall (tried robot.leg)) 2 0) 100 in
     let drove : candidate robot ≡ driven robot.leg = rw live refl in
     rw drove (alive_is robot t update shots 0 d 0 d live refl refl (sym (none t.x t.y)) (omega arith))
 
-pub ahead_is : (robot : Robot) (update : ℕ) (shots : List Shot) → ((x y : ℕ) → sum (bursts update shots x y) ≡ 0) →
-    ahead robot ≡ body_of (moved_robot update shots 0 robot)
+pub ahead_is : (robot : FieldRobot) (update : ℕ) (shots : List Shot) → ((x y : ℕ) → sum (bursts update shots x y) ≡ 0) →
+    robot_ahead robot ≡ robot_of (moved_robot update shots 0 robot)
 ahead_is robot update shots none = by_life (is_alive robot) refl
   where
-    by_life : (live : Bool) → is_alive robot ≡ live → ahead robot ≡ body_of (moved_robot update shots 0 robot)
+    by_life : (live : Bool) → is_alive robot ≡ live → robot_ahead robot ≡ robot_of (moved_robot update shots 0 robot)
     by_life true e = live_is robot update shots none e
-    by_life false e = dead_stays robot e ∙ ap body_of (dead_is robot update shots 0 e)
+    by_life false e = dead_stays robot e ∙ ap robot_of (dead_is robot update shots 0 e)
 
 -- a live robot that has moved on, and was perhaps stopped by a wall
-pub drove : (robot : Robot) (track : Track) (walled : Bool) (damage : ℕ) → is_alive robot ≡ true →
-    track ≡ track_of (driven robot.leg) → walled ≡ hits_wall (tried robot.leg) →
+pub drove : (robot : FieldRobot) (track : Motion) (walled : Bool) (damage : ℕ) → is_alive robot ≡ true →
+    track ≡ motion_of (driven robot.leg) → walled ≡ hits_wall (tried robot.leg) →
     damage ≡ min (damage_of robot + cond walled 2 0) 100 →
-    record { track = track; damage = damage } ≡ ahead robot
-unfolding ahead candidate
+    record { motion = track; damage = damage } ≡ robot_ahead robot
+unfolding robot_ahead candidate
 drove robot track walled damage live t w d = rw (live, sym w, t, d) refl
 
 -- a robot that has moved on, touches none, and is hurt by bursts
-live_hurt : (robot : Robot) (update : ℕ) (shots : List Shot) (burst : ℕ) → is_alive robot ≡ true →
-    burst ≡ sum (bursts update shots (ahead robot).track.x (ahead robot).track.y) →
-    record (ahead robot) { damage = min ((ahead robot).damage + burst) 100 } ≡
-    body_of (moved_robot update shots 0 robot)
-unfolding ahead candidate leg_after
+live_hurt : (robot : FieldRobot) (update : ℕ) (shots : List Shot) (burst : ℕ) → is_alive robot ≡ true →
+    burst ≡ sum (bursts update shots (robot_ahead robot).motion.x (robot_ahead robot).motion.y) →
+    record (robot_ahead robot) { damage = min ((robot_ahead robot).damage + burst) 100 } ≡
+    robot_of (moved_robot update shots 0 robot)
+unfolding robot_ahead candidate leg_after
 live_hurt robot update shots burst live b =
-    let t = track_of (driven robot.leg) in
+    let t = motion_of (driven robot.leg) in
     let d = min (damage_of robot + cond (is_alive robot && hits_wall (tried robot.leg)) 2 0) 100 in
     let drives : candidate robot ≡ driven robot.leg = rw live refl in
     let here : burst ≡ sum (bursts update shots t.x t.y) =
-    b ∙ ap (λ (l : Leg). sum (bursts update shots (track_of l).x (track_of l).y)) drives in
+    b ∙ ap (λ (l : Leg). sum (bursts update shots (motion_of l).x (motion_of l).y)) drives in
     rw drives (alive_is robot t update shots 0 d burst (min (d + burst) 100) live refl refl here (omega arith))
 
-dead_hurt : (robot : Robot) (burst : ℕ) → is_alive robot ≡ false →
-    record (ahead robot) { damage = min ((ahead robot).damage + burst) 100 } ≡ body_of robot
-unfolding ahead candidate body_of damage_of is_alive
+dead_hurt : (robot : FieldRobot) (burst : ℕ) → is_alive robot ≡ false →
+    record (robot_ahead robot) { damage = min ((robot_ahead robot).damage + burst) 100 } ≡ robot_of robot
+unfolding robot_ahead candidate robot_of damage_of is_alive
 dead_hurt robot burst dead =
     let whole : 100 ≤ min (sum robot.hurts) 100 = grind (arith, nat_tests, dead) in
     let same : min (min (min (sum robot.hurts) 100 + 0) 100 + burst) 100 ≡ min (sum robot.hurts) 100 = omega arith in
     rw (dead, same) refl
 
-pub hurt_is : (robot : Robot) (update : ℕ) (shots : List Shot) (burst : ℕ) →
-    burst ≡ sum (bursts update shots (ahead robot).track.x (ahead robot).track.y) →
-    record (ahead robot) { damage = min ((ahead robot).damage + burst) 100 } ≡
-    body_of (moved_robot update shots 0 robot)
+pub hurt_is : (robot : FieldRobot) (update : ℕ) (shots : List Shot) (burst : ℕ) →
+    burst ≡ sum (bursts update shots (robot_ahead robot).motion.x (robot_ahead robot).motion.y) →
+    record (robot_ahead robot) { damage = min ((robot_ahead robot).damage + burst) 100 } ≡
+    robot_of (moved_robot update shots 0 robot)
 hurt_is robot update shots burst b = by_life (is_alive robot) refl
   where
     by_life : (live : Bool) → is_alive robot ≡ live →
-        record (ahead robot) { damage = min ((ahead robot).damage + burst) 100 } ≡
-        body_of (moved_robot update shots 0 robot)
+        record (robot_ahead robot) { damage = min ((robot_ahead robot).damage + burst) 100 } ≡
+        robot_of (moved_robot update shots 0 robot)
     by_life true e = live_hurt robot update shots burst e b
-    by_life false e = dead_hurt robot burst e ∙ ap body_of (dead_is robot update shots 0 e)
+    by_life false e = dead_hurt robot burst e ∙ ap robot_of (dead_is robot update shots 0 e)
 
-pub hurt_at : (robot : Robot) (body : Body) (update : ℕ) (shots : List Shot) (burst : ℕ) → body ≡ ahead robot →
-    burst ≡ sum (bursts update shots body.track.x body.track.y) →
-    record body { damage = min (body.damage + burst) 100 } ≡ body_of (moved_robot update shots 0 robot)
+pub hurt_at : (robot : FieldRobot) (body : Robot) (update : ℕ) (shots : List Shot) (burst : ℕ) →
+    body ≡ robot_ahead robot →
+    burst ≡ sum (bursts update shots body.motion.x body.motion.y) →
+    record body { damage = min (body.damage + burst) 100 } ≡ robot_of (moved_robot update shots 0 robot)
 hurt_at robot body update shots burst e b =
-    let there : burst ≡ sum (bursts update shots (ahead robot).track.x (ahead robot).track.y) =
-    b ∙ ap (λ (x : Body). sum (bursts update shots x.track.x x.track.y)) e in
-    ap (λ (x : Body). record x { damage = min (x.damage + burst) 100 }) e ∙ hurt_is robot update shots burst there
+    let there : burst ≡ sum (bursts update shots (robot_ahead robot).motion.x (robot_ahead robot).motion.y) =
+    b ∙ ap (λ (x : Robot). sum (bursts update shots x.motion.x x.motion.y)) e in
+    ap (λ (x : Robot). record x { damage = min (x.damage + burst) 100 }) e ∙ hurt_is robot update shots burst there

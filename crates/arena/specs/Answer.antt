@@ -1,7 +1,7 @@
 -- What the field answers to a robot that calls an intrinsic function, and what that changes.
 use Rattle.std.specs.Prelude.{ℕ, ◌+◌, ◌%◌, max, nat_lt, if◌then◌else◌, List, [], ◌∷◌, ◌++◌, length, ℤ, pos, slice_index_or, slice_set}
-use Rattle.grammar.specs.declared.names.Intrinsic.{Intrinsic}
-use Rattle.grammar.specs.declared.names.Intrinsic.TheVariants.{Scan, Cannon, Drive, Damage, Speed, LocX, LocY, Rand, Sqrt, Sin, Cos, Tan, Atan}
+use Rattle.grammar.specs.declared.resolved_names.Intrinsic.{Intrinsic}
+use Rattle.grammar.specs.declared.resolved_names.Intrinsic.TheVariants.{Scan, Cannon, Drive, Damage, Speed, LocX, LocY, Rand, Sqrt, Sin, Cos, Tan, Atan}
 use Rattle.arith.specs.Degree.{degree_of}
 use Rattle.arith.specs.Circle.{sine_of, cosine_of}
 use Rattle.arith.specs.Tangent.{tangent_of}
@@ -15,8 +15,8 @@ use Rattle.arena.specs.Scan.{scanned}
 use Rattle.arena.specs.Random.{random_word}
 
 -- an argument by its place; a missing one is 0
-unfoldable pub argument : List ℤ → ℕ → ℤ
-argument arguments k = slice_index_or arguments k (pos 0)
+unfoldable pub argument_at : List ℤ → ℕ → ℤ
+argument_at arguments k = slice_index_or arguments k (pos 0)
 
 -- a robot fires if fewer of its own missiles are in the air than may be
 unfoldable pub fired : Field → ℕ → ℕ → ℕ → ℤ × Field
@@ -44,16 +44,16 @@ random_number field n = random_word field.seed field.number field.drawn % random
 -- the reply, and the field afterwards
 unfoldable pub answer : Field → ℕ → Intrinsic → List ℤ → ℤ × Field
 answer field i Scan a =
-    (pos (scanned field i (degree_of (argument a 0)) (clamped most_resolution (argument a 1))), field)
-answer field i Cannon a = fired field i (degree_of (argument a 0)) (clamped most_range (argument a 1))
-answer field i Drive a = (pos 1, directed field i (degree_of (argument a 0)) (clamped most_speed (argument a 1)))
+    (pos (scanned field i (degree_of (argument_at a 0)) (clamped most_resolution (argument_at a 1))), field)
+answer field i Cannon a = fired field i (degree_of (argument_at a 0)) (clamped most_range (argument_at a 1))
+answer field i Drive a = (pos 1, directed field i (degree_of (argument_at a 0)) (clamped most_speed (argument_at a 1)))
 answer field i Damage a = (pos (damage_of (robot_at field i)), field)
 answer field i Speed a = (pos (robot_at field i).leg.speed, field)
 answer field i LocX a = (pos (metres_x (robot_at field i)), field)
 answer field i LocY a = (pos (metres_y (robot_at field i)), field)
-answer field i Rand a = (pos (random_number field (argument a 0)), record field { drawn = field.drawn + 1 })
-answer field i Sqrt a = (root_of (argument a 0), field)
-answer field i Sin a = (sine_of (argument a 0), field)
-answer field i Cos a = (cosine_of (argument a 0), field)
-answer field i Tan a = (tangent_of (argument a 0), field)
-answer field i Atan a = (arctangent_of (argument a 0), field)
+answer field i Rand a = (pos (random_number field (argument_at a 0)), record field { drawn = field.drawn + 1 })
+answer field i Sqrt a = (root_of (argument_at a 0), field)
+answer field i Sin a = (sine_of (argument_at a 0), field)
+answer field i Cos a = (cosine_of (argument_at a 0), field)
+answer field i Tan a = (tangent_of (argument_at a 0), field)
+answer field i Atan a = (arctangent_of (argument_at a 0), field)

@@ -4,14 +4,14 @@ use Rattle.std.specs.Int.{abs_diff}
 pub use Rattle.arena.specs.declared.collisions.Mover.{Mover}
 use Rattle.arena.specs.Rules.{near}
 use Rattle.arena.specs.Leg.{Leg, place_x, place_y, driven}
-use Rattle.arena.specs.Field.{Robot, is_alive, no_robot}
+use Rattle.arena.specs.Field.{FieldRobot, is_alive, no_robot}
 
 -- where a robot would drive on its own; a dead one stays
-unfoldable pub candidate : Robot → Leg
+unfoldable pub candidate : FieldRobot → Leg
 candidate robot = if is_alive robot then driven robot.leg else robot.leg
 
 -- a robot's place before the update, and its candidate for the place after it
-unfoldable pub mover : Robot → Mover
+unfoldable pub mover : FieldRobot → Mover
 mover robot = record {
   live = is_alive robot;
   from = record { x = place_x robot.leg; y = place_y robot.leg };

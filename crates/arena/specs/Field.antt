@@ -10,7 +10,7 @@ pub record Shot : Type 0 where
   pub x : ℕ
   pub y : ℕ
 
-pub record Robot : Type 0 where
+pub record FieldRobot : Type 0 where
   pub leg : Leg
   pub hurts : List ℕ
 
@@ -20,18 +20,18 @@ pub record Field : Type 0 where
   pub number : ℕ
   pub drawn : ℕ
   pub updates : ℕ
-  pub robots : List Robot
+  pub robots : List FieldRobot
   pub shots : List Shot
 
 -- the damage is in percent, and no more than makes a robot dead
-unfoldable pub damage_of : Robot → ℕ
+unfoldable pub damage_of : FieldRobot → ℕ
 damage_of robot = min (sum robot.hurts) deadly
 
-unfoldable pub is_alive : Robot → Bool
+unfoldable pub is_alive : FieldRobot → Bool
 is_alive robot = nat_lt (damage_of robot) deadly
 
 -- what is read past the last robot: a dead one
-unfoldable pub no_robot : Robot
+unfoldable pub no_robot : FieldRobot
 no_robot = record {
   leg = record {
     origin_x = 0;
@@ -45,7 +45,7 @@ no_robot = record {
   hurts = deadly ∷ [];
 }
 
-unfoldable pub robot_at : Field → ℕ → Robot
+unfoldable pub robot_at : Field → ℕ → FieldRobot
 robot_at field i = slice_index_or field.robots i no_robot
 
 unfoldable pub is_live : Field → ℕ → Bool
@@ -55,8 +55,8 @@ unfoldable pub live_count : Field → ℕ
 live_count field = count_by is_alive field.robots
 
 -- a robot's place in whole metres, rounded down
-unfoldable pub metres_x : Robot → ℕ
+unfoldable pub metres_x : FieldRobot → ℕ
 metres_x robot = place_x robot.leg / 10
 
-unfoldable pub metres_y : Robot → ℕ
+unfoldable pub metres_y : FieldRobot → ℕ
 metres_y robot = place_y robot.leg / 10

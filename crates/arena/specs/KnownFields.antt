@@ -1,9 +1,9 @@
 -- Fields that show the rules, worked out from the definitions by the prover.
 use Rattle.std.specs.Prelude.{◌≡◌, ℕ, List, [], ◌∷◌, map, ℤ, pos, neg_ℤ}
-use Rattle.grammar.specs.declared.names.Intrinsic.{Intrinsic}
-use Rattle.grammar.specs.declared.names.Intrinsic.TheVariants.{Scan, Cannon, Drive, LocX, Rand}
+use Rattle.grammar.specs.declared.resolved_names.Intrinsic.{Intrinsic}
+use Rattle.grammar.specs.declared.resolved_names.Intrinsic.TheVariants.{Scan, Cannon, Drive, LocX, Rand}
 use Rattle.arena.specs.Leg.{place_x, place_y}
-use Rattle.arena.specs.Field.{Robot, Field, damage_of, robot_at}
+use Rattle.arena.specs.Field.{FieldRobot, Field, damage_of, robot_at}
 use Rattle.arena.specs.Random.{random_word}
 use Rattle.arena.specs.Start.{quadrant, start}
 use Rattle.arena.specs.Placed.{placed}
@@ -18,10 +18,10 @@ abbrev pub asked : Field → ℕ → Intrinsic → ℤ → ℤ → Field
 asked field i intrinsic a b = (answer field i intrinsic (a ∷ b ∷ [])).1
 
 abbrev pub places : Field → List (ℕ × ℕ)
-places field = map (λ (robot : Robot). (place_x robot.leg, place_y robot.leg)) field.robots
+places field = map (λ (robot : FieldRobot). (place_x robot.leg, place_y robot.leg)) field.robots
 
 abbrev pub speeds : Field → List ℕ
-speeds field = map (λ (robot : Robot). robot.leg.speed) field.robots
+speeds field = map (λ (robot : FieldRobot). robot.leg.speed) field.robots
 
 abbrev pub damages : Field → List ℕ
 damages field = map damage_of field.robots

@@ -12,12 +12,12 @@ pub mod Start
 pub mod Placed
 pub mod Answer
 pub mod Sums
-pub mod Ground
-pub mod Tracking
+pub mod Arena
+pub mod Motions
 pub mod Still
-pub mod Drive
-pub mod Calm
+pub mod Ahead
+pub mod Apart
 pub mod Due
-pub mod Standing
+pub mod Representing
 pub mod Outlook
 pub mod KnownFields

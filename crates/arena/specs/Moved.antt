@@ -12,7 +12,7 @@ use Rattle.std.specs.Prelude.{ℕ, ◌+◌, nat_lt, if◌then◌else◌, List, [
 use Rattle.std.specs.List.{range_with_len}
 use Rattle.arena.specs.Rules.{wall_damage, knock_damage}
 use Rattle.arena.specs.Leg.{Leg, place_x, place_y, driven, tried, hits_wall}
-use Rattle.arena.specs.Field.{Shot, Robot, Field, is_alive, robot_at}
+use Rattle.arena.specs.Field.{Shot, FieldRobot, Field, is_alive, robot_at}
 use Rattle.arena.specs.Collisions.{mover, touches}
 use Rattle.arena.specs.Shots.{bursts}
 
@@ -35,7 +35,7 @@ unfoldable pub knocks : Leg → ℕ → List ℕ
 knocks leg touched = (if hits_wall (tried leg) then wall_damage ∷ [] else []) ++ replicate touched knock_damage
 
 -- a live robot after the update, given how many others it collides with and the shots; a dead one stays as it is
-unfoldable pub moved_robot : ℕ → List Shot → ℕ → Robot → Robot
+unfoldable pub moved_robot : ℕ → List Shot → ℕ → FieldRobot → FieldRobot
 moved_robot update shots touched robot =
     if is_alive robot then
     (let leg = leg_after robot.leg touched in

@@ -4,11 +4,11 @@ use Rattle.std.specs.Ordering.{int_eq}
 use Rattle.arith.specs.Degree.{apart}
 use Rattle.arith.specs.Bearing.{bearing_of}
 use Rattle.arith.specs.Root.{root_of}
-use Rattle.arena.specs.Field.{Robot, metres_x, metres_y}
+use Rattle.arena.specs.Field.{FieldRobot, metres_x, metres_y}
 use Rattle.arena.specs.Collisions.{square}
 
 -- a robot is at this place, in whole metres
-pub record IsAt (x y : ℕ) (robot : Robot) : Type 0 where
+pub record IsAtMetres (x y : ℕ) (robot : FieldRobot) : Type 0 where
   pub east : x ≡ metres_x robot
   pub north : y ≡ metres_y robot
 
@@ -22,7 +22,7 @@ unfoldable pub square_of : ℤ → ℤ → ℕ
 square_of east north = unsigned_abs east * unsigned_abs east + unsigned_abs north * unsigned_abs north
 
 -- ranges compare as these do: the squared distance in whole metres
-unfoldable pub square_to : Robot → Robot → ℕ
+unfoldable pub square_to : FieldRobot → FieldRobot → ℕ
 square_to from to = square (metres_x from) (metres_y from) (metres_x to) (metres_y to)
 
 -- more than any squared distance: it stands for no robot

@@ -8,7 +8,7 @@ use Rattle.arena.specs.Field.{Shot, Field, damage_of, robot_at, is_live}
 use Rattle.arena.specs.Collisions.{mover, collides, square, touches}
 use Rattle.arena.specs.Shots.{ring, in_air, due_at}
 use Rattle.arena.specs.Moved.{leg_after, moved}
-use Rattle.arena.specs.Ground.{Missile, shot_of}
+use Rattle.arena.specs.Arena.{Missile, shot_of}
 
 -- the burst of a shot
 unfoldable pub burst_of : Shot → Burst
@@ -47,8 +47,8 @@ taken_by field i burst =
     else 0
 
 -- all that the update takes from a robot
-unfoldable pub taken : Field → ℕ → ℕ
-taken field i =
+unfoldable pub damage_taken : Field → ℕ → ℕ
+damage_taken field i =
     (if meets_wall field i then wall_damage else 0)
     + knock_damage * count_by (meets field i) (range_with_len 0 (length field.robots))
     + sum (map (taken_by field i) (due field))
@@ -56,4 +56,4 @@ taken field i =
 -- that is what the update makes of each robot's damage
 abbrev pub AddsUp : Field → Type 0
 AddsUp field = (i : ℕ) → i < length field.robots
-    → damage_of (robot_at (moved field) i) ≡ min (damage_of (robot_at field i) + taken field i) deadly
+    → damage_of (robot_at (moved field) i) ≡ min (damage_of (robot_at field i) + damage_taken field i) deadly

@@ -3,27 +3,27 @@ use Rattle.std.specs.Prelude.{ℕ, min, max, fold, Bool, ◌&&◌, ◌||◌, ◌
 unfoldable pub use Rattle.arith.specs.Degree.{apart}
 use Rattle.arith.specs.Root.{root_of}
 use Rattle.arith.specs.Bearing.{bearing_of}
-use Rattle.arena.specs.Field.{Robot, Field, is_alive, robot_at, metres_x, metres_y}
+use Rattle.arena.specs.Field.{FieldRobot, Field, is_alive, robot_at, metres_x, metres_y}
 use Rattle.arena.specs.Collisions.{square, others}
 
 -- from one robot to another, in whole metres
-unfoldable pub east_to : Robot → Robot → ℤ
+unfoldable pub east_to : FieldRobot → FieldRobot → ℤ
 east_to from to = pos (metres_x to) -ℤ pos (metres_x from)
 
-unfoldable pub north_to : Robot → Robot → ℤ
+unfoldable pub north_to : FieldRobot → FieldRobot → ℤ
 north_to from to = pos (metres_y to) -ℤ pos (metres_y from)
 
 -- the other robot lies in the arc; one at the same whole metres lies in every arc
-unfoldable pub in_arc : Robot → ℕ → ℕ → Robot → Bool
+unfoldable pub in_arc : FieldRobot → ℕ → ℕ → FieldRobot → Bool
 in_arc from degree resolution to =
     ((metres_x to == metres_x from) && (metres_y to == metres_y from)) ||
     nat_le (apart (bearing_of (east_to from to) (north_to from to)) degree) resolution
 
-unfoldable pub sees : Robot → ℕ → ℕ → Robot → Bool
+unfoldable pub sees : FieldRobot → ℕ → ℕ → FieldRobot → Bool
 sees from degree resolution to = is_alive to && in_arc from degree resolution to
 
 -- how far away it is: whole metres rounded down, and at least 1
-unfoldable pub range_of : Robot → Robot → ℕ
+unfoldable pub range_of : FieldRobot → FieldRobot → ℕ
 range_of from to =
     max 1 (unsigned_abs (root_of (pos (square (metres_x from) (metres_y from) (metres_x to) (metres_y to)))))
 

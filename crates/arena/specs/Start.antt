@@ -2,11 +2,11 @@
 use Rattle.std.specs.Prelude.{ℕ, ◌+◌, ◌*◌, ◌/◌, ◌%◌, ◌==◌, if◌then◌else◌, [], map}
 use Rattle.std.specs.List.{range_with_len}
 use Rattle.arena.specs.Rules.{low_half, high_half, half_places}
-use Rattle.arena.specs.Field.{Robot, Field}
+use Rattle.arena.specs.Field.{FieldRobot, Field}
 use Rattle.arena.specs.Random.{random_word}
 
 -- a robot at rest at a place, unhurt
-unfoldable pub standing : ℕ → ℕ → Robot
+unfoldable pub standing : ℕ → ℕ → FieldRobot
 standing x y = record {
   leg = record {
     origin_x = x;
@@ -29,7 +29,7 @@ unfoldable pub drawn_place : ℕ → ℕ → ℕ
 drawn_place half w = (if half == 0 then low_half else high_half) + w % half_places
 
 -- each robot draws x and then y
-unfoldable pub drawn_robot : ℕ → ℕ → ℕ → Robot
+unfoldable pub drawn_robot : ℕ → ℕ → ℕ → FieldRobot
 drawn_robot seed number i =
     let q = quadrant seed number i in
     standing (drawn_place (q % 2) (random_word seed number (1 + 2 * i)))

@@ -3,28 +3,28 @@ use Rattle.std.specs.Prelude.{◌≡◌, ◌⊎◌, ℕ, zero, suc, ◌≤◌, L
 use Rattle.arena.specs.Rules.{deadly, turning_speed}
 use Rattle.arena.specs.Field.{Field}
 use Rattle.arena.specs.Sums.{IsInField}
-use Rattle.arena.specs.Ground.{Track, Body, Missile}
+use Rattle.arena.specs.Arena.{Motion, Robot, Missile}
 use Rattle.arena.specs.Moved.{moved}
 
 -- a robot at rest inside the field: it has no speed, and wants none and no other heading
-pub record Rests (track : Track) : Type 0 where
+pub record Rests (track : Motion) : Type 0 where
   pub stands : track.speed ≡ 0
   pub wants_none : track.wanted_speed ≡ 0
   pub heads : track.wanted_heading ≡ track.heading
   pub inside : IsInField track.east × IsInField track.north
 
 -- a robot that turns in an update, and keeps the speed that it has
-pub record OnlyTurns (track : Track) : Type 0 where
+pub record OnlyTurns (track : Motion) : Type 0 where
   pub turns : track.wanted_heading ≡ track.heading → ⊥
   pub slow : track.speed ≤ turning_speed
   pub keeps : track.speed ≡ track.wanted_speed
 
 -- an update without bursts leaves a robot as it is: it is dead, or at rest
-abbrev pub Stays : Body → Type 0
-Stays body = (body.damage ≡ deadly) ⊎ Rests body.track
+abbrev pub Stays : Robot → Type 0
+Stays robot = (robot.damage ≡ deadly) ⊎ Rests robot.motion
 
 -- all robots stay, and no missile is in the air
-pub record IsStill (robots : List Body) (slots : List (List Missile)) : Type 0 where
+pub record IsStill (robots : List Robot) (slots : List (List Missile)) : Type 0 where
   pub stay : All Stays robots
   pub none_flies : All (λ s. s ≡ []) slots
 
@@ -34,5 +34,5 @@ moved_times zero field = field
 moved_times (suc n) field = moved (moved_times n field)
 
 -- no missile in the air bursts before an update
-abbrev pub NoneBefore : ℕ → List (List Missile) → Type 0
-NoneBefore update slots = All (All (λ m. update ≤ m.burst)) slots
+abbrev pub NoBurstBefore : ℕ → List (List Missile) → Type 0
+NoBurstBefore update slots = All (All (λ m. update ≤ m.burst)) slots

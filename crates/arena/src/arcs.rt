@@ -32,7 +32,7 @@ struct Direction {
 
 impl Direction {
     /// Makes the direction of a degree.
-    fn of(degree: u16) -> Direction
+    fn of_degree(degree: u16) -> Direction
         requires { degree < 360 }
         ensures { result.degree ≡ degree }
     {
@@ -76,13 +76,13 @@ impl Arc {
         Arc {
             degree,
             resolution,
-            left: Direction::of(turned(degree, SIDE - resolution)),
-            right: Direction::of(turned(degree, 360 - SIDE + resolution)),
+            left: Direction::of_degree(degree_further(degree, SIDE - resolution)),
+            right: Direction::of_degree(degree_further(degree, 360 - SIDE + resolution)),
         }
     }
 
     /// Reports whether a way leads beside the arc: it reaches backwards in one of the two directions.
-    pub fn is_beside(&self, way: &Way) -> bool
+    pub fn is_passed_by(&self, way: &Way) -> bool
         ensures { result ≡ true
             → leads_into way.now.east way.now.north self.now.degree self.now.resolution ≡ false }
     {
@@ -90,7 +90,7 @@ impl Arc {
     }
 
     /// Reports whether a way leads into the arc, or nowhere. A rough test decides on those that lead deep into it.
-    pub fn holds(&self, way: &Way) -> bool
+    pub fn is_led_into_by(&self, way: &Way) -> bool
         ensures { result ≡ leads_into way.now.east way.now.north self.now.degree self.now.resolution }
     {
         self.is_deep(way) || lies_within(*way, self.degree, self.resolution)
@@ -116,7 +116,7 @@ fn lies_within(way: Way, degree: u16, resolution: u16) -> bool
 }
 
 /// Returns the degree that lies so many degrees further round the circle.
-fn turned(degree: u16, by: u16) -> u16
+fn degree_further(degree: u16, by: u16) -> u16
     requires degree { degree < 360 }
     requires by { by < 360 }
     ensures value { result ≡ (degree + by) % 360 }

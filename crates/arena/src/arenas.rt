@@ -1,7 +1,7 @@
 //! The arena: a field in play, what it answers to robots, and its updates.
 
 ghost use Rattle.std.specs.Prelude.{◌≡◌, ℕ, ◌+◌, ◌<◌, ◌≤◌, true, nat_lt, [], ◌∷◌, All, count_by, length, slice_index_or};
-ghost use Rattle.grammar.specs.declared.names.Intrinsic.TheVariants.{Scan, Cannon, Drive, Rand};
+ghost use Rattle.grammar.specs.declared.resolved_names.Intrinsic.TheVariants.{Scan, Cannon, Drive, Rand};
 ghost use Rattle.arena.specs.Rules.{last_place};
 ghost use Rattle.arena.specs.Leg.{clamped, place_x, place_y};
 ghost use Rattle.arena.specs.Field.{Field, no_robot, damage_of, robot_at, is_live, live_count};
@@ -10,17 +10,17 @@ ghost use Rattle.arena.specs.Still.{IsStill, moved_times};
 ghost use Rattle.arena.specs.Start.{start};
 ghost use Rattle.arena.specs.Placed.{placed, IsPlace};
 ghost use Rattle.arena.specs.Answer.{answer};
-ghost use Rattle.arena.specs.Ground.{most_updates, Body, body_of, lives};
-ghost use Rattle.arena.specs.Standing.{StandsFor, Answers};
+ghost use Rattle.arena.specs.Arena.{most_updates, Robot, robot_of, lives};
+ghost use Rattle.arena.specs.Representing.{RepresentsField, Answers};
 
 use crate::missile::Missile;
 use crate::missiles::Missiles;
-use crate::random::{generator, random_number};
+use crate::random::{draw_number, generator};
 use crate::robots::Robot;
 use crate::rules::{DEADLY, MOST_MISSILES, MOST_RANGE, MOST_RESOLUTION, MOST_ROBOTS, MOST_SPEED};
-use crate::scans::scan;
+use crate::scans::nearest_range;
 use crate::starts::{drawn_robots, placed_robots};
-use crate::updates::{is_still, move_on};
+use crate::updates::{is_still, move_robots};
 use arith::{atan, cos, norm_degree, root, sin, tan};
 use arrayvec::ArrayVec;
 use grammar::Intrinsic;
@@ -33,7 +33,7 @@ use std::marker::Model;
 #[derive(Drop)]
 pub struct Arena {
     updates: u32,
-    calm: u32,
+    updates_apart: u32,
     is_still: bool,
     robots: ArrayVec<Robot, MOST_ROBOTS>,
     missiles: Missiles,
@@ -42,12 +42,12 @@ pub struct Arena {
 
 impl Model for Arena {
     ghost use Rattle.std.specs.Prelude.{◌≡◌, ◌≤◌, true, All, length};
-    ghost use Rattle.arena.specs.Ground.{most_updates, Ground};
+    ghost use Rattle.arena.specs.Arena.{most_updates, Arena};
     ghost use Rattle.arena.specs.Still.{IsStill};
-    ghost use Rattle.arena.specs.Calm.{FarFor};
+    ghost use Rattle.arena.specs.Apart.{AreApartFor};
     ghost use Rattle.arena.specs.declared.rules.TheConstants.{MOST_MISSILES, MOST_ROBOTS};
 
-    ghost Value = { Ground };
+    ghost Value = { Arena };
 
     ghost view = { λ a.
         record { updates = a.updates; robots = a.robots.items; slots = a.missiles; random = a.random } };
@@ -55,7 +55,7 @@ impl Model for Arena {
     ghost invariant = { λ a. (a.updates ≤ most_updates) × (length a.missiles ≡ length a.robots.items)
         × (length a.robots.items ≤ MOST_ROBOTS)
         × All (λ s. length s ≤ MOST_MISSILES) a.missiles × (a.is_still ≡ true → IsStill a.robots.items a.missiles)
-        × FarFor a.calm a.robots.items };
+        × AreApartFor a.updates_apart a.robots.items };
 }
 
 impl Arena {
@@ -63,7 +63,7 @@ impl Arena {
     pub fn new(seed: u64, number: u64, n: usize) -> Arena
         requires some { 2 ≤ n }
         requires most { n ≤ MOST_ROBOTS }
-        ensures stands { StandsFor result (start seed number n) }
+        ensures stands { RepresentsField result (start seed number n) }
         ensures updates { result.updates ≡ 0 }
         ensures manned { length result.robots ≡ n }
     {
@@ -71,10 +71,10 @@ impl Arena {
         let robots = drawn_robots(&mut random, n);
         Arena {
             updates: 0,
-            calm: 0,
+            updates_apart: 0,
             is_still: false,
             robots,
-            missiles: Missiles::none(n),
+            missiles: Missiles::none_in_air(n),
             random,
         }
     }
@@ -83,16 +83,16 @@ impl Arena {
     pub fn placed(seed: u64, number: u64, places: &ArrayVec<(i32, i32), MOST_ROBOTS>) -> Arena
         requires some { 2 ≤ length places.now.items }
         requires inside { All IsPlace places.now.items }
-        ensures stands { StandsFor result (placed seed number places.now.items) }
+        ensures stands { RepresentsField result (placed seed number places.now.items) }
         ensures updates { result.updates ≡ 0 }
         ensures manned { length result.robots ≡ length places.now.items }
     {
         Arena {
             updates: 0,
-            calm: 0,
+            updates_apart: 0,
             is_still: false,
             robots: placed_robots(places),
-            missiles: Missiles::none(places.len()),
+            missiles: Missiles::none_in_air(places.len()),
             random: generator(seed, number),
         }
     }
@@ -101,9 +101,9 @@ impl Arena {
     /// the function has no use for are 0. docs/field.md has each function's reply.
     pub fn ask(&mut self, robot: usize, intrinsic: Intrinsic, arguments: [i32; 2]) -> i32
         requires { lives self.old robot ≡ true }
-        ensures reply { (f : Field) → StandsFor self.old f → result ≡ (answer f robot intrinsic arguments).0 }
-        ensures stands { (f : Field) → StandsFor self.old f
-            → StandsFor self.new (answer f robot intrinsic arguments).1 }
+        ensures reply { (f : Field) → RepresentsField self.old f → result ≡ (answer f robot intrinsic arguments).0 }
+        ensures stands { (f : Field) → RepresentsField self.old f
+            → RepresentsField self.new (answer f robot intrinsic arguments).1 }
         ensures updates { self.new.updates ≡ self.old.updates }
         ensures manned { length self.new.robots ≡ length self.old.robots }
         ensures alive { lives self.new robot ≡ true }
@@ -131,11 +131,11 @@ impl Arena {
     /// degrees to either side as the resolution, which is brought into 0 to 10. The robot that scans must live.
     pub fn scan(&self, robot: usize, degree: i32, resolution: i32) -> i32
         requires { lives self.now robot ≡ true }
-        ensures { (f : Field) → StandsFor self.now f
+        ensures { (f : Field) → RepresentsField self.now f
             → result ≡ (answer f robot Scan (degree ∷ resolution ∷ [])).0 }
     {
-        let resolution = clamped(resolution, MOST_RESOLUTION);
-        i32::from(scan(
+        let resolution = clamped_argument(resolution, MOST_RESOLUTION);
+        i32::from(nearest_range(
             self.robots.as_slice(),
             robot,
             norm_degree(degree),
@@ -152,7 +152,7 @@ impl Arena {
         if !self.missiles.may_fire(robot) {
             return 0;
         }
-        let range = clamped(range, MOST_RANGE);
+        let range = clamped_argument(range, MOST_RANGE);
         let from = self.robot(robot).place();
         let missile = Missile::new(self.updates, from, norm_degree(degree), range);
         self.is_still = false;
@@ -166,7 +166,7 @@ impl Arena {
         requires { lives self.old robot ≡ true }
         ensures { Answers self.old self.new robot Drive (degree ∷ speed ∷ []) result }
     {
-        let speed = clamped(speed, MOST_SPEED) as u8;
+        let speed = clamped_argument(speed, MOST_SPEED) as u8;
         self.is_still = false;
         self.robots[robot].want(norm_degree(degree), speed);
         1
@@ -176,20 +176,20 @@ impl Arena {
     /// for it, it takes the next word of the match.
     #[inline(always)]
     pub fn draw(&mut self, limit: i32) -> i32
-        ensures reply { (f : Field) → StandsFor self.old f → (robot : ℕ) → result ≡ (answer f robot Rand (limit ∷ [])).0 }
-        ensures stands { (f : Field) → StandsFor self.old f → (robot : ℕ)
-            → StandsFor self.new (answer f robot Rand (limit ∷ [])).1 }
+        ensures reply { (f : Field) → RepresentsField self.old f → (robot : ℕ) → result ≡ (answer f robot Rand (limit ∷ [])).0 }
+        ensures stands { (f : Field) → RepresentsField self.old f → (robot : ℕ)
+            → RepresentsField self.new (answer f robot Rand (limit ∷ [])).1 }
         ensures updates { self.new.updates ≡ self.old.updates }
         ensures manned { length self.new.robots ≡ length self.old.robots }
         ensures alive { (robot : ℕ) → lives self.new robot ≡ lives self.old robot }
     {
-        random_number(&mut self.random, limit)
+        draw_number(&mut self.random, limit)
     }
 
     /// Does one update: moves all live robots, and lets the missiles burst that are due.
     pub fn update(&mut self)
         requires { self.old.updates < most_updates }
-        ensures stands { (f : Field) → StandsFor self.old f → StandsFor self.new (moved f) }
+        ensures stands { (f : Field) → RepresentsField self.old f → RepresentsField self.new (moved f) }
         ensures updates { self.new.updates ≡ self.old.updates + 1 }
         ensures manned { length self.new.robots ≡ length self.old.robots }
     {
@@ -198,11 +198,11 @@ impl Arena {
             self.updates = update;
             return;
         }
-        self.calm = move_on(
+        self.updates_apart = move_robots(
             self.robots.as_mut_slice(),
             &self.missiles,
             update,
-            self.calm,
+            self.updates_apart,
         );
         self.missiles.land(update);
         self.is_still = is_still(self.robots.as_slice(), &self.missiles);
@@ -222,7 +222,7 @@ impl Arena {
     pub fn update_times(&mut self, updates: u32)
         requires still { IsStill self.old.robots self.old.slots }
         requires few { self.old.updates + updates ≤ most_updates }
-        ensures stands { (f : Field) → StandsFor self.old f → StandsFor self.new (moved_times updates f) }
+        ensures stands { (f : Field) → RepresentsField self.old f → RepresentsField self.new (moved_times updates f) }
         ensures value { self.new ≡ record self.old { updates = self.old.updates + updates } }
     {
         self.updates += updates;
@@ -232,7 +232,7 @@ impl Arena {
     pub fn alive(&self, robot: usize) -> bool
         requires { robot < length self.now.robots }
         ensures lives { result ≡ lives self.now robot }
-        ensures stands { (f : Field) → StandsFor self.now f → result ≡ is_live f robot }
+        ensures stands { (f : Field) → RepresentsField self.now f → result ≡ is_live f robot }
     {
         self.robot(robot).is_alive()
     }
@@ -241,7 +241,7 @@ impl Arena {
     pub fn damage(&self, robot: usize) -> u8
         requires { robot < length self.now.robots }
         ensures most { result ≤ DEADLY }
-        ensures stands { (f : Field) → StandsFor self.now f → result ≡ damage_of (robot_at f robot) }
+        ensures stands { (f : Field) → RepresentsField self.now f → result ≡ damage_of (robot_at f robot) }
     {
         self.robot(robot).damage()
     }
@@ -249,8 +249,8 @@ impl Arena {
     /// Returns a robot's place, east and north, in tenths of a metre from 0 to 9,999.
     pub fn place(&self, robot: usize) -> (u16, u16)
         requires { robot < length self.now.robots }
-        ensures x { (f : Field) → StandsFor self.now f → result.0 ≡ place_x (robot_at f robot).leg }
-        ensures y { (f : Field) → StandsFor self.now f → result.1 ≡ place_y (robot_at f robot).leg }
+        ensures x { (f : Field) → RepresentsField self.now f → result.0 ≡ place_x (robot_at f robot).leg }
+        ensures y { (f : Field) → RepresentsField self.now f → result.1 ≡ place_y (robot_at f robot).leg }
         ensures most_x { result.0 ≤ last_place }
         ensures most_y { result.1 ≤ last_place }
     {
@@ -260,20 +260,20 @@ impl Arena {
 
     /// Returns how many robots live.
     pub fn live_count(&self) -> usize
-        ensures { (f : Field) → StandsFor self.now f → result ≡ live_count f }
+        ensures { (f : Field) → RepresentsField self.now f → result ≡ live_count f }
     {
-        living(self.robots.as_slice())
+        live_robots(self.robots.as_slice())
     }
 
     /// Reports whether at least two robots live. It looks no further than the second one.
-    pub fn two_live(&self) -> bool
-        ensures { (f : Field) → StandsFor self.now f → result ≡ nat_lt 1 (live_count f) }
+    pub fn has_two_live(&self) -> bool
+        ensures { (f : Field) → RepresentsField self.now f → result ≡ nat_lt 1 (live_count f) }
     {
-        two_live(self.robots.as_slice())
+        two_are_live(self.robots.as_slice())
     }
 
     /// Proves that no robot has more than two missiles in the air.
-    pub(crate) fn keeps_two(&self)
+    pub(crate) fn prove_two_missiles(&self)
         ensures { All (λ s. length s ≤ MOST_MISSILES) self.now.slots }
     {
         // For the proof alone: a field that is read brings what holds of every arena.
@@ -281,7 +281,7 @@ impl Arena {
     }
 
     /// Proves that each robot has its missiles.
-    pub(crate) fn keeps_slots(&self)
+    pub(crate) fn prove_slots(&self)
         ensures { length self.now.slots ≡ length self.now.robots }
     {
         // For the proof alone: a field that is read brings what holds of every arena.
@@ -314,23 +314,23 @@ impl Arena {
     /// Returns the robot of a number.
     pub(crate) fn robot(&self, robot: usize) -> &Robot
         requires { robot < length self.now.robots }
-        ensures value { result.now ≡ slice_index_or self.now.robots robot (body_of no_robot) }
-        ensures stands { (f : Field) → StandsFor self.now f → result.now ≡ body_of (robot_at f robot) }
+        ensures value { result.now ≡ slice_index_or self.now.robots robot (robot_of no_robot) }
+        ensures stands { (f : Field) → RepresentsField self.now f → result.now ≡ robot_of (robot_at f robot) }
     {
         &self.robots[robot]
     }
 }
 
 /// Returns how many of some robots live.
-fn living(robots: &[Robot]) -> usize
-    ensures { result ≡ count_by (λ (b : Body). nat_lt b.damage DEADLY) robots.now }
+fn live_robots(robots: &[Robot]) -> usize
+    ensures { result ≡ count_by (λ (b : Robot). nat_lt b.damage DEADLY) robots.now }
 {
     robots.iter().filter(|robot| robot.is_alive()).count()
 }
 
 /// Reports whether at least two of some robots live.
-fn two_live(robots: &[Robot]) -> bool
-    ensures { result ≡ nat_lt 1 (count_by (λ (b : Body). nat_lt b.damage DEADLY) robots.now) }
+fn two_are_live(robots: &[Robot]) -> bool
+    ensures { result ≡ nat_lt 1 (count_by (λ (b : Robot). nat_lt b.damage DEADLY) robots.now) }
 {
     let mut one_lives = false;
     for robot in robots {
@@ -346,7 +346,7 @@ fn two_live(robots: &[Robot]) -> bool
 
 /// Returns a number from 0 to `most` as it is, and the nearer end of that range for any other.
 #[tactic(auto, unfolding(crate::specs::Leg::clamped))]
-fn clamped(number: i32, most: u16) -> u16
+fn clamped_argument(number: i32, most: u16) -> u16
     ensures value { result ≡ clamped most number }
     ensures most { result ≤ most }
 {

@@ -25,7 +25,7 @@ pub fn sum_at(origin: u16, part: i32) -> i32
 }
 
 /// Returns how much a sum grows in an update at this speed.
-pub fn step(speed: u8, part: i32) -> i32
+pub fn sum_step(speed: u8, part: i32) -> i32
     requires speed { speed ≤ MOST_SPEED }
     requires part { unsigned_abs part ≤ 100000 }
     ensures value { result ≡ pos speed *ℤ part }
@@ -61,7 +61,7 @@ fn is_beyond(sum: i32) -> bool
 }
 
 /// Reports whether the sums of a point lead beyond a wall.
-pub fn leaves(east: i32, north: i32) -> bool
+pub fn leads_beyond(east: i32, north: i32) -> bool
     ensures { result ≡ (is_beyond east || is_beyond north) }
 {
     is_beyond(east) || is_beyond(north)

@@ -53,7 +53,7 @@ impl Mover {
 }
 
 /// Returns how many of some robots a robot collides with.
-fn hits(mover: &Mover, others: &[Mover]) -> usize
+fn collision_count(mover: &Mover, others: &[Mover]) -> usize
     ensures { result ≡ count_by (collides mover.now) others.now }
 {
     others.iter().filter(|other| mover.collides(other)).count()
@@ -61,17 +61,17 @@ fn hits(mover: &Mover, others: &[Mover]) -> usize
 
 /// Returns how many others a robot collides with.
 #[tactic(auto, unfolding(crate::specs::Collisions::touches, crate::specs::Collisions::others))]
-pub fn touches(movers: &[Mover], robot: usize) -> usize
+pub fn touched_count(movers: &[Mover], robot: usize) -> usize
     requires { robot < length movers.now }
     ensures value { result ≡ touches movers.now robot }
     ensures most { result < length movers.now }
 {
     let mover = &movers[robot];
-    hits(mover, &movers[..robot]) + hits(mover, &movers[robot + 1..])
+    collision_count(mover, &movers[..robot]) + collision_count(mover, &movers[robot + 1..])
 }
 
 /// Reports whether a robot's candidate is close to that of one of the others.
-fn is_near(mover: &Mover, others: &[Mover]) -> bool
+fn is_close_to_any(mover: &Mover, others: &[Mover]) -> bool
     ensures { result ≡ false → All (λ other. is_close mover.now other ≡ false) others.now }
 {
     for other in others {
@@ -83,11 +83,11 @@ fn is_near(mover: &Mover, others: &[Mover]) -> bool
 }
 
 /// Reports whether the candidates of two robots are close, each pair judged once: if none are, no robots collide.
-pub fn any_near(movers: &[Mover]) -> bool
+pub fn any_are_close(movers: &[Mover]) -> bool
     ensures { result ≡ false → (i : ℕ) → i < length movers.now → touches movers.now i ≡ 0 }
 {
     for (i, mover) in movers.iter().enumerate() {
-        if is_near(mover, &movers[i + 1..]) {
+        if is_close_to_any(mover, &movers[i + 1..]) {
             return true;
         }
     }

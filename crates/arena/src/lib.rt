@@ -7,7 +7,6 @@ mod arenas;
 mod axes;
 mod bursts;
 mod collisions;
-mod known;
 pub mod laws;
 mod missile;
 mod missiles;
@@ -23,12 +22,13 @@ mod slots;
 mod starts;
 mod updates;
 mod ways;
+mod worked_fields;
 
 pub use arenas::Arena;
 pub use bursts::Burst;
-pub use known::known_fields;
 pub use missile::{aimed, flight};
 pub use rules::{
     DEADLY, KNOCK_DAMAGE, LAST_METRE, LAST_PLACE, LAST_RING, MOST_BURSTS, MOST_RANGE, MOST_ROBOTS,
     WALL_DAMAGE,
 };
+pub use worked_fields::known_fields;

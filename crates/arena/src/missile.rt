@@ -4,9 +4,9 @@ ghost use Rattle.std.specs.Prelude.{◌≡◌, ◌+◌, ◌*◌, ◌<◌, ◌≤
 ghost use Rattle.arena.specs.Rules.{last_place};
 ghost use Rattle.arena.specs.Leg.{clamped, along};
 ghost use Rattle.arena.specs.Shots.{aimed_x, aimed_y, flight};
-ghost use Rattle.arena.specs.Ground.{most_updates};
+ghost use Rattle.arena.specs.Arena.{most_updates};
 
-use crate::places::{along, clamped};
+use crate::places::{along, clamped_place};
 use crate::points::Point;
 use crate::rules::{MISSILE_SPEED, MOST_RANGE};
 use arith::{cosine_at, sine_at};
@@ -75,5 +75,5 @@ pub fn aimed(from: u16, range: u16, part: i32) -> u16
     ensures most { result ≤ last_place }
 {
     let way = i32::from(10 * range) * part;
-    clamped(along(from, way))
+    clamped_place(along(from, way))
 }

@@ -4,16 +4,19 @@ ghost use Rattle.std.specs.Prelude.{◌≡◌, ℕ, ◌+◌, ◌-◌, ◌^◌, �
 ghost use Rattle.std.specs.List.{range_with_len};
 ghost use Rattle.arena.specs.Field.{Shot};
 ghost use Rattle.arena.specs.Shots.{bursts, in_air};
-ghost use Rattle.arena.specs.Ground.{shot_of};
-ghost use Rattle.arena.specs.Standing.{HoldsShots};
+ghost use Rattle.arena.specs.Arena.{shot_of};
+ghost use Rattle.arena.specs.Representing.{HoldsShots};
 ghost use Rattle.arena.specs.Due.{HarmLikeShots};
-ghost use Rattle.arena.specs.Still.{NoneBefore};
+ghost use Rattle.arena.specs.Still.{NoBurstBefore};
 ghost use Rattle.arena.specs.Outlook.{own_bursts};
 
 use crate::bursts::Burst;
 use crate::missile::Missile;
 use crate::rules::{MOST_BURSTS, MOST_MISSILES, MOST_ROBOTS};
-use crate::slots::{Slots, bursts, fire, land, may_fire, next_burst, no_missiles, none_flies};
+use crate::slots::{
+    Slots, bursts_of_slots, empty_slots, fire_from_slot, has_free_slot, land_in_slots,
+    next_burst_of_slots, no_slot_flies,
+};
 use arrayvec::ArrayVec;
 use std::marker::Model;
 
@@ -26,35 +29,35 @@ pub struct Missiles {
 
 impl Model for Missiles {
     ghost use Rattle.std.specs.Prelude.{◌≤◌, List, length};
-    ghost use Rattle.arena.specs.Ground.{Missile};
-    ghost use Rattle.arena.specs.Still.{NoneBefore};
+    ghost use Rattle.arena.specs.Arena.{Missile};
+    ghost use Rattle.arena.specs.Still.{NoBurstBefore};
     ghost use Rattle.arena.specs.declared.rules.TheConstants.{MOST_ROBOTS};
 
     ghost Value = { List (List Missile) };
 
     ghost view = { λ m. m.slots.items };
 
-    ghost invariant = { λ m. (length m.slots.items ≤ MOST_ROBOTS) × NoneBefore m.next m.slots.items };
+    ghost invariant = { λ m. (length m.slots.items ≤ MOST_ROBOTS) × NoBurstBefore m.next m.slots.items };
 }
 
 impl Missiles {
     /// Makes the missiles of so many robots, none of them in the air.
-    pub fn none(robots: usize) -> Missiles
+    pub fn none_in_air(robots: usize) -> Missiles
         requires { robots ≤ MOST_ROBOTS }
         ensures count { length result ≡ robots }
         ensures none { HoldsShots 0 result [] }
         ensures two { All (λ s. length s ≤ MOST_MISSILES) result }
     {
         Missiles {
-            slots: no_missiles(robots),
+            slots: empty_slots(robots),
             next: u32::MAX,
         }
     }
 
     /// Reports whether a missile may burst before the last update that a number can tell: a quick look before
-    /// `none_flies`.
+    /// `no_slot_flies`.
     pub fn may_burst(&self) -> bool
-        ensures { result ≡ false → NoneBefore (2 ^ 32 - 1) self.now }
+        ensures { result ≡ false → NoBurstBefore (2 ^ 32 - 1) self.now }
     {
         self.next < u32::MAX
     }
@@ -63,7 +66,7 @@ impl Missiles {
     pub fn none_flies(&self) -> bool
         ensures { result ≡ true → All (λ s. s ≡ []) self.now }
     {
-        none_flies(self.slots.as_slice())
+        no_slot_flies(self.slots.as_slice())
     }
 
     /// Reports whether a robot may fire: it has fewer than two missiles in the air.
@@ -73,7 +76,7 @@ impl Missiles {
         ensures shots { (updates : ℕ) (shots : List Shot) → HoldsShots updates self.now shots
             → result ≡ nat_lt (length (in_air updates robot shots)) MOST_MISSILES }
     {
-        may_fire(self.slots.as_slice(), robot)
+        has_free_slot(self.slots.as_slice(), robot)
     }
 
     /// Fires a missile of a robot.
@@ -85,7 +88,7 @@ impl Missiles {
         ensures two { All (λ s. length s ≤ MOST_MISSILES) self.old → All (λ s. length s ≤ MOST_MISSILES) self.new }
         ensures count { length self.new ≡ length self.old }
     {
-        fire(self.slots.as_mut_slice(), robot, missile);
+        fire_from_slot(self.slots.as_mut_slice(), robot, missile);
         self.next = self.next.min(missile.burst());
     }
 
@@ -104,7 +107,7 @@ impl Missiles {
         ensures harm { (updates : ℕ) (shots : List Shot) → update ≡ updates + 1 → HoldsShots updates self.now shots
             → HarmLikeShots update shots result.items }
     {
-        bursts(self.slots.as_slice(), update)
+        bursts_of_slots(self.slots.as_slice(), update)
     }
 
     /// Frees the missiles that burst in an update or before.
@@ -128,7 +131,7 @@ impl Missiles {
         ensures two { All (λ s. length s ≤ MOST_MISSILES) self.old → All (λ s. length s ≤ MOST_MISSILES) self.new }
         ensures count { length self.new ≡ length self.old }
     {
-        land(self.slots.as_mut_slice(), update);
-        self.next = next_burst(self.slots.as_slice());
+        land_in_slots(self.slots.as_mut_slice(), update);
+        self.next = next_burst_of_slots(self.slots.as_slice());
     }
 }

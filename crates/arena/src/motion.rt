@@ -7,11 +7,11 @@ ghost use Rattle.arena.specs.Sums.{sum_from, place_of, place_near, IsInField};
 ghost use Rattle.arena.specs.Start.{standing};
 ghost use Rattle.arena.specs.Moved.{put_back};
 ghost use Rattle.arena.specs.Answer.{wanting};
-ghost use Rattle.arena.specs.Ground.{Track, track_of, is_steady};
+ghost use Rattle.arena.specs.Arena.{Motion, motion_of, is_steady};
 ghost use Rattle.arena.specs.Still.{Rests, OnlyTurns};
-ghost use Rattle.arena.specs.Calm.{IsNearby, IsAtPlace, gap, sum_gap};
+ghost use Rattle.arena.specs.Apart.{IsNearby, IsAtPlace, gap, sum_gap};
 
-use crate::axes::{leaves, metres_of, place_near, place_of, step, sum_at};
+use crate::axes::{leads_beyond, metres_of, place_near, place_of, sum_at, sum_step};
 use crate::points::Point;
 use crate::rules::{ACCELERATION, LAST_METRE, MOST_SPEED, TURNING_SPEED};
 use arith::{cosine_at, sine_at};
@@ -34,17 +34,17 @@ pub struct Motion {
 }
 
 impl Model for Motion {
-    ghost use Rattle.arena.specs.Ground.{Track};
+    ghost use Rattle.arena.specs.Arena.{Motion};
 
-    ghost Value = { Track };
+    ghost Value = { Motion };
 
-    ghost use Rattle.arena.specs.Tracking.{IsTrack, track, tracked};
+    ghost use Rattle.arena.specs.Motions.{IsMotion, motion_kept, kept_of_motion};
 
-    ghost view = { track };
+    ghost view = { motion_kept };
 
-    ghost inverse = { tracked };
+    ghost inverse = { kept_of_motion };
 
-    ghost invariant = { λ m. IsTrack (view m) };
+    ghost invariant = { λ m. IsMotion (view m) };
 }
 
 impl Default for Motion {
@@ -56,7 +56,7 @@ impl Default for Motion {
 impl Motion {
     /// Makes the motion of a robot that stands at a place, at rest.
     pub fn standing(place: Point) -> Motion
-        ensures { result ≡ track_of (standing place.x place.y).leg }
+        ensures { result ≡ motion_of (standing place.x place.y).leg }
     {
         let still = Motion {
             east: 0,
@@ -133,7 +133,7 @@ impl Motion {
     pub fn want(&mut self, degree: u16, speed: u8)
         requires degree { degree < 360 }
         requires speed { speed ≤ MOST_SPEED }
-        ensures leg { (leg : Leg) → self.old ≡ track_of leg → self.new ≡ track_of (wanting leg degree speed) }
+        ensures leg { (leg : Leg) → self.old ≡ motion_of leg → self.new ≡ motion_of (wanting leg degree speed) }
         ensures place { IsAtPlace self.old self.new }
     {
         self.wanted_heading = degree;
@@ -142,7 +142,7 @@ impl Motion {
     }
 
     /// Works out whether the robot is steady.
-    fn settled(self) -> Motion
+    fn with_steadiness(self) -> Motion
         ensures { result ≡ record self {
           steady = is_steady self.heading self.wanted_heading self.speed self.wanted_speed;
         } }
@@ -173,17 +173,17 @@ impl Motion {
         let begun = Motion {
             east: sum_at(from.x(), cosine),
             north: sum_at(from.y(), sine),
-            step_east: step(self.speed, cosine),
-            step_north: step(self.speed, sine),
+            step_east: sum_step(self.speed, cosine),
+            step_north: sum_step(self.speed, sine),
             ..self
         };
-        begun.settled()
+        begun.with_steadiness()
     }
 
     /// Turns to the wanted heading: begins a new leg at the present place.
-    fn turned(self) -> Motion
-        ensures leg { (leg : Leg) → self ≡ track_of leg
-            → result ≡ track_of (record (leg_anew leg) { heading = leg.wanted_heading }) }
+    fn turned_to_wanted(self) -> Motion
+        ensures leg { (leg : Leg) → self ≡ motion_of leg
+            → result ≡ motion_of (record (leg_anew leg) { heading = leg.wanted_heading }) }
         ensures place { IsAtPlace self result }
     {
         let turned = Motion {
@@ -195,35 +195,35 @@ impl Motion {
 
     /// Turns at a low speed, and brakes for the turn at a high one.
     fn steered(self) -> Motion
-        ensures leg { (leg : Leg) → self ≡ track_of leg → result ≡ track_of (steered leg) }
+        ensures leg { (leg : Leg) → self ≡ motion_of leg → result ≡ motion_of (steered leg) }
         ensures place { IsAtPlace self result }
     {
         if self.wanted_heading == self.heading {
             self
         } else if self.speed <= TURNING_SPEED {
-            self.turned()
+            self.turned_to_wanted()
         } else {
             let braking = Motion {
                 wanted_speed: 0,
                 ..self
             };
-            braking.settled()
+            braking.with_steadiness()
         }
     }
 
     /// Changes the speed towards the wanted one.
     fn sped(self) -> Motion
-        ensures leg { (leg : Leg) → self ≡ track_of leg → result ≡ track_of (sped leg) }
+        ensures leg { (leg : Leg) → self ≡ motion_of leg → result ≡ motion_of (sped leg) }
         ensures place { IsAtPlace self result }
     {
         let speed = approached(self.speed, self.wanted_speed);
         let sped = Motion {
             speed,
-            step_east: step(speed, cosine_at(self.heading)),
-            step_north: step(speed, sine_at(self.heading)),
+            step_east: sum_step(speed, cosine_at(self.heading)),
+            step_north: sum_step(speed, sine_at(self.heading)),
             ..self
         };
-        sped.settled()
+        sped.with_steadiness()
     }
 
     /// Reports whether the robot turns in the next update, and keeps its speed.
@@ -239,11 +239,11 @@ impl Motion {
     /// rare, so it stays out of the way of driving on.
     #[inline(never)]
     fn adjust(&mut self)
-        ensures leg { (leg : Leg) → self.old ≡ track_of leg → self.new ≡ track_of (sped (steered leg)) }
+        ensures leg { (leg : Leg) → self.old ≡ motion_of leg → self.new ≡ motion_of (sped (steered leg)) }
         ensures place { IsAtPlace self.old self.new }
     {
         if self.only_turns() {
-            *self = self.turned();
+            *self = self.turned_to_wanted();
             return;
         }
         *self = self.steered().sped();
@@ -251,7 +251,7 @@ impl Motion {
 
     /// Stops at a place, which is the origin of a new leg with the same heading.
     fn stopped_at(self, place: Point) -> Motion
-        ensures leg { (leg : Leg) → self ≡ track_of leg → result ≡ track_of (record leg {
+        ensures leg { (leg : Leg) → self ≡ motion_of leg → result ≡ motion_of (record leg {
           origin_x = place.x;
           origin_y = place.y;
           distance = 0;
@@ -271,7 +271,7 @@ impl Motion {
     /// Stops at the place of the field that is nearest to where these sums lead. This is rare, as adjusting is.
     #[inline(never)]
     fn stop_near(&mut self, east: i32, north: i32)
-        ensures leg { (leg : Leg) → self.old ≡ track_of leg → self.new ≡ track_of (record leg {
+        ensures leg { (leg : Leg) → self.old ≡ motion_of leg → self.new ≡ motion_of (record leg {
           origin_x = place_near east;
           origin_y = place_near north;
           distance = 0;
@@ -285,14 +285,14 @@ impl Motion {
 
     /// Drives on for an update at the present speed, up to a wall, and reports whether one stopped it.
     #[inline(always)]
-    fn advance(&mut self) -> bool
-        ensures motion { (leg : Leg) → self.old ≡ track_of leg → self.new ≡ track_of (walled (grown leg)) }
-        ensures walled { (leg : Leg) → self.old ≡ track_of leg → result ≡ hits_wall (grown leg) }
+    fn drive_straight(&mut self) -> bool
+        ensures motion { (leg : Leg) → self.old ≡ motion_of leg → self.new ≡ motion_of (walled (grown leg)) }
+        ensures walled { (leg : Leg) → self.old ≡ motion_of leg → result ≡ hits_wall (grown leg) }
         ensures nearby { IsNearby self.old self.new }
     {
         let east = self.east + self.step_east;
         let north = self.north + self.step_north;
-        if leaves(east, north) {
+        if leads_beyond(east, north) {
             self.stop_near(east, north);
             return true;
         }
@@ -305,29 +305,29 @@ impl Motion {
     /// stopped it.
     #[tactic(auto, unfolding(crate::specs::Leg::driven, crate::specs::Leg::tried))]
     #[inline(always)]
-    pub fn drive_on(&mut self) -> bool
-        ensures motion { (leg : Leg) → self.old ≡ track_of leg → self.new ≡ track_of (driven leg) }
-        ensures walled { (leg : Leg) → self.old ≡ track_of leg → result ≡ hits_wall (tried leg) }
+    pub fn move_within_walls(&mut self) -> bool
+        ensures motion { (leg : Leg) → self.old ≡ motion_of leg → self.new ≡ motion_of (driven leg) }
+        ensures walled { (leg : Leg) → self.old ≡ motion_of leg → result ≡ hits_wall (tried leg) }
         ensures nearby { IsNearby self.old self.new }
     {
         if !self.steady {
             self.adjust();
         }
-        self.advance()
+        self.drive_straight()
     }
 
     /// Stops at the place where it was before the update.
     #[tactic(auto, unfolding(crate::specs::Moved::put_back))]
     pub fn put_back(self, place: Point) -> Motion
-        ensures { (old leg : Leg) → place.x ≡ place_x old → place.y ≡ place_y old → self ≡ track_of leg
-            → result ≡ track_of (put_back old leg) }
+        ensures { (old leg : Leg) → place.x ≡ place_x old → place.y ≡ place_y old → self ≡ motion_of leg
+            → result ≡ motion_of (put_back old leg) }
     {
         self.stopped_at(place)
     }
 }
 
 /// Reports whether a robot wants the heading and the speed that it has.
-#[tactic(auto, unfolding(crate::specs::Ground::is_steady))]
+#[tactic(auto, unfolding(crate::specs::Arena::is_steady))]
 fn is_steady(heading: u16, wanted_heading: u16, speed: u8, wanted_speed: u8) -> bool
     ensures { result ≡ is_steady heading wanted_heading speed wanted_speed }
 {

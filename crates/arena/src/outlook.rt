@@ -2,26 +2,26 @@
 
 ghost use Rattle.std.specs.Prelude.{◌≡◌, ◌<◌, ◌≤◌, true, List, map, length};
 ghost use Rattle.arena.specs.Leg.{place_x, place_y};
-ghost use Rattle.arena.specs.Field.{Robot as FieldRobot, Field, robot_at};
+ghost use Rattle.arena.specs.Field.{FieldRobot, Field, robot_at};
 ghost use Rattle.arena.specs.Collisions.{mover, touches};
-ghost use Rattle.arena.specs.Ground.{body_of, lives};
-ghost use Rattle.arena.specs.Standing.{StandsFor};
+ghost use Rattle.arena.specs.Arena.{robot_of, lives};
+ghost use Rattle.arena.specs.Representing.{RepresentsField};
 ghost use Rattle.arena.specs.Outlook.{due, meets_wall, meets, next_leg, taken_by};
 
 use crate::arenas::Arena;
 use crate::bursts::Burst;
-use crate::collisions::{Mover, touches};
+use crate::collisions::{Mover, touched_count};
 use crate::points::Point;
 use crate::robots::Robot;
 use crate::rules::{MOST_BURSTS, MOST_HARM, MOST_ROBOTS, MOST_SPEED};
-use crate::updates::drive_on;
+use crate::updates::move_all_as_movers;
 use arrayvec::ArrayVec;
 
 impl Arena {
     /// Returns how many robots there are, the dead ones included: 2 to 4.
     pub fn robot_count(&self) -> usize
         ensures value { result ≡ length self.now.robots }
-        ensures stands { (f : Field) → StandsFor self.now f → result ≡ length f.robots }
+        ensures stands { (f : Field) → RepresentsField self.now f → result ≡ length f.robots }
     {
         self.robots().len()
     }
@@ -30,7 +30,7 @@ impl Arena {
     pub fn heading(&self, robot: usize) -> u16
         requires { robot < length self.now.robots }
         ensures most { result < 360 }
-        ensures stands { (f : Field) → StandsFor self.now f → result ≡ (robot_at f robot).leg.heading }
+        ensures stands { (f : Field) → RepresentsField self.now f → result ≡ (robot_at f robot).leg.heading }
     {
         self.robot(robot).heading()
     }
@@ -39,7 +39,7 @@ impl Arena {
     pub fn speed(&self, robot: usize) -> u8
         requires { robot < length self.now.robots }
         ensures most { result ≤ MOST_SPEED }
-        ensures stands { (f : Field) → StandsFor self.now f → result ≡ (robot_at f robot).leg.speed }
+        ensures stands { (f : Field) → RepresentsField self.now f → result ≡ (robot_at f robot).leg.speed }
     {
         self.robot(robot).speed()
     }
@@ -47,7 +47,7 @@ impl Arena {
     /// Returns the missiles that burst in the next update, robot by robot, each robot's in the order in which it fired
     /// them.
     pub fn due(&self) -> ArrayVec<Burst, MOST_BURSTS>
-        ensures { (f : Field) → StandsFor self.now f → result.items ≡ due f }
+        ensures { (f : Field) → RepresentsField self.now f → result.items ≡ due f }
     {
         self.missiles().bursts(self.next_update())
     }
@@ -55,7 +55,7 @@ impl Arena {
     /// Reports whether a wall stops a robot in the next update, which takes 2 percent. None stops a dead robot.
     pub fn meets_wall(&self, robot: usize) -> bool
         requires { robot < length self.now.robots }
-        ensures { (f : Field) → StandsFor self.now f → result ≡ meets_wall f robot }
+        ensures { (f : Field) → RepresentsField self.now f → result ≡ meets_wall f robot }
     {
         self.robot(robot).meets_wall()
     }
@@ -65,7 +65,7 @@ impl Arena {
     pub fn meets(&self, a: usize, b: usize) -> bool
         requires a { a < length self.now.robots }
         requires b { b < length self.now.robots }
-        ensures { (f : Field) → StandsFor self.now f → result ≡ meets f a b }
+        ensures { (f : Field) → RepresentsField self.now f → result ≡ meets f a b }
     {
         a != b && self.robot(a).mover().collides(&self.robot(b).mover())
     }
@@ -75,7 +75,7 @@ impl Arena {
     pub fn taken_by(&self, robot: usize, burst: &Burst) -> u8
         requires { robot < length self.now.robots }
         ensures most { result ≤ MOST_HARM }
-        ensures stands { (f : Field) → StandsFor self.now f → result ≡ taken_by f robot burst.now }
+        ensures stands { (f : Field) → RepresentsField self.now f → result ≡ taken_by f robot burst.now }
     {
         if !self.alive(robot) {
             return 0;
@@ -87,13 +87,13 @@ impl Arena {
     fn next_place(&self, robot: usize) -> Point
         requires inside { robot < length self.now.robots }
         requires live { lives self.now robot ≡ true }
-        ensures x { (f : Field) → StandsFor self.now f → result.x ≡ place_x (next_leg f robot) }
-        ensures y { (f : Field) → StandsFor self.now f → result.y ≡ place_y (next_leg f robot) }
+        ensures x { (f : Field) → RepresentsField self.now f → result.x ≡ place_x (next_leg f robot) }
+        ensures y { (f : Field) → RepresentsField self.now f → result.y ≡ place_y (next_leg f robot) }
     {
         let movers = movers(self.robots());
         let mut ahead = *self.robot(robot);
-        let seen = ahead.drive_on();
-        let motion = ahead.motion_after(&seen, touches(movers.as_slice(), robot));
+        let seen = ahead.move_ahead_as_mover();
+        let motion = ahead.motion_after(&seen, touched_count(movers.as_slice(), robot));
         motion.place()
     }
 }
@@ -101,10 +101,10 @@ impl Arena {
 /// Returns what collisions of the next update have to know of some robots: copies of them move on.
 fn movers(robots: &[Robot]) -> ArrayVec<Mover, MOST_ROBOTS>
     requires { length robots.now ≤ MOST_ROBOTS }
-    ensures movers { (rs : List FieldRobot) → robots.now ≡ map body_of rs → result.items ≡ map mover rs }
+    ensures movers { (rs : List FieldRobot) → robots.now ≡ map robot_of rs → result.items ≡ map mover rs }
     ensures count { length result.items ≡ length robots.now }
 {
     let mut copies: ArrayVec<Robot, MOST_ROBOTS> = ArrayVec::new();
     let _ = copies.try_extend_from_slice(robots);
-    drive_on(copies.as_mut_slice())
+    move_all_as_movers(copies.as_mut_slice())
 }

@@ -7,19 +7,19 @@ ghost use Rattle.arena.specs.Leg.{clamped, along};
 use crate::rules::LAST_PLACE;
 
 /// Ways are in hundred-thousandths of a tenth of a metre.
-const SCALE: i32 = 100_000;
+const WAY_SCALE: i32 = 100_000;
 
 /// Returns the coordinate to which a way leads from an origin, in tenths of a metre, perhaps beyond a wall.
 #[tactic(auto, unfolding(crate::specs::Leg::along))]
 pub(crate) fn along(origin: u16, way: i32) -> i32
     ensures { result ≡ along origin way }
 {
-    i32::from(origin) + way / SCALE
+    i32::from(origin) + way / WAY_SCALE
 }
 
 /// Returns the place of the field that is nearest to a coordinate.
 #[tactic(auto, unfolding(crate::specs::Leg::clamped))]
-pub(crate) fn clamped(z: i32) -> u16
+pub(crate) fn clamped_place(z: i32) -> u16
     ensures value { result ≡ clamped last_place z }
     ensures most { result ≤ last_place }
 {

@@ -18,7 +18,7 @@ pub(crate) fn generator(seed: u64, number: u64) -> Pcg32
 }
 
 /// Draws the next word.
-pub(crate) fn draw(random: &mut Pcg32) -> u32
+pub(crate) fn draw_word(random: &mut Pcg32) -> u32
     ensures word { (seed number drawn : ℕ) → random.old ≡ generator seed number drawn
         → result ≡ random_word seed number drawn }
     ensures next { (seed number drawn : ℕ) → random.old ≡ generator seed number drawn
@@ -28,13 +28,13 @@ pub(crate) fn draw(random: &mut Pcg32) -> u32
 }
 
 /// Draws a random number from 0 on and below a limit, which is first brought into 1 to 32,767.
-pub(crate) fn random_number(random: &mut Pcg32, limit: i32) -> i32
+pub(crate) fn draw_number(random: &mut Pcg32, limit: i32) -> i32
     ensures value { (field : Field) → random.old ≡ generator field.seed field.number field.drawn
         → result ≡ pos (random_number field limit) }
     ensures next { (seed number drawn : ℕ) → random.old ≡ generator seed number drawn
         → random.new ≡ generator seed number (drawn + 1) }
 {
-    let word = draw(random);
+    let word = draw_word(random);
     (word % random_limit(limit)) as i32
 }
 

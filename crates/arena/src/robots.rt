@@ -2,14 +2,14 @@
 
 ghost use Rattle.std.specs.Prelude.{◌≡◌, ◌+◌, ◌*◌, ◌/◌, ◌<◌, ◌≤◌, ◌&&◌, true, min, nat_lt};
 ghost use Rattle.arena.specs.Leg.{tried, hits_wall};
-ghost use Rattle.arena.specs.Field.{Robot as FieldRobot, is_alive, metres_x, metres_y};
+ghost use Rattle.arena.specs.Field.{FieldRobot, is_alive, metres_x, metres_y};
 ghost use Rattle.arena.specs.Collisions.{mover};
 ghost use Rattle.arena.specs.Start.{standing};
 ghost use Rattle.arena.specs.Answer.{wanting};
-ghost use Rattle.arena.specs.Ground.{track_of, body_of};
+ghost use Rattle.arena.specs.Arena.{motion_of, robot_of};
 ghost use Rattle.arena.specs.Moved.{leg_after};
-ghost use Rattle.arena.specs.Drive.{ahead};
-ghost use Rattle.arena.specs.Calm.{IsNearby, IsAtPlace, gap, sum_gap};
+ghost use Rattle.arena.specs.Ahead.{robot_ahead};
+ghost use Rattle.arena.specs.Apart.{IsNearby, IsAtPlace, gap, sum_gap};
 ghost use Rattle.arena.specs.Still.{Stays};
 
 use crate::collisions::Mover;
@@ -29,14 +29,14 @@ pub struct Robot {
 
 impl Model for Robot {
     ghost use Rattle.std.specs.Prelude.{◌≤◌};
-    ghost use Rattle.arena.specs.Ground.{Body};
+    ghost use Rattle.arena.specs.Arena.{Robot};
     ghost use Rattle.arena.specs.declared.rules.TheConstants.{DEADLY};
 
-    ghost Value = { Body };
+    ghost Value = { Robot };
 
-    ghost view = { λ r. record { track = r.motion; damage = r.damage } };
+    ghost view = { λ r. record { motion = r.motion; damage = r.damage } };
 
-    ghost inverse = { λ r. record { motion = r.track; damage = r.damage } };
+    ghost inverse = { λ r. record { motion = r.motion; damage = r.damage } };
 
     ghost invariant = { λ r. r.damage ≤ DEADLY };
 }
@@ -49,9 +49,9 @@ impl Default for Robot {
 
 impl Robot {
     /// Makes a robot that stands at a place, at rest and unhurt.
-    #[tactic(auto, unfolding(crate::specs::Ground::body_of, crate::specs::Field::damage_of, crate::specs::Start::standing))]
+    #[tactic(auto, unfolding(crate::specs::Arena::robot_of, crate::specs::Field::damage_of, crate::specs::Start::standing))]
     pub fn standing(place: Point) -> Robot
-        ensures { result ≡ body_of (standing place.x place.y) }
+        ensures { result ≡ robot_of (standing place.x place.y) }
     {
         Robot {
             motion: Motion::standing(place),
@@ -82,18 +82,18 @@ impl Robot {
     }
 
     /// Returns the place on the axis to the east, in whole metres rounded down.
-    #[tactic(auto, unfolding(crate::specs::Field::metres_x, crate::specs::Ground::body_of, crate::specs::Ground::track_of))]
+    #[tactic(auto, unfolding(crate::specs::Field::metres_x, crate::specs::Arena::robot_of, crate::specs::Arena::motion_of))]
     pub fn metres_x(&self) -> u16
-        ensures value { (robot : FieldRobot) → self.now ≡ body_of robot → result ≡ metres_x robot }
+        ensures value { (robot : FieldRobot) → self.now ≡ robot_of robot → result ≡ metres_x robot }
         ensures most { result ≤ LAST_METRE }
     {
         self.motion.metres_x()
     }
 
     /// Returns the place on the axis to the north, in whole metres rounded down.
-    #[tactic(auto, unfolding(crate::specs::Field::metres_y, crate::specs::Ground::body_of, crate::specs::Ground::track_of))]
+    #[tactic(auto, unfolding(crate::specs::Field::metres_y, crate::specs::Arena::robot_of, crate::specs::Arena::motion_of))]
     pub fn metres_y(&self) -> u16
-        ensures value { (robot : FieldRobot) → self.now ≡ body_of robot → result ≡ metres_y robot }
+        ensures value { (robot : FieldRobot) → self.now ≡ robot_of robot → result ≡ metres_y robot }
         ensures most { result ≤ LAST_METRE }
     {
         self.motion.metres_y()
@@ -101,7 +101,7 @@ impl Robot {
 
     /// Returns the present heading, in degrees.
     pub fn heading(&self) -> u16
-        ensures value { result ≡ self.now.track.heading }
+        ensures value { result ≡ self.now.motion.heading }
         ensures most { result < 360 }
     {
         self.motion.heading()
@@ -109,20 +109,20 @@ impl Robot {
 
     /// Returns the present speed, in percent.
     pub fn speed(&self) -> u8
-        ensures value { result ≡ self.now.track.speed }
+        ensures value { result ≡ self.now.motion.speed }
         ensures most { result ≤ MOST_SPEED }
     {
         self.motion.speed()
     }
 
     /// Sets the heading and the speed that the robot wants.
-    #[tactic(auto, unfolding(crate::specs::Ground::body_of))]
+    #[tactic(auto, unfolding(crate::specs::Arena::robot_of))]
     pub fn want(&mut self, degree: u16, speed: u8)
         requires degree { degree < 360 }
         requires speed { speed ≤ MOST_SPEED }
-        ensures robot { (robot : FieldRobot) → self.old ≡ body_of robot
-            → self.new ≡ body_of (record robot { leg = wanting robot.leg degree speed }) }
-        ensures place { IsAtPlace self.old.track self.new.track }
+        ensures robot { (robot : FieldRobot) → self.old ≡ robot_of robot
+            → self.new ≡ robot_of (record robot { leg = wanting robot.leg degree speed }) }
+        ensures place { IsAtPlace self.old.motion self.new.motion }
         ensures damage { self.new.damage ≡ self.old.damage }
     {
         self.motion.want(degree, speed);
@@ -130,27 +130,27 @@ impl Robot {
 
     /// Moves on for an update, as far as walls let it; a dead robot stays.
     #[inline(always)]
-    pub fn drive(&mut self)
-        ensures ahead { (robot : FieldRobot) → self.old ≡ body_of robot → self.new ≡ ahead robot }
-        ensures nearby { IsNearby self.old.track self.new.track }
+    pub fn move_ahead(&mut self)
+        ensures ahead { (robot : FieldRobot) → self.old ≡ robot_of robot → self.new ≡ robot_ahead robot }
+        ensures nearby { IsNearby self.old.motion self.new.motion }
     {
         if !self.is_alive() {
             return;
         }
-        if self.motion.drive_on() {
+        if self.motion.move_within_walls() {
             self.damage = (self.damage + WALL_DAMAGE).min(DEADLY);
         }
     }
 
     /// Moves on for an update, as far as walls let it, and returns what collisions have to know; a dead robot stays.
-    #[tactic(auto, unfolding(crate::specs::Drive::ahead, crate::specs::Collisions::mover, crate::specs::Ground::body_of, crate::specs::Ground::track_of, crate::specs::Field::is_alive))]
-    pub fn drive_on(&mut self) -> Mover
-        ensures ahead { (robot : FieldRobot) → self.old ≡ body_of robot → self.new ≡ ahead robot }
-        ensures mover { (robot : FieldRobot) → self.old ≡ body_of robot → result ≡ mover robot }
+    #[tactic(auto, unfolding(crate::specs::Ahead::robot_ahead, crate::specs::Collisions::mover, crate::specs::Arena::robot_of, crate::specs::Arena::motion_of, crate::specs::Field::is_alive))]
+    pub fn move_ahead_as_mover(&mut self) -> Mover
+        ensures ahead { (robot : FieldRobot) → self.old ≡ robot_of robot → self.new ≡ robot_ahead robot }
+        ensures mover { (robot : FieldRobot) → self.old ≡ robot_of robot → result ≡ mover robot }
     {
         let live = self.is_alive();
         let from = self.place();
-        self.drive();
+        self.move_ahead();
         Mover {
             live,
             from,
@@ -160,42 +160,42 @@ impl Robot {
 
     /// Returns what collisions of the next update have to know.
     pub fn mover(&self) -> Mover
-        ensures { (robot : FieldRobot) → self.now ≡ body_of robot → result ≡ mover robot }
+        ensures { (robot : FieldRobot) → self.now ≡ robot_of robot → result ≡ mover robot }
     {
         let mut ahead = *self;
-        ahead.drive_on()
+        ahead.move_ahead_as_mover()
     }
 
     /// Reports whether the robot lives, and a wall stops it in the next update.
     pub fn meets_wall(&self) -> bool
-        ensures { (robot : FieldRobot) → self.now ≡ body_of robot
+        ensures { (robot : FieldRobot) → self.now ≡ robot_of robot
             → result ≡ (is_alive robot && hits_wall (tried robot.leg)) }
     {
         let mut motion = self.motion;
-        self.is_alive() && motion.drive_on()
+        self.is_alive() && motion.move_within_walls()
     }
 
     /// Returns how far two robots are from each other, on the axis on which they are further apart, as a difference of
     /// sums.
     pub fn gap(&self, other: &Robot) -> u32
-        ensures value { result ≡ sum_gap self.now.track other.now.track }
-        ensures places { result / 100000 ≤ gap self.now.track other.now.track }
+        ensures value { result ≡ sum_gap self.now.motion other.now.motion }
+        ensures places { result / 100000 ≤ gap self.now.motion other.now.motion }
     {
         self.motion.gap(&other.motion)
     }
 
     /// Takes the damage in percent of bursts.
-    pub fn hurt(&mut self, bursts: u8)
+    pub fn take_damage(&mut self, bursts: u8)
         requires { bursts ≤ MOST_HARM_OF_ALL }
         ensures { self.new ≡ record self.old { damage = min (self.old.damage + bursts) DEADLY } }
     {
-        self.damage = worn(self.damage, 0, bursts);
+        self.damage = damage_after(self.damage, 0, bursts);
     }
 
     /// Returns the motion of a live robot that has moved on, given how many others it collides with.
     pub fn motion_after(&self, seen: &Mover, touched: usize) -> Motion
-        ensures { (robot : FieldRobot) → self.now ≡ ahead robot → seen.now ≡ mover robot
-            → is_alive robot ≡ true → result ≡ track_of (leg_after robot.leg touched) }
+        ensures { (robot : FieldRobot) → self.now ≡ robot_ahead robot → seen.now ≡ mover robot
+            → is_alive robot ≡ true → result ≡ motion_of (leg_after robot.leg touched) }
     {
         if touched > 0 {
             return self.motion.put_back(seen.from);
@@ -206,21 +206,21 @@ impl Robot {
     /// Makes a robot with this motion and this damage in percent.
     pub fn new(motion: Motion, damage: u8) -> Robot
         requires { damage ≤ DEADLY }
-        ensures { result ≡ record { track = motion; damage = damage } }
+        ensures { result ≡ record { motion = motion; damage = damage } }
     {
         Robot { motion, damage }
     }
 
     /// Returns the place.
     pub fn place(&self) -> Point
-        ensures { result ≡ record { x = self.now.track.x; y = self.now.track.y } }
+        ensures { result ≡ record { x = self.now.motion.x; y = self.now.motion.y } }
     {
         self.motion.place()
     }
 }
 
 /// Returns the damage in percent after so many other robots and so much damage by bursts hurt a robot.
-pub fn worn(damage: u8, touched: usize, bursts: u8) -> u8
+pub fn damage_after(damage: u8, touched: usize, bursts: u8) -> u8
     requires damage { damage ≤ DEADLY }
     requires touched { touched ≤ MOST_ROBOTS }
     requires bursts { bursts ≤ MOST_HARM_OF_ALL }

@@ -2,29 +2,29 @@
 
 ghost use Rattle.std.specs.Prelude.{◌≡◌, ◌+◌, ◌*◌, ◌/◌, ◌<◌, ◌≤◌, true, false, if◌then◌else◌, map, filter, min, length, pos, unsigned_abs};
 ghost use Rattle.arith.specs.Root.{root_of};
-ghost use Rattle.arena.specs.Field.{Robot as FieldRobot, Field, robot_at};
+ghost use Rattle.arena.specs.Field.{FieldRobot, Field, robot_at};
 ghost use Rattle.arena.specs.Collisions.{others};
 ghost use Rattle.arena.specs.Scan.{sees, scanned};
-ghost use Rattle.arena.specs.Nearer.{IsAt, IsLeast, IsSquare, leads_into, range_at, square_of, square_to};
-ghost use Rattle.arena.specs.Ground.{body_of};
+ghost use Rattle.arena.specs.Nearer.{IsAtMetres, IsLeast, IsSquare, leads_into, range_at, square_of, square_to};
+ghost use Rattle.arena.specs.Arena.{robot_of};
 
 use crate::arcs::Arc;
 use crate::robots::Robot;
 use crate::rules::MOST_RESOLUTION;
-use crate::ways::{MOST_SQUARE, Spot, Way};
+use crate::ways::{MOST_SQUARE, MetrePoint, Way};
 
 /// More than any squared distance: it stands for no robot.
 const OUT_OF_SIGHT: u32 = u32::MAX;
 
 /// Returns the range in metres of the nearest live robot whose bearing differs from a degree by at most the resolution
 /// of at most 10, or 0.
-pub(crate) fn scan(robots: &[Robot], robot: usize, degree: u16, resolution: u16) -> u16
+pub(crate) fn nearest_range(robots: &[Robot], robot: usize, degree: u16, resolution: u16) -> u16
     requires inside { robot < length robots.now }
     requires degree { degree < 360 }
     requires resolution { resolution ≤ MOST_RESOLUTION }
-    ensures { (field : Field) → robots.now ≡ map body_of field.robots → result ≡ scanned field robot degree resolution }
+    ensures { (field : Field) → robots.now ≡ map robot_of field.robots → result ≡ scanned field robot degree resolution }
 {
-    distance(nearest(robots, robot, degree, resolution))
+    range_at(nearest(robots, robot, degree, resolution))
 }
 
 /// Returns the squared distance of the nearest of the other robots that a robot sees, if there is one.
@@ -32,12 +32,12 @@ fn nearest(robots: &[Robot], robot: usize, degree: u16, resolution: u16) -> u32
     requires inside { robot < length robots.now }
     requires degree { degree < 360 }
     requires resolution { resolution ≤ MOST_RESOLUTION }
-    ensures nearest { (field : Field) → robots.now ≡ map body_of field.robots → IsLeast result
+    ensures nearest { (field : Field) → robots.now ≡ map robot_of field.robots → IsLeast result
         (map (square_to (robot_at field robot))
         (filter (sees (robot_at field robot) degree resolution) (others field.robots robot))) }
     ensures square { IsSquare result }
 {
-    let from = Spot::of(&robots[robot]);
+    let from = MetrePoint::of_robot(&robots[robot]);
     let arc = Arc::around(degree, resolution);
     let mut nearest = OUT_OF_SIGHT;
     for (i, other) in robots.iter().enumerate() {
@@ -50,19 +50,19 @@ fn nearest(robots: &[Robot], robot: usize, degree: u16, resolution: u16) -> u32
 
 /// Returns the squared distance of a robot if it is seen and nearer than the one so far, else the one so far.
 #[inline(always)]
-fn nearer(from: &Spot, arc: &Arc, other: &Robot, so_far: u32) -> u32
+fn nearer(from: &MetrePoint, arc: &Arc, other: &Robot, so_far: u32) -> u32
     requires so_far { IsSquare so_far }
-    ensures value { (a b : FieldRobot) → IsAt from.now.x from.now.y a → other.now ≡ body_of b
+    ensures value { (a b : FieldRobot) → IsAtMetres from.now.x from.now.y a → other.now ≡ robot_of b
         → result ≡ (if sees a arc.now.degree arc.now.resolution b then min so_far (square_to a b) else so_far) }
     ensures square { IsSquare result }
-    ensures seen { (a b : FieldRobot) → IsAt from.now.x from.now.y a → other.now ≡ body_of b
+    ensures seen { (a b : FieldRobot) → IsAtMetres from.now.x from.now.y a → other.now ≡ robot_of b
         → sees a arc.now.degree arc.now.resolution b ≡ true → result ≤ MOST_SQUARE }
 {
     if !other.is_alive() {
         return so_far;
     }
     let way = from.way_to(other);
-    if arc.is_beside(&way) {
+    if arc.is_passed_by(&way) {
         return so_far;
     }
     shorter(&way, arc, so_far)
@@ -82,11 +82,15 @@ fn shorter(way: &Way, arc: &Arc, so_far: u32) -> u32
     if so_far <= square {
         return so_far;
     }
-    if arc.holds(way) { square } else { so_far }
+    if arc.is_led_into_by(way) {
+        square
+    } else {
+        so_far
+    }
 }
 
 /// Returns the range in metres at a squared distance, at least 1, and 0 for none.
-fn distance(square: u32) -> u16
+fn range_at(square: u32) -> u16
     requires { IsSquare square }
     ensures { result ≡ range_at square }
 {
@@ -104,7 +108,7 @@ fn whole_root(square: u32) -> u16
 {
     let mut guess = near_root(square);
     while square < guess * guess {
-        guess = closer(square, guess);
+        guess = newton_step(square, guess);
     }
     guess as u16
 }
@@ -118,11 +122,11 @@ fn near_root(square: u32) -> u32
     ensures bound { result ≤ 2000 }
 {
     let power = 1 << ((square.ilog2() + 1) / 2);
-    closer(square, closer(square, power))
+    newton_step(square, newton_step(square, power))
 }
 
 /// Returns the mean of a guess and of how often it goes into a square: that is no less than the root.
-fn closer(square: u32, guess: u32) -> u32
+fn newton_step(square: u32, guess: u32) -> u32
     requires some { 0 < guess }
     requires square { square ≤ MOST_SQUARE }
     requires guess { guess ≤ 2000 }

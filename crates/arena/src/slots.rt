@@ -4,11 +4,11 @@ ghost use Rattle.std.specs.Prelude.{◌≡◌, ℕ, ◌+◌, ◌<◌, ◌≤◌,
 ghost use Rattle.std.specs.List.{range_with_len};
 ghost use Rattle.arena.specs.Field.{Shot};
 ghost use Rattle.arena.specs.Shots.{in_air};
-ghost use Rattle.arena.specs.Ground.{shot_of};
-ghost use Rattle.arena.specs.Still.{NoneBefore};
+ghost use Rattle.arena.specs.Arena.{shot_of};
+ghost use Rattle.arena.specs.Still.{NoBurstBefore};
 ghost use Rattle.arena.specs.Due.{HarmLikeShots};
 ghost use Rattle.arena.specs.Outlook.{burst_by, own_bursts};
-ghost use Rattle.arena.specs.Standing.{HoldsShots};
+ghost use Rattle.arena.specs.Representing.{HoldsShots};
 
 use crate::bursts::Burst;
 use crate::missile::Missile;
@@ -24,7 +24,7 @@ pub struct Slots {
 
 impl Model for Slots {
     ghost use Rattle.std.specs.Prelude.{◌≤◌, List, length};
-    ghost use Rattle.arena.specs.Ground.{Missile};
+    ghost use Rattle.arena.specs.Arena.{Missile};
     ghost use Rattle.arena.specs.declared.rules.TheConstants.{MOST_MISSILES};
 
     ghost Value = { List Missile };
@@ -60,7 +60,7 @@ impl Slots {
     }
 
     /// Adds a missile.
-    fn add(&mut self, missile: Missile)
+    fn add_missile(&mut self, missile: Missile)
         requires { length self.old < MOST_MISSILES }
         ensures { self.new ≡ self.old ++ missile ∷ [] }
     {
@@ -68,7 +68,7 @@ impl Slots {
     }
 
     /// Adds the bursts of an update, of missiles that this robot fired.
-    #[tactic(auto, using(crate::proofs::DueBursts::missile_more), unfolding(crate::specs::Outlook::burst_by, crate::specs::Outlook::burst_of, crate::specs::Ground::shot_of))]
+    #[tactic(auto, using(crate::proofs::DueBursts::missile_more), unfolding(crate::specs::Outlook::burst_by, crate::specs::Outlook::burst_of, crate::specs::Arena::shot_of))]
     fn add_bursts(&self, robot: usize, update: u32, bursts: &mut ArrayVec<Burst, MOST_BURSTS>)
         requires robot { robot < MOST_ROBOTS }
         requires room { length bursts.old.items + MOST_MISSILES ≤ MOST_BURSTS }
@@ -107,7 +107,7 @@ impl Slots {
     }
 
     /// Keeps the missiles that are still in the air after this update.
-    fn land(&mut self, update: u32)
+    fn keep_flying(&mut self, update: u32)
         ensures { self.new ≡ filter (λ m. nat_lt update m.burst) self.old }
     {
         if self.all_fly(update) {
@@ -124,11 +124,11 @@ impl Slots {
 }
 
 /// Makes the missiles of so many robots, none of them in the air.
-pub fn no_missiles(n: usize) -> ArrayVec<Slots, MOST_ROBOTS>
+pub fn empty_slots(n: usize) -> ArrayVec<Slots, MOST_ROBOTS>
     requires { n ≤ MOST_ROBOTS }
     ensures count { length result.items ≡ n }
     ensures none { HoldsShots 0 result.items [] }
-    ensures next { (update : ℕ) → NoneBefore update result.items }
+    ensures next { (update : ℕ) → NoBurstBefore update result.items }
     ensures two { All (λ s. length s ≤ MOST_MISSILES) result.items }
 {
     let mut slots = ArrayVec::new();
@@ -139,7 +139,7 @@ pub fn no_missiles(n: usize) -> ArrayVec<Slots, MOST_ROBOTS>
 }
 
 /// Reports whether no missile of any robot is in the air.
-pub fn none_flies(slots: &[Slots]) -> bool
+pub fn no_slot_flies(slots: &[Slots]) -> bool
     ensures { result ≡ true → All (λ s. s ≡ []) slots.now }
 {
     for own in slots {
@@ -151,7 +151,7 @@ pub fn none_flies(slots: &[Slots]) -> bool
 }
 
 /// Reports whether a robot may fire: it has fewer than two missiles in the air.
-pub fn may_fire(slots: &[Slots], robot: usize) -> bool
+pub fn has_free_slot(slots: &[Slots], robot: usize) -> bool
     requires { robot < length slots.now }
     ensures own { result ≡ nat_lt (length (slice_index_or slots.now robot [])) MOST_MISSILES }
     ensures shots { (updates : ℕ) (shots : List Shot) → HoldsShots updates slots.now shots
@@ -161,20 +161,20 @@ pub fn may_fire(slots: &[Slots], robot: usize) -> bool
 }
 
 /// Fires a missile of a robot.
-pub fn fire(slots: &mut [Slots], robot: usize, missile: Missile)
+pub fn fire_from_slot(slots: &mut [Slots], robot: usize, missile: Missile)
     requires inside { robot < length slots.old }
     requires free { nat_lt (length (slice_index_or slots.old robot [])) MOST_MISSILES ≡ true }
     ensures shots { (updates : ℕ) (shots : List Shot) → updates < missile.burst → HoldsShots updates slots.old shots
         → HoldsShots updates slots.new (shots ++ shot_of robot missile ∷ []) }
     ensures two { All (λ s. length s ≤ MOST_MISSILES) slots.old → All (λ s. length s ≤ MOST_MISSILES) slots.new }
-    ensures next { (update : ℕ) → update ≤ missile.burst → NoneBefore update slots.old → NoneBefore update slots.new }
+    ensures next { (update : ℕ) → update ≤ missile.burst → NoBurstBefore update slots.old → NoBurstBefore update slots.new }
 {
-    slots[robot].add(missile);
+    slots[robot].add_missile(missile);
 }
 
 /// Returns an update before which no missile bursts: the next one with a burst.
-pub fn next_burst(slots: &[Slots]) -> u32
-    ensures { NoneBefore result slots.now }
+pub fn next_burst_of_slots(slots: &[Slots]) -> u32
+    ensures { NoBurstBefore result slots.now }
 {
     let mut next = u32::MAX;
     for own in slots {
@@ -184,7 +184,7 @@ pub fn next_burst(slots: &[Slots]) -> u32
 }
 
 /// Returns the bursts of an update, robot by robot.
-pub fn bursts(slots: &[Slots], update: u32) -> ArrayVec<Burst, MOST_BURSTS>
+pub fn bursts_of_slots(slots: &[Slots], update: u32) -> ArrayVec<Burst, MOST_BURSTS>
     requires { length slots.now ≤ MOST_ROBOTS }
     ensures bursts { (updates : ℕ) (shots : List Shot) → HoldsShots updates slots.now shots
         → result.items ≡ flat_map (own_bursts update updates shots) (range_with_len 0 (length slots.now)) }
@@ -199,12 +199,12 @@ pub fn bursts(slots: &[Slots], update: u32) -> ArrayVec<Burst, MOST_BURSTS>
 }
 
 /// Frees the missiles that burst in an update or before.
-pub fn land(slots: &mut [Slots], update: u32)
+pub fn land_in_slots(slots: &mut [Slots], update: u32)
     ensures shots { (updates : ℕ) (shots : List Shot) → update ≡ updates + 1 → HoldsShots updates slots.old shots
         → HoldsShots update slots.new shots }
     ensures two { All (λ s. length s ≤ MOST_MISSILES) slots.old → All (λ s. length s ≤ MOST_MISSILES) slots.new }
 {
     for own in slots {
-        own.land(update);
+        own.keep_flying(update);
     }
 }

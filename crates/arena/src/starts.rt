@@ -6,10 +6,10 @@ ghost use Rattle.arena.specs.Leg.{clamped};
 ghost use Rattle.arena.specs.Random.{generator, random_word};
 ghost use Rattle.arena.specs.Start.{standing, drawn_place, start};
 ghost use Rattle.arena.specs.Placed.{placed, IsPlace};
-ghost use Rattle.arena.specs.Ground.{body_of};
+ghost use Rattle.arena.specs.Arena.{robot_of};
 
 use crate::points::Point;
-use crate::random::draw;
+use crate::random::draw_word;
 use crate::robots::Robot;
 use crate::rules::{HALF_PLACES, HIGH_HALF, LOW_HALF, MOST_ROBOTS};
 use arrayvec::ArrayVec;
@@ -20,12 +20,12 @@ use rand_pcg::Pcg32;
 pub(crate) fn drawn_robots(random: &mut Pcg32, n: usize) -> ArrayVec<Robot, MOST_ROBOTS>
     requires { n ≤ MOST_ROBOTS }
     ensures robots { (seed number : ℕ) → random.old ≡ generator seed number 0
-        → result.items ≡ map body_of (start seed number n).robots }
+        → result.items ≡ map robot_of (start seed number n).robots }
     ensures words { (seed number : ℕ) → random.old ≡ generator seed number 0
         → random.new ≡ generator seed number (1 + 2 * n) }
     ensures manned { length result.items ≡ n }
 {
-    let first = draw(random) % 4;
+    let first = draw_word(random) % 4;
     let mut robots = ArrayVec::new();
     for i in 0..n {
         let quadrant = (i as u32 + first) % 4;
@@ -38,13 +38,13 @@ pub(crate) fn drawn_robots(random: &mut Pcg32, n: usize) -> ArrayVec<Robot, MOST
 fn drawn_robot(random: &mut Pcg32, quadrant: u32) -> Robot
     requires { quadrant < 4 }
     ensures robot { (seed number drawn : ℕ) → random.old ≡ generator seed number drawn
-        → result ≡ body_of (standing (drawn_place (quadrant % 2) (random_word seed number drawn))
+        → result ≡ robot_of (standing (drawn_place (quadrant % 2) (random_word seed number drawn))
         (drawn_place (quadrant / 2) (random_word seed number (drawn + 1)))) }
     ensures words { (seed number drawn : ℕ) → random.old ≡ generator seed number drawn
         → random.new ≡ generator seed number (drawn + 2) }
 {
-    let x = drawn_place(quadrant % 2, draw(random));
-    let y = drawn_place(quadrant / 2, draw(random));
+    let x = drawn_place(quadrant % 2, draw_word(random));
+    let y = drawn_place(quadrant / 2, draw_word(random));
     Robot::standing(Point::new(x, y))
 }
 
@@ -63,7 +63,7 @@ pub(crate) fn placed_robots(
     places: &ArrayVec<(i32, i32), MOST_ROBOTS>,
 ) -> ArrayVec<Robot, MOST_ROBOTS>
     requires { All IsPlace places.now.items }
-    ensures robots { (seed number : ℕ) → result.items ≡ map body_of (placed seed number places.now.items).robots }
+    ensures robots { (seed number : ℕ) → result.items ≡ map robot_of (placed seed number places.now.items).robots }
     ensures manned { length result.items ≡ length places.now.items }
 {
     let mut robots = ArrayVec::new();

@@ -1,21 +1,21 @@
 //! The robots after an update.
 
 ghost use Rattle.std.specs.Prelude.{◌≡◌, ℕ, ◌+◌, ◌/◌, ◌<◌, ◌≤◌, List, All, map, true, length};
-ghost use Rattle.arena.specs.Field.{Shot, Robot as FieldRobot, Field};
+ghost use Rattle.arena.specs.Field.{Shot, FieldRobot, Field};
 ghost use Rattle.arena.specs.Collisions.{mover, touches};
 ghost use Rattle.arena.specs.Moved.{moved_robot, moved};
-ghost use Rattle.arena.specs.Ground.{body_of};
-ghost use Rattle.arena.specs.Drive.{ahead};
+ghost use Rattle.arena.specs.Arena.{robot_of};
+ghost use Rattle.arena.specs.Ahead.{robot_ahead};
 ghost use Rattle.arena.specs.Due.{HarmLikeShots};
-ghost use Rattle.arena.specs.Calm.{body_at, gap, IsNearby, IsAtPlace, FarFor};
+ghost use Rattle.arena.specs.Apart.{robot_in, gap, IsNearby, IsAtPlace, AreApartFor};
 ghost use Rattle.arena.specs.Still.{Stays, IsStill};
-ghost use Rattle.arena.specs.Standing.{HoldsShots};
+ghost use Rattle.arena.specs.Representing.{HoldsShots};
 
 use crate::axes::{LAST_SUM, SCALE};
 use crate::bursts::{Burst, harm_by};
-use crate::collisions::{Mover, any_near, touches};
+use crate::collisions::{Mover, any_are_close, touched_count};
 use crate::missiles::Missiles;
-use crate::robots::{Robot, worn};
+use crate::robots::{Robot, damage_after};
 use crate::rules::{MOST_BURSTS, MOST_ROBOTS, MOST_SPEED, NEAR};
 use arrayvec::ArrayVec;
 
@@ -49,89 +49,89 @@ fn all_stay(robots: &[Robot]) -> bool
 }
 
 /// Moves robots on, each as far as walls let it, and returns what collisions have to know.
-pub fn drive_on(robots: &mut [Robot]) -> ArrayVec<Mover, MOST_ROBOTS>
+pub fn move_all_as_movers(robots: &mut [Robot]) -> ArrayVec<Mover, MOST_ROBOTS>
     requires { length robots.old ≤ MOST_ROBOTS }
-    ensures ahead { (rs : List FieldRobot) → robots.old ≡ map body_of rs → robots.new ≡ map ahead rs }
-    ensures movers { (rs : List FieldRobot) → robots.old ≡ map body_of rs → result.items ≡ map mover rs }
+    ensures ahead { (rs : List FieldRobot) → robots.old ≡ map robot_of rs → robots.new ≡ map robot_ahead rs }
+    ensures movers { (rs : List FieldRobot) → robots.old ≡ map robot_of rs → result.items ≡ map mover rs }
     ensures count { length result.items ≡ length robots.old }
 {
     let mut movers = ArrayVec::new();
     for robot in robots {
-        movers.push(robot.drive_on());
+        movers.push(robot.move_ahead_as_mover());
     }
     movers
 }
 
 /// Returns one robot after the update, from where it has moved on, given how many others it collides with and the bursts
 /// of the update.
-fn finished(robot: &Robot, seen: &Mover, touched: usize, bursts: &[Burst]) -> Robot
+fn robot_after(robot: &Robot, seen: &Mover, touched: usize, bursts: &[Burst]) -> Robot
     requires touched { touched ≤ MOST_ROBOTS }
     requires few { length bursts.now ≤ MOST_BURSTS }
     ensures { (r : FieldRobot) (update : ℕ) (shots : List Shot) → HarmLikeShots update shots bursts.now
-        → robot.now ≡ ahead r → seen.now ≡ mover r → result ≡ body_of (moved_robot update shots touched r) }
+        → robot.now ≡ robot_ahead r → seen.now ≡ mover r → result ≡ robot_of (moved_robot update shots touched r) }
 {
     if !seen.live {
         return *robot;
     }
     let motion = robot.motion_after(seen, touched);
     let harm = harm_by(bursts, motion.place());
-    Robot::new(motion, worn(robot.damage(), touched, harm))
+    Robot::new(motion, damage_after(robot.damage(), touched, harm))
 }
 
 /// Puts robots back that collide, and hurts those and the ones near a burst.
-fn finish(robots: &mut [Robot], movers: &[Mover], missiles: &Missiles, update: u32)
+fn put_back_and_hurt(robots: &mut [Robot], movers: &[Mover], missiles: &Missiles, update: u32)
     requires most { length robots.old ≤ MOST_ROBOTS }
     requires count { length movers.now ≡ length robots.old }
-    ensures { (f : Field) → update ≡ f.updates + 1 → robots.old ≡ map ahead f.robots
+    ensures { (f : Field) → update ≡ f.updates + 1 → robots.old ≡ map robot_ahead f.robots
         → movers.now ≡ map mover f.robots → HoldsShots f.updates missiles.now f.shots
-        → robots.new ≡ map body_of (moved f).robots }
+        → robots.new ≡ map robot_of (moved f).robots }
 {
     let bursts = missiles.bursts(update);
     for i in 0..robots.len() {
-        let touched = touches(movers, i);
-        robots[i] = finished(&robots[i], &movers[i], touched, bursts.as_slice());
+        let touched = touched_count(movers, i);
+        robots[i] = robot_after(&robots[i], &movers[i], touched, bursts.as_slice());
     }
 }
 
 /// Moves robots on that may come close to each other.
 #[inline(never)]
-fn move_among(robots: &mut [Robot], missiles: &Missiles, update: u32)
+fn move_close_robots(robots: &mut [Robot], missiles: &Missiles, update: u32)
     requires { length robots.old ≤ MOST_ROBOTS }
-    ensures { (f : Field) → update ≡ f.updates + 1 → robots.old ≡ map body_of f.robots
-        → HoldsShots f.updates missiles.now f.shots → robots.new ≡ map body_of (moved f).robots }
+    ensures { (f : Field) → update ≡ f.updates + 1 → robots.old ≡ map robot_of f.robots
+        → HoldsShots f.updates missiles.now f.shots → robots.new ≡ map robot_of (moved f).robots }
 {
-    let movers = drive_on(robots);
-    if missiles.is_quiet(update) && !any_near(movers.as_slice()) {
+    let movers = move_all_as_movers(robots);
+    if missiles.is_quiet(update) && !any_are_close(movers.as_slice()) {
         return;
     }
-    finish(robots, movers.as_slice(), missiles, update);
+    put_back_and_hurt(robots, movers.as_slice(), missiles, update);
 }
 
 /// Moves robots on, each as far as walls let it.
-fn drive(robots: &mut [Robot])
-    ensures ahead { (rs : List FieldRobot) → robots.old ≡ map body_of rs → robots.new ≡ map ahead rs }
+fn move_all(robots: &mut [Robot])
+    ensures ahead { (rs : List FieldRobot) → robots.old ≡ map robot_of rs → robots.new ≡ map robot_ahead rs }
     ensures nearby { (k : ℕ) → k < length robots.old
-        → IsNearby (body_at robots.old k).track (body_at robots.new k).track }
+        → IsNearby (robot_in robots.old k).motion (robot_in robots.new k).motion }
 {
     for robot in robots {
-        robot.drive();
+        robot.move_ahead();
     }
 }
 
 /// Hurts the robots that are near a burst.
 #[inline(never)]
-fn hurt(robots: &mut [Robot], missiles: &Missiles, update: u32)
-    ensures robots { (f : Field) → update ≡ f.updates + 1 → robots.old ≡ map ahead f.robots
+fn hurt_near_bursts(robots: &mut [Robot], missiles: &Missiles, update: u32)
+    ensures robots { (f : Field) → update ≡ f.updates + 1 → robots.old ≡ map robot_ahead f.robots
         → HoldsShots f.updates missiles.now f.shots
         → ((i : ℕ) → i < length f.robots → touches (map mover f.robots) i ≡ 0)
-        → robots.new ≡ map body_of (moved f).robots }
+        → robots.new ≡ map robot_of (moved f).robots }
     ensures places { (k : ℕ) → k < length robots.old
-        → IsAtPlace (body_at robots.old k).track (body_at robots.new k).track }
+        → IsAtPlace (robot_in robots.old k).motion (robot_in robots.new k).motion }
 {
     let bursts = missiles.bursts(update);
     for robot in robots {
         let harm = harm_by(bursts.as_slice(), robot.place());
-        robot.hurt(harm);
+        robot.take_damage(harm);
     }
 }
 
@@ -139,7 +139,7 @@ fn hurt(robots: &mut [Robot], missiles: &Missiles, update: u32)
 /// far.
 fn least_gap(robot: &Robot, others: &[Robot], so_far: u32) -> u32
     ensures less { result ≤ so_far }
-    ensures least { All (λ other. result / 100000 ≤ gap robot.now.track other.track) others.now }
+    ensures least { All (λ other. result / 100000 ≤ gap robot.now.motion other.motion) others.now }
 {
     let mut least = so_far;
     for other in others {
@@ -149,8 +149,8 @@ fn least_gap(robot: &Robot, others: &[Robot], so_far: u32) -> u32
 }
 
 /// Returns for how many updates no two robots come close to each other: each moves at most ten metres in one.
-fn calm_updates(robots: &[Robot]) -> u32
-    ensures { FarFor result robots.now }
+fn updates_apart(robots: &[Robot]) -> u32
+    ensures { AreApartFor result robots.now }
 {
     let mut least = LAST_SUM as u32;
     for (i, robot) in robots.iter().enumerate() {
@@ -164,16 +164,16 @@ fn calm_updates(robots: &[Robot]) -> u32
 
 /// Moves robots on that don't come close to each other for some updates, and returns for how many more they don't.
 #[inline(always)]
-fn move_apart(robots: &mut [Robot], missiles: &Missiles, update: u32, calm: u32) -> u32
+fn move_apart_robots(robots: &mut [Robot], missiles: &Missiles, update: u32, calm: u32) -> u32
     requires some { 0 < calm }
-    requires far { FarFor calm robots.old }
-    ensures far { FarFor result robots.new }
-    ensures robots { (f : Field) → update ≡ f.updates + 1 → robots.old ≡ map body_of f.robots
-        → HoldsShots f.updates missiles.now f.shots → robots.new ≡ map body_of (moved f).robots }
+    requires far { AreApartFor calm robots.old }
+    ensures far { AreApartFor result robots.new }
+    ensures robots { (f : Field) → update ≡ f.updates + 1 → robots.old ≡ map robot_of f.robots
+        → HoldsShots f.updates missiles.now f.shots → robots.new ≡ map robot_of (moved f).robots }
 {
-    drive(robots);
+    move_all(robots);
     if !missiles.is_quiet(update) {
-        hurt(robots, missiles, update);
+        hurt_near_bursts(robots, missiles, update);
     }
     calm - 1
 }
@@ -181,32 +181,32 @@ fn move_apart(robots: &mut [Robot], missiles: &Missiles, update: u32, calm: u32)
 /// Moves robots on of which it isn't known whether any come close to each other, and returns for how many more updates
 /// none do.
 #[inline(never)]
-fn move_warily(robots: &mut [Robot], missiles: &Missiles, update: u32) -> u32
+fn move_measured_robots(robots: &mut [Robot], missiles: &Missiles, update: u32) -> u32
     requires { length robots.old ≤ MOST_ROBOTS }
-    ensures far { FarFor result robots.new }
-    ensures robots { (f : Field) → update ≡ f.updates + 1 → robots.old ≡ map body_of f.robots
-        → HoldsShots f.updates missiles.now f.shots → robots.new ≡ map body_of (moved f).robots }
+    ensures far { AreApartFor result robots.new }
+    ensures robots { (f : Field) → update ≡ f.updates + 1 → robots.old ≡ map robot_of f.robots
+        → HoldsShots f.updates missiles.now f.shots → robots.new ≡ map robot_of (moved f).robots }
 {
-    let calm = calm_updates(robots);
+    let calm = updates_apart(robots);
     if calm == 0 {
-        move_among(robots, missiles, update);
+        move_close_robots(robots, missiles, update);
         return 0;
     }
-    move_apart(robots, missiles, update, calm)
+    move_apart_robots(robots, missiles, update, calm)
 }
 
 /// Moves robots to where they are after an update, of which this is the number, and returns for how many more updates
 /// no two of them come close to each other, as far as it is known. Whether any may is asked only if it isn't known that
 /// they don't.
-pub fn move_on(robots: &mut [Robot], missiles: &Missiles, update: u32, calm: u32) -> u32
+pub fn move_robots(robots: &mut [Robot], missiles: &Missiles, update: u32, calm: u32) -> u32
     requires most { length robots.old ≤ MOST_ROBOTS }
-    requires far { FarFor calm robots.old }
-    ensures far { FarFor result robots.new }
-    ensures robots { (f : Field) → update ≡ f.updates + 1 → robots.old ≡ map body_of f.robots
-        → HoldsShots f.updates missiles.now f.shots → robots.new ≡ map body_of (moved f).robots }
+    requires far { AreApartFor calm robots.old }
+    ensures far { AreApartFor result robots.new }
+    ensures robots { (f : Field) → update ≡ f.updates + 1 → robots.old ≡ map robot_of f.robots
+        → HoldsShots f.updates missiles.now f.shots → robots.new ≡ map robot_of (moved f).robots }
 {
     if calm == 0 {
-        return move_warily(robots, missiles, update);
+        return move_measured_robots(robots, missiles, update);
     }
-    move_apart(robots, missiles, update, calm)
+    move_apart_robots(robots, missiles, update, calm)
 }

@@ -1,10 +1,10 @@
 //! Ways from a robot to the others, in whole metres.
 
 ghost use Rattle.std.specs.Prelude.{◌≡◌, ◌≤◌, true, false, pos, unsigned_abs};
-ghost use Rattle.arena.specs.Field.{Robot as FieldRobot};
+ghost use Rattle.arena.specs.Field.{FieldRobot};
 ghost use Rattle.arena.specs.Scan.{east_to, north_to};
-ghost use Rattle.arena.specs.Nearer.{IsAt, square_of};
-ghost use Rattle.arena.specs.Ground.{body_of};
+ghost use Rattle.arena.specs.Nearer.{IsAtMetres, square_of};
+ghost use Rattle.arena.specs.Arena.{robot_of};
 ghost use Rattle.arena.specs.declared.rules.TheConstants.{LAST_METRE};
 
 use crate::robots::Robot;
@@ -15,19 +15,19 @@ pub const MOST_SQUARE: u32 = 2_000_000;
 
 /// A robot's place, in whole metres rounded down.
 #[derive(Clone, Copy, Drop)]
-pub struct Spot {
+pub struct MetrePoint {
     x: u16,
     y: u16,
     ghost x_in_field: { x ≤ LAST_METRE },
     ghost y_in_field: { y ≤ LAST_METRE },
 }
 
-impl Spot {
+impl MetrePoint {
     /// Returns the place of a robot.
-    pub fn of(robot: &Robot) -> Spot
-        ensures { (a : FieldRobot) → robot.now ≡ body_of a → IsAt result.x result.y a }
+    pub fn of_robot(robot: &Robot) -> MetrePoint
+        ensures { (a : FieldRobot) → robot.now ≡ robot_of a → IsAtMetres result.x result.y a }
     {
-        Spot {
+        MetrePoint {
             x: robot.metres_x(),
             y: robot.metres_y(),
         }
@@ -35,9 +35,9 @@ impl Spot {
 
     /// Returns the way from here to a robot.
     pub fn way_to(&self, robot: &Robot) -> Way
-        ensures east { (a b : FieldRobot) → IsAt self.now.x self.now.y a → robot.now ≡ body_of b
+        ensures east { (a b : FieldRobot) → IsAtMetres self.now.x self.now.y a → robot.now ≡ robot_of b
             → result.east ≡ east_to a b }
-        ensures north { (a b : FieldRobot) → IsAt self.now.x self.now.y a → robot.now ≡ body_of b
+        ensures north { (a b : FieldRobot) → IsAtMetres self.now.x self.now.y a → robot.now ≡ robot_of b
             → result.north ≡ north_to a b }
     {
         Way {

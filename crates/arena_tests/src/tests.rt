@@ -1,7 +1,7 @@
 //! Fields with known outcomes, through the calls of an arena.
 
 ghost use Rattle.std.specs.Prelude.{◌≡◌, ◌+◌, ◌<◌, ◌≤◌, length};
-ghost use Rattle.arena.specs.Ground.{most_updates};
+ghost use Rattle.arena.specs.Arena.{most_updates};
 
 use arena::{Arena, LAST_PLACE, MOST_ROBOTS};
 use arrayvec::ArrayVec;

@@ -5,14 +5,14 @@ use Rattle.clap.specs.Values.{kind_of}
 use Rattle.clap.specs.Words.{is_simple, is_simple_and_free}
 use Rattle.clap.specs.declared.error.Error.{Error}
 use Rattle.clap.specs.declared.error.kind.ErrorKind.TheVariants as kind
-use Rattle.arguments.specs.CommandLine.{robots}
+use Rattle.arguments.specs.CommandLine.{crobots_app}
 
-pub simple : is_simple robots ≡ true
-unfolding robots
+pub simple : is_simple crobots_app ≡ true
+unfolding crobots_app
 simple = refl
 
-pub free : is_simple_and_free robots ≡ true
-unfolding robots
+pub free : is_simple_and_free crobots_app ≡ true
+unfolding crobots_app
 free = refl
 
 -- an error that isn't of memory has a kind

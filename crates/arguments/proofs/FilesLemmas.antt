@@ -22,41 +22,41 @@ use Rattle.clap.proofs.CallerLemmas.{entry_by_id, present_has_entry, required_pr
 use Rattle.clap.proofs.FaultLemmas.{free_args}
 use Rattle.clap.proofs.SimpleLemmas.{ready_simple, simple_groups}
 use Rattle.clap.proofs.WalkLemmas.{both, raw_values-rows}
-use Rattle.arguments.specs.CommandLine.{files_rule, robots}
+use Rattle.arguments.specs.CommandLine.{files_rule, crobots_app}
 use Rattle.arguments.specs.Asked.{files_in}
 
 -- what the command is
 
-ready : is_ready robots.top ≡ true
-unfolding robots
+ready : is_ready crobots_app.top ≡ true
+unfolding crobots_app
 ready = refl
 
-no_subcommands : list_all is_ready_leaf robots.subs ≡ true
-unfolding robots
+no_subcommands : list_all is_ready_leaf crobots_app.subs ≡ true
+unfolding crobots_app
 no_subcommands = refl
 
-free_rules : has_free_rules robots.top ≡ true
-unfolding robots
+free_rules : has_free_rules crobots_app.top ≡ true
+unfolding crobots_app
 free_rules = refl
 
-buildable : is_buildable robots ≡ true
-unfolding robots
+buildable : is_buildable crobots_app ≡ true
+unfolding crobots_app
 buildable = refl
 
-simple_rules : list_all (λ (r : Rule). r.is_simple) robots.top.rules ≡ true
-unfolding robots
+simple_rules : list_all (λ (r : Rule). r.is_simple) crobots_app.top.rules ≡ true
+unfolding crobots_app
 simple_rules = refl
 
-keeps_requirements : robots.top.subcommand_negates_reqs ≡ false
-unfolding robots
+keeps_requirements : crobots_app.top.subcommand_negates_reqs ≡ false
+unfolding crobots_app
 keeps_requirements = refl
 
-seven_rules : length robots.top.rules ≡ 7
-unfolding robots
+seven_rules : length crobots_app.top.rules ≡ 7
+unfolding crobots_app
 seven_rules = refl
 
-last_rule : (r : Rule) → slice_index_or robots.top.rules 6 r ≡ files_rule (codes "FILE")
-unfolding robots
+last_rule : (r : Rule) → slice_index_or crobots_app.top.rules 6 r ≡ files_rule (codes "FILE")
+unfolding crobots_app
 last_rule r = refl
 
 -- a rule of the files takes a value at each use, and neither counts nor splits
@@ -71,12 +71,12 @@ takes_one r = nat_lt 0 (unwrap_or_range r.range).start_inclusive && (not (is_cou
 abbrev takes_file : Rule → Bool
 takes_file r = not (bytes_eq r.id (codes "FILE")) || takes_one r
 
-before_building : list_all takes_file robots.top.rules ≡ true
-unfolding robots
+before_building : list_all takes_file crobots_app.top.rules ≡ true
+unfolding crobots_app
 before_building = refl
 
-after_building : list_all takes_file (built robots).top.rules ≡ true
-unfolding robots
+after_building : list_all takes_file (built crobots_app).top.rules ≡ true
+unfolding crobots_app
 after_building = refl
 
 each_rule : (p : Rule → Bool) (xs : List Arg) → list_all p (map rule_of xs) ≡ true → (k : ℕ) (d : Arg) → k < length xs
@@ -131,13 +131,13 @@ never_empty c id rules is any =
           true≢false (sym bad)
     ]
 
-simple_command : (c : Command) → app_of c ≡ robots → IsSimple c
+simple_command : (c : Command) → app_of c ≡ crobots_app → IsSimple c
 simple_command c is =
     ready_simple c (ap (λ (a : App). is_ready a.top) is ∙ ready)
     (ap (λ (a : App). list_all is_ready_leaf a.subs) is ∙ no_subcommands)
 
 -- nothing in the command excludes anything
-plain_command : (c : Command) → app_of c ≡ robots → IsSimple c → IsPlain c
+plain_command : (c : Command) → app_of c ≡ crobots_app → IsSimple c → IsPlain c
 plain_command c is simple =
     let free = free_args c simple (ap (λ (a : App). has_free_rules a.top) is ∙ free_rules) in
     let groups =
@@ -151,7 +151,7 @@ an_arg [] some = absurd (omega arith)
 an_arg (x ∷ xs) some = x
 
 -- the words gave at least one file: the argument is required
-files_present : (old new : Command) (m : ArgMatches) → app_of old ≡ robots → BuildsTo old new →
+files_present : (old new : Command) (m : ArgMatches) → app_of old ≡ crobots_app → BuildsTo old new →
     IsParsed new (found_of m) (has_subcommand m)
     → is_some (matched_of (found_of m) (codes "FILE")) ≡ true
 files_present old new m is builds parsed =
@@ -170,7 +170,7 @@ files_present old new m is builds parsed =
     present_has_entry (found_of m) (codes "FILE") (rw id at present)
 
 -- an entry of the files has a value
-entry_filled : (old new : Command) (e : Entry) → app_of old ≡ robots → BuildsTo old new →
+entry_filled : (old new : Command) (e : Entry) → app_of old ≡ crobots_app → BuildsTo old new →
     list_all takes_file (map rule_of (args_of new)) ≡ true
     → bytes_eq e.0.now (codes "FILE") ≡ true → EntryPasses new e → 0 < length e.1.vals.items
 entry_filled old new e is builds rules key passes =
@@ -191,7 +191,7 @@ entry_filled old new e is builds rules key passes =
       | inr (inr (inr none)) ↦ absurd (never_empty new e.0.now rules id none)
     ]
 
-rules_of_built : (old new : Command) → app_of old ≡ robots
+rules_of_built : (old new : Command) → app_of old ≡ crobots_app
     → (app_of new ≡ app_of old) ⊎ (is_buildable (app_of old) ≡ true → app_of new ≡ built (app_of old))
     → list_all takes_file (map rule_of (args_of new)) ≡ true
 rules_of_built old new is (inl same) = ap (λ (a : App). list_all takes_file a.top.rules) (same ∙ is) ∙ before_building
@@ -200,7 +200,7 @@ rules_of_built old new is (inr after) =
     after_building
 
 -- so the matches have at least one file
-pub files_given : (old new : Command) (m : ArgMatches) → app_of old ≡ robots → BuildsTo old new
+pub files_given : (old new : Command) (m : ArgMatches) → app_of old ≡ crobots_app → BuildsTo old new
     → ((out-Command new).has_globals ≡ false → IsParsed new (found_of m) (has_subcommand m))
     → (app_of new ≡ app_of old) ⊎ (is_buildable (app_of old) ≡ true → app_of new ≡ built (app_of old))
     → 0 < length (files_in (rows_of (found_of m)))

@@ -5,9 +5,9 @@ use Rattle.std.specs.Str.{bytes_eq}
 use Rattle.clap.specs.Words.{Kinds, Row, Text, all_of, fault_of, first_of, matches_of}
 use Rattle.settings.specs.declared.faults.UseFault.{UseFault}
 use Rattle.settings.specs.declared.faults.UseFault.TheVariants.{Usage}
-use Rattle.settings.specs.Given.{Given, asked_by}
-use Rattle.settings.specs.Setup.{Setup}
-use Rattle.arguments.specs.CommandLine.{robots}
+use Rattle.settings.specs.Given.{Given, settings_given}
+use Rattle.settings.specs.Settings.{Settings}
+use Rattle.arguments.specs.CommandLine.{crobots_app}
 
 -- the flag is set
 abbrev pub is_set : Text → List Row → Bool
@@ -26,14 +26,14 @@ given_by rows = record {
   seed = first_of (codes "s") rows;
   profile = first_of (codes "p") rows;
   first = first_of (codes "f") rows;
-  files = files_in rows;
+  file_words = files_in rows;
 }
 
 -- the words are wrong usage if `clap` refuses them
-abbrev pub unless_refused : Kinds → Result Setup UseFault → Result Setup UseFault
+abbrev pub unless_refused : Kinds → Result Settings UseFault → Result Settings UseFault
 unless_refused [] answer = answer
 unless_refused (_ ∷ _) answer = Err Usage
 
 -- what the words ask for
-unfoldable pub asked : List Text → Result Setup UseFault
-asked words = unless_refused (fault_of robots words) (asked_by (given_by (matches_of robots words)))
+unfoldable pub asked : List Text → Result Settings UseFault
+asked words = unless_refused (fault_of crobots_app words) (settings_given (given_by (matches_of crobots_app words)))

@@ -17,8 +17,8 @@ abbrev pub files_rule : Text → Rule
 files_rule id = record (new_rule id) { action = Some Append; required = true }
 
 -- the words begin after the program's name
-unfoldable pub robots : App
-robots = on_top (λ top. record top {
+unfoldable pub crobots_app : App
+crobots_app = on_top (λ top. record top {
   no_binary_name = true;
   rules = flag_rule (codes "c") 99 ∷ option_rule (codes "m") 109 ∷ option_rule (codes "l") 108
       ∷ option_rule (codes "s") 115 ∷ option_rule (codes "p") 112 ∷ option_rule (codes "f") 102

@@ -2,7 +2,7 @@
 
 ghost use Rattle.std.specs.Prelude.{◌≡◌, ◌≢◌, ◌⊎◌, ◌<◌, [], map, codes, length, true, false, IfOk, IfErr, OnOk, Err};
 ghost use Rattle.clap.specs.Words.{app_of, fault_of, found_of, kind_of, matches_of, rows_of, rule_of, takes};
-ghost use Rattle.arguments.specs.CommandLine.{files_rule, flag_rule, option_rule, robots};
+ghost use Rattle.arguments.specs.CommandLine.{files_rule, flag_rule, option_rule, crobots_app};
 ghost use Rattle.arguments.specs.Asked.{files_in};
 
 use clap::error::ErrorKind;
@@ -15,13 +15,16 @@ use std::alloc::{AllocError, Global};
 /// # Errors
 ///
 /// `Usage` if `clap` refuses the words, and `Memory` if memory is refused.
-pub(crate) fn parsed<'a>(alloc: Global, words: &'a [&'a str]) -> Result<ArgMatches<'a>, UseFault>
-    ensures rows { IfOk result (λ m. rows_of (found_of m) ≡ matches_of robots (map (λ word. word.now) words.now)) }
+pub(crate) fn clap_matches<'a>(
+    alloc: Global,
+    words: &'a [&'a str],
+) -> Result<ArgMatches<'a>, UseFault>
+    ensures rows { IfOk result (λ m. rows_of (found_of m) ≡ matches_of crobots_app (map (λ word. word.now) words.now)) }
     ensures files { IfOk result (λ m. 0 < length (files_in (rows_of (found_of m)))) }
-    ensures ok { OnOk result (fault_of robots (map (λ word. word.now) words.now) ≡ []) }
+    ensures ok { OnOk result (fault_of crobots_app (map (λ word. word.now) words.now) ≡ []) }
     ensures refused { IfErr result (λ fault. (fault ≡ UseFault.Memory)
-        ⊎ ((fault ≡ UseFault.Usage) × (fault_of robots (map (λ word. word.now) words.now) ≢ []))) }
-    ensures taken { takes robots (map (λ word. word.now) words.now) ≡ true → result ≢ Err UseFault.Usage }
+        ⊎ ((fault ≡ UseFault.Usage) × (fault_of crobots_app (map (λ word. word.now) words.now) ≢ []))) }
+    ensures taken { takes crobots_app (map (λ word. word.now) words.now) ≡ true → result ≢ Err UseFault.Usage }
 {
     let Ok(mut command) = command(alloc) else {
         return Err(UseFault::Memory);
@@ -47,7 +50,7 @@ fn fault_by(error: &Error) -> UseFault
 
 /// Makes the command: a flag, five options, and one or more files.
 fn command<'a>(alloc: Global) -> Result<Command<'a>, AllocError>
-    ensures { IfOk result (λ c. app_of c ≡ robots) }
+    ensures { IfOk result (λ c. app_of c ≡ crobots_app) }
 {
     Command::new(alloc, "crobots")
         .no_binary_name(true)

@@ -1,8 +1,8 @@
 //! The words of the command line, read by `clap`.
 #![tactic(auto)]
 
+mod command_words;
 mod commands;
-mod words;
 
+pub use command_words::read_words;
 pub use settings::UseFault;
-pub use words::read_words;

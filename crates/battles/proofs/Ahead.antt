@@ -4,13 +4,13 @@ use Rattle.std.specs.Prelude.{slice_get}
 use Rattle.std.proofs.lemmas.List.{get_or-set_same, get_or-set_other, length-set, set-set, set-get_or}
 use Rattle.std.proofs.lemmas.Bool.{cases_eq, cases_lt}
 use Rattle.arena.specs.Field.{Field}
-use Rattle.arena.specs.Ground.{Ground}
-use Rattle.arena.specs.Standing.{StandsFor as IsGroundOf}
+use Rattle.arena.specs.Arena.{Arena}
+use Rattle.arena.specs.Representing.{RepresentsField}
 use Rattle.code.specs.declared.want.Want.TheVariants.{Quiet}
 use Rattle.engine.specs.Executables.{Executable}
-use Rattle.battles.specs.Battle.{Behaviour, Stage, step, turn, robot_of}
-use Rattle.battles.specs.Carrying.{Runner, AreRobotsOf, EachIsAt, HasReached, IsAt, IsRobotOf}
-use Rattle.battles.specs.Windows.{AreTurnNumbers, HasCome, HasRun, IsLike, OthersArePast, alone, RunsAlone, turns_left, is_left, rounds}
+use Rattle.battles.specs.Battle.{Behaviour, Stage, robot_turn, turn, behaviour_at}
+use Rattle.battles.specs.Carrying.{Runner, AreRobotsOf, EachIsAheadOf, HasReached, IsAheadOf, IsRobotOf}
+use Rattle.battles.specs.Intervals.{AreTurnNumbers, HasCome, HasRunAlone, IsLike, OthersArePast, alone, RunsAlone, turns_left, is_left, rounds}
 use Rattle.battles.proofs.Alike.{stands_like, stages_refl, like_same, stages_trans}
 use Rattle.battles.proofs.Commuting.{TurnsAlone}
 use Rattle.battles.proofs.Turns.{rest_all, rest_none, left_not, turn_numbers_one, turn_numbers_set, next_taken}
@@ -19,7 +19,7 @@ use Rattle.battles.proofs.Stages.{robot_at, robots_length, stands_at, stands_set
 -- a robot has run alone for so many cycles
 unfoldable pub ran : List Behaviour → ℕ → Stage → ℕ → Stage
 ran robots i s n =
-    let run = alone (robot_of robots i) i s.field (get_or s.traces i []) n in
+    let run = alone (behaviour_at robots i) i s.field (get_or s.traces i []) n in
     record { field = run.0; traces = set s.traces i run.1 }
 
 ran_none : (robots : List Behaviour) (i : ℕ) (s : Stage) → ran robots i s 0 ≡ s
@@ -30,15 +30,16 @@ ran_more : (robots : List Behaviour) (i : ℕ) (s : Stage) (n : ℕ) → i < len
     → turn robots i (ran robots i s n) ≡ ran robots i s (suc n)
 unfolding ran alone turn
 ran_more robots i s n inside =
-    let robot = robot_of robots i in
+    let robot = behaviour_at robots i in
     let run = alone robot i s.field (get_or s.traces i []) n in
-    rw (get_or-set_same s.traces i run.1 [] inside, set-set s.traces i run.1 (step robot i run.0 run.1).1) refl
+    rw (get_or-set_same s.traces i run.1 [] inside, set-set s.traces i run.1 (robot_turn robot i run.0 run.1).1) refl
 
 ran_alone : (robots : List Behaviour) (i : ℕ) (s : Stage) (n k : ℕ) → i < length s.traces
-    → RunsAlone (robot_of robots i) i s.field (get_or s.traces i []) n → k < n → TurnsAlone robots i (ran robots i s k)
+    → RunsAlone (behaviour_at robots i) i s.field (get_or s.traces i []) n → k < n →
+    TurnsAlone robots i (ran robots i s k)
 unfolding ran TurnsAlone
 ran_alone robots i s n k inside runs within = λ live.
-    let robot = robot_of robots i in
+    let robot = behaviour_at robots i in
     rw (get_or-set_same s.traces i (alone robot i s.field (get_or s.traces i []) k).1 [] inside) (runs k within live)
 
 -- past the longest window is past one of fewer cycles
@@ -66,7 +67,7 @@ first_left next i end n are small within past j low =
 pub run_taken : (robots : List Behaviour) (next : List ℕ) (i end n : ℕ) (s : Stage) → AreTurnNumbers next → i < 4 →
     i < length s.traces
     → get_or next i 0 + 4 * n < end + 4
-    → RunsAlone (robot_of robots i) i s.field (get_or s.traces i []) n ⊎ OthersArePast end i next
+    → RunsAlone (behaviour_at robots i) i s.field (get_or s.traces i []) n ⊎ OthersArePast end i next
     →
     IsLike (turns_left robots (is_left (set next i (get_or next i 0 + 4 * n))) 0 end (ran robots i s n))
     (turns_left robots (is_left next) 0 end s)
@@ -84,8 +85,9 @@ run_taken robots next i end (suc n) s are small inside within ready =
       | inl runs ↦ inl (ran_alone robots i s (suc n) n inside runs (omega arith))
       | inr past ↦ inr (first_left next i end n are small (omega arith) past)
     ] in
-    let fewer : RunsAlone (robot_of robots i) i s.field (get_or s.traces i []) n ⊎ OthersArePast end i next =
-    elim ready as (λ r. RunsAlone (robot_of robots i) i s.field (get_or s.traces i []) n ⊎ OthersArePast end i next) [
+    let fewer : RunsAlone (behaviour_at robots i) i s.field (get_or s.traces i []) n ⊎ OthersArePast end i next =
+    elim ready as
+    (λ r. RunsAlone (behaviour_at robots i) i s.field (get_or s.traces i []) n ⊎ OthersArePast end i next) [
       | inl runs ↦ inl (λ k low. runs k (omega arith))
       | inr past ↦ inr past
     ] in
@@ -100,43 +102,45 @@ run_taken robots next i end (suc n) s are small inside within ready =
     stages_trans _ _ _ last (run_taken robots next i end n s are small inside (omega arith) fewer)
 
 -- What a robot that runs alone makes of its machine and of the arena, whatever its trace and the field are.
-pub record Runs (free : Type 0) (i : ℕ) (exe : Executable) (n : ℕ) (runner after : Runner) (arena grown : Ground) :
+pub record Runs (free : Type 0) (i : ℕ) (exe : Executable) (n : ℕ) (runner after : Runner) (arena grown : Arena) :
     Type 0 where
-  pub on : (r : Behaviour) (f : Field) (trace : List ℤ) → IsRobotOf exe r → IsGroundOf arena f → IsAt runner exe trace
-      → HasRun free r i f trace n exe after grown
+  pub on : (r : Behaviour) (f : Field) (trace : List ℤ) → IsRobotOf exe r → RepresentsField arena f →
+      IsAheadOf runner exe trace
+      → HasRunAlone free r i f trace n exe after grown
 
 -- And one that takes the turn that is next before it runs.
-pub record GoesOn (free : Type 0) (i : ℕ) (exe : Executable) (n : ℕ) (runner after : Runner) (arena grown : Ground) :
+pub record GoesOn (free : Type 0) (i : ℕ) (exe : Executable) (n : ℕ) (runner after : Runner) (arena grown : Arena) :
     Type 0 where
-  pub on : (r : Behaviour) (f : Field) (trace : List ℤ) → IsRobotOf exe r → IsGroundOf arena f → IsAt runner exe trace
-      → HasRun free r i (step r i f trace).0 (step r i f trace).1 n exe after grown
+  pub on : (r : Behaviour) (f : Field) (trace : List ℤ) → IsRobotOf exe r → RepresentsField arena f →
+      IsAheadOf runner exe trace
+      → HasRunAlone free r i (robot_turn r i f trace).0 (robot_turn r i f trace).1 n exe after grown
 
 traces_length : (runners : List Runner) (exes : List Executable) (traces : List (List ℤ)) →
-    EachIsAt runners exes traces → length traces ≡ length exes
+    EachIsAheadOf runners exes traces → length traces ≡ length exes
 traces_length [] [] [] stands = refl
 traces_length (runner ∷ runners) (exe ∷ exes) (trace ∷ traces) stands =
     ap suc (traces_length runners exes traces stands.1)
 traces_length _ _ _ stands = absurd stands
 
 pub come_alone : (robots : List Behaviour) (exes : List Executable) (next : List ℕ) (w n i : ℕ) (runners : List Runner)
-    (arena grown : Ground) (opened : Stage)
+    (arena grown : Arena) (opened : Stage)
     (exe : Executable) (none after : Runner) (free : Type 0)
     → AreRobotsOf exes robots → AreTurnNumbers next → i < 4 → i < length exes → get_or next i 0 + 4 * n < 4 * w + 4
     → (free → OthersArePast (4 * w) i next) → HasCome robots exes next w runners arena opened →
     slice_get exes i ≡ Some exe
     → Runs free i exe n (get_or runners i none) after arena grown
     → HasCome robots exes (set next i (get_or next i 0 + 4 * n)) w (set runners i after) grown opened
-unfolding robot_of ran
+unfolding behaviour_at ran
 come_alone robots exes next w n i runners arena grown opened exe none after free are turn_numbers small inside within
     past come here gone =
     let s = come.stage in
     let robot = robot_at exes robots i exe (λ trace. Quiet) are here in
     let at = stands_at runners exes s.traces i exe none come.reached.traces here in
     let lengths = traces_length runners exes s.traces come.reached.traces in
-    let on = gone.on (robot_of robots i) s.field (get_or s.traces i []) robot come.reached.field at in
-    let ready : RunsAlone (robot_of robots i) i s.field (get_or s.traces i []) n ⊎ OthersArePast (4 * w) i next =
+    let on = gone.on (behaviour_at robots i) s.field (get_or s.traces i []) robot come.reached.field at in
+    let ready : RunsAlone (behaviour_at robots i) i s.field (get_or s.traces i []) n ⊎ OthersArePast (4 * w) i next =
     elim on.steps as
-    (λ r. RunsAlone (robot_of robots i) i s.field (get_or s.traces i []) n ⊎ OthersArePast (4 * w) i next) [
+    (λ r. RunsAlone (behaviour_at robots i) i s.field (get_or s.traces i []) n ⊎ OthersArePast (4 * w) i next) [
       | inl runs ↦ inl runs
       | inr drawn ↦ inr (past drawn)
     ] in
@@ -152,7 +156,7 @@ come_alone robots exes next w n i runners arena grown opened exe none after free
     }
 
 pub come_on : (robots : List Behaviour) (exes : List Executable) (next : List ℕ) (w n i : ℕ) (runners : List Runner)
-    (arena grown : Ground) (opened : Stage)
+    (arena grown : Arena) (opened : Stage)
     (exe : Executable) (none after : Runner) (free : Type 0)
     → AreRobotsOf exes robots → AreTurnNumbers next → i < 4 → i < length exes →
     get_or next i 0 + 4 * (1 + n) < 4 * w + 4
@@ -160,7 +164,7 @@ pub come_on : (robots : List Behaviour) (exes : List Executable) (next : List �
     → HasCome robots exes next w runners arena opened → slice_get exes i ≡ Some exe
     → GoesOn free i exe n (get_or runners i none) after arena grown
     → HasCome robots exes (set next i (get_or next i 0 + 4 * (1 + n))) w (set runners i after) grown opened
-unfolding turn robot_of ran
+unfolding turn behaviour_at ran
 come_on robots exes next w n i runners arena grown opened exe none after free are turn_numbers small inside within
     first past come here gone =
     let s = come.stage in
@@ -168,8 +172,8 @@ come_on robots exes next w n i runners arena grown opened exe none after free ar
     let at = stands_at runners exes s.traces i exe none come.reached.traces here in
     let lengths = traces_length runners exes s.traces come.reached.traces in
     let trace = get_or s.traces i [] in
-    let stepped = step (robot_of robots i) i s.field trace in
-    let on = gone.on (robot_of robots i) s.field trace robot come.reached.field at in
+    let stepped = robot_turn (behaviour_at robots i) i s.field trace in
+    let on = gone.on (behaviour_at robots i) s.field trace robot come.reached.field at in
     let four = turn_numbers.four in
     let d = get_or next i 0 in
     let later = set next i (d + 4) in
@@ -179,10 +183,10 @@ come_on robots exes next w n i runners arena grown opened exe none after free ar
     let twice : set later i (get_or later i 0 + 4 * n) ≡ set next i (d + 4 * (1 + n)) =
     ap (λ k. set later i (k + 4 * n)) own ∙ set-set next i (d + 4) (d + 4 + 4 * n) ∙ ap (set next i) (omega arith) in
     let long : length (set s.traces i stepped.1) ≡ length s.traces = length-set s.traces i stepped.1 in
-    let ready : RunsAlone (robot_of robots i) i stepped.0 (get_or (set s.traces i stepped.1) i []) n ⊎
+    let ready : RunsAlone (behaviour_at robots i) i stepped.0 (get_or (set s.traces i stepped.1) i []) n ⊎
     OthersArePast (4 * w) i later =
     elim on.steps as
-    (λ r. RunsAlone (robot_of robots i) i stepped.0 (get_or (set s.traces i stepped.1) i []) n ⊎
+    (λ r. RunsAlone (behaviour_at robots i) i stepped.0 (get_or (set s.traces i stepped.1) i []) n ⊎
     OthersArePast (4 * w) i later) [
       | inl runs ↦ inl (rw same runs)
       | inr drawn ↦ inr (λ j low other. rw (get_or-set_other next i j (d + 4) 0 other) (past drawn j low other))
@@ -191,9 +195,9 @@ come_on robots exes next w n i runners arena grown opened exe none after free ar
     run_taken robots later i (4 * w) n (turn robots i s) (turn_numbers_one next i turn_numbers small) small
     (omega (arith, lengths, long, inside)) (omega (arith, own, within)) ready in
     let moved : (ran robots i (turn robots i s) n).traces ≡
-    set s.traces i (alone (robot_of robots i) i stepped.0 stepped.1 n).1 =
-    ap (λ t. set (set s.traces i stepped.1) i (alone (robot_of robots i) i stepped.0 t n).1) same
-    ∙ set-set s.traces i stepped.1 (alone (robot_of robots i) i stepped.0 stepped.1 n).1 in
+    set s.traces i (alone (behaviour_at robots i) i stepped.0 stepped.1 n).1 =
+    ap (λ t. set (set s.traces i stepped.1) i (alone (behaviour_at robots i) i stepped.0 t n).1) same
+    ∙ set-set s.traces i stepped.1 (alone (behaviour_at robots i) i stepped.0 stepped.1 n).1 in
     record {
       stage = ran robots i (turn robots i s) n;
       reached = record {
@@ -225,7 +229,7 @@ left_less end [] i n four small within some = absurd (omega arith)
 
 -- the window begins
 pub opens : (robots : List Behaviour) (exes : List Executable) (next : List ℕ) (w : ℕ) (runners : List Runner)
-    (arena : Ground) (s : Stage)
+    (arena : Arena) (s : Stage)
     → AreRobotsOf exes robots → AreTurnNumbers next → length exes ≤ 4
     → ((i : ℕ) → i < length exes → i < 4 → get_or next i 0 ≡ i) →
     ((i : ℕ) → length exes ≤ i → i < 4 → 4 * w ≤ get_or next i 0)
@@ -243,7 +247,7 @@ opens robots exes next w runners arena s are turn_numbers most first past reache
 
 -- and ends
 pub closes : (robots : List Behaviour) (exes : List Executable) (next : List ℕ) (w : ℕ) (runners : List Runner)
-    (arena : Ground) (s : Stage)
+    (arena : Arena) (s : Stage)
     → ((i : ℕ) → i < 4 → 4 * w ≤ get_or next i 0)
     → HasCome robots exes next w runners arena s → HasReached runners exes arena (rounds robots w s)
 closes robots exes next w runners arena s past come =

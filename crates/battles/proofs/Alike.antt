@@ -4,20 +4,20 @@ use Rattle.std.specs.Prelude.{nat_lt, ◌==◌, ◌&&◌, if◌then◌else◌}
 use Rattle.std.proofs.lemmas.Bool.{cases_Bool}
 use Rattle.std.proofs.lemmas.List.{append-nil, get_or_append_left, get_or-append_right, length-append}
 use Rattle.std.proofs.lemmas.List.Elements.{All-append, filter-append}
-use Rattle.grammar.specs.declared.names.Intrinsic.{Intrinsic}
-use Rattle.grammar.specs.declared.names.Intrinsic.TheVariants.{Cannon}
+use Rattle.grammar.specs.declared.resolved_names.Intrinsic.{Intrinsic}
+use Rattle.grammar.specs.declared.resolved_names.Intrinsic.TheVariants.{Cannon}
 use Rattle.arith.specs.Degree.{degree_of}
-use Rattle.arena.specs.Answer.{answer, argument, fired, directed, random_number}
+use Rattle.arena.specs.Answer.{answer, argument_at, fired, directed, random_number}
 use Rattle.arena.specs.Field.{Field, Shot, is_live, robot_at}
-use Rattle.arena.specs.Ground.{Ground}
+use Rattle.arena.specs.Arena.{Arena}
 use Rattle.arena.specs.Leg.{clamped}
 use Rattle.arena.specs.Scan.{scanned}
 use Rattle.arena.specs.Shots.{in_air, shot}
-use Rattle.arena.specs.Standing.{StandsFor as IsGroundOf}
+use Rattle.arena.specs.Representing.{RepresentsField}
 use Rattle.code.specs.declared.want.Want.{Want}
 use Rattle.code.specs.declared.want.Want.TheVariants.{Ask}
-use Rattle.battles.specs.Battle.{Behaviour, Stage, granted, step, robot_of, turn}
-use Rattle.battles.specs.Windows.{SameShots, AreAlike, IsLike, turns_left}
+use Rattle.battles.specs.Battle.{Behaviour, Stage, granted, robot_turn, behaviour_at, turn}
+use Rattle.battles.specs.Intervals.{SameShots, AreAlike, IsLike, turns_left}
 
 shots_refl : (updates : ℕ) (shots : List Shot) → SameShots updates shots shots
 shots_refl updates shots = record { in_air = λ i. refl; owned = λ n all. all }
@@ -38,7 +38,7 @@ like_trans f g h first second =
     }
 
 -- an arena of the one is one of the other
-pub stands_like : (arena : Ground) (f g : Field) → AreAlike f g → IsGroundOf arena f → IsGroundOf arena g
+pub stands_like : (arena : Arena) (f g : Field) → AreAlike f g → RepresentsField arena f → RepresentsField arena g
 stands_like arena f g like stands = rw like.is (record {
   updates = stands.updates;
   robots = stands.robots;
@@ -100,8 +100,8 @@ answer_like : (f : Field) (shots : List Shot) (i : ℕ) (intrinsic : Intrinsic) 
     × AreAlike (answer f i intrinsic a).1 (answer (record f { shots = shots }) i intrinsic a).1
 unfolding answer directed robot_at scanned random_number
 answer_like f shots i Cannon a same =
-    let degree = degree_of (argument a 0) in
-    let range = clamped 700 (argument a 1) in
+    let degree = degree_of (argument_at a 0) in
+    let range = clamped 700 (argument_at a 1) in
     let there = fires f shots i degree range (same.in_air i) in
     let here = fires f f.shots i degree range refl in (
       ap (λ (asked : ℤ × Field). asked.0) there,
@@ -125,9 +125,9 @@ granted_like _ f shots i trace same = (refl, record { shots = shots; is = refl; 
 
 step_like : (robot : Behaviour) (f : Field) (shots : List Shot) (i : ℕ) (trace : List ℤ) →
     SameShots f.updates f.shots shots
-    → ((step robot i (record f { shots = shots }) trace).1 ≡ (step robot i f trace).1)
-    × AreAlike (step robot i f trace).0 (step robot i (record f { shots = shots }) trace).0
-unfolding step is_live robot_at
+    → ((robot_turn robot i (record f { shots = shots }) trace).1 ≡ (robot_turn robot i f trace).1)
+    × AreAlike (robot_turn robot i f trace).0 (robot_turn robot i (record f { shots = shots }) trace).0
+unfolding robot_turn is_live robot_at
 step_like robot f shots i trace same = elim (cases_Bool (is_live f i)) [
   | inl live ↦ rw live (granted_like (robot trace) f shots i trace same)
   | inr dead ↦ rw dead (refl, record { shots = shots; is = refl; same = same })
@@ -149,7 +149,7 @@ stages_trans s t u first second = record {
 turn_like : (robots : List Behaviour) (i : ℕ) (s t : Stage) → IsLike s t → IsLike (turn robots i s) (turn robots i t)
 unfolding turn
 turn_like robots i s t like =
-    let stepped = step_like (robot_of robots i) s.field like.field.shots i (get_or s.traces i []) like.field.same in
+    let stepped = step_like (behaviour_at robots i) s.field like.field.shots i (get_or s.traces i []) like.field.same in
     rw (like.traces, like.field.is) (record {
       field = stepped.1;
       traces = ap (set s.traces i) stepped.0;

@@ -3,8 +3,8 @@ use Rattle.std.proofs.Common.{◌≡◌, ℕ, ◌+◌, ◌-◌, ◌<◌, ◌≤�
 use Rattle.std.proofs.lemmas.Bool.{cases_lt, false≢true}
 use Rattle.std.proofs.lemmas.List.{replicate_more, append-nil}
 use Rattle.arena.specs.Field.{Field, is_live}
-use Rattle.arena.specs.Ground.{Ground}
-use Rattle.arena.specs.Standing.{StandsFor as IsGroundOf}
+use Rattle.arena.specs.Arena.{Arena}
+use Rattle.arena.specs.Representing.{RepresentsField}
 use Rattle.code.specs.declared.want.Want.{Want}
 use Rattle.code.specs.declared.want.Want.TheVariants.{Quiet}
 use Rattle.grammar.specs.Profile.{Profile}
@@ -14,10 +14,10 @@ use Rattle.code.specs.Generation.{IsProgramOf}
 use Rattle.code.specs.Meaning.{want}
 use Rattle.engine.specs.declared.engines.Engine.{Engine}
 use Rattle.engine.specs.Executables.{Executable}
-use Rattle.engine.specs.Engines.{IsReached}
-use Rattle.battles.specs.Carrying.{Runner, IsRobotOf, IsAt}
-use Rattle.battles.specs.Battle.{Behaviour, granted, step}
-use Rattle.battles.specs.Windows.{IsAlone, StepsAlone, RunsAlone, HasRun, alone}
+use Rattle.engine.specs.Engines.{EngineIsReached}
+use Rattle.battles.specs.Carrying.{Runner, IsRobotOf, IsAheadOf}
+use Rattle.battles.specs.Battle.{Behaviour, granted, robot_turn}
+use Rattle.battles.specs.Intervals.{IsAlone, StepsAlone, RunsAlone, HasRunAlone, alone}
 use Rattle.battles.proofs.Commuting.{step_lives}
 use Rattle.battles.proofs.Running.{Coasts, at_end, at_less, at_more, quiet_less}
 
@@ -27,7 +27,7 @@ unfolding alone
 alone_none r i f trace = refl
 
 pub alone_next : (r : Behaviour) (i : ℕ) (f : Field) (trace : List ℤ) (n : ℕ)
-    → alone r i f trace (n + 1) ≡ step r i (alone r i f trace n).0 (alone r i f trace n).1
+    → alone r i f trace (n + 1) ≡ robot_turn r i (alone r i f trace n).0 (alone r i f trace n).1
 unfolding alone
 alone_next r i f trace n = rw add-one refl
 
@@ -38,7 +38,7 @@ unfolding alone
 alone_plus r i f trace n zero = ap (alone r i f trace) (omega arith)
 alone_plus r i f trace n (suc k) =
     let more : n + suc k ≡ suc (n + k) = omega arith in
-    rw more (ap (λ (t : Field × List ℤ). step r i t.0 t.1) (alone_plus r i f trace n k))
+    rw more (ap (λ (t : Field × List ℤ). robot_turn r i t.0 t.1) (alone_plus r i f trace n k))
 
 -- the robot stays as alive as it is
 pub alone_lives : (r : Behaviour) (i : ℕ) (f : Field) (trace : List ℤ) (n : ℕ) →
@@ -67,8 +67,8 @@ runs_plus r i f trace n (suc k) runs more =
 
 -- a live robot has quiet cycles
 quiet_step : (r : Behaviour) (i : ℕ) (f : Field) (trace : List ℤ) → is_live f i ≡ true → r trace ≡ Quiet
-    → step r i f trace ≡ (f, trace ++ pos 0 ∷ [])
-unfolding step granted
+    → robot_turn r i f trace ≡ (f, trace ++ pos 0 ∷ [])
+unfolding robot_turn granted
 quiet_step r i f trace live quiet = rw (live, quiet) refl
 
 pub quiet_alone : (r : Behaviour) (i : ℕ) (f : Field) (trace : List ℤ) (n : ℕ) → is_live f i ≡ true
@@ -77,7 +77,8 @@ pub quiet_alone : (r : Behaviour) (i : ℕ) (f : Field) (trace : List ℤ) (n : 
 unfolding alone
 quiet_alone r i f trace zero live quiet = ap (λ t. (f, t)) (sym (append-nil trace))
 quiet_alone r i f trace (suc n) live quiet =
-    ap (λ (t : Field × List ℤ). step r i t.0 t.1) (quiet_alone r i f trace n live (λ k low. quiet k (omega arith)))
+    ap (λ (t : Field × List ℤ). robot_turn r i t.0 t.1)
+    (quiet_alone r i f trace n live (λ k low. quiet k (omega arith)))
     ∙ quiet_step r i f (trace ++ replicate n (pos 0)) live (quiet n (omega arith))
     ∙ ap (λ t. (f, t)) (
     append_assoc trace (replicate n (pos 0)) (pos 0 ∷ [])
@@ -95,8 +96,8 @@ quiet_runs r i f trace n live quiet k within is =
 
 -- a dead robot does nothing
 pub dead_step : (r : Behaviour) (i : ℕ) (f : Field) (trace : List ℤ) → is_live f i ≡ false →
-    step r i f trace ≡ (f, trace)
-unfolding step
+    robot_turn r i f trace ≡ (f, trace)
+unfolding robot_turn
 dead_step r i f trace dead = rw dead refl
 
 dead_alone : (r : Behaviour) (i : ℕ) (f : Field) (trace : List ℤ) (n : ℕ) → is_live f i ≡ false →
@@ -104,11 +105,12 @@ dead_alone : (r : Behaviour) (i : ℕ) (f : Field) (trace : List ℤ) (n : ℕ) 
 unfolding alone
 dead_alone r i f trace zero dead = refl
 dead_alone r i f trace (suc n) dead =
-    ap (λ (t : Field × List ℤ). step r i t.0 t.1) (dead_alone r i f trace n dead) ∙ dead_step r i f trace dead
+    ap (λ (t : Field × List ℤ). robot_turn r i t.0 t.1) (dead_alone r i f trace n dead) ∙ dead_step r i f trace dead
 
 pub dead_runs : (free : Type 0) (r : Behaviour) (i : ℕ) (f : Field) (trace : List ℤ) (n : ℕ) (exe : Executable)
-    (runner : Runner) (arena : Ground)
-    → is_live f i ≡ false → IsGroundOf arena f → IsAt runner exe trace → HasRun free r i f trace n exe runner arena
+    (runner : Runner) (arena : Arena)
+    → is_live f i ≡ false → RepresentsField arena f → IsAheadOf runner exe trace →
+    HasRunAlone free r i f trace n exe runner arena
 dead_runs free r i f trace n exe runner arena dead ground at = record {
   steps = inl (λ k within live. absurd (false≢true (sym dead ∙ sym (alone_lives r i f trace k) ∙ live)));
   stands = rw (dead_alone r i f trace n dead) ground;
@@ -117,15 +119,16 @@ dead_runs free r i f trace n exe runner arena dead ground at = record {
 
 -- A robot has run, and its machine is at this cycle, which may be a later one: in between nothing is asked.
 pub record RunsTo (free : Type 0) (r : Behaviour) (i : ℕ) (f : Field) (trace : List ℤ) (cycle most : ℕ)
-    (exe : Executable) (machine : Engine) (arena : Ground) : Type 0 where
+    (exe : Executable) (machine : Engine) (arena : Arena) : Type 0 where
   pub run : ℕ
   pub within : run ≤ cycle
   pub below : run ≤ most
-  pub ran : HasRun free r i f trace run exe (record { machine = machine; ahead = cycle - run }) arena
+  pub ran : HasRunAlone free r i f trace run exe (record { machine = machine; ahead = cycle - run }) arena
 
 pub to_begin : (free : Type 0) (r : Behaviour) (i : ℕ) (f : Field) (trace : List ℤ) (most : ℕ) (exe : Executable)
-    (runner : Runner) (arena : Ground)
-    → IsGroundOf arena f → IsAt runner exe trace → RunsTo free r i f trace runner.ahead most exe runner.machine arena
+    (runner : Runner) (arena : Arena)
+    → RepresentsField arena f → IsAheadOf runner exe trace →
+    RunsTo free r i f trace runner.ahead most exe runner.machine arena
 to_begin free r i f trace most exe runner arena ground at =
     let all : runner.ahead - 0 ≡ runner.ahead = omega arith in
     record {
@@ -141,7 +144,7 @@ to_begin free r i f trace most exe runner arena ground at =
 
 -- the machine coasts for so many cycles
 pub to_coast : (free : Type 0) (r : Behaviour) (i : ℕ) (f : Field) (trace : List ℤ) (cycle most n : ℕ)
-    (exe : Executable) (machine after : Engine) (arena : Ground)
+    (exe : Executable) (machine after : Engine) (arena : Arena)
     → Coasts exe machine n after → RunsTo free r i f trace cycle most exe machine arena →
     RunsTo free r i f trace (cycle + n) most exe after arena
 to_coast free r i f trace cycle most n exe machine after arena on to =
@@ -159,10 +162,10 @@ to_coast free r i f trace cycle most n exe machine after arena on to =
 
 -- the robot follows its machine up to a cycle
 pub to_cycle : (free : Type 0) (r : Behaviour) (i : ℕ) (f : Field) (trace : List ℤ) (cycle most end : ℕ)
-    (exe : Executable) (machine : Engine) (arena : Ground)
+    (exe : Executable) (machine : Engine) (arena : Arena)
     → IsRobotOf exe r → is_live f i ≡ true → (to : RunsTo free r i f trace cycle most exe machine arena) →
     to.run ≤ end → end ≤ cycle
-    → HasRun free r i f trace end exe (record { machine = machine; ahead = cycle - end }) arena
+    → HasRunAlone free r i f trace end exe (record { machine = machine; ahead = cycle - end }) arena
 to_cycle free r i f trace cycle most end exe machine arena is live to from within =
     let n = to.run in
     let k = end - n in
@@ -186,20 +189,20 @@ to_cycle free r i f trace cycle most end exe machine arena is live to from withi
 
 -- up to where the machine is
 pub to_stop : (free : Type 0) (r : Behaviour) (i : ℕ) (f : Field) (trace : List ℤ) (cycle most : ℕ) (exe : Executable)
-    (machine : Engine) (arena : Ground)
+    (machine : Engine) (arena : Arena)
     → IsRobotOf exe r → is_live f i ≡ true → RunsTo free r i f trace cycle most exe machine arena
-    → HasRun free r i f trace cycle exe (record { machine = machine; ahead = 0 }) arena
+    → HasRunAlone free r i f trace cycle exe (record { machine = machine; ahead = 0 }) arena
 to_stop free r i f trace cycle most exe machine arena is live to =
     let none : cycle - cycle ≡ 0 = omega arith in
     rw none at (to_cycle free r i f trace cycle most cycle exe machine arena is live to to.within (omega arith))
 
 -- and takes a turn
 pub to_next : (free : Type 0) (r : Behaviour) (i : ℕ) (f : Field) (trace : List ℤ) (cycle most : ℕ) (exe : Executable)
-    (machine : Engine) (arena : Ground)
+    (machine : Engine) (arena : Arena)
     → cycle < most → RunsAlone r i f trace cycle ⊎ free
     → StepsAlone r i (alone r i f trace cycle).0 (alone r i f trace cycle).1 ⊎ free
-    → IsGroundOf arena (step r i (alone r i f trace cycle).0 (alone r i f trace cycle).1).0
-    → IsReached machine exe (step r i (alone r i f trace cycle).0 (alone r i f trace cycle).1).1
+    → RepresentsField arena (robot_turn r i (alone r i f trace cycle).0 (alone r i f trace cycle).1).0
+    → EngineIsReached machine exe (robot_turn r i (alone r i f trace cycle).0 (alone r i f trace cycle).1).1
     → RunsTo free r i f trace (cycle + 1) most exe machine arena
 to_next free r i f trace cycle most exe machine arena below runs steps ground stands = record {
   run = cycle + 1;

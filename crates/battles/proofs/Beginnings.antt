@@ -3,25 +3,25 @@ use Rattle.std.proofs.Common.{◌≡◌, ℕ, ◌+◌, zero, suc, List, [], ◌�
 use Rattle.std.specs.Prelude.{slice_get, All}
 use Rattle.std.proofs.lemmas.List.FromFn.{map-range_with_len_more}
 use Rattle.arena.specs.Field.{Field, damage_of, robot_at}
-use Rattle.arena.specs.Ground.{Ground}
-use Rattle.arena.specs.Standing.{StandsFor as IsGroundOf}
+use Rattle.arena.specs.Arena.{Arena}
+use Rattle.arena.specs.Representing.{RepresentsField}
 use Rattle.arena.specs.Start.{start}
 use Rattle.grammar.specs.Profile.{Profile}
 use Rattle.grammar.specs.Resolved.{IsResolved}
 use Rattle.grammar.specs.Tree.{File}
-use Rattle.code.specs.Generation.{ObjectCode, code_of}
+use Rattle.code.specs.Generation.{Program, code_of}
 use Rattle.engine.specs.Executables.{Executable}
 use Rattle.code.specs.Meaning.{want}
-use Rattle.engine.specs.Engines.{FitsProgram}
+use Rattle.engine.specs.Engines.{EngineFits}
 use Rattle.battles.specs.Battle.{Behaviour, Outcome, opening, damages_of, stage_after, last_cycle, battle}
-use Rattle.battles.specs.Carrying.{Runner, AreRobotsOf, IsAt, EachFits, EachIsAt, HasReached}
-use Rattle.code.specs.Codes.{AreCodesOf}
+use Rattle.battles.specs.Carrying.{Runner, AreRobotsOf, IsAheadOf, EachFits, EachIsAheadOf, HasReached}
+use Rattle.code.specs.Codes.{AreProgramsOf}
 use Rattle.battles.specs.Pairing.{paired, robots_of}
 use Rattle.battles.proofs.Stages.{robots_length}
 
 -- one runner more
 fits_then : (runners : List Runner) (exes : List Executable) (i : ℕ) (runner : Runner) (exe : Executable)
-    → EachFits runners (take i exes) → slice_get exes i ≡ Some exe → FitsProgram runner.machine exe
+    → EachFits runners (take i exes) → slice_get exes i ≡ Some exe → EngineFits runner.machine exe
     → EachFits (runners ++ runner ∷ []) (take (suc i) exes)
 fits_then runners [] i runner exe fits here new = cc
 fits_then [] (exe' ∷ exes) zero runner exe fits here new =
@@ -32,13 +32,13 @@ fits_then (runner' ∷ runners) (exe' ∷ exes) (suc i) runner exe fits here new
     (fits.0, fits_then runners exes i runner exe fits.1 here new)
 
 pub fits_more : (runners : List Runner) (exes : List Executable) (i : ℕ) (runner : Runner) (exe : Executable)
-    → EachFits runners (take i exes) → slice_get exes i ≡ Some exe → FitsProgram runner.machine exe
+    → EachFits runners (take i exes) → slice_get exes i ≡ Some exe → EngineFits runner.machine exe
     → EachFits (runners ++ runner ∷ []) (take (i + 1) exes)
 fits_more runners exes i runner exe fits here new = rw add-one (fits_then runners exes i runner exe fits here new)
 
 stands_then : (runners : List Runner) (exes : List Executable) (i : ℕ) (runner : Runner) (exe : Executable)
-    → EachIsAt runners (take i exes) (replicate i []) → slice_get exes i ≡ Some exe → IsAt runner exe []
-    → EachIsAt (runners ++ runner ∷ []) (take (suc i) exes) (replicate (suc i) [])
+    → EachIsAheadOf runners (take i exes) (replicate i []) → slice_get exes i ≡ Some exe → IsAheadOf runner exe []
+    → EachIsAheadOf (runners ++ runner ∷ []) (take (suc i) exes) (replicate (suc i) [])
 stands_then runners [] i runner exe stands here new = cc
 stands_then [] (exe' ∷ exes) zero runner exe stands here new =
     let same : exe ≡ exe' = cc in (rw same at new, tt)
@@ -48,8 +48,8 @@ stands_then (runner' ∷ runners) (exe' ∷ exes) (suc i) runner exe stands here
     (stands.0, stands_then runners exes i runner exe stands.1 here new)
 
 pub stands_more : (runners : List Runner) (exes : List Executable) (i : ℕ) (runner : Runner) (exe : Executable)
-    → EachIsAt runners (take i exes) (replicate i []) → slice_get exes i ≡ Some exe → IsAt runner exe []
-    → EachIsAt (runners ++ runner ∷ []) (take (i + 1) exes) (replicate (i + 1) [])
+    → EachIsAheadOf runners (take i exes) (replicate i []) → slice_get exes i ≡ Some exe → IsAheadOf runner exe []
+    → EachIsAheadOf (runners ++ runner ∷ []) (take (i + 1) exes) (replicate (i + 1) [])
 stands_more runners exes i runner exe stands here new =
     rw add-one (stands_then runners exes i runner exe stands here new)
 
@@ -83,8 +83,8 @@ robots_are_each (exe ∷ exes) p (file ∷ files) same all =
       robots_are_each exes p files there (λ k none within. all (suc k) none (omega arith)),
     )
 
-pub robots_are : (exes : List Executable) (codes : List ObjectCode) (p : Profile) (files : List File) →
-    map (λ (e : Executable). e.program) exes ≡ paired codes → AreCodesOf codes p files →
+pub robots_are : (exes : List Executable) (codes : List Program) (p : Profile) (files : List File) →
+    map (λ (e : Executable). e.program) exes ≡ paired codes → AreProgramsOf codes p files →
     AreRobotsOf exes (robots_of p files)
 robots_are exes codes p files same are =
     robots_are_each exes p (paired files) (same ∙ ap paired are.are ∙ paired_codes p files)
@@ -100,10 +100,10 @@ unfolding damages_of
 damages_more n f = map-range_with_len_more (λ i. damage_of (robot_at f i)) 0 n n (omega arith)
 
 -- a battle begins with no replies
-pub opening_reached : (runners : List Runner) (exes : List Executable) (arena : Ground) (robots : List Behaviour)
+pub opening_reached : (runners : List Runner) (exes : List Executable) (arena : Arena) (robots : List Behaviour)
     (n seed number : ℕ)
-    → AreRobotsOf exes robots → n ≡ length exes → IsGroundOf arena (start seed number n)
-    → EachIsAt runners exes (replicate (length exes) [])
+    → AreRobotsOf exes robots → n ≡ length exes → RepresentsField arena (start seed number n)
+    → EachIsAheadOf runners exes (replicate (length exes) [])
     → HasReached runners exes arena (opening (length robots) seed number)
 unfolding opening
 opening_reached runners exes arena robots n seed number are e begun stands =

@@ -5,19 +5,19 @@ use Rattle.std.proofs.lemmas.Bool.{cases_Bool, cases_eq, true≢false}
 use Rattle.std.proofs.lemmas.Bool.Decides.{nat_tests}
 use Rattle.std.proofs.lemmas.List.{append-nil, get_or-set_other, take-map, drop-map, map-append}
 use Rattle.std.proofs.lemmas.List.Elements.{All-append}
-use Rattle.grammar.specs.declared.names.Intrinsic.{Intrinsic}
-use Rattle.grammar.specs.declared.names.Intrinsic.TheVariants.{Scan, Cannon, Drive, Damage, Speed, LocX, LocY, Rand}
-use Rattle.arena.specs.Answer.{answer, argument, fired, directed, random_number, wanting}
+use Rattle.grammar.specs.declared.resolved_names.Intrinsic.{Intrinsic}
+use Rattle.grammar.specs.declared.resolved_names.Intrinsic.TheVariants.{Scan, Cannon, Drive, Damage, Speed, LocX, LocY, Rand}
+use Rattle.arena.specs.Answer.{answer, argument_at, fired, directed, random_number, wanting}
 use Rattle.arena.specs.Collisions.{others}
-use Rattle.arena.specs.Field.{Field, Shot, Robot as Body, no_robot, robot_at, is_live, is_alive, damage_of, metres_x, metres_y}
+use Rattle.arena.specs.Field.{Field, Shot, FieldRobot as Body, no_robot, robot_at, is_live, is_alive, damage_of, metres_x, metres_y}
 use Rattle.arena.specs.Leg.{clamped, way_east, way_north, end_x, end_y, place_x, place_y}
 use Rattle.arith.specs.Degree.{degree_of}
 use Rattle.arena.specs.Shots.{in_air, shot}
 use Rattle.arena.specs.Scan.{east_to, north_to, in_arc, sees, range_of, nearest, scanned}
 use Rattle.code.specs.declared.want.Want.{Want}
 use Rattle.code.specs.declared.want.Want.TheVariants.{Ask}
-use Rattle.battles.specs.Battle.{Behaviour, Stage, granted, step, robot_of, turn}
-use Rattle.battles.specs.Windows.{IsAlone, StepsAlone, SameShots, AreAlike, IsLike, draws}
+use Rattle.battles.specs.Battle.{Behaviour, Stage, granted, robot_turn, behaviour_at, turn}
+use Rattle.battles.specs.Intervals.{IsAlone, StepsAlone, SameShots, AreAlike, IsLike, draws_random}
 use Rattle.battles.proofs.Alike.{like_refl, air_append, all_front, all_back, pushed, fires}
 
 robots_of_fired : (f : Field) (i degree range : ℕ) → (fired f i degree range).1.robots ≡ f.robots
@@ -81,7 +81,7 @@ scans_same : (f : Field) (i j : ℕ) (intrinsic : Intrinsic) (a : List ℤ) (deg
 unfolding answer robot_at directed wanting scanned sees range_of is_alive damage_of in_arc east_to north_to metres_x
     metres_y place_x place_y end_x end_y way_east way_north
 scans_same f i j Cannon a degree resolution distinct =
-    rw (robots_of_fired f j (degree_of (argument a 0)) (clamped 700 (argument a 1))) refl
+    rw (robots_of_fired f j (degree_of (argument_at a 0)) (clamped 700 (argument_at a 1))) refl
 scans_same f i j Drive a degree resolution distinct =
     let from = robot_at f i in
     rw (get_or-set_other f.robots j i _ no_robot distinct)
@@ -157,11 +157,11 @@ fired_reply f i degree range = elim (cases_Bool (nat_lt (length (in_air f.update
 
 -- What a robot is answered doesn't depend on what others do, unless both draw a random number.
 reply_same : (intrinsic other : Intrinsic) (a b : List ℤ) (i j : ℕ) (f : Field) →
-    (draws intrinsic ≡ true → draws other ≡ false) → i ≢ j
+    (draws_random intrinsic ≡ true → draws_random other ≡ false) → i ≢ j
     → (answer (answer f j other b).1 i intrinsic a).0 ≡ (answer f i intrinsic a).0
-unfolding answer draws directed random_number
+unfolding answer draws_random directed random_number
 reply_same Scan other a b i j f either distinct =
-    ap pos (scans_same f i j other b (degree_of (argument a 0)) (clamped 10 (argument a 1)) distinct)
+    ap pos (scans_same f i j other b (degree_of (argument_at a 0)) (clamped 10 (argument_at a 1)) distinct)
 reply_same Damage other a b i j f either distinct = ap (λ r. pos (damage_of r)) (others_stay f i j other b distinct)
 reply_same Speed other a b i j f either distinct =
     ap (λ (r : Body). pos r.leg.speed) (others_stay f i j other b distinct)
@@ -169,17 +169,18 @@ reply_same LocX other a b i j f either distinct = ap (λ r. pos (metres_x r)) (o
 reply_same LocY other a b i j f either distinct = ap (λ r. pos (metres_y r)) (others_stay f i j other b distinct)
 reply_same Rand Rand a b i j f either distinct = absurd (true≢false (either refl))
 reply_same Rand Cannon a b i j f either distinct =
-    rw (fired_field f j (degree_of (argument b 0)) (clamped 700 (argument b 1))) refl
+    rw (fired_field f j (degree_of (argument_at b 0)) (clamped 700 (argument_at b 1))) refl
 reply_same Rand _ a b i j f either distinct = refl
 reply_same Cannon Cannon a b i j f either distinct =
-    let towards = degree_of (argument b 0) in
-    let far = clamped 700 (argument b 1) in
+    let towards = degree_of (argument_at b 0) in
+    let far = clamped 700 (argument_at b 1) in
     rw (fired_field f j towards far)
-    (ap (λ (asked : ℤ × Field). asked.0) (fires f (f.shots ++ pushed f j towards far) i (degree_of (argument a 0))
-    (clamped 700 (argument a 1))
+    (ap (λ (asked : ℤ × Field). asked.0) (fires f (f.shots ++ pushed f j towards far) i (degree_of (argument_at a 0))
+    (clamped 700 (argument_at a 1))
     (own_air f f.shots i j towards far distinct)))
 reply_same Cannon Drive a b i j f either distinct =
-    fired_reply (directed f j (degree_of (argument b 0)) (clamped 100 (argument b 1))) i _ _ ∙ sym (fired_reply f i _ _)
+    fired_reply (directed f j (degree_of (argument_at b 0)) (clamped 100 (argument_at b 1))) i _ _ ∙
+    sym (fired_reply f i _ _)
 reply_same Cannon Rand a b i j f either distinct =
     fired_reply (record f { drawn = f.drawn + 1 }) i _ _ ∙ sym (fired_reply f i _ _)
 reply_same Cannon _ a b i j f either distinct = refl
@@ -204,15 +205,16 @@ driven_twice f i j degree speed towards fast distinct =
     (ap (λ robots. record f { robots = robots }) (set_swap f.robots i j mine theirs distinct))
 
 -- Nor can the order be seen on the field.
-fields_alike : (intrinsic other : Intrinsic) (a b : List ℤ) (i j : ℕ) (f : Field) → draws intrinsic ≡ false → i ≢ j
+fields_alike : (intrinsic other : Intrinsic) (a b : List ℤ) (i j : ℕ) (f : Field) → draws_random intrinsic ≡ false →
+    i ≢ j
     → AreAlike (answer (answer f i intrinsic a).1 j other b).1 (answer (answer f j other b).1 i intrinsic a).1
-unfolding answer draws directed robot_at pushed
+unfolding answer draws_random directed robot_at pushed
 fields_alike Rand other a b i j f is distinct = absurd (true≢false is)
 fields_alike Cannon Cannon a b i j f is distinct =
-    let degree = degree_of (argument a 0) in
-    let range = clamped 700 (argument a 1) in
-    let towards = degree_of (argument b 0) in
-    let far = clamped 700 (argument b 1) in
+    let degree = degree_of (argument_at a 0) in
+    let range = clamped 700 (argument_at a 1) in
+    let towards = degree_of (argument_at b 0) in
+    let far = clamped 700 (argument_at b 1) in
     let back : j ≢ i = λ same. distinct (sym same) in
     rw (
       fired_field f i degree range,
@@ -225,10 +227,10 @@ fields_alike Cannon Cannon a b i j f is distinct =
       same = shots_swap f i j degree range towards far distinct;
     })
 fields_alike Cannon Drive a b i j f is distinct =
-    let degree = degree_of (argument a 0) in
-    let range = clamped 700 (argument a 1) in
-    let towards = degree_of (argument b 0) in
-    let speed = clamped 100 (argument b 1) in
+    let degree = degree_of (argument_at a 0) in
+    let range = clamped 700 (argument_at a 1) in
+    let towards = degree_of (argument_at b 0) in
+    let speed = clamped 100 (argument_at b 1) in
     rw (
       fired_field f i degree range,
       fired_field (directed f j towards speed) i degree range,
@@ -236,15 +238,15 @@ fields_alike Cannon Drive a b i j f is distinct =
     )
     (like_refl _)
 fields_alike Cannon Rand a b i j f is distinct =
-    let degree = degree_of (argument a 0) in
-    let range = clamped 700 (argument a 1) in
+    let degree = degree_of (argument_at a 0) in
+    let range = clamped 700 (argument_at a 1) in
     rw (fired_field f i degree range, fired_field (record f { drawn = f.drawn + 1 }) i degree range) (like_refl _)
 fields_alike Cannon _ a b i j f is distinct = like_refl _
 fields_alike Drive Cannon a b i j f is distinct =
-    let degree = degree_of (argument a 0) in
-    let speed = clamped 100 (argument a 1) in
-    let towards = degree_of (argument b 0) in
-    let far = clamped 700 (argument b 1) in
+    let degree = degree_of (argument_at a 0) in
+    let speed = clamped 100 (argument_at a 1) in
+    let towards = degree_of (argument_at b 0) in
+    let far = clamped 700 (argument_at b 1) in
     let back : j ≢ i = λ same. distinct (sym same) in
     rw (
       fired_field f j towards far,
@@ -253,10 +255,10 @@ fields_alike Drive Cannon a b i j f is distinct =
     )
     (like_refl _)
 fields_alike Drive Drive a b i j f is distinct =
-    let degree = degree_of (argument a 0) in
-    let speed = clamped 100 (argument a 1) in
-    let towards = degree_of (argument b 0) in
-    let fast = clamped 100 (argument b 1) in
+    let degree = degree_of (argument_at a 0) in
+    let speed = clamped 100 (argument_at a 1) in
+    let towards = degree_of (argument_at b 0) in
+    let fast = clamped 100 (argument_at b 1) in
     let back : j ≢ i = λ same. distinct (sym same) in
     rw (driven_twice f i j degree speed towards fast distinct) (like_refl _)
 fields_alike Drive _ a b i j f is distinct = like_refl _
@@ -279,8 +281,9 @@ trace_same : (want other : Want) (i j : ℕ) (f : Field) (trace others : List �
 unfolding granted
 trace_same (Ask intrinsic a) (Ask asked b) i j f trace others is distinct = (
   ap (λ reply. trace ++ reply ∷ [])
-      (reply_same intrinsic asked a b i j f (λ draws. absurd (true≢false (sym draws ∙ is))) distinct),
-  ap (λ reply. others ++ reply ∷ []) (reply_same asked intrinsic b a j i f (λ draws. is) (λ same. distinct (sym same))),
+      (reply_same intrinsic asked a b i j f (λ draws_random. absurd (true≢false (sym draws_random ∙ is))) distinct),
+  ap (λ reply. others ++ reply ∷ [])
+      (reply_same asked intrinsic b a j i f (λ draws_random. is) (λ same. distinct (sym same))),
 )
 trace_same (Ask intrinsic a) _ i j f trace others is distinct = (refl, refl)
 trace_same _ other i j f trace others is distinct = (refl, refl)
@@ -292,26 +295,26 @@ granted_stays (Ask intrinsic a) i j f trace distinct = others_stay f i j intrins
 granted_stays _ i j f trace distinct = refl
 
 step_stays : (robot : Behaviour) (i j : ℕ) (f : Field) (trace : List ℤ) → i ≢ j
-    → robot_at (step robot j f trace).0 i ≡ robot_at f i
-unfolding step
+    → robot_at (robot_turn robot j f trace).0 i ≡ robot_at f i
+unfolding robot_turn
 step_stays robot i j f trace distinct = elim (cases_Bool (is_live f j)) [
   | inl live ↦ rw live (granted_stays (robot trace) i j f trace distinct)
   | inr dead ↦ rw dead refl
 ]
 
 live_same : (robot : Behaviour) (i j : ℕ) (f : Field) (trace : List ℤ) → i ≢ j
-    → is_live (step robot j f trace).0 i ≡ is_live f i
+    → is_live (robot_turn robot j f trace).0 i ≡ is_live f i
 unfolding is_live
 live_same robot i j f trace distinct = ap is_alive (step_stays robot i j f trace distinct)
 
 step_live : (robot : Behaviour) (i : ℕ) (f : Field) (trace : List ℤ) → is_live f i ≡ true
-    → step robot i f trace ≡ granted (robot trace) i f trace
-unfolding step
+    → robot_turn robot i f trace ≡ granted (robot trace) i f trace
+unfolding robot_turn
 step_live robot i f trace live = rw live refl
 
 step_dead : (robot : Behaviour) (i : ℕ) (f : Field) (trace : List ℤ) → is_live f i ≡ false →
-    step robot i f trace ≡ (f, trace)
-unfolding step
+    robot_turn robot i f trace ≡ (f, trace)
+unfolding robot_turn
 step_dead robot i f trace dead = rw dead refl
 
 -- An answer leaves the robot itself as alive as it is.
@@ -329,7 +332,7 @@ answer_lives Drive a i f =
     ap (λ hurts. nat_lt (min (sum hurts) 100) 100)
     (keeps_hurts f.robots i
     (record (robot_at f i)
-    { leg = wanting (robot_at f i).leg (degree_of (argument a 0)) (clamped 100 (argument a 1)) }) no_robot refl)
+    { leg = wanting (robot_at f i).leg (degree_of (argument_at a 0)) (clamped 100 (argument_at a 1)) }) no_robot refl)
 answer_lives _ a i f = refl
 
 granted_lives : (want : Want) (i : ℕ) (f : Field) (trace : List ℤ) → is_live (granted want i f trace).0 i ≡ is_live f i
@@ -338,7 +341,7 @@ granted_lives (Ask intrinsic a) i f trace = answer_lives intrinsic a i f
 granted_lives _ i f trace = refl
 
 pub step_lives : (robot : Behaviour) (i : ℕ) (f : Field) (trace : List ℤ) →
-    is_live (step robot i f trace).0 i ≡ is_live f i
+    is_live (robot_turn robot i f trace).0 i ≡ is_live f i
 step_lives robot i f trace = elim (cases_Bool (is_live f i)) [
   | inl live ↦ ap (λ (stepped : Field × List ℤ). is_live stepped.0 i) (step_live robot i f trace live) ∙
       granted_lives (robot trace) i f trace
@@ -348,9 +351,11 @@ step_lives robot i f trace = elim (cases_Bool (is_live f i)) [
 -- The same of two robots: the first one's step is one that it does alone.
 steps_alike : (robot other : Behaviour) (i j : ℕ) (f : Field) (trace others : List ℤ) → StepsAlone robot i f trace →
     i ≢ j
-    → AreAlike (step other j (step robot i f trace).0 others).0 (step robot i (step other j f others).0 trace).0
-    × ((step robot i (step other j f others).0 trace).1 ≡ (step robot i f trace).1)
-    × ((step other j (step robot i f trace).0 others).1 ≡ (step other j f others).1)
+    →
+    AreAlike (robot_turn other j (robot_turn robot i f trace).0 others).0
+    (robot_turn robot i (robot_turn other j f others).0 trace).0
+    × ((robot_turn robot i (robot_turn other j f others).0 trace).1 ≡ (robot_turn robot i f trace).1)
+    × ((robot_turn other j (robot_turn robot i f trace).0 others).1 ≡ (robot_turn other j f others).1)
 steps_alike robot other i j f trace others steps distinct =
     let back : j ≢ i = λ same. distinct (sym same) in
     let mine = live_same robot j i f trace back in
@@ -370,26 +375,26 @@ steps_alike robot other i j f trace others steps distinct =
         | inr rests ↦
             rw (
               step_dead other j f others rests,
-              step_dead other j (step robot i f trace).0 others (mine ∙ rests),
+              step_dead other j (robot_turn robot i f trace).0 others (mine ∙ rests),
             ) (like_refl _, refl, refl)
       ]
       | inr dead ↦
           rw (
             step_dead robot i f trace dead,
-            step_dead robot i (step other j f others).0 trace (theirs ∙ dead),
+            step_dead robot i (robot_turn other j f others).0 trace (theirs ∙ dead),
           ) (like_refl _, refl, refl)
     ]
 
 -- The same of whole stages: the next turn of a robot is one that it does alone.
 unfoldable pub TurnsAlone : List Behaviour → ℕ → Stage → Type 0
-TurnsAlone robots i s = StepsAlone (robot_of robots i) i s.field (get_or s.traces i [])
+TurnsAlone robots i s = StepsAlone (behaviour_at robots i) i s.field (get_or s.traces i [])
 
 pub alone_stays : (robots : List Behaviour) (i j : ℕ) (s : Stage) → TurnsAlone robots i s → i ≢ j →
     TurnsAlone robots i (turn robots j s)
 unfolding turn TurnsAlone
 alone_stays robots i j s alone distinct = λ live.
-    let other = robot_of robots j in
-    rw (get_or-set_other s.traces j i (step other j s.field (get_or s.traces j [])).1 [] distinct)
+    let other = behaviour_at robots j in
+    rw (get_or-set_other s.traces j i (robot_turn other j s.field (get_or s.traces j [])).1 [] distinct)
     (alone (sym (live_same other i j s.field (get_or s.traces j []) distinct) ∙ live))
 
 pub commutes : (robots : List Behaviour) (i j : ℕ) (s : Stage) → TurnsAlone robots i s → i ≢ j
@@ -398,9 +403,9 @@ unfolding turn TurnsAlone
 commutes robots i j s alone distinct =
     let trace = get_or s.traces i [] in
     let others = get_or s.traces j [] in
-    let mine = step (robot_of robots i) i s.field trace in
-    let theirs = step (robot_of robots j) j s.field others in
-    let alike = steps_alike (robot_of robots i) (robot_of robots j) i j s.field trace others alone distinct in
+    let mine = robot_turn (behaviour_at robots i) i s.field trace in
+    let theirs = robot_turn (behaviour_at robots j) j s.field others in
+    let alike = steps_alike (behaviour_at robots i) (behaviour_at robots j) i j s.field trace others alone distinct in
     let back : j ≢ i = λ same. distinct (sym same) in
     rw (get_or-set_other s.traces i j mine.1 [] back, get_or-set_other s.traces j i theirs.1 [] distinct) (record {
       field = alike.0;

@@ -3,9 +3,9 @@ use Rattle.std.proofs.Common.{◌≡◌, ◌≢◌, ℕ, ◌+◌, ◌-◌, ◌%�
 use Rattle.std.specs.Prelude.{nat_le}
 use Rattle.std.proofs.lemmas.Bool.Decides.{nat_tests}
 use Rattle.arena.specs.Field.{live_count}
-use Rattle.arena.specs.Ground.{Ground}
+use Rattle.arena.specs.Arena.{Arena}
 use Rattle.arena.specs.Moved.{moved}
-use Rattle.arena.specs.Standing.{StandsFor as IsGroundOf}
+use Rattle.arena.specs.Representing.{RepresentsField}
 use Rattle.engine.specs.Executables.{Executable}
 use Rattle.battles.specs.Battle.{Behaviour, Stage, turns, is_due, updated, cycle, is_over, stage_after, first_above, last_cycle}
 use Rattle.battles.specs.Carrying.{Runner, HasReached}
@@ -41,8 +41,8 @@ pub over_if_few : (number : ℕ) (s : Stage) → number % 15 ≡ 0 → is_over n
 unfolding is_over
 over_if_few number s e = rw (is_due_yes number e) refl
 
-pub updated_reached : (runners : List Runner) (exes : List Executable) (arena after : Ground) (s : Stage)
-    → HasReached runners exes arena s → IsGroundOf after (moved s.field)
+pub updated_reached : (runners : List Runner) (exes : List Executable) (arena after : Arena) (s : Stage)
+    → HasReached runners exes arena s → RepresentsField after (moved s.field)
     → HasReached runners exes after (record { field = moved s.field; traces = s.traces })
 updated_reached runners exes arena after s reached moves = record { field = moves; traces = reached.traces }
 

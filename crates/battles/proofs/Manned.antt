@@ -3,24 +3,24 @@ use Rattle.std.proofs.Common.{◌≡◌, ◌≢◌, ℕ, ◌<◌, List, length, 
 use Rattle.std.proofs.lemmas.Bool.{cases_eq}
 use Rattle.std.proofs.lemmas.List.{get_or-set_same, get_or-set_other}
 use Rattle.std.specs.Prelude.{slice_get}
-use Rattle.arena.specs.Ground.{Ground}
+use Rattle.arena.specs.Arena.{Arena}
 use Rattle.engine.specs.declared.engines.Engine.{Engine}
 use Rattle.engine.specs.Executables.{Executable}
 use Rattle.battles.specs.Carrying.{Runner}
-use Rattle.battles.specs.Keeping.{AreManned, CanRun, HavePlaces, Keeps}
-use Rattle.battles.specs.Windows.{Waits}
+use Rattle.battles.specs.IntervalKeeping.{AreManned, CanPlay, HavePlaces, KeepsPlayable}
+use Rattle.battles.specs.Intervals.{WaitsToDraw}
 use Rattle.battles.proofs.Stages.{fits_at, fits_length, fits_set}
 
-pub have_places : (exes : List Executable) (runners : List Runner) (arena : Ground) → AreManned exes runners arena →
+pub have_places : (exes : List Executable) (runners : List Runner) (arena : Arena) → AreManned exes runners arena →
     HavePlaces runners arena
 have_places exes runners arena manned =
     let same = fits_length runners exes manned.fits in
     record { few = omega (arith, same, manned.few); robots = manned.robots ∙ sym same }
 
-pub can_run : (exes : List Executable) (runners : List Runner) (arena : Ground) (i : ℕ) (exe : Executable)
+pub can_run : (exes : List Executable) (runners : List Runner) (arena : Arena) (i : ℕ) (exe : Executable)
     (none : Runner)
     → AreManned exes runners arena → i < length exes → slice_get exes i ≡ Some exe →
-    CanRun i exe (get_or runners i none).machine arena
+    CanPlay i exe (get_or runners i none).machine arena
 can_run exes runners arena i exe none manned inside here = record {
   turn_number = omega (arith, manned.few, inside);
   inside = omega (arith, manned.robots, inside);
@@ -28,8 +28,9 @@ can_run exes runners arena i exe none manned inside here = record {
 }
 
 -- what some turns keep, and then others
-pub keeps_on : {exe : Executable} {one other : Engine} {before between after : Ground} → Keeps exe one before between →
-    Keeps exe other between after → Keeps exe other before after
+pub keeps_on : {exe : Executable} {one other : Engine} {before between after : Arena} →
+    KeepsPlayable exe one before between →
+    KeepsPlayable exe other between after → KeepsPlayable exe other before after
 keeps_on first then = record {
   fits = then.fits;
   robots = then.robots ∙ first.robots;
@@ -37,8 +38,8 @@ keeps_on first then = record {
 }
 
 -- after a robot's turns it can run on
-pub can_run_on : (i : ℕ) (exe : Executable) (one other : Engine) (before after : Ground) → CanRun i exe one before →
-    Keeps exe other before after → CanRun i exe other after
+pub can_run_on : (i : ℕ) (exe : Executable) (one other : Engine) (before after : Arena) → CanPlay i exe one before →
+    KeepsPlayable exe other before after → CanPlay i exe other after
 can_run_on i exe one other before after can kept = record {
   turn_number = can.turn_number;
   inside = omega (arith, kept.robots, can.inside);
@@ -46,9 +47,9 @@ can_run_on i exe one other before after can kept = record {
 }
 
 -- after a robot's turns all are manned still
-pub manned_set : (exes : List Executable) (runners : List Runner) (before after : Ground) (i : ℕ) (exe : Executable)
+pub manned_set : (exes : List Executable) (runners : List Runner) (before after : Arena) (i : ℕ) (exe : Executable)
     (runner : Runner)
-    → AreManned exes runners before → slice_get exes i ≡ Some exe → Keeps exe runner.machine before after →
+    → AreManned exes runners before → slice_get exes i ≡ Some exe → KeepsPlayable exe runner.machine before after →
     AreManned exes (set runners i runner) after
 manned_set exes runners before after i exe runner manned here kept = record {
   few = manned.few;
@@ -65,20 +66,20 @@ same_code exes i j exe other same here there =
 pub waits_set : (exes : List Executable) (next : List ℕ) (end : ℕ) (runners : List Runner) (i number : ℕ)
     (exe : Executable) (runner : Runner) (j : ℕ) (other : Executable) (none : Runner)
     → i < length next → i < length runners → slice_get exes i ≡ Some exe → slice_get exes j ≡ Some other
-    → (number < end → Waits exe runner)
-    → (j ≢ i → get_or next j 0 < end → Waits other (get_or runners j none))
-    → get_or (set next i number) j 0 < end → Waits other (get_or (set runners i runner) j none)
+    → (number < end → WaitsToDraw exe runner)
+    → (j ≢ i → get_or next j 0 < end → WaitsToDraw other (get_or runners j none))
+    → get_or (set next i number) j 0 < end → WaitsToDraw other (get_or (set runners i runner) j none)
 waits_set exes next end runners i number exe runner j other none inside within here there waits before left =
-    elim (cases_eq j i) as (λ s. Waits other (get_or (set runners i runner) j none)) [
+    elim (cases_eq j i) as (λ s. WaitsToDraw other (get_or (set runners i runner) j none)) [
       | inl same ↦
           let own : get_or (set next i number) j 0 ≡ number =
           ap (λ k. get_or (set next i number) k 0) same ∙ get_or-set_same next i number 0 inside in
           let set_here : get_or (set runners i runner) j none ≡ runner =
           ap (λ k. get_or (set runners i runner) k none) same ∙ get_or-set_same runners i runner none within in
-          subst (λ (r : Runner). Waits other r) (sym set_here)
-          (subst (λ (c : Executable). Waits c runner) (same_code exes i j exe other same here there)
+          subst (λ (r : Runner). WaitsToDraw other r) (sym set_here)
+          (subst (λ (c : Executable). WaitsToDraw c runner) (same_code exes i j exe other same here there)
           (waits (omega (arith, own, left))))
       | inr distinct ↦
-          subst (λ (r : Runner). Waits other r) (sym (get_or-set_other runners i j runner none distinct))
+          subst (λ (r : Runner). WaitsToDraw other r) (sym (get_or-set_other runners i j runner none distinct))
           (before distinct (rw (get_or-set_other next i j number 0 distinct) at left))
     ]

@@ -5,13 +5,13 @@ use Rattle.std.proofs.lemmas.List.{get_or-set_same, get_or-set_other}
 use Rattle.std.proofs.lemmas.Bool.{cases_eq, cases_lt}
 use Rattle.std.proofs.lemmas.Bool.Decides.{nat_tests}
 use Rattle.arena.specs.Field.{Field, is_live}
-use Rattle.arena.specs.Ground.{Ground}
-use Rattle.arena.specs.Standing.{StandsFor as IsGroundOf}
+use Rattle.arena.specs.Arena.{Arena}
+use Rattle.arena.specs.Representing.{RepresentsField}
 use Rattle.engine.specs.Executables.{Executable}
-use Rattle.engine.specs.Engines.{FitsProgram}
+use Rattle.engine.specs.Engines.{EngineFits}
 use Rattle.battles.specs.Battle.{Behaviour, Stage}
-use Rattle.battles.specs.Carrying.{Runner, AreRobotsOf, EachFits, EachIsAt, HasReached, IsAt, IsRobotOf}
-use Rattle.battles.specs.Windows.{AreTurnNumbers, HasCome, HasRun, rounds}
+use Rattle.battles.specs.Carrying.{Runner, AreRobotsOf, EachFits, EachIsAheadOf, HasReached, IsAheadOf, IsRobotOf}
+use Rattle.battles.specs.Intervals.{AreTurnNumbers, HasCome, HasRunAlone, rounds}
 use Rattle.battles.proofs.Ahead.{Runs, come_alone, opens, closes}
 use Rattle.battles.proofs.Alone.{quiet_alone, quiet_runs}
 use Rattle.battles.proofs.Running.{at_less, quiet_less}
@@ -20,9 +20,9 @@ use Rattle.battles.proofs.Turns.{turn_numbers_set}
 
 -- a live robot goes on
 pub goes_ahead : (runner : Runner) (exe : Executable) (r : Behaviour) (i : ℕ) (f : Field) (trace : List ℤ) (n : ℕ)
-    (arena : Ground)
-    → n ≤ runner.ahead → is_live f i ≡ true → IsRobotOf exe r → IsGroundOf arena f → IsAt runner exe trace
-    → HasRun ⊥ r i f trace n exe (record { machine = runner.machine; ahead = runner.ahead - n }) arena
+    (arena : Arena)
+    → n ≤ runner.ahead → is_live f i ≡ true → IsRobotOf exe r → RepresentsField arena f → IsAheadOf runner exe trace
+    → HasRunAlone ⊥ r i f trace n exe (record { machine = runner.machine; ahead = runner.ahead - n }) arena
 goes_ahead runner exe r i f trace n arena within live is ground at =
     let quiet = quiet_less r trace n runner.ahead within (at.quiet r is) in
     record {
@@ -33,7 +33,7 @@ goes_ahead runner exe r i f trace n arena within live is ground at =
 
 -- So many robots have passed the window; the others are at its begin.
 pub record HavePassed (robots : List Behaviour) (exes : List Executable) (k w : ℕ) (runners : List Runner)
-    (arena : Ground) (opened : Stage) : Type 0 where
+    (arena : Arena) (opened : Stage) : Type 0 where
   pub next : List ℕ
   pub turn_numbers : AreTurnNumbers next
   pub done : (i : ℕ) → i < k → 4 * w ≤ get_or next i 0
@@ -77,7 +77,7 @@ turn_numbers_are n w = record {
   own = λ i small. rw (turn_numbers_at n w i small) (turn_number_own n w i small);
 }
 
-pub none_passed : (robots : List Behaviour) (exes : List Executable) (w : ℕ) (runners : List Runner) (arena : Ground)
+pub none_passed : (robots : List Behaviour) (exes : List Executable) (w : ℕ) (runners : List Runner) (arena : Arena)
     (s : Stage)
     → AreRobotsOf exes robots → length exes ≤ 4 → HasReached runners exes arena s →
     HavePassed robots exes 0 w runners arena s
@@ -97,7 +97,7 @@ none_passed robots exes w runners arena s are few reached =
           reached;
     }
 
-pub one_passes : (robots : List Behaviour) (exes : List Executable) (k w : ℕ) (runners : List Runner) (arena : Ground)
+pub one_passes : (robots : List Behaviour) (exes : List Executable) (k w : ℕ) (runners : List Runner) (arena : Arena)
     (s : Stage)
     (exe : Executable) (none after : Runner)
     → AreRobotsOf exes robots → length exes ≤ 4 → k < length exes → slice_get exes k ≡ Some exe
@@ -130,7 +130,7 @@ one_passes robots exes k w runners arena s exe none after are few inside here pa
           (omega (arith, here')) (λ free. absurd free) passed.come here gone;
     }
 
-pub all_passed : (robots : List Behaviour) (exes : List Executable) (w : ℕ) (runners : List Runner) (arena : Ground)
+pub all_passed : (robots : List Behaviour) (exes : List Executable) (w : ℕ) (runners : List Runner) (arena : Arena)
     (s : Stage)
     → HavePassed robots exes (length exes) w runners arena s → HasReached runners exes arena (rounds robots w s)
 all_passed robots exes w runners arena s passed =
@@ -151,12 +151,12 @@ pub fits_still : (runners : List Runner) (exes : List Executable) (k : ℕ) (non
     → after.machine ≡ (get_or runners k none).machine → EachFits runners exes → EachFits (set runners k after) exes
 fits_still runners exes k none after inside same fits =
     let here = code_at exes k (omega (arith, inside, fits_length runners exes fits)) in
-    let still : FitsProgram after.machine here.0 = rw same (fits_at runners exes k here.0 none fits here.1) in
+    let still : EngineFits after.machine here.0 = rw same (fits_at runners exes k here.0 none fits here.1) in
     fits_set runners exes k after here.0 fits here.1 still
 
 -- there is a runner for each exe
 pub runners_length : (runners : List Runner) (exes : List Executable) (traces : List (List ℤ)) →
-    EachIsAt runners exes traces
+    EachIsAheadOf runners exes traces
     → length runners ≡ length exes
 runners_length [] [] [] at = refl
 runners_length (runner ∷ runners) (exe ∷ exes) (trace ∷ traces) at = ap suc (runners_length runners exes traces at.1)

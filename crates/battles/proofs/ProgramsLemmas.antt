@@ -5,10 +5,10 @@ use Rattle.std.proofs.lemmas.Grind.{flat_map-append}
 use Rattle.std.proofs.lemmas.Option.{get_or_from_slice_get, slice_get_within}
 use Rattle.std.specs.Prelude.{slice_get, flat_map}
 use Rattle.std.specs.Option.{option_to_list}
-use Rattle.code.specs.Generation.{ObjectCode}
+use Rattle.code.specs.Generation.{Program}
 use Rattle.operations.specs.declared.labels.Operations.{Operations}
 use Rattle.operations.specs.Filling.{translated}
-use Rattle.engine.specs.Executables.{Executable, IsTranslated, made_of}
+use Rattle.engine.specs.Executables.{Executable, IsTranslated, executable_of}
 use Rattle.battles.specs.Programs.{AllSome}
 use Rattle.battles.specs.Translated.{AreTranslated}
 
@@ -46,8 +46,8 @@ kept_more {A} kept x all =
     ∙ ap (λ l. map (λ (x : A). Some x) l) (sym (list_more kept x))
 
 -- one more program, with its operations
-pub translated_more : (codes : List ObjectCode) (kept : List (Option Operations)) (code : ObjectCode)
-    (o : Operations) → AreTranslated codes kept → IsTranslated (made_of code (translated o)) →
+pub translated_more : (codes : List Program) (kept : List (Option Operations)) (code : Program)
+    (o : Operations) → AreTranslated codes kept → IsTranslated (executable_of code (translated o)) →
     AreTranslated (codes ++ code ∷ []) (kept ++ Some o ∷ [])
 translated_more [] [] code o are one = (one, tt)
 translated_more [] (p ∷ others) code o are one = absurd are
@@ -55,7 +55,7 @@ translated_more (c ∷ codes) [] code o are one = absurd are
 translated_more (c ∷ codes) (None ∷ others) code o are one = absurd are
 translated_more (c ∷ codes) (Some p ∷ others) code o are one = (are.0, translated_more codes others code o are.1 one)
 
-pub translated_length : (codes : List ObjectCode) (kept : List (Option Operations)) → AreTranslated codes kept →
+pub translated_length : (codes : List Program) (kept : List (Option Operations)) → AreTranslated codes kept →
     length kept ≡ length codes
 translated_length [] [] are = refl
 translated_length [] (p ∷ others) are = absurd are
@@ -64,7 +64,7 @@ translated_length (c ∷ codes) (None ∷ others) are = absurd are
 translated_length (c ∷ codes) (Some p ∷ others) are = ap suc (translated_length codes others are.1)
 
 -- those of one program are there
-pub translated_there : (codes : List ObjectCode) (kept : List (Option Operations)) (place : ℕ)
+pub translated_there : (codes : List Program) (kept : List (Option Operations)) (place : ℕ)
     (found : Option Operations) → AreTranslated codes kept → place < length kept → found ≡ get_or kept place found →
     found ≡ None → ⊥
 translated_there [] [] place found are low there none = absurd (omega (arith, low))
@@ -76,22 +76,22 @@ translated_there (c ∷ codes) (Some p ∷ others) (suc place) found are low the
     translated_there codes others place found are.1 (omega (arith, low)) there none
 
 -- and they are its translation
-pub translated_at : (codes : List ObjectCode) (kept : List (Option Operations)) (place : ℕ) (code : ObjectCode)
+pub translated_at : (codes : List Program) (kept : List (Option Operations)) (place : ℕ) (code : Program)
     (found : Option Operations) (o : Operations) → AreTranslated codes kept → slice_get codes place ≡ Some code →
-    found ≡ get_or kept place found → found ≡ Some o → IsTranslated (made_of code (translated o))
+    found ≡ get_or kept place found → found ≡ Some o → IsTranslated (executable_of code (translated o))
 translated_at [] kept place code found o are here there is = absurd (cc)
 translated_at (c ∷ codes) [] place code found o are here there is = absurd are
 translated_at (c ∷ codes) (None ∷ others) place code found o are here there is = absurd are
 translated_at (c ∷ codes) (Some p ∷ others) zero code found o are here there is =
     let same : c ≡ code = cc in
     let alike : p ≡ o = cc (there, is) in
-    subst (λ (o : Operations). IsTranslated (made_of code (translated o))) alike
-    (subst (λ (c : ObjectCode). IsTranslated (made_of c (translated p))) same are.0)
+    subst (λ (o : Operations). IsTranslated (executable_of code (translated o))) alike
+    (subst (λ (c : Program). IsTranslated (executable_of c (translated p))) same are.0)
 translated_at (c ∷ codes) (Some p ∷ others) (suc place) code found o are here there is =
     translated_at codes others place code found o are.1 here there is
 
 -- one more is looked up
-pub looked_up : (exes : List Executable) (codes : List ObjectCode) (n : ℕ) (exe : Executable)
+pub looked_up : (exes : List Executable) (codes : List Program) (n : ℕ) (exe : Executable)
     → map (λ (e : Executable). e.program) exes ≡ take n codes → slice_get codes n ≡ Some exe.program
     → map (λ (e : Executable). e.program) (exes ++ exe ∷ []) ≡ take (n + 1) codes
 looked_up exes codes n exe same here =

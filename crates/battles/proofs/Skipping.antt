@@ -5,31 +5,31 @@ use Rattle.std.specs.List.{count_by}
 use Rattle.std.proofs.lemmas.Bool.{cases_lt}
 use Rattle.std.proofs.lemmas.List.{append-nil, get_or-set_same, get_or-set_other, length-set, replicate_more, replicate-append-replicate}
 use Rattle.arena.specs.Field.{Field, is_live, is_alive, live_count}
-use Rattle.arena.specs.Ground.{Body, Ground, body_of, lives}
+use Rattle.arena.specs.Arena.{Robot, Arena, robot_of, lives}
 use Rattle.arena.specs.Moved.{moved}
 use Rattle.arena.specs.Still.{IsStill, moved_times}
-use Rattle.arena.specs.Standing.{StandsFor as IsGroundOf}
+use Rattle.arena.specs.Representing.{RepresentsField}
 use Rattle.arena.proofs.Represents.{body_at, living}
 use Rattle.arena.proofs.Still.{only_rests}
 use Rattle.code.specs.declared.want.Want.TheVariants.{Quiet}
 use Rattle.engine.specs.Executables.{Executable}
-use Rattle.battles.specs.Battle.{Behaviour, Stage, granted, step, robot_of, turn, turns}
-use Rattle.battles.specs.Carrying.{Runner, AreRobotsOf, EachIsAt, HasReached, IsQuiet}
-use Rattle.battles.specs.Windows.{AreAhead, rounds, segment, segments}
+use Rattle.battles.specs.Battle.{Behaviour, Stage, granted, robot_turn, behaviour_at, turn, turns}
+use Rattle.battles.specs.Carrying.{Runner, AreRobotsOf, EachIsAheadOf, HasReached, IsQuiet}
+use Rattle.battles.specs.Intervals.{AreAhead, rounds, period, periods}
 use Rattle.battles.proofs.Passed.{code_at, runners_length}
 use Rattle.battles.proofs.Running.{quiet_less}
 use Rattle.battles.proofs.Stages.{robot_at, robots_length, stands_at}
 
 -- Who lives, and how many, an arena says of each field that it represents.
-live_is : (g : Ground) (f : Field) (i : ℕ) → IsGroundOf g f → is_live f i ≡ lives g i
-unfolding is_live is_alive body_of lives
-live_is g f i ground = ap (λ (b : Body). nat_lt b.damage 100) (sym (body_at g f i ground))
+live_is : (g : Arena) (f : Field) (i : ℕ) → RepresentsField g f → is_live f i ≡ lives g i
+unfolding is_live is_alive robot_of lives
+live_is g f i ground = ap (λ (b : Robot). nat_lt b.damage 100) (sym (body_at g f i ground))
 
-count_is : (g : Ground) (f : Field) → IsGroundOf g f →
-    live_count f ≡ count_by (λ (b : Body). nat_lt b.damage 100) g.robots
+count_is : (g : Arena) (f : Field) → RepresentsField g f →
+    live_count f ≡ count_by (λ (b : Robot). nat_lt b.damage 100) g.robots
 unfolding live_count
 count_is g f ground =
-    sym (ap (count_by (λ (b : Body). nat_lt b.damage 100)) ground.robots ∙ living f.robots)
+    sym (ap (count_by (λ (b : Robot). nat_lt b.damage 100)) ground.robots ∙ living f.robots)
 
 -- what a quiet cycle makes of the traces of the first n robots
 waited : (ℕ → Bool) → ℕ → List (List ℤ) → List (List ℤ)
@@ -100,19 +100,19 @@ waits_plus live n k (suc j) traces =
     rw more (ap (waited live n) (waits_plus live n k j traces))
 
 -- each live robot is quiet for so many cycles
-abbrev AreQuiet : Ground → List Behaviour → List (List ℤ) → ℕ → Type 0
+abbrev AreQuiet : Arena → List Behaviour → List (List ℤ) → ℕ → Type 0
 AreQuiet g robots traces k =
-    (i : ℕ) → i < length robots → lives g i ≡ true → IsQuiet (robot_of robots i) (get_or traces i []) k
+    (i : ℕ) → i < length robots → lives g i ≡ true → IsQuiet (behaviour_at robots i) (get_or traces i []) k
 
 -- So the field stays as it is in these.
 step_waits : (r : Behaviour) (i : ℕ) (f : Field) (trace : List ℤ) (live : Bool) → is_live f i ≡ live
-    → (live ≡ true → r trace ≡ Quiet) → step r i f trace ≡ (f, if live then trace ++ pos 0 ∷ [] else trace)
-unfolding step granted
+    → (live ≡ true → r trace ≡ Quiet) → robot_turn r i f trace ≡ (f, if live then trace ++ pos 0 ∷ [] else trace)
+unfolding robot_turn granted
 step_waits r i f trace true is quiet = rw (is, quiet refl) refl
 step_waits r i f trace false is quiet = rw is refl
 
-turn_waits : (g : Ground) (robots : List Behaviour) (i : ℕ) (s : Stage) → IsGroundOf g s.field
-    → (lives g i ≡ true → robot_of robots i (get_or s.traces i []) ≡ Quiet)
+turn_waits : (g : Arena) (robots : List Behaviour) (i : ℕ) (s : Stage) → RepresentsField g s.field
+    → (lives g i ≡ true → behaviour_at robots i (get_or s.traces i []) ≡ Quiet)
     → turn robots i s ≡ record {
       field = s.field;
       traces = set s.traces i (if lives g i then get_or s.traces i [] ++ pos 0 ∷ [] else get_or s.traces i []);
@@ -120,19 +120,20 @@ turn_waits : (g : Ground) (robots : List Behaviour) (i : ℕ) (s : Stage) → Is
 unfolding turn
 turn_waits g robots i s ground quiet =
     ap (λ (after : Field × List ℤ). record { field = after.0; traces = set s.traces i after.1 })
-    (step_waits (robot_of robots i) i s.field (get_or s.traces i []) (lives g i) (live_is g s.field i ground) quiet)
+    (step_waits (behaviour_at robots i) i s.field (get_or s.traces i []) (lives g i) (live_is g s.field i ground) quiet)
 
-turns_wait : (g : Ground) (robots : List Behaviour) (n : ℕ) (s : Stage) → IsGroundOf g s.field
-    → ((i : ℕ) → i < n → lives g i ≡ true → robot_of robots i (get_or s.traces i []) ≡ Quiet)
+turns_wait : (g : Arena) (robots : List Behaviour) (n : ℕ) (s : Stage) → RepresentsField g s.field
+    → ((i : ℕ) → i < n → lives g i ≡ true → behaviour_at robots i (get_or s.traces i []) ≡ Quiet)
     → turns robots n s ≡ record { field = s.field; traces = waited (lives g) n s.traces }
 unfolding turns waited
 turns_wait g robots zero s ground quiet = refl
 turns_wait g robots (suc n) s ground quiet =
     ap (turn robots n) (turns_wait g robots n s ground (λ i low. quiet i (omega arith)))
     ∙ turn_waits g robots n (record { field = s.field; traces = waited (lives g) n s.traces }) ground
-    (λ live. ap (robot_of robots n) (waited_later (lives g) n s.traces n (omega arith)) ∙ quiet n (omega arith) live)
+    (λ live. ap (behaviour_at robots n) (waited_later (lives g) n s.traces n (omega arith)) ∙
+    quiet n (omega arith) live)
 
-rounds_wait : (g : Ground) (robots : List Behaviour) (k : ℕ) (s : Stage) → IsGroundOf g s.field →
+rounds_wait : (g : Arena) (robots : List Behaviour) (k : ℕ) (s : Stage) → RepresentsField g s.field →
     length robots ≤ length s.traces
     → AreQuiet g robots s.traces k
     → rounds robots k s ≡ record { field = s.field; traces = waits (lives g) (length robots) k s.traces }
@@ -144,16 +145,16 @@ rounds_wait g robots (suc k) s ground all quiet =
     (rounds_wait g robots k s ground all (λ i low live j less. quiet i low live j (omega arith)))
     ∙ turns_wait g robots (length robots) (record { field = s.field; traces = traces }) ground
     (λ i low live.
-    ap (robot_of robots i) (waits_at (lives g) (length robots) k s.traces i low (omega arith) live)
+    ap (behaviour_at robots i) (waits_at (lives g) (length robots) k s.traces i low (omega arith) live)
     ∙ quiet i low live k (omega arith))
 
 -- If the field is still the windows follow one another in the same way.
-quiet_on : (g : Ground) (robots : List Behaviour) (k j : ℕ) (traces : List (List ℤ)) → length robots ≤ length traces
+quiet_on : (g : Arena) (robots : List Behaviour) (k j : ℕ) (traces : List (List ℤ)) → length robots ≤ length traces
     → AreQuiet g robots traces (k + j) → AreQuiet g robots (waits (lives g) (length robots) k traces) j
 quiet_on g robots k j traces all quiet i low live m less =
-    ap (λ trace. robot_of robots i (trace ++ replicate m (pos 0)))
+    ap (λ trace. behaviour_at robots i (trace ++ replicate m (pos 0)))
     (waits_at (lives g) (length robots) k traces i low (omega arith) live)
-    ∙ ap (robot_of robots i) (
+    ∙ ap (behaviour_at robots i) (
     append_assoc (get_or traces i []) (replicate k (pos 0)) (replicate m (pos 0))
     ∙ ap (λ zeros. get_or traces i [] ++ zeros) (replicate-append-replicate k m (pos 0)))
     ∙ quiet i low live (k + m) (omega arith)
@@ -161,19 +162,19 @@ quiet_on g robots k j traces all quiet i low live m less =
 updated_stage : Stage → Stage
 updated_stage s = record { field = moved s.field; traces = s.traces }
 
-quiet_within : (g : Ground) (robots : List Behaviour) (traces : List (List ℤ)) (k n : ℕ) → k ≤ n →
+quiet_within : (g : Arena) (robots : List Behaviour) (traces : List (List ℤ)) (k n : ℕ) → k ≤ n →
     AreQuiet g robots traces n
     → AreQuiet g robots traces k
 quiet_within g robots traces k n less quiet i low live =
-    quiet_less (robot_of robots i) (get_or traces i []) k n less (quiet i low live)
+    quiet_less (behaviour_at robots i) (get_or traces i []) k n less (quiet i low live)
 
-segments_wait : (g : Ground) (robots : List Behaviour) (k : ℕ) (s : Stage) → IsGroundOf g s.field →
+segments_wait : (g : Arena) (robots : List Behaviour) (k : ℕ) (s : Stage) → RepresentsField g s.field →
     IsStill g.robots g.slots
     → length robots ≤ length s.traces → AreQuiet g robots s.traces (15 * k)
     →
-    segments robots k s ≡
+    periods robots k s ≡
     record { field = moved_times k s.field; traces = waits (lives g) (length robots) (15 * k) s.traces }
-unfolding segments segment moved_times lives updated_stage waits
+unfolding periods period moved_times lives updated_stage waits
 segments_wait g robots zero s ground still all quiet = refl
 segments_wait g robots (suc k) s ground still all quiet =
     let traces = waits (lives g) (length robots) (15 * k) s.traces in
@@ -184,7 +185,7 @@ segments_wait g robots (suc k) s ground still all quiet =
     let more : AreQuiet g robots s.traces (15 * k + 15) =
     quiet_within g robots s.traces (15 * k + 15) (15 * suc k) (omega arith) quiet in
     let sum : 15 * k + 15 ≡ 15 * suc k = omega arith in
-    ap (segment robots) before
+    ap (period robots) before
     ∙
     ap updated_stage (rounds_wait grown robots 15 (record { field = moved_times k s.field; traces = traces })
     (only_rests g s.field k ground still)
@@ -196,35 +197,35 @@ segments_wait g robots (suc k) s ground still all quiet =
 
 -- The machines are ahead by cycles in which the robots are quiet.
 traces_length : (runners : List Runner) (exes : List Executable) (traces : List (List ℤ)) →
-    EachIsAt runners exes traces
+    EachIsAheadOf runners exes traces
     → length traces ≡ length exes
 traces_length [] [] [] at = refl
 traces_length (runner ∷ runners) (exe ∷ exes) (trace ∷ traces) at = ap suc (traces_length runners exes traces at.1)
 traces_length _ _ _ at = absurd at
 
-are_quiet : (exes : List Executable) (robots : List Behaviour) (runners : List Runner) (none : Runner) (g : Ground)
+are_quiet : (exes : List Executable) (robots : List Behaviour) (runners : List Runner) (none : Runner) (g : Arena)
     (s : Stage) (cycles : ℕ)
     → AreRobotsOf exes robots → HasReached runners exes g s → AreAhead (length runners) cycles g runners
     → AreQuiet g robots s.traces cycles
-unfolding robot_of
+unfolding behaviour_at
 are_quiet exes robots runners none g s cycles are reached ahead i low live =
     let here = code_at exes i (omega (arith, low, robots_length exes robots are)) in
     let inside : i < length runners =
     omega (arith, low, robots_length exes robots are, runners_length runners exes s.traces reached.traces) in
     let is = robot_at exes robots i here.0 (λ trace. Quiet) are here.1 in
     let at = stands_at runners exes s.traces i here.0 none reached.traces here.1 in
-    quiet_less (robot_of robots i) (get_or s.traces i []) cycles (get_or runners i none).ahead
+    quiet_less (behaviour_at robots i) (get_or s.traces i []) cycles (get_or runners i none).ahead
     (ahead i none inside live) (at.quiet _ is)
 
 -- they are ahead by fewer cycles too
-pub ahead_fewer : (n most cycles : ℕ) (arena : Ground) (runners : List Runner) → cycles ≤ most →
+pub ahead_fewer : (n most cycles : ℕ) (arena : Arena) (runners : List Runner) → cycles ≤ most →
     AreAhead n most arena runners
     → AreAhead n cycles arena runners
 ahead_fewer n most cycles arena runners fewer ahead i none inside live =
     let here : most ≤ (get_or runners i none).ahead = ahead i none inside live in
     omega arith
 
-some_quiet : (exes : List Executable) (robots : List Behaviour) (runners : List Runner) (g : Ground) (s : Stage)
+some_quiet : (exes : List Executable) (robots : List Behaviour) (runners : List Runner) (g : Arena) (s : Stage)
     (cycles : ℕ)
     → AreRobotsOf exes robots → HasReached runners exes g s → AreAhead (length runners) cycles g runners
     → AreQuiet g robots s.traces cycles
@@ -235,32 +236,32 @@ some_quiet (exe ∷ exes) robots [] g s cycles are reached ahead =
     absurd (omega (arith, runners_length [] (exe ∷ exes) s.traces reached.traces))
 some_quiet [] (robot ∷ robots) [] g s cycles are reached ahead = absurd are
 
-enough : (exes : List Executable) (robots : List Behaviour) (runners : List Runner) (g : Ground) (s : Stage)
+enough : (exes : List Executable) (robots : List Behaviour) (runners : List Runner) (g : Arena) (s : Stage)
     → AreRobotsOf exes robots → HasReached runners exes g s → length robots ≤ length s.traces
 enough exes robots runners g s are reached =
     omega (arith, robots_length exes robots are, traces_length runners exes s.traces reached.traces)
 
 -- Where the cycles of some windows lead, and as many updates: to where the windows lead.
-pub skips : (exes : List Executable) (robots : List Behaviour) (runners after : List Runner) (g : Ground) (s : Stage)
+pub skips : (exes : List Executable) (robots : List Behaviour) (runners after : List Runner) (g : Arena) (s : Stage)
     (k : ℕ)
     → AreRobotsOf exes robots → HasReached runners exes g s → IsStill g.robots g.slots
     → AreAhead (length runners) (15 * k) g runners → HasReached after exes g (rounds robots (15 * k) s)
-    → HasReached after exes (record g { updates = g.updates + k }) (segments robots k s)
+    → HasReached after exes (record g { updates = g.updates + k }) (periods robots k s)
 skips exes robots runners after g s k are reached still ahead gone =
     let all = enough exes robots runners g s are reached in
     let quiet = some_quiet exes robots runners g s (15 * k) are reached ahead in
     let run = rounds_wait g robots (15 * k) s reached.field all quiet in
-    let traces : EachIsAt after exes (waits (lives g) (length robots) (15 * k) s.traces) = rw run at gone.traces in
+    let traces : EachIsAheadOf after exes (waits (lives g) (length robots) (15 * k) s.traces) = rw run at gone.traces in
     rw (segments_wait g robots k s reached.field still all quiet) (record {
       field = only_rests g s.field k reached.field still;
       traces = traces;
     })
 
 -- as many robots live
-pub skips_alive : (exes : List Executable) (robots : List Behaviour) (runners : List Runner) (g : Ground) (s : Stage)
+pub skips_alive : (exes : List Executable) (robots : List Behaviour) (runners : List Runner) (g : Arena) (s : Stage)
     (k n : ℕ)
     → AreRobotsOf exes robots → HasReached runners exes g s → IsStill g.robots g.slots
-    → AreAhead (length runners) (15 * k) g runners → n ≤ k → live_count (segments robots n s).field ≡ live_count s.field
+    → AreAhead (length runners) (15 * k) g runners → n ≤ k → live_count (periods robots n s).field ≡ live_count s.field
 skips_alive exes robots runners g s k n are reached still ahead within =
     let all = enough exes robots runners g s are reached in
     let quiet = some_quiet exes robots runners g s (15 * n) are reached
@@ -271,6 +272,6 @@ skips_alive exes robots runners g s k n are reached still ahead within =
     ∙ sym (count_is g s.field reached.field)
 
 -- no window passes
-pub skips_none : (robots : List Behaviour) (s : Stage) → segments robots 0 s ≡ s
-unfolding segments
+pub skips_none : (robots : List Behaviour) (s : Stage) → periods robots 0 s ≡ s
+unfolding periods
 skips_none robots s = refl

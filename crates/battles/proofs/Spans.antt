@@ -4,7 +4,7 @@ use Rattle.std.specs.Prelude.{nat_le}
 use Rattle.arena.specs.Field.{live_count}
 use Rattle.arena.specs.Moved.{moved}
 use Rattle.battles.specs.Battle.{Behaviour, Stage, turns, is_over, stage_after, first_above}
-use Rattle.battles.specs.Windows.{rounds, segment, segments}
+use Rattle.battles.specs.Intervals.{rounds, period, periods}
 use Rattle.battles.proofs.Cycles.{cycle_alone, cycle_updates, goes_on, stage_more, over_if_few, first_later, first_none, first_is, first_more}
 
 -- no update falls within a window
@@ -24,8 +24,8 @@ updated_stage : Stage → Stage
 updated_stage s = record { field = moved s.field; traces = s.traces }
 
 stage_updated : (robots : List Behaviour) (s : Stage) (n : ℕ) → n % 15 ≡ 0
-    → stage_after robots s (n + 15) ≡ segment robots (stage_after robots s n)
-unfolding rounds segment updated_stage
+    → stage_after robots s (n + 15) ≡ period robots (stage_after robots s n)
+unfolding rounds period updated_stage
 stage_updated robots s n begins =
     let last : n + 15 ≡ n + 14 + 1 = omega arith in
     ap (stage_after robots s) last
@@ -36,20 +36,20 @@ stage_updated robots s n begins =
     (stage_within robots s n 14 begins (omega arith))
 
 pub stage_segment : (robots : List Behaviour) (s : Stage) (n : ℕ)
-    → stage_after robots s (15 * (n + 1)) ≡ segment robots (stage_after robots s (15 * n))
+    → stage_after robots s (15 * (n + 1)) ≡ period robots (stage_after robots s (15 * n))
 stage_segment robots s n =
     let next : 15 * (n + 1) ≡ 15 * n + 15 = omega arith in
     ap (stage_after robots s) next ∙ stage_updated robots s (15 * n) (omega arith)
 
 pub stage_segments : (robots : List Behaviour) (s : Stage) (n k : ℕ)
-    → stage_after robots s (15 * (n + k)) ≡ segments robots k (stage_after robots s (15 * n))
-unfolding segments
+    → stage_after robots s (15 * (n + k)) ≡ periods robots k (stage_after robots s (15 * n))
+unfolding periods
 stage_segments robots s n zero = ap (stage_after robots s) (omega arith)
 stage_segments robots s n (suc k) =
     let next : n + suc k ≡ n + k + 1 = omega arith in
     ap (λ m. stage_after robots s (15 * m)) next
     ∙ stage_segment robots s (n + k)
-    ∙ ap (segment robots) (stage_segments robots s n k)
+    ∙ ap (period robots) (stage_segments robots s n k)
 
 pub stage_rest : (robots : List Behaviour) (s : Stage) (n limit : ℕ) → n ≡ limit / 15
     → stage_after robots s limit ≡ rounds robots (limit % 15) (stage_after robots s (15 * n))
@@ -92,7 +92,7 @@ first_update robots s n limit last begins within so =
     ∙ rw count at so
 
 few_after : (robots : List Behaviour) (s : Stage) (n : ℕ)
-    → over robots s (15 * n + 14 + 1) ≡ nat_le (live_count (segment robots (stage_after robots s (15 * n))).field) 1
+    → over robots s (15 * n + 14 + 1) ≡ nat_le (live_count (period robots (stage_after robots s (15 * n))).field) 1
 unfolding over
 few_after robots s n =
     let next : 15 * n + 14 + 1 ≡ 15 * n + 15 = omega arith in
@@ -103,7 +103,7 @@ few_after robots s n =
 
 pub first_decided : (robots : List Behaviour) (s : Stage) (n limit last : ℕ) → 15 * n + 15 ≤ limit
     → first_above (λ k. is_over k (stage_after robots s k)) (15 * n) (limit - 15 * n) ≡ last
-    → nat_le (live_count (segment robots (stage_after robots s (15 * n))).field) 1 ≡ true → 15 * (n + 1) ≡ last
+    → nat_le (live_count (period robots (stage_after robots s (15 * n))).field) 1 ≡ true → 15 * (n + 1) ≡ last
 unfolding over
 first_decided robots s n limit last within so decided =
     let next : 15 * (n + 1) ≡ 15 * n + 14 + 1 = omega arith in
@@ -112,7 +112,7 @@ first_decided robots s n limit last within so decided =
 
 pub first_undecided : (robots : List Behaviour) (s : Stage) (n limit last : ℕ) → 15 * n + 15 ≤ limit
     → first_above (λ k. is_over k (stage_after robots s k)) (15 * n) (limit - 15 * n) ≡ last
-    → nat_le (live_count (segment robots (stage_after robots s (15 * n))).field) 1 ≡ false
+    → nat_le (live_count (period robots (stage_after robots s (15 * n))).field) 1 ≡ false
     → first_above (λ k. is_over k (stage_after robots s k)) (15 * (n + 1)) (limit - 15 * (n + 1)) ≡ last
 unfolding over
 first_undecided robots s n limit last within so undecided =
@@ -123,9 +123,9 @@ first_undecided robots s n limit last within so undecided =
 -- and so of some windows that leave more than one alive
 pub first_skipped : (robots : List Behaviour) (s : Stage) (n k limit last : ℕ) → 15 * (n + k) ≤ limit
     → first_above (λ m. is_over m (stage_after robots s m)) (15 * n) (limit - 15 * n) ≡ last
-    → ((j : ℕ) → j ≤ k → nat_le (live_count (segments robots j (stage_after robots s (15 * n))).field) 1 ≡ false)
+    → ((j : ℕ) → j ≤ k → nat_le (live_count (periods robots j (stage_after robots s (15 * n))).field) 1 ≡ false)
     → first_above (λ m. is_over m (stage_after robots s m)) (15 * (n + k)) (limit - 15 * (n + k)) ≡ last
-unfolding segments
+unfolding periods
 first_skipped robots s n zero limit last within so undecided =
     let same : n + 0 ≡ n = omega arith in
     rw same so
@@ -133,7 +133,7 @@ first_skipped robots s n (suc k) limit last within so undecided =
     let next : n + suc k ≡ n + k + 1 = omega arith in
     let before = first_skipped robots s n k limit last (omega arith) so (λ j low. undecided j (omega arith)) in
     rw next (first_undecided robots s (n + k) limit last (omega arith) before
-    (ap (λ (t : Stage). nat_le (live_count t.field) 1) (ap (segment robots) (stage_segments robots s n k)) ∙
+    (ap (λ (t : Stage). nat_le (live_count t.field) 1) (ap (period robots) (stage_segments robots s n k)) ∙
     undecided (suc k) (omega arith)))
 
 -- no update comes before the limit

@@ -2,13 +2,13 @@
 use Rattle.std.proofs.Common.{◌≡◌, ℕ, ℤ, ◌+◌, zero, suc, List, [], ◌∷◌, length, Some, get_or, refl, ap, set, add-one}
 use Rattle.std.specs.Prelude.{slice_get}
 use Rattle.arena.specs.Field.{Field}
-use Rattle.arena.specs.Ground.{Ground}
-use Rattle.arena.specs.Standing.{StandsFor as IsGroundOf}
+use Rattle.arena.specs.Arena.{Arena}
+use Rattle.arena.specs.Representing.{RepresentsField}
 use Rattle.code.specs.declared.want.Want.TheVariants.{Quiet}
 use Rattle.engine.specs.Executables.{Executable}
-use Rattle.engine.specs.Engines.{FitsProgram}
-use Rattle.battles.specs.Battle.{Behaviour, Stage, step, robot_of, turn, turns}
-use Rattle.battles.specs.Carrying.{Runner, IsRobotOf, AreRobotsOf, IsAt, EachFits, EachIsAt, HasReached}
+use Rattle.engine.specs.Engines.{EngineFits}
+use Rattle.battles.specs.Battle.{Behaviour, Stage, robot_turn, behaviour_at, turn, turns}
+use Rattle.battles.specs.Carrying.{Runner, IsRobotOf, AreRobotsOf, IsAheadOf, EachFits, EachIsAheadOf, HasReached}
 
 -- the robot with an index is that of the program there
 pub robot_at : (exes : List Executable) (robots : List Behaviour) (i : ℕ) (exe : Executable) (none : Behaviour)
@@ -22,7 +22,7 @@ robot_at (exe' ∷ exes) (robot ∷ robots) (suc i) exe none are here = robot_at
 
 -- so does the machine with an index fit
 pub fits_at : (runners : List Runner) (exes : List Executable) (i : ℕ) (exe : Executable) (none : Runner)
-    → EachFits runners exes → slice_get exes i ≡ Some exe → FitsProgram (get_or runners i none).machine exe
+    → EachFits runners exes → slice_get exes i ≡ Some exe → EngineFits (get_or runners i none).machine exe
 fits_at [] [] i exe none fits here = cc
 fits_at [] (exe' ∷ exes) i exe none fits here = absurd fits
 fits_at (runner ∷ runners) [] i exe none fits here = absurd fits
@@ -34,8 +34,8 @@ fits_at (runner ∷ runners) (exe' ∷ exes) (suc i) exe none fits here =
 -- and is at the end of the trace with that index
 pub stands_at : (runners : List Runner) (exes : List Executable) (traces : List (List ℤ)) (i : ℕ) (exe : Executable)
     (none : Runner)
-    → EachIsAt runners exes traces → slice_get exes i ≡ Some exe →
-    IsAt (get_or runners i none) exe (get_or traces i [])
+    → EachIsAheadOf runners exes traces → slice_get exes i ≡ Some exe →
+    IsAheadOf (get_or runners i none) exe (get_or traces i [])
 stands_at [] [] [] i exe none stands here = cc
 stands_at (runner ∷ runners) (exe' ∷ exes) (trace ∷ traces) zero exe none stands here =
     let same : exe' ≡ exe = cc in rw same at stands.0
@@ -60,7 +60,7 @@ robots_length (exe ∷ exes) [] are = absurd are
 
 -- one runner is changed
 pub fits_set : (runners : List Runner) (exes : List Executable) (i : ℕ) (runner : Runner) (exe : Executable)
-    → EachFits runners exes → slice_get exes i ≡ Some exe → FitsProgram runner.machine exe →
+    → EachFits runners exes → slice_get exes i ≡ Some exe → EngineFits runner.machine exe →
     EachFits (set runners i runner) exes
 fits_set [] [] i runner exe fits here new = cc
 fits_set (runner' ∷ runners) (exe' ∷ exes) zero runner exe fits here new =
@@ -72,8 +72,8 @@ fits_set (runner' ∷ runners) [] i runner exe fits here new = absurd fits
 
 pub stands_set : (runners : List Runner) (exes : List Executable) (traces : List (List ℤ)) (i : ℕ) (runner : Runner)
     (exe : Executable) (trace : List ℤ)
-    → EachIsAt runners exes traces → slice_get exes i ≡ Some exe → IsAt runner exe trace
-    → EachIsAt (set runners i runner) exes (set traces i trace)
+    → EachIsAheadOf runners exes traces → slice_get exes i ≡ Some exe → IsAheadOf runner exe trace
+    → EachIsAheadOf (set runners i runner) exes (set traces i trace)
 stands_set [] [] [] i runner exe trace stands here new = cc
 stands_set (runner' ∷ runners) (exe' ∷ exes) (trace' ∷ traces) zero runner exe trace stands here new =
     let same : exe ≡ exe' = cc in (rw same at new, stands.1)
@@ -92,22 +92,22 @@ unfolding turns
 turns_more robots i s = rw add-one refl
 
 -- What one robot's cycle makes of its runner and of the arena, whatever its trace and the field are.
-pub record HasStepped (i : ℕ) (exe : Executable) (runner after : Runner) (arena grown : Ground) : Type 0 where
-  pub field : (r : Behaviour) (f : Field) (trace : List ℤ) → IsRobotOf exe r → IsGroundOf arena f →
-      IsAt runner exe trace
-      → IsGroundOf grown (step r i f trace).0
-  pub trace : (r : Behaviour) (f : Field) (trace : List ℤ) → IsRobotOf exe r → IsGroundOf arena f →
-      IsAt runner exe trace
-      → IsAt after exe (step r i f trace).1
+pub record HasStepped (i : ℕ) (exe : Executable) (runner after : Runner) (arena grown : Arena) : Type 0 where
+  pub field : (r : Behaviour) (f : Field) (trace : List ℤ) → IsRobotOf exe r → RepresentsField arena f →
+      IsAheadOf runner exe trace
+      → RepresentsField grown (robot_turn r i f trace).0
+  pub trace : (r : Behaviour) (f : Field) (trace : List ℤ) → IsRobotOf exe r → RepresentsField arena f →
+      IsAheadOf runner exe trace
+      → IsAheadOf after exe (robot_turn r i f trace).1
 
 -- So the stage is that after the robot's turn.
-pub turn_reached : (exes : List Executable) (robots : List Behaviour) (runners : List Runner) (arena grown : Ground)
+pub turn_reached : (exes : List Executable) (robots : List Behaviour) (runners : List Runner) (arena grown : Arena)
     (s : Stage) (i : ℕ)
     (exe : Executable) (none after : Runner)
     → AreRobotsOf exes robots → HasReached runners exes arena s → slice_get exes i ≡ Some exe
     → HasStepped i exe (get_or runners i none) after arena grown
     → HasReached (set runners i after) exes grown (turn robots i s)
-unfolding turn robot_of
+unfolding turn behaviour_at
 turn_reached exes robots runners arena grown s i exe none after are reached here stepped =
     let robot = robot_at exes robots i exe (λ trace. Quiet) are here in
     let stands = stands_at runners exes s.traces i exe none reached.traces here in

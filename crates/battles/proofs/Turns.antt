@@ -5,7 +5,7 @@ use Rattle.std.proofs.lemmas.Bool.{cases_Bool, cases_eq, cases_lt, false≢true}
 use Rattle.std.proofs.lemmas.List.{get_or-set_same, get_or-set_other, length-set}
 use Rattle.std.proofs.lemmas.Bool.Decides.{nat_tests}
 use Rattle.battles.specs.Battle.{Behaviour, Stage, turn, turns}
-use Rattle.battles.specs.Windows.{rounds, turns_left, is_left, AreTurnNumbers, IsLike}
+use Rattle.battles.specs.Intervals.{rounds, turns_left, is_left, AreTurnNumbers, IsLike}
 use Rattle.battles.proofs.Alike.{like_same, stages_trans, rest_like}
 use Rattle.battles.proofs.Commuting.{TurnsAlone, alone_stays, commutes}
 

@@ -25,17 +25,17 @@ granted (Ask intrinsic arguments) i field trace =
 granted Restart i field trace = (field, [])
 
 -- one cycle of one robot: a dead one does nothing
-unfoldable pub step : Behaviour → ℕ → Field → List ℤ → Field × List ℤ
-step robot i field trace = if is_live field i then granted (robot trace) i field trace else (field, trace)
+unfoldable pub robot_turn : Behaviour → ℕ → Field → List ℤ → Field × List ℤ
+robot_turn robot i field trace = if is_live field i then granted (robot trace) i field trace else (field, trace)
 
 -- past the last robot there is one that asks nothing
-unfoldable pub robot_of : List Behaviour → ℕ → Behaviour
-robot_of robots i = slice_index_or robots i (λ trace. Quiet)
+unfoldable pub behaviour_at : List Behaviour → ℕ → Behaviour
+behaviour_at robots i = slice_index_or robots i (λ trace. Quiet)
 
 -- the turn of one robot, and the turns of the first n robots in their order
 unfoldable pub turn : List Behaviour → ℕ → Stage → Stage
 turn robots i stage =
-    let stepped = step (robot_of robots i) i stage.field (slice_index_or stage.traces i []) in
+    let stepped = robot_turn (behaviour_at robots i) i stage.field (slice_index_or stage.traces i []) in
     record { field = stepped.0; traces = slice_set stage.traces i stepped.1 }
 
 unfoldable pub turns : List Behaviour → ℕ → Stage → Stage

@@ -1,7 +1,7 @@
 -- Which stage of a battle the machines and the arena have reached.
 use Rattle.std.specs.Prelude.{ℕ, ◌<◌, ℤ, pos, ◌≡◌, List, [], ◌∷◌, ◌++◌, replicate}
-use Rattle.arena.specs.Ground.{Ground}
-use Rattle.arena.specs.Standing.{StandsFor as IsGroundOf}
+use Rattle.arena.specs.Arena.{Arena}
+use Rattle.arena.specs.Representing.{RepresentsField}
 use Rattle.grammar.specs.Profile.{Profile}
 use Rattle.grammar.specs.Resolved.{IsResolved}
 use Rattle.grammar.specs.Tree.{File}
@@ -10,7 +10,7 @@ use Rattle.code.specs.Generation.{IsProgramOf}
 use Rattle.engine.specs.declared.engines.Engine.{Engine}
 use Rattle.code.specs.Meaning.{want}
 use Rattle.engine.specs.Executables.{Executable}
-use Rattle.engine.specs.Engines.{IsReached, FitsProgram}
+use Rattle.engine.specs.Engines.{EngineIsReached, EngineFits}
 use Rattle.battles.specs.Battle.{Behaviour, Stage}
 
 -- the robot wants what the trees of the program's file want
@@ -36,22 +36,23 @@ abbrev pub IsQuiet : Behaviour → List ℤ → ℕ → Type 0
 IsQuiet robot trace n = (k : ℕ) → k < n → robot (trace ++ replicate k (pos 0)) ≡ Quiet
 
 -- the machine got the replies of the robot's trace, and is ahead by quiet cycles alone
-pub record IsAt (runner : Runner) (exe : Executable) (trace : List ℤ) : Type 0 where
-  pub stands : IsReached runner.machine exe (trace ++ replicate runner.ahead (pos 0))
+pub record IsAheadOf (runner : Runner) (exe : Executable) (trace : List ℤ) : Type 0 where
+  pub stands : EngineIsReached runner.machine exe (trace ++ replicate runner.ahead (pos 0))
   pub quiet : (robot : Behaviour) → IsRobotOf exe robot → IsQuiet robot trace runner.ahead
 
 -- each machine can go on with its program
 abbrev pub EachFits : List Runner → List Executable → Type 0
 EachFits [] [] = Unit {0}
-EachFits (runner ∷ runners) (exe ∷ exes) = FitsProgram runner.machine exe × EachFits runners exes
+EachFits (runner ∷ runners) (exe ∷ exes) = EngineFits runner.machine exe × EachFits runners exes
 EachFits _ _ = ⊥
 
 -- each robot has come to the end of its trace
-abbrev pub EachIsAt : List Runner → List Executable → List (List ℤ) → Type 0
-EachIsAt [] [] [] = Unit {0}
-EachIsAt (runner ∷ runners) (exe ∷ exes) (trace ∷ traces) = IsAt runner exe trace × EachIsAt runners exes traces
-EachIsAt _ _ _ = ⊥
+abbrev pub EachIsAheadOf : List Runner → List Executable → List (List ℤ) → Type 0
+EachIsAheadOf [] [] [] = Unit {0}
+EachIsAheadOf (runner ∷ runners) (exe ∷ exes) (trace ∷ traces) =
+    IsAheadOf runner exe trace × EachIsAheadOf runners exes traces
+EachIsAheadOf _ _ _ = ⊥
 
-pub record HasReached (runners : List Runner) (exes : List Executable) (arena : Ground) (stage : Stage) : Type 0 where
-  pub field : IsGroundOf arena stage.field
-  pub traces : EachIsAt runners exes stage.traces
+pub record HasReached (runners : List Runner) (exes : List Executable) (arena : Arena) (stage : Stage) : Type 0 where
+  pub field : RepresentsField arena stage.field
+  pub traces : EachIsAheadOf runners exes stage.traces

@@ -1,8 +1,8 @@
 pub mod Programs
 pub mod Translated
 pub mod Battle
-pub mod Windows
+pub mod Intervals
 pub mod Pairing
 pub mod Carrying
 pub mod KnownBattles
-pub mod Keeping
+pub mod IntervalKeeping

@@ -1,16 +1,16 @@
 //! Battles: the programs of one to four files fight on the field, cycle by cycle.
 #![tactic(auto)]
 
+mod battle_executables;
 mod battles;
+mod intervals;
 mod next_turns;
 mod outcome;
 mod passing;
-mod pilots;
 mod programs;
 mod replies;
 mod runners;
 mod scheduler;
-mod windows;
 
 pub use battles::battle;
 pub use outcome::Outcome;

@@ -1,7 +1,7 @@
 //! The turns of a window, which are numbered in the order of the cycles and the robots: which one of each robot is next.
 
 ghost use Rattle.std.specs.Prelude.{◌≡◌, ℕ, ◌+◌, ◌*◌, ◌%◌, ◌<◌, ◌≤◌, ◌^◌, true, slice_index_or, slice_set};
-ghost use Rattle.battles.specs.Windows.{AreTurnNumbers, OthersArePast};
+ghost use Rattle.battles.specs.Intervals.{AreTurnNumbers, OthersArePast};
 
 use arena::MOST_ROBOTS;
 use std::marker::Model;
@@ -17,7 +17,7 @@ pub(crate) struct NextTurns {
 
 impl Model for NextTurns {
     ghost use Rattle.std.specs.Prelude.{ℕ, List};
-    ghost use Rattle.battles.specs.Windows.{AreTurnNumbers};
+    ghost use Rattle.battles.specs.Intervals.{AreTurnNumbers};
 
     ghost Value = { List ℕ };
 
@@ -38,17 +38,17 @@ impl NextTurns {
     {
         NextTurns {
             next: [
-                first_of(0, robots, cycles),
-                first_of(1, robots, cycles),
-                first_of(2, robots, cycles),
-                first_of(3, robots, cycles),
+                first_turn_of(0, robots, cycles),
+                first_turn_of(1, robots, cycles),
+                first_turn_of(2, robots, cycles),
+                first_turn_of(3, robots, cycles),
             ],
         }
     }
 
     /// Returns the least of the numbers: that of the turn that is next.
     #[inline(always)]
-    pub(crate) fn first(&self) -> u32
+    pub(crate) fn least(&self) -> u32
         ensures least { (i : ℕ) → i < MOST_ROBOTS → result ≤ slice_index_or self.now i 0 }
         ensures turn_numbers { AreTurnNumbers self.now }
         ensures own { slice_index_or self.now (result % CYCLE_TURNS) 0 ≡ result }
@@ -73,7 +73,7 @@ impl NextTurns {
 
     /// Lets a robot go on by so many cycles.
     #[inline(always)]
-    pub(crate) fn pass(&mut self, robot: usize, cycles: u32)
+    pub(crate) fn advance(&mut self, robot: usize, cycles: u32)
         requires inside { robot < MOST_ROBOTS }
         requires small { slice_index_or self.old robot 0 + CYCLE_TURNS * cycles < 2 ^ 32 }
         ensures { self.new ≡ slice_set self.old robot (slice_index_or self.old robot 0 + CYCLE_TURNS * cycles) }
@@ -84,7 +84,7 @@ impl NextTurns {
 
 /// Returns the number of a robot's first turn.
 #[inline(always)]
-fn first_of(robot: u8, robots: usize, cycles: u32) -> u32
+fn first_turn_of(robot: u8, robots: usize, cycles: u32) -> u32
     requires small { cycles ≤ 1000 }
     requires inside { robot < MOST_ROBOTS }
     ensures own { result % CYCLE_TURNS ≡ robot }

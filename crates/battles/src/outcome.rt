@@ -4,14 +4,14 @@ ghost use Rattle.std.specs.Prelude.{◌≡◌, ◌<◌, ◌≤◌, length, slice
 ghost use Rattle.battles.specs.Battle.{alive};
 
 use arrayvec::ArrayVec;
-use settings::FILES_MAX;
+use settings::MOST_FILES;
 use std::marker::Model;
 
 /// How a battle ends: after how many cycles, and with which damage of each robot, in percent.
 #[derive(Drop)]
 pub struct Outcome {
     cycles: u32,
-    damages: ArrayVec<u8, FILES_MAX>,
+    damages: ArrayVec<u8, MOST_FILES>,
 }
 
 impl Model for Outcome {
@@ -24,7 +24,7 @@ impl Model for Outcome {
 
 impl Outcome {
     /// Makes the outcome of these cycles and damages, one of each robot.
-    pub fn new(cycles: u32, damages: ArrayVec<u8, FILES_MAX>) -> Outcome
+    pub fn new(cycles: u32, damages: ArrayVec<u8, MOST_FILES>) -> Outcome
         ensures { result ≡ record { cycles = cycles; damages = damages.items } }
     {
         Outcome { cycles, damages }
@@ -40,7 +40,7 @@ impl Outcome {
     /// Returns the damage of each robot, in percent.
     pub fn damages(&self) -> &[u8]
         ensures value { result.now ≡ self.now.damages }
-        ensures most { length result.now ≤ FILES_MAX }
+        ensures most { length result.now ≤ MOST_FILES }
     {
         self.damages.as_slice()
     }

@@ -3,21 +3,21 @@
 
 ghost use Rattle.std.specs.Prelude.{◌≡◌, ◌<◌, ◌≤◌, ◌+◌, ◌*◌, true, false, ℤ, List, length};
 ghost use Rattle.arena.specs.Field.{Field};
-ghost use Rattle.arena.specs.Ground.{lives, most_updates};
-ghost use Rattle.arena.specs.Standing.{StandsFor as IsGroundOf};
+ghost use Rattle.arena.specs.Arena.{lives, most_updates};
+ghost use Rattle.arena.specs.Representing.{RepresentsField};
 ghost use Rattle.engine.specs.Executables.{Executable};
 ghost use Rattle.battles.specs.Battle.{Behaviour, Stage};
-ghost use Rattle.battles.specs.Carrying.{IsRobotOf, IsAt, AreRobotsOf, EachFits, HasReached};
-ghost use Rattle.battles.specs.Keeping.{AreManned, HasRested, HavePlaces};
-ghost use Rattle.battles.specs.Windows.{AreAhead, HasRun, rounds};
+ghost use Rattle.battles.specs.Carrying.{IsRobotOf, IsAheadOf, AreRobotsOf, EachFits, HasReached};
+ghost use Rattle.battles.specs.IntervalKeeping.{AreManned, HasRested, HavePlaces};
+ghost use Rattle.battles.specs.Intervals.{AreAhead, HasRunAlone, rounds};
 
+use crate::intervals::UPDATE_CYCLES;
 use crate::runners::Runner;
-use crate::windows::UPDATE_CYCLES;
 use arena::Arena;
 
 /// Lets the robots go on by so many cycles if each live one's machine is that far ahead. Returns whether they do.
 #[inline(always)]
-pub(crate) fn pass(runners: &mut [Runner], arena: &Arena, cycles: u32) -> bool
+pub(crate) fn pass_interval(runners: &mut [Runner], arena: &Arena, cycles: u32) -> bool
     requires { HavePlaces runners.old arena.now }
     ensures stage { result ≡ true → (exes : List Executable) (robots : List Behaviour) (s : Stage)
         → AreRobotsOf exes robots → HasReached runners.old exes arena.now s
@@ -28,7 +28,7 @@ pub(crate) fn pass(runners: &mut [Runner], arena: &Arena, cycles: u32) -> bool
     if !are_ahead(runners, arena, cycles) {
         return false;
     }
-    go_on(runners, arena, cycles);
+    advance_all(runners, arena, cycles);
     true
 }
 
@@ -36,7 +36,7 @@ pub(crate) fn pass(runners: &mut [Runner], arena: &Arena, cycles: u32) -> bool
 /// machine is ahead. Returns how many. Mostly not one can pass, which is
 /// seen before any division.
 #[inline(always)]
-pub(crate) fn skip(runners: &mut [Runner], arena: &mut Arena, most: u32) -> u32
+pub(crate) fn skip_intervals(runners: &mut [Runner], arena: &mut Arena, most: u32) -> u32
     requires places { HavePlaces runners.old arena.old }
     requires updates { arena.old.updates + most ≤ most_updates }
     ensures stage { (exes : List Executable) (robots : List Behaviour) (s : Stage)
@@ -50,28 +50,28 @@ pub(crate) fn skip(runners: &mut [Runner], arena: &mut Arena, most: u32) -> u32
     if !arena.is_still() || !are_ahead(runners, arena, UPDATE_CYCLES) {
         return 0;
     }
-    let windows = windows_ahead(runners, arena, most);
-    go_on(runners, arena, UPDATE_CYCLES * windows);
-    arena.update_times(windows);
-    windows
+    let intervals = intervals_ahead(runners, arena, most);
+    advance_all(runners, arena, UPDATE_CYCLES * intervals);
+    arena.update_times(intervals);
+    intervals
 }
 
 /// Returns how many windows each live robot's machine is ahead, or `most` if that is less.
 #[inline(always)]
-fn windows_ahead(runners: &[Runner], arena: &Arena, most: u32) -> u32
+fn intervals_ahead(runners: &[Runner], arena: &Arena, most: u32) -> u32
     requires manned { length arena.now.robots ≡ length runners.now }
     ensures ahead { AreAhead (length runners.now) (UPDATE_CYCLES * result) arena.now runners.now }
     ensures most { result ≤ most }
 {
-    let mut windows = most;
+    let mut intervals = most;
     for robot in 0..runners.len() {
         let runner = &runners[robot];
         let ahead = runner.ahead / UPDATE_CYCLES;
-        if ahead < windows && arena.alive(robot) {
-            windows = ahead;
+        if ahead < intervals && arena.alive(robot) {
+            intervals = ahead;
         }
     }
-    windows
+    intervals
 }
 
 /// Reports whether each live robot's machine is so many cycles ahead.
@@ -91,7 +91,7 @@ fn are_ahead(runners: &[Runner], arena: &Arena, cycles: u32) -> bool
 
 /// Lets the robots go on by so many cycles.
 #[inline(always)]
-fn go_on(runners: &mut [Runner], arena: &Arena, cycles: u32)
+fn advance_all(runners: &mut [Runner], arena: &Arena, cycles: u32)
     requires places { HavePlaces runners.old arena.now }
     requires ahead { AreAhead (length runners.old) cycles arena.now runners.old }
     ensures stage { (exes : List Executable) (robots : List Behaviour) (s : Stage)
@@ -100,18 +100,18 @@ fn go_on(runners: &mut [Runner], arena: &Arena, cycles: u32)
     ensures fits { (exes : List Executable) → EachFits runners.old exes → EachFits runners.new exes }
 {
     for robot in 0..runners.len() {
-        go_on_alone(&mut runners[robot], arena, robot, cycles);
+        advance_one(&mut runners[robot], arena, robot, cycles);
     }
 }
 
 /// Lets a robot go on by so many cycles. A dead one does nothing in any of them.
 #[inline(always)]
-fn go_on_alone(runner: &mut Runner, arena: &Arena, robot: usize, cycles: u32)
+fn advance_one(runner: &mut Runner, arena: &Arena, robot: usize, cycles: u32)
     requires inside { robot < length arena.now.robots }
     requires ahead { lives arena.now robot ≡ true → cycles ≤ runner.old.ahead }
     ensures alone { (exe : Executable) (r : Behaviour) (f : Field) (trace : List ℤ) → IsRobotOf exe r
-        → IsGroundOf arena.now f → IsAt runner.old exe trace
-        → HasRun ⊥ r robot f trace cycles exe runner.new arena.now }
+        → RepresentsField arena.now f → IsAheadOf runner.old exe trace
+        → HasRunAlone ⊥ r robot f trace cycles exe runner.new arena.now }
     ensures machine { runner.new.machine ≡ runner.old.machine }
 {
     if arena.alive(robot) {

@@ -5,27 +5,27 @@ ghost use Rattle.std.specs.Option.{option_to_list};
 ghost use Rattle.battles.specs.Pairing.{paired};
 ghost use Rattle.battles.specs.Programs.{AllSome, AreOfProfile};
 ghost use Rattle.battles.specs.Translated.{AreTranslated};
-ghost use Rattle.code.specs.Generation.{ObjectCode};
+ghost use Rattle.code.specs.Generation.{Program};
 ghost use Rattle.operations.specs.Filling.{translated};
-ghost use Rattle.engine.specs.Executables.{IsTranslated, made_of};
+ghost use Rattle.engine.specs.Executables.{IsTranslated, executable_of};
 
 use arrayvec::ArrayVec;
 use code::Program;
 use engine::Executable;
 use operations::{Operations, translate};
-use settings::FILES_MAX;
+use settings::MOST_FILES;
 use std::marker::Model;
 
 /// The programs of a series, one to four of one profile, in the order of their files.
 #[derive(Drop)]
 pub struct Programs {
-    programs: ArrayVec<Option<Program>, FILES_MAX>,
+    programs: ArrayVec<Option<Program>, MOST_FILES>,
     // those of each program, which are none if it couldn't be translated
-    operations: ArrayVec<Option<Operations>, FILES_MAX>,
+    operations: ArrayVec<Option<Operations>, MOST_FILES>,
 }
 
 impl Model for Programs {
-    ghost Value = { List ObjectCode };
+    ghost Value = { List Program };
 
     ghost view = { λ p. flat_map option_to_list p.programs.items };
 
@@ -46,14 +46,14 @@ impl Programs {
     /// Returns how many programs there are.
     pub fn len(&self) -> usize
         ensures programs { result ≡ length self.now }
-        ensures most { result ≤ FILES_MAX }
+        ensures most { result ≤ MOST_FILES }
     {
         self.programs.len()
     }
 
     /// Adds a program, of the profile of those that are there, and translates it for the battles.
     pub fn push(&mut self, program: Program)
-        requires room { length self.old < FILES_MAX }
+        requires room { length self.old < MOST_FILES }
         requires alike { AreOfProfile program.profile self.old }
         ensures { self.new ≡ self.old ++ program ∷ [] }
     {
@@ -78,8 +78,8 @@ impl Programs {
     /// Returns the operations of the file with this index.
     fn translation(&self, file: usize) -> &Operations
         requires { file < length self.now }
-        ensures { (code : ObjectCode) → slice_get self.now file ≡ Some code
-            → IsTranslated (made_of code (translated result.now)) }
+        ensures { (code : Program) → slice_get self.now file ≡ Some code
+            → IsTranslated (executable_of code (translated result.now)) }
     {
         match &self.operations.as_slice()[file] {
             Some(operations) => operations,
@@ -90,13 +90,13 @@ impl Programs {
     /// Returns how many robots fight: one of each program, and two of a single one.
     pub fn robots(&self) -> usize
         ensures robots { result ≡ length (paired self.now) }
-        ensures most { result ≤ FILES_MAX }
+        ensures most { result ≤ MOST_FILES }
     {
         if self.len() == 1 { 2 } else { self.len() }
     }
 
     /// Returns what the robot with this index runs.
-    pub(crate) fn pilot(&self, robot: usize) -> Executable<'_>
+    pub(crate) fn executable(&self, robot: usize) -> Executable<'_>
         requires { robot < length (paired self.now) }
         ensures { slice_get (paired self.now) robot ≡ Some result.program }
     {

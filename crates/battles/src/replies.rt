@@ -3,13 +3,13 @@
 ghost use Rattle.std.specs.Prelude.{◌≡◌, ◌≢◌, true, ℤ, List, length};
 ghost use Rattle.arena.specs.Answer.{answer};
 ghost use Rattle.arena.specs.Field.{Field, is_live};
-ghost use Rattle.arena.specs.Ground.{lives};
-ghost use Rattle.arena.specs.Standing.{StandsFor as IsGroundOf};
+ghost use Rattle.arena.specs.Arena.{lives};
+ghost use Rattle.arena.specs.Representing.{RepresentsField};
 ghost use Rattle.code.specs.declared.want.Want.TheVariants.{Quiet};
-ghost use Rattle.engine.specs.Engines.{IsReached};
+ghost use Rattle.engine.specs.Engines.{EngineIsReached};
 ghost use Rattle.engine.specs.Questions.{IsAsked, want_of};
-ghost use Rattle.battles.specs.Battle.{Behaviour, step};
-ghost use Rattle.battles.specs.Keeping.{CanRun, Keeps};
+ghost use Rattle.battles.specs.Battle.{Behaviour, robot_turn};
+ghost use Rattle.battles.specs.IntervalKeeping.{CanPlay, KeepsPlayable};
 
 use arena::Arena;
 use code::Want;
@@ -19,23 +19,23 @@ use grammar::Intrinsic;
 /// Takes the next turn of a live robot, whose machine asks this. No turn hurts a robot. A function that moves, shoots,
 /// looks or draws is called by its name. Each call has a reply of its own: one reply after all of them takes longer.
 #[inline(always)]
-pub(crate) fn turn(
+pub(crate) fn take_turn(
     machine: &mut Engine,
     exe: &Executable<'_>,
     arena: &mut Arena,
     robot: usize,
     question: Question,
 )
-    requires runs { CanRun robot exe.now machine.old arena.old }
+    requires runs { CanPlay robot exe.now machine.old arena.old }
     requires asked { IsAsked exe.now machine.old question }
     requires some { want_of question ≢ Quiet }
     requires lives { lives arena.old robot ≡ true }
     ensures field { (r : Behaviour) (f : Field) (trace : List ℤ) → r trace ≡ want_of question
-        → is_live f robot ≡ true → IsGroundOf arena.old f → IsGroundOf arena.new (step r robot f trace).0 }
+        → is_live f robot ≡ true → RepresentsField arena.old f → RepresentsField arena.new (robot_turn r robot f trace).0 }
     ensures trace { (r : Behaviour) (f : Field) (trace : List ℤ) → r trace ≡ want_of question
-        → is_live f robot ≡ true → IsGroundOf arena.old f → IsReached machine.old exe.now trace
-        → IsReached machine.new exe.now (step r robot f trace).1 }
-    ensures keeps { Keeps exe.now machine.new arena.old arena.new }
+        → is_live f robot ≡ true → RepresentsField arena.old f → EngineIsReached machine.old exe.now trace
+        → EngineIsReached machine.new exe.now (robot_turn r robot f trace).1 }
+    ensures keeps { KeepsPlayable exe.now machine.new arena.old arena.new }
     ensures alive { lives arena.new robot ≡ true }
 {
     match question {
@@ -68,8 +68,8 @@ pub(crate) fn turn(
 #[inline(never)]
 fn ask_plainly(arena: &mut Arena, robot: usize, intrinsic: Intrinsic, words: [i32; 2]) -> i32
     requires { lives arena.old robot ≡ true }
-    ensures reply { (f : Field) → IsGroundOf arena.old f → result ≡ (answer f robot intrinsic words).0 }
-    ensures stands { (f : Field) → IsGroundOf arena.old f → IsGroundOf arena.new (answer f robot intrinsic words).1 }
+    ensures reply { (f : Field) → RepresentsField arena.old f → result ≡ (answer f robot intrinsic words).0 }
+    ensures stands { (f : Field) → RepresentsField arena.old f → RepresentsField arena.new (answer f robot intrinsic words).1 }
     ensures updates { arena.new.updates ≡ arena.old.updates }
     ensures manned { length arena.new.robots ≡ length arena.old.robots }
     ensures alive { lives arena.new robot ≡ true }

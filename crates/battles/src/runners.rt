@@ -1,8 +1,8 @@
 //! The robots' machines, each of which may be some cycles ahead of its robot.
 
 ghost use Rattle.std.specs.Prelude.{[]};
-ghost use Rattle.engine.specs.Engines.{FitsProgram};
-ghost use Rattle.battles.specs.Carrying.{IsAt};
+ghost use Rattle.engine.specs.Engines.{EngineFits};
+ghost use Rattle.battles.specs.Carrying.{IsAheadOf};
 
 use arena::MOST_ROBOTS;
 use engine::{Engine, Executable};
@@ -50,9 +50,9 @@ impl Default for Runner {
 
 impl Runner {
     /// Begins at the start of a program, whatever it did before.
-    pub(crate) fn begin(&mut self, exe: &Executable<'_>)
-        ensures fits { FitsProgram self.new.machine exe.now }
-        ensures begins { IsAt self.new exe.now [] }
+    pub(crate) fn restart(&mut self, exe: &Executable<'_>)
+        ensures fits { EngineFits self.new.machine exe.now }
+        ensures begins { IsAheadOf self.new exe.now [] }
     {
         self.machine.restart(exe);
         self.ahead = 0;

@@ -1,61 +1,71 @@
 //! The scheduler: windows of cycles, and the updates between them.
 
 ghost use Rattle.std.specs.Prelude.{◌≡◌, ◌<◌, ◌≤◌, ◌+◌, List, length};
-ghost use Rattle.arena.specs.Ground.{most_updates};
+ghost use Rattle.arena.specs.Arena.{most_updates};
 ghost use Rattle.battles.specs.Battle.{Behaviour, Stage, stage_after, last_cycle};
 ghost use Rattle.battles.specs.Carrying.{AreRobotsOf, HasReached};
-ghost use Rattle.battles.specs.Keeping.{AreManned, HasUpdated};
-ghost use Rattle.battles.specs.Windows.{segment};
+ghost use Rattle.battles.specs.IntervalKeeping.{AreManned, HasUpdated};
+ghost use Rattle.battles.specs.Intervals.{period};
 
-use crate::passing::{pass, skip};
-use crate::pilots::Pilots;
+use crate::battle_executables::Executables;
+use crate::intervals::{MOST_AHEAD, UPDATE_CYCLES, play_interval};
+use crate::passing::{pass_interval, skip_intervals};
 use crate::runners::Runner;
-use crate::windows::{MOST_AHEAD, UPDATE_CYCLES, window};
 use arena::Arena;
-use settings::CYCLES_MAX;
+use settings::MOST_CYCLES;
 
 /// Runs the cycles up to the next update, and the update. Reports whether that decided the battle.
-fn segment(runners: &mut [Runner], pilots: &Pilots, arena: &mut Arena, farthest: u32) -> bool
-    requires manned { AreManned pilots.now runners.old arena.old }
+fn play_period(
+    runners: &mut [Runner],
+    executables: &Executables,
+    arena: &mut Arena,
+    farthest: u32,
+) -> bool
+    requires manned { AreManned executables.now runners.old arena.old }
     requires updates { arena.old.updates < most_updates }
     requires far { UPDATE_CYCLES ≤ farthest }
     requires near { farthest ≤ MOST_AHEAD }
-    ensures stage { (robots : List Behaviour) (s : Stage) → AreRobotsOf pilots.now robots
-        → HasReached runners.old pilots.now arena.old s
-        → HasUpdated pilots.now runners.new arena.new (segment robots s) result }
-    ensures manned { AreManned pilots.now runners.new arena.new }
+    ensures stage { (robots : List Behaviour) (s : Stage) → AreRobotsOf executables.now robots
+        → HasReached runners.old executables.now arena.old s
+        → HasUpdated executables.now runners.new arena.new (period robots s) result }
+    ensures manned { AreManned executables.now runners.new arena.new }
     ensures updates { arena.new.updates ≡ arena.old.updates + 1 }
 {
-    if !pass(runners, arena, UPDATE_CYCLES) {
-        window(runners, pilots, arena, UPDATE_CYCLES, farthest);
+    if !pass_interval(runners, arena, UPDATE_CYCLES) {
+        play_interval(runners, executables, arena, UPDATE_CYCLES, farthest);
     }
     arena.update();
-    !arena.two_live()
+    !arena.has_two_live()
 }
 
 /// Runs cycles until the battle is decided, or the limit is reached. Returns how many they were.
-pub(crate) fn play(runners: &mut [Runner], pilots: &Pilots, arena: &mut Arena, limit: u32) -> u32
-    requires manned { AreManned pilots.now runners.old arena.old }
+pub(crate) fn play_cycles(
+    runners: &mut [Runner],
+    executables: &Executables,
+    arena: &mut Arena,
+    limit: u32,
+) -> u32
+    requires manned { AreManned executables.now runners.old arena.old }
     requires updates { arena.old.updates ≡ 0 }
-    requires within { limit ≤ CYCLES_MAX }
-    ensures stage { (robots : List Behaviour) (s : Stage) → AreRobotsOf pilots.now robots
-        → HasReached runners.old pilots.now arena.old s
-        → HasReached runners.new pilots.now arena.new (stage_after robots s result) }
-    ensures cycles { (robots : List Behaviour) (s : Stage) → AreRobotsOf pilots.now robots
-        → HasReached runners.old pilots.now arena.old s → result ≡ last_cycle robots s limit }
-    ensures manned { length arena.new.robots ≡ length pilots.now }
+    requires within { limit ≤ MOST_CYCLES }
+    ensures stage { (robots : List Behaviour) (s : Stage) → AreRobotsOf executables.now robots
+        → HasReached runners.old executables.now arena.old s
+        → HasReached runners.new executables.now arena.new (stage_after robots s result) }
+    ensures cycles { (robots : List Behaviour) (s : Stage) → AreRobotsOf executables.now robots
+        → HasReached runners.old executables.now arena.old s → result ≡ last_cycle robots s limit }
+    ensures manned { length arena.new.robots ≡ length executables.now }
 {
-    let windows = limit / UPDATE_CYCLES;
+    let intervals = limit / UPDATE_CYCLES;
     let mut number = 0;
-    while number < windows {
+    while number < intervals {
         let farthest = (limit - UPDATE_CYCLES * number).min(MOST_AHEAD);
-        if segment(runners, pilots, arena, farthest) {
+        if play_period(runners, executables, arena, farthest) {
             return UPDATE_CYCLES * (number + 1);
         }
         number += 1;
-        number += skip(runners, arena, windows - number);
+        number += skip_intervals(runners, arena, intervals - number);
     }
     let rest = limit % UPDATE_CYCLES;
-    window(runners, pilots, arena, rest, rest);
+    play_interval(runners, executables, arena, rest, rest);
     limit
 }

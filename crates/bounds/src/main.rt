@@ -9,12 +9,12 @@ use facts::{Facts, add_rows};
 use grammar::{ParseFault, Profile};
 use std::process::ExitCode;
 use tools::{
-    Draft, Fault, Frame, Known, Options, Output, PROFILE_OPTIONS, Work, profile, source_of,
+    Draft, Fault, Known, Options, Output, PROFILE_OPTIONS, ProgramFrame, Work, profile, source_of,
     tell_diagnostic,
 };
 
 /// The program's name, its line of wrong usage, and its options.
-const FRAME: Frame = Frame {
+const FRAME: ProgramFrame = ProgramFrame {
     name: "crobots-bounds",
     about: "Says what is known of robots before they fight: their stack, and the cycles of their functions and loops.",
     usage: "[-pPROFILE] [--json] FILE..",

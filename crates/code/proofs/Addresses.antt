@@ -4,7 +4,7 @@ use Rattle.std.proofs.Common.{refl, sym, ap, ◌∙◌, arith}
 use Rattle.std.proofs.lemmas.List.{reverse-append, length-reverse}
 use Rattle.std.proofs.lemmas.Option.{slice_get-get_or}
 use Rattle.std.proofs.Math.Seq.{take-suc, take-length}
-use Rattle.code.specs.Making.{first_of, rest_of}
+use Rattle.code.specs.Making.{last_opened, others_opened}
 
 pub count_is : (xs : List ℕ) → length (reverse xs) ≡ length xs
 count_is xs = length-reverse xs
@@ -26,15 +26,15 @@ turned xs h =
     ap (λ (l : List ℕ). reverse l) (split_last xs h) ∙ opened_is (take (length xs - 1) xs) (get_or xs (length xs - 1) 0)
 
 -- the address that was opened last
-pub first_is : (xs : List ℕ) → unwrap_or (slice_get xs (length xs - 1)) 0 ≡ first_of (reverse xs)
+pub first_is : (xs : List ℕ) → unwrap_or (slice_get xs (length xs - 1)) 0 ≡ last_opened (reverse xs)
 first_is [] = refl
 first_is (x ∷ xs) =
     let some : 0 < length (x ∷ xs) = omega arith in
     let inside : length (x ∷ xs) - 1 < length (x ∷ xs) = omega arith in
     ap (λ (o : Option ℕ). unwrap_or o 0) (slice_get-get_or (x ∷ xs) (length (x ∷ xs) - 1) 0 inside)
-    ∙ sym (ap first_of (turned (x ∷ xs) some))
+    ∙ sym (ap last_opened (turned (x ∷ xs) some))
 
 -- and those before it
-pub rest_is : (xs : List ℕ) → reverse (take (length xs - 1) xs) ≡ rest_of (reverse xs)
+pub rest_is : (xs : List ℕ) → reverse (take (length xs - 1) xs) ≡ others_opened (reverse xs)
 rest_is [] = refl
-rest_is (x ∷ xs) = let some : 0 < length (x ∷ xs) = omega arith in sym (ap rest_of (turned (x ∷ xs) some))
+rest_is (x ∷ xs) = let some : 0 < length (x ∷ xs) = omega arith in sym (ap others_opened (turned (x ∷ xs) some))

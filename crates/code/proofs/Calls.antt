@@ -7,17 +7,17 @@ use Rattle.std.proofs.lemmas.List.FromFn.{get_or-map-range_with_len, length-map-
 use Rattle.std.proofs.Math.ListN.{get_or-append}
 use Rattle.std.proofs.Math.Seq.{get_or-append_right}
 use Rattle.std.specs.List.{range_with_len}
-use Rattle.grammar.specs.declared.names.Callee.{Callee}
-use Rattle.grammar.specs.declared.names.Callee.TheVariants as callee
+use Rattle.grammar.specs.declared.resolved_names.Callee.{Callee}
+use Rattle.grammar.specs.declared.resolved_names.Callee.TheVariants as callee
 use Rattle.grammar.specs.Pools.{names_of_function}
 use Rattle.grammar.specs.Tree.{Body, Function, File}
 use Rattle.code.specs.Functions.{function_at}
-use Rattle.code.specs.declared.counts.Counts.{Counts}
+use Rattle.code.specs.declared.counts.FunctionCounts.{FunctionCounts}
 use Rattle.code.specs.declared.instr.Instr.TheVariants.{Fcall, Const, Retsub}
 use Rattle.code.specs.declared.instr.Instr.TheVariants as instr
 use Rattle.code.specs.declared.want.Want.{Want}
 use Rattle.code.specs.declared.want.Want.TheVariants.{Quiet}
-use Rattle.code.specs.Generation.{ObjectCode, Piece, ◌⨾◌, only, body_code, counts_of, function_code, last_return}
+use Rattle.code.specs.Generation.{Program, PlacedCode, ◌⨾◌, only, body_code, counts_of, function_code, last_return_code}
 use Rattle.code.specs.declared.frame.Frame.{Frame}
 use Rattle.code.specs.Machine.{instr_at, address_at, counts_at, parameters_at, variables_at, variables_of}
 use Rattle.code.specs.Meaning.{Vars, Evaluated, Gives, Flow, Through, Returns, Again, and_then, tick, closed, returned, called, first_locals}
@@ -28,7 +28,7 @@ use Rattle.code.proofs.Lists.{words_of, pushed}
 use Rattle.code.proofs.Pieces.{StandsAt, stands, ends, Tied, Evaluation, gone_on, gone_on_with, flown, Evaluates, EvaluatesAll, arrives}
 
 -- what is known of the functions of a file in its code
-pub record Holds (code : ObjectCode) (file : File) : Type 0 where
+pub record Holds (code : Program) (file : File) : Type 0 where
   pub placed : (k : ℕ) → k < length file.functions →
       StandsAt code (address_at code k) (function_code code.profile (function_at file k) (address_at code k))
   pub counted : (k : ℕ) → k < length file.functions →
@@ -38,7 +38,7 @@ pub record Holds (code : ObjectCode) (file : File) : Type 0 where
       InFile (length file.externals) (length file.functions) (function_at file k)
 
 -- bodies follow their meaning along fewer than n replies
-abbrev pub Follows_sooner : ObjectCode → File → ℕ → Again → Type 0
+abbrev pub Follows_sooner : Program → File → ℕ → Again → Type 0
 Follows_sooner code file n again =
     (l : ℕ) (b : Body) → InBody (length file.externals) l (length file.functions) b →
     (below : List ℤ) (f : Frame) (fs : List Frame) (at : ℕ) (vars : Vars) (depth frames : ℕ) (trace : List ℤ) →
@@ -94,7 +94,7 @@ first_is : (f : Function) (arguments : List ℤ) → f.parameters ≤ length f.v
     variables_of f.parameters (length f.variables) arguments ≡ first_locals f arguments
 first_is f arguments h =
     let v = length f.variables in
-    let place = λ (j : ℕ). if nat_lt j f.parameters then get_or arguments j (pos 0) else pos 0 in
+    let registers = λ (j : ℕ). if nat_lt j f.parameters then get_or arguments j (pos 0) else pos 0 in
     let given = take f.parameters arguments in
     let size : length (variables_of f.parameters v arguments) ≡ v =
     omega (
@@ -105,12 +105,12 @@ first_is f arguments h =
       length-take f.parameters arguments,
     )
     in
-    ext_get_or (pos 0) (variables_of f.parameters v arguments) (map place (range_with_len 0 v))
-    (size ∙ sym (length-map-range_with_len place 0 v))
+    ext_get_or (pos 0) (variables_of f.parameters v arguments) (map registers (range_with_len 0 v))
+    (size ∙ sym (length-map-range_with_len registers 0 v))
     (λ j below.
     let within : j < v = omega (arith, below, size) in
     variable_at f.parameters v arguments j h within (nat_lt j f.parameters) refl
-    ∙ sym (get_or-map-range_with_len place 0 v j j (pos 0) within (zero-add j)))
+    ∙ sym (get_or-map-range_with_len registers 0 v j j (pos 0) within (zero-add j)))
 
 -- the variables that a function begins with are as many as it has
 first_sizes : (f : Function) (arguments : List ℤ) → length (first_locals f arguments) ≡ length f.variables
@@ -118,7 +118,7 @@ first_sizes f arguments =
     length-map-range_with_len (λ (j : ℕ). if nat_lt j f.parameters then get_or arguments j (pos 0) else pos 0) 0
     (length f.variables)
 
-module _ (code : ObjectCode) (e l n : ℕ) {A : Type 0} where
+module _ (code : Program) (e l n : ℕ) {A : Type 0} where
   -- the end of a function's run
   pub closed_law : (v : ℕ) (below : List ℤ) (f g : Frame) (fs : List Frame) (at : ℕ) (depth frames : ℕ)
       (go : ℤ → Vars → List ℤ → Evaluated A) (k : A → Vars → List ℤ → Option Want) → f.base ≡ length below →
@@ -138,7 +138,7 @@ module _ (code : ObjectCode) (e l n : ℕ) {A : Type 0} where
       base count
       (λ r2 h2. next (pos 0) vars r2 sizes (omega (arith, short, h1, h2))))
 
-module _ (code : ObjectCode) (file : File) (l n : ℕ) (again : Again) (holds : Holds code file)
+module _ (code : Program) (file : File) (l n : ℕ) (again : Again) (holds : Holds code file)
     (sooner : Follows_sooner code file n again) where
   abbrev e : ℕ
   e = length file.externals
@@ -166,7 +166,7 @@ module _ (code : ObjectCode) (file : File) (l n : ℕ) (again : Again) (holds : 
       let v = length f.variables in
       let start = address_at code j in
       let known = holds.resolved j callable in
-      let sb = stands code start (body_code code.profile f.body) last_return (holds.placed j callable) in
+      let sb = stands code start (body_code code.profile f.body) last_return_code (holds.placed j callable) in
       let base = words_of below vars.locals temps in
       let frame = entered below depth (at + 1) in
       let first : Vars = record { externals = vars.externals; locals = first_locals f xs } in
@@ -213,7 +213,7 @@ module _ (code : ObjectCode) (file : File) (l n : ℕ) (again : Again) (holds : 
       (frames + 1) (returned vars) k base_is deep_inside count_inside sb.second next)
       in
       subst
-      (λ (counts : Counts). Follows e l n
+      (λ (counts : FunctionCounts). Follows e l n
       (tick (nat_le (depth + counts.variables) code.profile.words) Quiet rest (λ reply rest. go rest)) whole k)
       (holds.counted j callable)
       (on_call code e l n below (g ∷ fs) at k vars temps xs depth j rest go here (holds.known j callable) sizes deep
@@ -226,7 +226,7 @@ module _ (code : ObjectCode) (file : File) (l n : ℕ) (again : Again) (holds : 
       r1)
       (wants code (run start base (frame ∷ g ∷ fs) first []) r1) k
       (ap
-      (λ (counts : Counts). wants code
+      (λ (counts : FunctionCounts). wants code
       (run start base (frame ∷ g ∷ fs)
       (record { externals = vars.externals; locals = variables_of counts.parameters counts.variables xs }) []) r1)
       (holds.counted j callable)
@@ -238,7 +238,7 @@ module _ (code : ObjectCode) (file : File) (l n : ℕ) (again : Again) (holds : 
       (body r1 h1)))
 
   -- the whole call: a frame, the arguments, and the call
-  pub call_law : (f : Callee) → IsCallable (length file.functions) f → (b : Piece) (ev : Evaluation (List ℤ)) →
+  pub call_law : (f : Callee) → IsCallable (length file.functions) f → (b : PlacedCode) (ev : Evaluation (List ℤ)) →
       EvaluatesAll code e l n b ev →
       Evaluates code e l n (only (instr.Frame ∷ []) ⨾ b ⨾ only (Fcall f ∷ []))
       (λ vars depth frames trace. tick (nat_lt frames code.profile.frames) Quiet trace

@@ -7,7 +7,7 @@ use Rattle.std.proofs.lemmas.Option.{slice_get-get_or}
 use Rattle.std.proofs.lemmas.Bool.Decides.{nat_tests}
 use Rattle.std.proofs.Math.ListN.{get_or-map}
 use Rattle.std.proofs.Math.Seq.{get_or-append_seam}
-use Rattle.grammar.specs.Pools.{names_of, names_of_function}
+use Rattle.grammar.specs.Pools.{pools_of, names_of_function}
 use Rattle.grammar.specs.Profile.{Profile}
 use Rattle.grammar.specs.Tree.{Expr, Constant, Variable, Binary, Assign, Postfix, Call, Args, NoMore, Argument, Body, Done, ExpressionStatement, IfStatement, IfElseStatement, While, Return, Function, File}
 use Rattle.code.specs.Functions.{function_at, no_function}
@@ -15,9 +15,9 @@ use Rattle.code.specs.declared.instr.Instr.{Instr}
 use Rattle.code.specs.declared.instr.Instr.TheVariants.{Const, Retsub, Nop}
 use Rattle.code.specs.declared.want.Want.{Want}
 use Rattle.code.specs.declared.want.Want.TheVariants.{Quiet, Restart}
-use Rattle.code.specs.declared.counts.Counts.{Counts}
-use Rattle.code.specs.Generation.{ObjectCode, counts_of, expr_code, args_code, body_code, function_code, functions_code, last_return, place_of, code_of}
-use Rattle.code.specs.Machine.{State, instr_at, address_at, counts_at, first_frame, start_state, want_next, reached, is_ready, want_code}
+use Rattle.code.specs.declared.counts.FunctionCounts.{FunctionCounts}
+use Rattle.code.specs.Generation.{Program, counts_of, expr_code, args_code, body_code, function_code, functions_code, last_return_code, address_in, code_of}
+use Rattle.code.specs.Machine.{Machine, instr_at, address_at, counts_at, first_frame, started_machine, want_next, reached, is_ready, want_code}
 use Rattle.code.specs.Meaning.{Vars, Evaluated, Gives, Awaits, Flow, Through, Returns, Again, and_then, tick, closed, wanted, zeros, value, values, effect, effect_within, want_within, want}
 use Rattle.grammar.specs.Resolved.{IsAmong, IsResolved, InExpr, InArgs, InBody}
 use Rattle.code.proofs.Follows.{Follows, follows_longer, chain, shown, wants}
@@ -27,7 +27,7 @@ use Rattle.code.proofs.Expressions.{const_law, fetch_law, binary_law, assign_law
 use Rattle.code.proofs.Calls.{Holds, Follows_sooner, call_law}
 use Rattle.code.proofs.Statements.{done_law, alone_law, when_law, choose_law, while_law, return_law}
 
-module _ (code : ObjectCode) (file : File) (n : ℕ) (again : Again) (holds : Holds code file)
+module _ (code : Program) (file : File) (n : ℕ) (again : Again) (holds : Holds code file)
     (sooner : Follows_sooner code file n again) (l : ℕ) where
   abbrev e : ℕ
   e = length file.externals
@@ -95,7 +95,7 @@ module _ (code : ObjectCode) (file : File) (n : ℕ) (again : Again) (holds : Ho
       (λ vars depth frames trace. value code.profile file again a vars depth frames trace) (value_law a r.0)
 
 -- At each bound, along as many replies as the bound allows.
-pub bounded : (code : ObjectCode) (file : File) → Holds code file → (n : ℕ) →
+pub bounded : (code : Program) (file : File) → Holds code file → (n : ℕ) →
     Follows_sooner code file n (effect_within code.profile file n)
 bounded code file holds zero l b r below f fs at vars depth frames trace base t short s = absurd (omega (arith, short))
 bounded code file holds (suc n) l b r below f fs at vars depth frames trace base t short s =
@@ -115,7 +115,7 @@ bounded code file holds (suc n) l b r below f fs at vars depth frames trace base
     tied s)
 
 -- a list's part behind another part stands there
-stands_behind : (code : ObjectCode) (front xs : List Instr) → code.instructions ≡ front ++ xs →
+stands_behind : (code : Program) (front xs : List Instr) → code.instructions ≡ front ++ xs →
     StandsAt code (length front) xs
 stands_behind code front [] e = tt
 stands_behind code front (x ∷ xs) e =
@@ -141,19 +141,19 @@ module _ (p : Profile) (file : File) where
   placed_if k n at next first rest false test = rest (λ same. absurd (grind (arith, nat_tests, test, same)))
 
   placed_in : (k : ℕ) (order : List ℕ) (at : ℕ) → StandsAt (code_of p file) at (functions_code p file order at) →
-      IsAmong k order → IsPlaced k (place_of p file k order at)
+      IsAmong k order → IsPlaced k (address_in p file k order at)
   placed_in k [] at s here = absurd here
   placed_in k (n ∷ order) at s here =
       let behind = at + length (function_code p (function_at file n) at) in
       let both = stands (code_of p file) at (function_code p (function_at file n)) (functions_code p file order) s in
-      placed_if k n at (place_of p file k order behind) both.first
+      placed_if k n at (address_in p file k order behind) both.first
       (λ other. placed_in k order behind both.second (elim here [ inl same ↦ absurd (other same) | inr later ↦ later ]))
       (k == n) refl
 
   -- the counts of each function
   counts_of_file : (k : ℕ) → counts_at (code_of p file) k ≡ counts_of (names_of_function (function_at file k))
   counts_of_file k =
-      get_or-map counts_of (names_of file).functions k (names_of_function no_function)
+      get_or-map counts_of (pools_of file).functions k (names_of_function no_function)
       ∙ ap counts_of (get_or-map names_of_function file.functions k no_function)
 
   holds : IsResolved file → Holds (code_of p file) file
@@ -161,16 +161,16 @@ module _ (p : Profile) (file : File) where
     placed = λ k defined.
         let whole = stands_behind (code_of p file) [] (functions_code p file file.order 0 ++ Nop ∷ []) refl in
         let both = stands_both (code_of p file) 0 (functions_code p file file.order 0) (Nop ∷ []) whole in
-        let place : address_at (code_of p file) k ≡ place_of p file k file.order 0 =
-        get_or-map-range_with_len (λ k. place_of p file k file.order 0) 0 (length file.functions) k k 0 defined
+        let registers : address_at (code_of p file) k ≡ address_in p file k file.order 0 =
+        get_or-map-range_with_len (λ k. address_in p file k file.order 0) 0 (length file.functions) k k 0 defined
         (zero-add k)
         in
-        subst (λ (at : ℕ). StandsAt (code_of p file) at (function_code p (function_at file k) at)) (sym place)
+        subst (λ (at : ℕ). StandsAt (code_of p file) at (function_code p (function_at file k) at)) (sym registers)
         (placed_in k file.order 0 both.first (r.defined k defined));
     counted = λ k defined. counts_of_file k;
     known =
         λ k defined. omega
-        (arith, defined, length-map file.functions names_of_function, length-map (names_of file).functions counts_of);
+        (arith, defined, length-map file.functions names_of_function, length-map (pools_of file).functions counts_of);
     resolved = λ k defined. r.each k (function_at file k) (slice_get-get_or file.functions k no_function defined);
   }
 
@@ -181,18 +181,18 @@ module _ (p : Profile) (file : File) where
   abbrev first_vars : Vars
   first_vars = record { externals = zeros (length file.externals); locals = zeros (length main.variables) }
 
-  start_is : start_state (code_of p file) ≡
+  start_is : started_machine (code_of p file) ≡
       run (address_at (code_of p file) file.main) [] (first_frame ∷ []) first_vars []
   start_is =
       let make =
-      λ (words : List ℤ). let s : State = record {
+      λ (words : List ℤ). let s : Machine = record {
         at = address_at (code_of p file) file.main;
         home = 0;
         words = words;
         frames = first_frame ∷ [];
         externals = zeros (length file.externals);
       } in s in
-      ap (λ (counts : Counts). make (zeros counts.variables)) (counts_of_file file.main) ∙
+      ap (λ (counts : FunctionCounts). make (zeros counts.variables)) (counts_of_file file.main) ∙
       ap make (sym (append-nil (zeros (length main.variables))))
 
   -- what an evaluation of main wants
@@ -235,7 +235,7 @@ module _ (p : Profile) (file : File) where
 -- Along all replies a resolved file's instructions find what they take, and want what its trees want. The bound allows
 -- more turns and calls than there are replies.
 shown_within : (p : Profile) (file : File) → IsResolved file → (n : ℕ) (trace : List ℤ) → length trace < n →
-    wants (code_of p file) (start_state (code_of p file)) trace ≡ Some (want_within p file n trace)
+    wants (code_of p file) (started_machine (code_of p file)) trace ≡ Some (want_within p file n trace)
 shown_within p file r n trace enough =
     let code = code_of p file in
     let f = main p file in
@@ -244,7 +244,7 @@ shown_within p file r n trace enough =
     let start = address_at code file.main in
     let vars = first_vars p file in
     let known = holds p file r in
-    let both = stands code start (body_code p f.body) last_return (known.placed file.main r.main) in
+    let both = stands code start (body_code p f.body) last_return_code (known.placed file.main r.main) in
     let tied : Tied e l n [] (first_frame ∷ []) vars [] l 1 trace = record {
       sizes = record { externals_are = length-replicate e (pos 0); locals_are = length-replicate l (pos 0) };
       deep = record { is = omega arith };
@@ -252,7 +252,7 @@ shown_within p file r n trace enough =
       inside = omega arith;
       short = omega (arith, enough);
     } in
-    ap (λ (s : State). wants code s trace) (start_is p file)
+    ap (λ (s : Machine). wants code s trace) (start_is p file)
     ∙
     main_law p file n (effect_within p file n f.body vars l 1 trace)
     (wants code (run start [] (first_frame ∷ []) vars []) trace) (start + length (body_code p f.body start))
@@ -261,7 +261,7 @@ shown_within p file r n trace enough =
     refl tied (omega (arith, enough)) both.first)
 
 pub shown_is_want : (p : Profile) (file : File) → IsResolved file → (trace : List ℤ) →
-    wants (code_of p file) (start_state (code_of p file)) trace ≡ Some (want p file trace)
+    wants (code_of p file) (started_machine (code_of p file)) trace ≡ Some (want p file trace)
 shown_is_want p file r trace = shown_within p file r (suc (length trace)) trace (omega arith)
 
 -- more turns and calls than there are replies change nothing
@@ -276,7 +276,7 @@ shown_if true v w e = (cc, refl)
 shown_if false v w e = (cc, cc)
 
 -- what is shown is wanted, and the instruction is ready
-shown_ready : (code : ObjectCode) (s : State) (w : Want) → shown code s ≡ Some w →
+shown_ready : (code : Program) (s : Machine) (w : Want) → shown code s ≡ Some w →
     (want_next code s ≡ w) × (is_ready code s (instr_at code s.at) ≡ true)
 shown_ready code s w e = shown_if (is_ready code s (instr_at code s.at)) (want_next code s) w e
 
@@ -284,14 +284,16 @@ pub want_code_is_want : (p : Profile) (file : File) → IsResolved file → (tra
     want_code (code_of p file) trace ≡ want p file trace
 unfolding wants
 want_code_is_want p file r trace =
-    (shown_ready (code_of p file) (reached (code_of p file) (start_state (code_of p file)) trace) (want p file trace)
+    (shown_ready (code_of p file) (reached (code_of p file) (started_machine (code_of p file)) trace)
+    (want p file trace)
     (shown_is_want p file r trace)).0
 
 -- no instruction lacks what it takes
 pub never_stuck : (p : Profile) (file : File) → IsResolved file → (trace : List ℤ) → let s =
-    reached (code_of p file) (start_state (code_of p file)) trace in is_ready (code_of p file) s
+    reached (code_of p file) (started_machine (code_of p file)) trace in is_ready (code_of p file) s
     (instr_at (code_of p file) s.at) ≡ true
 unfolding wants
 never_stuck p file r trace =
-    (shown_ready (code_of p file) (reached (code_of p file) (start_state (code_of p file)) trace) (want p file trace)
+    (shown_ready (code_of p file) (reached (code_of p file) (started_machine (code_of p file)) trace)
+    (want p file trace)
     (shown_is_want p file r trace)).1

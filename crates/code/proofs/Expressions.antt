@@ -3,12 +3,12 @@ use Rattle.std.specs.Prelude.{ℕ, ℤ, pos, ◌+◌, ◌≡◌, ◌<◌, ◌≤
 use Rattle.std.proofs.Common.{refl, sym, ap, ◌∙◌, subst, arith, append_assoc}
 use Rattle.std.proofs.lemmas.List.{append-nil}
 use Rattle.arith.specs.Op.{holds, truth}
-use Rattle.grammar.specs.declared.names.Var.{Var}
+use Rattle.grammar.specs.declared.resolved_names.Var.{Var}
 use Rattle.arith.specs.declared.operators.Op.{Op}
 use Rattle.arith.specs.declared.operators.Op.TheVariants as op
 use Rattle.grammar.specs.declared.operators.StoreOp.{StoreOp}
 use Rattle.code.specs.declared.instr.Instr.TheVariants.{Fetch, Store, Const, Binop, Chop, Truth, Branch}
-use Rattle.code.specs.Generation.{ObjectCode, Piece, ◌⨾◌, only, either, both, short_code, binary_code, no_code}
+use Rattle.code.specs.Generation.{Program, PlacedCode, ◌⨾◌, only, either, both_code, short_code, binary_code, no_code}
 use Rattle.code.specs.declared.frame.Frame.{Frame}
 use Rattle.code.specs.Machine.{instr_at}
 use Rattle.code.specs.Meaning.{Vars, Gives, and_then, push, pass, full, short, binary, value_of_variable, assigned}
@@ -19,7 +19,7 @@ use Rattle.code.proofs.Follows.{HasSizes, Follows, chain, wants}
 use Rattle.code.proofs.Instructions.{run, IsDepth, deeper, on_const, on_fetch, on_chop, on_binop, on_truth, on_store, on_branch, assigned_sizes}
 use Rattle.code.proofs.Pieces.{stands, ends, other_of, end_of, stands_either, ends_either, Tied, Evaluation, gone_on, gone_on_with, Evaluates, EvaluatesAll, arrives}
 
-module _ (code : ObjectCode) (e l n : ℕ) where
+module _ (code : Program) (e l n : ℕ) where
   -- the tie behind a value that was pushed
   tied_behind : (below : List ℤ) (fs : List Frame) (temps : List ℤ) (depth frames : ℕ) (vars : Vars) (rest : List ℤ)
       (x : ℤ) → IsDepth l below temps depth → frames ≡ length fs → 0 < length fs → HasSizes e l vars → length rest ≤ n →
@@ -51,9 +51,9 @@ module _ (code : ObjectCode) (e l n : ℕ) where
       (λ rest shorter. arrives code e l n below fs (at + 1) (at + 1) vars (temps ++ x ∷ []) rest t.sizes
       (omega (arith, shorter, t.short)) refl)
 
-  pub full_law : (o : Op) (a b : Piece) (ev_a ev_b : Evaluation ℤ) → Evaluates code e l n a ev_a →
+  pub full_law : (o : Op) (a b : PlacedCode) (ev_a ev_b : Evaluation ℤ) → Evaluates code e l n a ev_a →
       Evaluates code e l n b ev_b →
-      Evaluates code e l n (both o a b)
+      Evaluates code e l n (both_code o a b)
       (λ vars depth frames trace. full o depth (ev_a vars depth frames trace)
       (λ vars depth rest. ev_b vars depth frames rest))
   full_law o a b ev_a ev_b A B below fs at vars temps depth frames trace t s =
@@ -62,7 +62,7 @@ module _ (code : ObjectCode) (e l n : ℕ) where
       let at1 = at + length (a at) in
       let sb = stands code at1 b tail sa.second in
       let at2 = at1 + length (b at1) in
-      let end = at + length (both o a b at) in
+      let end = at + length (both_code o a b at) in
       let end_is : at2 + 1 ≡ end = omega (arith, ends at a (b ⨾ tail), ends at1 b tail) in
       let k = gone_on code end below fs temps in
       chain e l e l n (ev_a vars depth frames trace) (wants code (run at below fs vars temps) trace)
@@ -81,7 +81,7 @@ module _ (code : ObjectCode) (e l n : ℕ) where
       (λ last shorter. arrives code e l n below fs (at2 + 1) end vars (temps ++ value_of o x y ∷ []) last sizes
       (omega (arith, shorter, short)) end_is)))
 
-  pub assign_law : (o : StoreOp) (v : Var) (a : Piece) (ev : Evaluation ℤ) → IsVariable e l v →
+  pub assign_law : (o : StoreOp) (v : Var) (a : PlacedCode) (ev : Evaluation ℤ) → IsVariable e l v →
       Evaluates code e l n a ev →
       Evaluates code e l n (a ⨾ only (Store v o ∷ []))
       (λ vars depth frames trace. and_then (ev vars depth frames trace)
@@ -132,7 +132,7 @@ module _ (code : ObjectCode) (e l n : ℕ) where
       (assigned_sizes e l vars v y t.sizes) (omega (arith, h1, h2, h3, h4, t.short)) (omega arith)))))
 
   -- the left side decides, or the right side's truth is the value
-  and_law : (a b : Piece) (ev_a ev_b : Evaluation ℤ) → Evaluates code e l n a ev_a → Evaluates code e l n b ev_b →
+  and_law : (a b : PlacedCode) (ev_a ev_b : Evaluation ℤ) → Evaluates code e l n a ev_a → Evaluates code e l n b ev_b →
       Evaluates code e l n (short_code op.And a b)
       (λ vars depth frames trace. short code.profile op.And depth (ev_a vars depth frames trace)
       (λ vars depth rest. ev_b vars depth frames rest))
@@ -197,7 +197,7 @@ module _ (code : ObjectCode) (e l n : ℕ) where
             (omega (arith, h1, h2, short)) end_is)
       ]))
 
-  or_law : (a b : Piece) (ev_a ev_b : Evaluation ℤ) → Evaluates code e l n a ev_a → Evaluates code e l n b ev_b →
+  or_law : (a b : PlacedCode) (ev_a ev_b : Evaluation ℤ) → Evaluates code e l n a ev_a → Evaluates code e l n b ev_b →
       Evaluates code e l n (short_code op.Or a b)
       (λ vars depth frames trace. short code.profile op.Or depth (ev_a vars depth frames trace)
       (λ vars depth rest. ev_b vars depth frames rest))
@@ -258,7 +258,7 @@ module _ (code : ObjectCode) (e l n : ℕ) where
       ]))
 
   -- an operator of either profile
-  short_law : (o : Op) (a b : Piece) (ev_a ev_b : Evaluation ℤ) → Evaluates code e l n a ev_a →
+  short_law : (o : Op) (a b : PlacedCode) (ev_a ev_b : Evaluation ℤ) → Evaluates code e l n a ev_a →
       Evaluates code e l n b ev_b →
       Evaluates code e l n (short_code o a b)
       (λ vars depth frames trace. short code.profile o depth (ev_a vars depth frames trace)
@@ -267,14 +267,14 @@ module _ (code : ObjectCode) (e l n : ℕ) where
   short_law op.Or a b ev_a ev_b A B = or_law a b ev_a ev_b A B
   short_law o a b ev_a ev_b A B = full_law o a b ev_a ev_b A B
 
-  pub binary_law : (o : Op) (a b : Piece) (ev_a ev_b : Evaluation ℤ) → Evaluates code e l n a ev_a →
+  pub binary_law : (o : Op) (a b : PlacedCode) (ev_a ev_b : Evaluation ℤ) → Evaluates code e l n a ev_a →
       Evaluates code e l n b ev_b →
       Evaluates code e l n (binary_code code.profile o a b)
       (λ vars depth frames trace. binary code.profile o depth (ev_a vars depth frames trace)
       (λ vars depth rest. ev_b vars depth frames rest))
   binary_law o a b ev_a ev_b A B =
       elim code.profile.short_circuit as
-      (λ (c : Bool). Evaluates code e l n (if c then short_code o a b else both o a b)
+      (λ (c : Bool). Evaluates code e l n (if c then short_code o a b else both_code o a b)
       (λ vars depth frames trace. if c then short code.profile o depth (ev_a vars depth frames trace)
       (λ vars depth rest. ev_b vars depth frames rest) else full o depth (ev_a vars depth frames trace)
       (λ vars depth rest. ev_b vars depth frames rest))) [
@@ -292,7 +292,8 @@ module _ (code : ObjectCode) (e l n : ℕ) where
         ∙ ap (λ (a : ℕ). wants code (run a below fs vars (temps ++ [])) trace) (omega arith);
   }
 
-  pub argument_law : (a b : Piece) (ev_a : Evaluation ℤ) (ev_b : Evaluation (List ℤ)) → Evaluates code e l n a ev_a →
+  pub argument_law : (a b : PlacedCode) (ev_a : Evaluation ℤ) (ev_b : Evaluation (List ℤ)) →
+      Evaluates code e l n a ev_a →
       EvaluatesAll code e l n b ev_b →
       EvaluatesAll code e l n (a ⨾ b)
       (λ vars depth frames trace. and_then (ev_a vars depth frames trace)

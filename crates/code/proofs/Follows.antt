@@ -6,8 +6,8 @@ use Rattle.std.proofs.Common.{refl, ap, ◌∙◌, arith}
 use Rattle.code.specs.declared.instr.Instr.{Instr}
 use Rattle.code.specs.declared.want.Want.{Want}
 use Rattle.code.specs.declared.want.Want.TheVariants.{Restart}
-use Rattle.code.specs.Generation.{ObjectCode}
-use Rattle.code.specs.Machine.{State, instr_at, is_ready, is_fitting, event_of, done_with, after, want_next, reached}
+use Rattle.code.specs.Generation.{Program}
+use Rattle.code.specs.Machine.{Machine, instr_at, is_ready, is_fitting, event_of, done_with, machine_after, want_next, reached}
 use Rattle.code.specs.Meaning.{Vars, Evaluated, Gives, Awaits, and_then, tick}
 
 -- how many variables there are
@@ -47,14 +47,14 @@ follows_longer e l n (Gives x vars rest) w k f =
 follows_longer e l n (Awaits event) w k f = f
 
 -- what a state shows: what it wants, or nothing where its instruction lacks what it takes
-abbrev pub shown : ObjectCode → State → Option Want
+abbrev pub shown : Program → Machine → Option Want
 shown code s = if is_ready code s (instr_at code s.at) then Some (want_next code s) else None
 
 -- what is shown behind replies, from a state on
-unfoldable pub wants : ObjectCode → State → List ℤ → Option Want
+unfoldable pub wants : Program → Machine → List ℤ → Option Want
 wants code s trace = shown code (reached code s trace)
 
-module _ (code : ObjectCode) (s : State) (i : Instr) (here : instr_at code s.at ≡ Some i)
+module _ (code : Program) (s : Machine) (i : Instr) (here : instr_at code s.at ≡ Some i)
     (ready : is_ready code s (Some i) ≡ true) where
   shown_when : (b : Bool) → is_fitting code s (Some i) ≡ b →
       shown code s ≡ Some (if b then event_of s (Some i) else Restart)
@@ -68,7 +68,7 @@ module _ (code : ObjectCode) (s : State) (i : Instr) (here : instr_at code s.at 
       ∙ ap (λ (c : Bool). Some (if c then event_of s (Some i) else Restart)) fits
 
   after_when : (b : Bool) → is_fitting code s (Some i) ≡ b → (reply : ℤ) →
-      after code reply s ≡ (if b then done_with code reply s (Some i) else s)
+      machine_after code reply s ≡ (if b then done_with code reply s (Some i) else s)
   after_when b fits reply =
       ap (λ (o : Option Instr). if is_fitting code s o then done_with code reply s o else s) here
       ∙ ap (λ (c : Bool). if c then done_with code reply s (Some i) else s) fits
@@ -77,7 +77,7 @@ module _ (code : ObjectCode) (s : State) (i : Instr) (here : instr_at code s.at 
   unfolding wants
   wants_restart unfit [] = shown_when false unfit
   wants_restart unfit (reply ∷ rest) =
-      ap (λ (t : State). shown code (reached code t rest)) (after_when false unfit reply) ∙ wants_restart unfit rest
+      ap (λ (t : Machine). shown code (reached code t rest)) (after_when false unfit reply) ∙ wants_restart unfit rest
 
   wants_now : is_fitting code s (Some i) ≡ true → wants code s [] ≡ Some (event_of s (Some i))
   unfolding wants
@@ -86,7 +86,7 @@ module _ (code : ObjectCode) (s : State) (i : Instr) (here : instr_at code s.at 
   wants_behind : is_fitting code s (Some i) ≡ true → (reply : ℤ) (rest : List ℤ) →
       wants code s (reply ∷ rest) ≡ wants code (done_with code reply s (Some i)) rest
   unfolding wants
-  wants_behind fits reply rest = ap (λ (t : State). shown code (reached code t rest)) (after_when true fits reply)
+  wants_behind fits reply rest = ap (λ (t : Machine). shown code (reached code t rest)) (after_when true fits reply)
 
   -- One instruction is one cycle of the tree.
   pub ticks : {A : Type 0} (e l n : ℕ) (fit : Bool) (event : Want) (trace : List ℤ) (go : ℤ → List ℤ → Evaluated A)

@@ -5,28 +5,28 @@ use Rattle.std.proofs.lemmas.Bool.Decides.{nat_tests}
 use Rattle.std.proofs.lemmas.List.{append-nil, length-set}
 use Rattle.std.proofs.Math.Seq.{take-append_seam}
 use Rattle.arith.specs.Op.{holds, truth}
-use Rattle.grammar.specs.declared.names.Callee.TheVariants as callee
-use Rattle.grammar.specs.declared.names.Intrinsic.{Intrinsic}
-use Rattle.grammar.specs.declared.names.Var.{Var}
-use Rattle.grammar.specs.declared.names.Var.TheVariants.{External, Local}
+use Rattle.grammar.specs.declared.resolved_names.Callee.TheVariants as callee
+use Rattle.grammar.specs.declared.resolved_names.Intrinsic.{Intrinsic}
+use Rattle.grammar.specs.declared.resolved_names.Var.{Var}
+use Rattle.grammar.specs.declared.resolved_names.Var.TheVariants.{External, Local}
 use Rattle.arith.specs.declared.operators.Op.{Op}
 use Rattle.grammar.specs.declared.operators.StoreOp.{StoreOp}
 use Rattle.code.specs.declared.instr.Instr.TheVariants.{Fetch, Store, Const, Binop, Fcall, Retsub, Branch, Chop, Truth, Nop}
 use Rattle.code.specs.declared.instr.Instr.TheVariants as instr
 use Rattle.code.specs.declared.want.Want.{Want}
 use Rattle.code.specs.declared.want.Want.TheVariants.{Quiet, Ask}
-use Rattle.code.specs.Generation.{ObjectCode}
+use Rattle.code.specs.Generation.{Program}
 use Rattle.code.specs.declared.frame.Frame.{Frame}
-use Rattle.code.specs.Machine.{State, instr_at, done_with, has_variable, read_variable, with_variable, next_with, nth_word, without, address_at, parameters_at, variables_at, variables_of}
+use Rattle.code.specs.Machine.{Machine, instr_at, done_with, has_variable, read_variable, with_value, next_with, nth_word, without, address_at, parameters_at, variables_at, variables_of}
 use Rattle.grammar.specs.Resolved.{IsVariable}
 use Rattle.code.specs.Meaning.{Vars, Evaluated, tick, push, pass, value_of_variable, assigned}
 use Rattle.arith.specs.Op.{value_of}
-use Rattle.code.specs.Values.{stored, asked}
+use Rattle.code.specs.Values.{stored, asked_words}
 use Rattle.code.proofs.Follows.{HasSizes, Follows, follows_from, wants, ticks, ticks_not}
 use Rattle.code.proofs.Lists.{words_of, length-words_of, pushed, taken_one, top_one, taken_two, top_two, top_of_two, local_read, local_set, above, beneath}
 
 -- a function's run: what lies below its variables, the frames, the variables, and what it pushed
-abbrev pub run : ℕ → List ℤ → List Frame → Vars → List ℤ → State
+abbrev pub run : ℕ → List ℤ → List Frame → Vars → List ℤ → Machine
 run at below fs vars temps = record {
   at = at;
   home = length below;
@@ -90,11 +90,11 @@ variable_read e l at below fs vars temps (Local j) sizes h =
 
 variable_set : (e l at : ℕ) (below : List ℤ) (fs : List Frame) (vars : Vars) (temps : List ℤ) (v : Var) (x : ℤ) →
     HasSizes e l vars → IsVariable e l v →
-    with_variable (run at below fs vars temps) v x ≡ run at below fs (assigned vars v x) temps
+    with_value (run at below fs vars temps) v x ≡ run at below fs (assigned vars v x) temps
 variable_set e l at below fs vars temps (External j) x sizes h = refl
 variable_set e l at below fs vars temps (Local j) x sizes h =
     ap
-    (λ (words : List ℤ). let s : State = record
+    (λ (words : List ℤ). let s : Machine = record
     { at = at; home = length below; words = words; frames = fs; externals = vars.externals } in s)
     (local_set below vars.locals temps j x (omega (arith, h, sizes.locals_are)))
 
@@ -110,10 +110,10 @@ next_run : (at : ℕ) (below : List ℤ) (fs : List Frame) (vars : Vars) (words 
     next_with (run at below fs vars before) words ≡ run (at + 1) below fs vars temps
 next_run at below fs vars words temps before e =
     ap
-    (λ (words : List ℤ). let s : State = record
+    (λ (words : List ℤ). let s : Machine = record
     { at = at + 1; home = length below; words = words; frames = fs; externals = vars.externals } in s) e
 
-module _ (code : ObjectCode) (e l n : ℕ) (below : List ℤ) (fs : List Frame) {A : Type 0} (at : ℕ)
+module _ (code : Program) (e l n : ℕ) (below : List ℤ) (fs : List Frame) {A : Type 0} (at : ℕ)
     (k : A → Vars → List ℤ → Option Want) where
   -- what comes behind a cycle
   abbrev Next : List ℤ → (List ℤ → Evaluated A) → ℕ → Vars → List ℤ → Type 0
@@ -121,10 +121,10 @@ module _ (code : ObjectCode) (e l n : ℕ) (below : List ℤ) (fs : List Frame) 
       (rest : List ℤ) → suc (length rest) ≡ length trace →
       Follows e l n (go rest) (wants code (run to below fs vars temps) rest) k
 
-  moved : (s t : State) (o : Evaluated A) (rest : List ℤ) → s ≡ t → Follows e l n o (wants code t rest) k →
+  moved : (s t : Machine) (o : Evaluated A) (rest : List ℤ) → s ≡ t → Follows e l n o (wants code t rest) k →
       Follows e l n o (wants code s rest) k
   moved s t o rest same f =
-      follows_from e l n o (wants code s rest) (wants code t rest) k (ap (λ (s : State). wants code s rest) same) f
+      follows_from e l n o (wants code s rest) (wants code t rest) k (ap (λ (s : Machine). wants code s rest) same) f
 
   pub on_const : (m : ℕ) (vars : Vars) (temps : List ℤ) (depth : ℕ) (x : ℤ) (trace : List ℤ) (go : List ℤ → Evaluated A)
       → instr_at code at ≡ Some (Const x) → HasSizes e m vars → IsDepth m below temps depth →
@@ -235,9 +235,9 @@ module _ (code : ObjectCode) (e l n : ℕ) (below : List ℤ) (fs : List Frame) 
       (λ reply rest. go rest) k refl refl
       (λ reply rest shorter.
       moved (done_with code reply s (Some (Store v o))) target (go rest) rest
-      (ap (λ (z : ℤ). next_with (with_variable s v z) (without 1 (with_variable s v z).words ++ z ∷ [])) new
+      (ap (λ (z : ℤ). next_with (with_value s v z) (without 1 (with_value s v z).words ++ z ∷ [])) new
       ∙
-      ap (λ (r : State). next_with r (without 1 r.words ++ y ∷ []))
+      ap (λ (r : Machine). next_with r (without 1 r.words ++ y ∷ []))
       (variable_set e l at below fs vars (temps ++ x ∷ []) v y sizes known)
       ∙
       next_run at below fs (assigned vars v y) (without 1 t.words ++ y ∷ []) (temps ++ y ∷ []) (temps ++ x ∷ []) words)
@@ -248,19 +248,20 @@ module _ (code : ObjectCode) (e l n : ℕ) (below : List ℤ) (fs : List Frame) 
       Follows e l n (pass trace go) (wants code (run at below fs vars (temps ++ x ∷ [])) trace) k
   on_branch vars temps to x trace go here next =
       let s = run at below fs vars (temps ++ x ∷ []) in
-      let place = λ (y : ℤ). if holds y then at + 1 else to in
+      let registers = λ (y : ℤ). if holds y then at + 1 else to in
       ticks code s (Branch to) here (one_word below vars.locals temps x) e l n true Quiet trace (λ reply rest. go rest)
       k refl refl
       (λ reply rest shorter.
-      moved (done_with code reply s (Some (Branch to))) (run (place x) below fs vars temps) (go rest) rest
+      moved (done_with code reply s (Some (Branch to))) (run (registers x) below fs vars temps) (go rest) rest
       (ap
-      (λ (y : ℤ). let t : State = record
-      { at = place y; home = length below; words = without 1 s.words; frames = fs; externals = vars.externals } in t)
+      (λ (y : ℤ). let t : Machine = record
+      { at = registers y; home = length below; words = without 1 s.words; frames = fs; externals = vars.externals } in
+      t)
       (top_one below vars.locals temps x)
       ∙
       ap
-      (λ (words : List ℤ). let t : State = record
-      { at = place x; home = length below; words = words; frames = fs; externals = vars.externals } in t)
+      (λ (words : List ℤ). let t : Machine = record
+      { at = registers x; home = length below; words = words; frames = fs; externals = vars.externals } in t)
       (taken_one below vars.locals temps x))
       (next rest shorter))
 
@@ -271,8 +272,8 @@ opened below depth = record { base = depth; back = 0; home = length below }
 abbrev pub entered : List ℤ → ℕ → ℕ → Frame
 entered below depth back = record { base = depth; back = back; home = length below }
 
--- the state behind a return from a function that ran above `below`
-abbrev pub back_with : Frame → List ℤ → List Frame → List ℤ → ℤ → State
+-- the state behind a return from a function that ran above `below_innermost`
+abbrev pub back_with : Frame → List ℤ → List Frame → List ℤ → ℤ → Machine
 back_with f below fs externals x = record {
   at = f.back;
   home = f.home;
@@ -281,16 +282,16 @@ back_with f below fs externals x = record {
   externals = externals;
 }
 
-module _ (code : ObjectCode) (e l n : ℕ) (below : List ℤ) (fs : List Frame) {A : Type 0} (at : ℕ)
+module _ (code : Program) (e l n : ℕ) (below : List ℤ) (fs : List Frame) {A : Type 0} (at : ℕ)
     (k : A → Vars → List ℤ → Option Want) where
-  abbrev Reaches : List ℤ → (List ℤ → Evaluated A) → State → Type 0
+  abbrev Reaches : List ℤ → (List ℤ → Evaluated A) → Machine → Type 0
   Reaches trace go s =
       (rest : List ℤ) → suc (length rest) ≡ length trace → Follows e l n (go rest) (wants code s rest) k
 
-  moves : (s t : State) (o : Evaluated A) (rest : List ℤ) → s ≡ t → Follows e l n o (wants code t rest) k →
+  moves : (s t : Machine) (o : Evaluated A) (rest : List ℤ) → s ≡ t → Follows e l n o (wants code t rest) k →
       Follows e l n o (wants code s rest) k
   moves s t o rest same f =
-      follows_from e l n o (wants code s rest) (wants code t rest) k (ap (λ (s : State). wants code s rest) same) f
+      follows_from e l n o (wants code s rest) (wants code t rest) k (ap (λ (s : Machine). wants code s rest) same) f
 
   pub on_frame : (vars : Vars) (temps : List ℤ) (depth frames : ℕ) (trace : List ℤ) (go : List ℤ → Evaluated A) →
       instr_at code at ≡ Some instr.Frame → HasSizes e l vars → IsDepth l below temps depth → frames ≡ length fs →
@@ -305,7 +306,7 @@ module _ (code : ObjectCode) (e l n : ℕ) (below : List ℤ) (fs : List Frame) 
       (λ reply rest shorter.
       moves (done_with code reply s (Some instr.Frame)) target (go rest) rest
       (ap
-      (λ (m : ℕ). let t : State = record {
+      (λ (m : ℕ). let t : Machine = record {
         at = at + 1;
         home = length below;
         words = s.words;
@@ -318,7 +319,7 @@ module _ (code : ObjectCode) (e l n : ℕ) (below : List ℤ) (fs : List Frame) 
       (go : ℤ → List ℤ → Evaluated A) → instr_at code at ≡ Some (Fcall (callee.Intrinsic i)) → HasSizes e l vars →
       IsDepth l below temps depth →
       ((reply : ℤ) → Reaches trace (go reply) (run (at + 1) below fs vars (temps ++ reply ∷ []))) →
-      Follows e l n (tick (nat_le (depth + 1) code.profile.words) (Ask i (asked i arguments)) trace go)
+      Follows e l n (tick (nat_le (depth + 1) code.profile.words) (Ask i (asked_words i arguments)) trace go)
       (wants code (run at below (opened below depth ∷ fs) vars (temps ++ arguments)) trace) k
   on_ask vars temps arguments depth i trace go here sizes d next =
       let s = run at below (opened below depth ∷ fs) vars (temps ++ arguments) in
@@ -334,13 +335,13 @@ module _ (code : ObjectCode) (e l n : ℕ) (below : List ℤ) (fs : List Frame) 
         length-words_of below vars.locals (temps ++ arguments),
         length-append temps arguments,
       )))) e l n
-      (nat_le (depth + 1) code.profile.words) (Ask i (asked i arguments)) trace go k
-      refl (ap (λ (xs : List ℤ). Ask i (asked i xs)) (above below vars.locals temps arguments depth is))
+      (nat_le (depth + 1) code.profile.words) (Ask i (asked_words i arguments)) trace go k
+      refl (ap (λ (xs : List ℤ). Ask i (asked_words i xs)) (above below vars.locals temps arguments depth is))
       (λ reply rest shorter.
       moves (done_with code reply s (Some (Fcall (callee.Intrinsic i))))
       (run (at + 1) below fs vars (temps ++ reply ∷ [])) (go reply rest) rest
       (ap
-      (λ (words : List ℤ). let t : State = record
+      (λ (words : List ℤ). let t : Machine = record
       { at = at + 1; home = length below; words = words; frames = fs; externals = vars.externals } in t)
       (ap (λ (words : List ℤ). words ++ reply ∷ []) (beneath below vars.locals temps arguments depth is) ∙
       pushed below vars.locals temps (reply ∷ [])))
@@ -364,7 +365,7 @@ module _ (code : ObjectCode) (e l n : ℕ) (below : List ℤ) (fs : List Frame) 
       let own = λ (xs : List ℤ). variables_of (parameters_at code j) (variables_at code j) xs in
       let base = words_of below vars.locals temps in
       let make =
-      λ (home : ℕ) (words : List ℤ). let t : State = record {
+      λ (home : ℕ) (words : List ℤ). let t : Machine = record {
         at = address_at code j;
         home = home;
         words = words;
@@ -404,7 +405,7 @@ module _ (code : ObjectCode) (e l n : ℕ) (below : List ℤ) (fs : List Frame) 
   on_retsub f vars temps frames x trace go here base count next =
       let s = run at below (f ∷ fs) vars (temps ++ x ∷ []) in
       let make =
-      λ (words : List ℤ). let t : State = record
+      λ (words : List ℤ). let t : Machine = record
       { at = f.back; home = f.home; words = words; frames = fs; externals = vars.externals } in t in
       ticks code s Retsub here (if_both (nat_lt 0 (length s.frames)) (nat_lt f.base (length s.words))
       (lt_test 0 (length s.frames) (omega arith))

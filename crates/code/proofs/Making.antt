@@ -23,42 +23,43 @@ use Rattle.code.specs.Functions.{function_at, no_function}
 use Rattle.code.specs.declared.instr.Instr.{Instr}
 use Rattle.code.specs.declared.instr.Instr.TheVariants.{Fetch, Store, Const, Binop, Fcall, Retsub, Branch, Truth, Nop}
 use Rattle.code.specs.declared.instr.Instr.TheVariants as instr
-use Rattle.code.specs.Generation.{Piece, ◌⨾◌, only, no_code, past, either, loop, both, short_code, binary_code, expr_code, args_code, body_code, function_code, functions_code, last_return, place_of, code_of}
-use Rattle.code.specs.Making.{Made, made_nothing, made, with_code, with_function, with_branch, with_other, with_turn, opening, closing, without_open, begun_right, ended_right, making, made_from}
+use Rattle.code.specs.Generation.{PlacedCode, ◌⨾◌, only, no_code, past, either, loop, both_code, short_code, binary_code, expr_code, args_code, body_code, function_code, functions_code, last_return_code, address_in, code_of}
+use Rattle.code.specs.Making.{Maker, empty_maker, maker_after, with_code, with_begun_function, with_branch, with_other, with_turn, with_opened, with_closed, without_open, begun_right, ended_right, maker_with, maker_from}
 
-pub made_from-append : (m : Made) (xs ys : List Action) → made_from m (xs ++ ys) ≡ made_from (made_from m xs) ys
-made_from-append m [] ys = refl
-made_from-append m (x ∷ xs) ys = made_from-append (making m x) xs ys
+pub maker_from-append : (m : Maker) (xs ys : List Action) → maker_from m (xs ++ ys) ≡ maker_from (maker_from m xs) ys
+maker_from-append m [] ys = refl
+maker_from-append m (x ∷ xs) ys = maker_from-append (maker_with m x) xs ys
 
 -- what is held, with another list of instructions
-abbrev coded : Made → List Instr → Made
+abbrev coded : Maker → List Instr → Maker
 coded m code = record { profile = m.profile; code = code; addresses = m.addresses; opened = m.opened }
 
-with_code-append : (m : Made) (a b : List Instr) → with_code (with_code m a) b ≡ with_code m (a ++ b)
+with_code-append : (m : Maker) (a b : List Instr) → with_code (with_code m a) b ≡ with_code m (a ++ b)
 with_code-append m a b = ap (coded m) (append_assoc m.code a b)
 
 -- whatever is made so far by the profile, these actions add the piece
-abbrev pub Makes : Profile → List Action → Piece → Type 0
-Makes p acts piece = (m : Made) → m.profile ≡ p → made_from m acts ≡ with_code m (piece (length m.code))
+abbrev pub Makes : Profile → List Action → PlacedCode → Type 0
+Makes p acts piece = (m : Maker) → m.profile ≡ p → maker_from m acts ≡ with_code m (piece (length m.code))
 
 -- code, and then what further actions add
-behind : (p : Profile) (m : Made) → m.profile ≡ p → (front : List Instr) (ys : List Action) (b : Piece) → Makes p ys b →
-    made_from (with_code m front) ys ≡ with_code m (front ++ b (length m.code + length front))
+behind : (p : Profile) (m : Maker) → m.profile ≡ p → (front : List Instr) (ys : List Action) (b : PlacedCode) →
+    Makes p ys b →
+    maker_from (with_code m front) ys ≡ with_code m (front ++ b (length m.code + length front))
 behind p m e front ys b second =
     second (with_code m front) e
     ∙ with_code-append m front (b (length (m.code ++ front)))
     ∙ ap (λ (at : ℕ). with_code m (front ++ b at)) (length-append m.code front)
 
-pub makes_then : (p : Profile) (xs ys : List Action) (a b : Piece) → Makes p xs a → Makes p ys b →
+pub makes_then : (p : Profile) (xs ys : List Action) (a b : PlacedCode) → Makes p xs a → Makes p ys b →
     Makes p (xs ++ ys) (a ⨾ b)
 makes_then p xs ys a b first second m e =
-    made_from-append m xs ys ∙ ap (λ (r : Made). made_from r ys) (first m e) ∙
+    maker_from-append m xs ys ∙ ap (λ (r : Maker). maker_from r ys) (first m e) ∙
     behind p m e (a (length m.code)) ys b second
 
 -- one action that adds these instructions, and then others
-pub makes_one : (p : Profile) (x : Action) (ys : List Action) (is : List Instr) (b : Piece) →
-    ((m : Made) → making m x ≡ with_code m is) → Makes p ys b → Makes p (x ∷ ys) (only is ⨾ b)
-makes_one p x ys is b first second m e = ap (λ (r : Made). made_from r ys) (first m) ∙ behind p m e is ys b second
+pub makes_one : (p : Profile) (x : Action) (ys : List Action) (is : List Instr) (b : PlacedCode) →
+    ((m : Maker) → maker_with m x ≡ with_code m is) → Makes p ys b → Makes p (x ∷ ys) (only is ⨾ b)
+makes_one p x ys is b first second m e = ap (λ (r : Maker). maker_from r ys) (first m) ∙ behind p m e is ys b second
 
 -- the instruction at the seam is written
 set_at : (front back : List Instr) (y i : Instr) (k : ℕ) → k ≡ length front →
@@ -67,8 +68,8 @@ set_at front back y i k e =
     ap (λ (n : ℕ). slice_set (front ++ y ∷ back) n i) e ∙ set-append_seam front y back i
 
 -- a branch past a piece
-closed_if : (m : Made) (s : Piece) →
-    closing (with_code (with_branch m) (s (length (with_branch m).code))) ≡ with_code m (past s (length m.code))
+closed_if : (m : Maker) (s : PlacedCode) →
+    with_closed (with_code (with_branch m) (s (length (with_branch m).code))) ≡ with_code m (past s (length m.code))
 closed_if m s =
     let at = length m.code in
     let front = m.code ++ Branch 0 ∷ [] in
@@ -82,17 +83,17 @@ closed_if m s =
     ∙ ap (λ (n : ℕ). coded m (slice_set (m.code ++ Branch 0 ∷ inner) at (Branch n))) target
     ∙ ap (coded m) (set_at m.code inner (Branch 0) (Branch (at + 1 + length inner)) at refl)
 
-pub makes_if : (p : Profile) (xs ys : List Action) (s b : Piece) → Makes p xs s → Makes p ys b →
+pub makes_if : (p : Profile) (xs ys : List Action) (s b : PlacedCode) → Makes p xs s → Makes p ys b →
     Makes p (IfTest ∷ (xs ++ EndIf ∷ ys)) (past s ⨾ b)
 makes_if p xs ys s b first second m e =
     let m1 = with_branch m in
-    made_from-append m1 xs (EndIf ∷ ys)
-    ∙ ap (λ (r : Made). made_from (closing r) ys) (first m1 e)
-    ∙ ap (λ (r : Made). made_from r ys) (closed_if m s)
+    maker_from-append m1 xs (EndIf ∷ ys)
+    ∙ ap (λ (r : Maker). maker_from (with_closed r) ys) (first m1 e)
+    ∙ ap (λ (r : Maker). maker_from r ys) (closed_if m s)
     ∙ behind p m e (past s (length m.code)) ys b second
 
 -- the first part of a choice is made, and a branch without a target behind it
-abbrev between : Made → List Instr → Made
+abbrev between : Maker → List Instr → Maker
 between m inner = record {
   profile = m.profile;
   code = m.code ++ Branch (length m.code + 1 + length inner + 1 + 1) ∷ (inner ++ Const (pos 0) ∷ Branch 0 ∷ []);
@@ -100,7 +101,7 @@ between m inner = record {
   opened = (length m.code + 1 + length inner + 1) ∷ m.opened;
 }
 
-begun_else : (m : Made) (s : Piece) →
+begun_else : (m : Maker) (s : PlacedCode) →
     with_other (with_code (with_branch m) (s (length (with_branch m).code))) ≡ between m (s (length m.code + 1))
 begun_else m s =
     let at = length m.code in
@@ -112,14 +113,14 @@ begun_else m s =
     let size : length (m.code ++ Branch 0 ∷ inner) ≡ at + 1 + length inner =
     omega (arith, length-append m.code (Branch 0 ∷ inner)) in
     let step =
-    λ (l : List Instr). let r : Made = record {
+    λ (l : List Instr). let r : Maker = record {
       profile = m.profile;
       code = slice_set (l ++ tail) at (Branch (length l + 1 + 1));
       addresses = m.addresses;
       opened = (length l + 1) ∷ m.opened;
     } in r in
     let sized =
-    λ (k : ℕ). let r : Made = record {
+    λ (k : ℕ). let r : Maker = record {
       profile = m.profile;
       code = slice_set ((m.code ++ Branch 0 ∷ inner) ++ tail) at (Branch (k + 1 + 1));
       addresses = m.addresses;
@@ -127,7 +128,7 @@ begun_else m s =
     } in r in
     let other = at + 1 + length inner + 1 + 1 in
     let last =
-    λ (l : List Instr). let r : Made = record
+    λ (l : List Instr). let r : Maker = record
     { profile = m.profile; code = l; addresses = m.addresses; opened = (at + 1 + length inner + 1) ∷ m.opened } in r
     in
     ap (λ (n : ℕ). step (front ++ s n)) here
@@ -136,8 +137,8 @@ begun_else m s =
     ∙ ap (λ (l : List Instr). last (slice_set l at (Branch other))) (append_assoc m.code (Branch 0 ∷ inner) tail)
     ∙ ap last (set_at m.code (inner ++ tail) (Branch 0) (Branch other) at refl)
 
-closed_else : (m : Made) (s t : Piece) →
-    closing (with_code (between m (s (length m.code + 1))) (t (length (between m (s (length m.code + 1))).code))) ≡
+closed_else : (m : Maker) (s t : PlacedCode) →
+    with_closed (with_code (between m (s (length m.code + 1))) (t (length (between m (s (length m.code + 1))).code))) ≡
     with_code m (either s t (length m.code))
 closed_else m s t =
     let at = length m.code in
@@ -153,7 +154,7 @@ closed_else m s t =
       length-append inner (Const (pos 0) ∷ Branch 0 ∷ []),
     )
     in
-    let place : at + 1 + length inner + 1 ≡ length front =
+    let registers : at + 1 + length inner + 1 ≡ length front =
     omega (
       arith,
       length-append m.code (Branch other ∷ (inner ++ Const (pos 0) ∷ [])),
@@ -162,32 +163,34 @@ closed_else m s t =
     in
     let flat : begun.code ++ second ≡ front ++ Branch 0 ∷ second = simp append_assoc in
     let size : length (front ++ Branch 0 ∷ second) ≡ other + length second =
-    omega (arith, length-append front (Branch 0 ∷ second), place) in
+    omega (arith, length-append front (Branch 0 ∷ second), registers) in
     let step = λ (l : List Instr). coded m (slice_set l (at + 1 + length inner + 1) (Branch (length l))) in
     let end : Instr = Branch (other + length second) in
     let whole : front ++ end ∷ second ≡ m.code ++ either s t at = simp append_assoc in
     ap (λ (n : ℕ). step (begun.code ++ t n)) here
     ∙ ap step flat
     ∙ ap (λ (n : ℕ). coded m (slice_set (front ++ Branch 0 ∷ second) (at + 1 + length inner + 1) (Branch n))) size
-    ∙ ap (coded m) (set_at front second (Branch 0) end (at + 1 + length inner + 1) place)
+    ∙ ap (coded m) (set_at front second (Branch 0) end (at + 1 + length inner + 1) registers)
     ∙ ap (coded m) whole
 
-pub makes_choice : (p : Profile) (xs ys zs : List Action) (s t b : Piece) → Makes p xs s → Makes p ys t → Makes p zs b →
+pub makes_choice : (p : Profile) (xs ys zs : List Action) (s t b : PlacedCode) → Makes p xs s → Makes p ys t →
+    Makes p zs b →
     Makes p (IfTest ∷ (xs ++ ElsePart ∷ (ys ++ EndIf ∷ zs))) (either s t ⨾ b)
 makes_choice p xs ys zs s t b first second third m e =
     let m1 = with_branch m in
     let m2 = between m (s (length m.code + 1)) in
-    made_from-append m1 xs (ElsePart ∷ (ys ++ EndIf ∷ zs))
-    ∙ ap (λ (r : Made). made_from (with_other r) (ys ++ EndIf ∷ zs)) (first m1 e)
-    ∙ ap (λ (r : Made). made_from r (ys ++ EndIf ∷ zs)) (begun_else m s)
-    ∙ made_from-append m2 ys (EndIf ∷ zs)
-    ∙ ap (λ (r : Made). made_from (closing r) zs) (second m2 e)
-    ∙ ap (λ (r : Made). made_from r zs) (closed_else m s t)
+    maker_from-append m1 xs (ElsePart ∷ (ys ++ EndIf ∷ zs))
+    ∙ ap (λ (r : Maker). maker_from (with_other r) (ys ++ EndIf ∷ zs)) (first m1 e)
+    ∙ ap (λ (r : Maker). maker_from r (ys ++ EndIf ∷ zs)) (begun_else m s)
+    ∙ maker_from-append m2 ys (EndIf ∷ zs)
+    ∙ ap (λ (r : Maker). maker_from (with_closed r) zs) (second m2 e)
+    ∙ ap (λ (r : Maker). maker_from r zs) (closed_else m s t)
     ∙ behind p m e (either s t (length m.code)) zs b third
 
 -- a loop
-closed_loop : (m : Made) (front : List Instr) (s : Piece) → let m2 =
-    with_branch (with_code (opening m) front) in without_open (closing (with_turn (with_code m2 (s (length m2.code)))))
+closed_loop : (m : Maker) (front : List Instr) (s : PlacedCode) → let m2 =
+    with_branch (with_code (with_opened m) front) in without_open
+    (with_closed (with_turn (with_code m2 (s (length m2.code)))))
     ≡
     with_code m
     (front ++ past (s ⨾ only (Const (pos 0) ∷ Branch (length m.code) ∷ [])) (length m.code + length front))
@@ -211,26 +214,27 @@ closed_loop m front s =
     ∙ ap (coded m) (set_at test (inner ++ tail) (Branch 0) end (length test) refl)
     ∙ ap (coded m) (append_assoc m.code front (end ∷ (inner ++ tail)))
 
-pub makes_loop : (p : Profile) (xs ys zs : List Action) (c s b : Piece) → Makes p xs c → Makes p ys s → Makes p zs b →
+pub makes_loop : (p : Profile) (xs ys zs : List Action) (c s b : PlacedCode) → Makes p xs c → Makes p ys s →
+    Makes p zs b →
     Makes p (BeginWhile ∷ (xs ++ WhileTest ∷ (ys ++ EndWhile ∷ zs))) (loop c s ⨾ b)
 makes_loop p xs ys zs c s b first second third m e =
-    let m0 = opening m in
+    let m0 = with_opened m in
     let front = c (length m.code) in
     let m2 = with_branch (with_code m0 front) in
-    made_from-append m0 xs (WhileTest ∷ (ys ++ EndWhile ∷ zs))
-    ∙ ap (λ (r : Made). made_from (with_branch r) (ys ++ EndWhile ∷ zs)) (first m0 e)
-    ∙ made_from-append m2 ys (EndWhile ∷ zs)
-    ∙ ap (λ (r : Made). made_from (without_open (closing (with_turn r))) zs) (second m2 e)
-    ∙ ap (λ (r : Made). made_from r zs) (closed_loop m front s)
+    maker_from-append m0 xs (WhileTest ∷ (ys ++ EndWhile ∷ zs))
+    ∙ ap (λ (r : Maker). maker_from (with_branch r) (ys ++ EndWhile ∷ zs)) (first m0 e)
+    ∙ maker_from-append m2 ys (EndWhile ∷ zs)
+    ∙ ap (λ (r : Maker). maker_from (without_open (with_closed (with_turn r))) zs) (second m2 e)
+    ∙ ap (λ (r : Maker). maker_from r zs) (closed_loop m front s)
     ∙ behind p m e (loop c s (length m.code)) zs b third
 
 -- an operator that both sides stand before
-applied : (m : Made) (o : Op) (short : Bool) → m.profile.short_circuit ≡ short →
-    making m (ApplyBinop o) ≡ (if short then ended_right o m else with_code m (Binop o ∷ []))
+applied : (m : Maker) (o : Op) (short : Bool) → m.profile.short_circuit ≡ short →
+    maker_with m (ApplyBinop o) ≡ (if short then ended_right o m else with_code m (Binop o ∷ []))
 applied m o short is = ap (λ (c : Bool). if c then ended_right o m else with_code m (Binop o ∷ [])) is
 
-between_sides : (m : Made) (o : Op) (short : Bool) → m.profile.short_circuit ≡ short →
-    making m (LogicMiddle o) ≡ (if short then begun_right o m else m)
+between_sides : (m : Maker) (o : Op) (short : Bool) → m.profile.short_circuit ≡ short →
+    maker_with m (LogicMiddle o) ≡ (if short then begun_right o m else m)
 between_sides m o short is = ap (λ (c : Bool). if c then begun_right o m else m) is
 
 makes_nothing : (p : Profile) → Makes p [] no_code
@@ -238,18 +242,18 @@ makes_nothing p m e = ap (coded m) (sym (append-nil m.code))
 
 -- where both sides are evaluated
 module _ (p : Profile) (full : p.short_circuit ≡ false) where
-  is_full : (m : Made) → m.profile ≡ p → m.profile.short_circuit ≡ false
+  is_full : (m : Maker) → m.profile ≡ p → m.profile.short_circuit ≡ false
   is_full m e = ap (λ (p : Profile). p.short_circuit) e ∙ full
 
-  makes_middle : (o : Op) (ys : List Action) (b : Piece) → Makes p ys b → Makes p (middle o ++ ys) b
+  makes_middle : (o : Op) (ys : List Action) (b : PlacedCode) → Makes p ys b → Makes p (middle o ++ ys) b
   makes_middle o ys b second =
       elim (is_logic o) as (λ v. Makes p ((if v then LogicMiddle o ∷ [] else []) ++ ys) b) [
-        | true ↦ (λ m e. ap (λ (r : Made). made_from r ys) (between_sides m o false (is_full m e)) ∙ second m e)
+        | true ↦ (λ m e. ap (λ (r : Maker). maker_from r ys) (between_sides m o false (is_full m e)) ∙ second m e)
         | false ↦ second
       ]
 
-  makes_both : (o : Op) (xs ys : List Action) (a b : Piece) → Makes p xs a → Makes p ys b →
-      Makes p (xs ++ (middle o ++ (ys ++ ApplyBinop o ∷ []))) (both o a b)
+  makes_both : (o : Op) (xs ys : List Action) (a b : PlacedCode) → Makes p xs a → Makes p ys b →
+      Makes p (xs ++ (middle o ++ (ys ++ ApplyBinop o ∷ []))) (both_code o a b)
   makes_both o xs ys a b first second =
       let last : Makes p (ApplyBinop o ∷ []) (only (Binop o ∷ [])) = λ m e. applied m o false (is_full m e) in
       makes_then p xs (middle o ++ (ys ++ ApplyBinop o ∷ [])) a (b ⨾ only (Binop o ∷ [])) first
@@ -258,10 +262,10 @@ module _ (p : Profile) (full : p.short_circuit ≡ false) where
 
 -- where the right side is left out
 module _ (p : Profile) (leaves : p.short_circuit ≡ true) where
-  is_short : (m : Made) → m.profile ≡ p → m.profile.short_circuit ≡ true
+  is_short : (m : Maker) → m.profile ≡ p → m.profile.short_circuit ≡ true
   is_short m e = ap (λ (p : Profile). p.short_circuit) e ∙ leaves
 
-  makes_and : (ys : List Action) (b : Piece) → Makes p ys b →
+  makes_and : (ys : List Action) (b : PlacedCode) → Makes p ys b →
       Makes p (LogicMiddle op.And ∷ (ys ++ ApplyBinop op.And ∷ []))
       (either (b ⨾ only (Truth ∷ [])) (only (Const (pos 0) ∷ [])))
   makes_and ys b second m e =
@@ -269,17 +273,17 @@ module _ (p : Profile) (leaves : p.short_circuit ≡ true) where
       let t = only (Const (pos 0) ∷ []) in
       let m1 = with_branch m in
       let m2 = with_code m1 (b (length m1.code)) in
-      ap (λ (r : Made). made_from r (ys ++ ApplyBinop op.And ∷ [])) (between_sides m op.And true (is_short m e))
-      ∙ made_from-append m1 ys (ApplyBinop op.And ∷ [])
-      ∙ ap (λ (r : Made). making r (ApplyBinop op.And)) (second m1 e)
+      ap (λ (r : Maker). maker_from r (ys ++ ApplyBinop op.And ∷ [])) (between_sides m op.And true (is_short m e))
+      ∙ maker_from-append m1 ys (ApplyBinop op.And ∷ [])
+      ∙ ap (λ (r : Maker). maker_with r (ApplyBinop op.And)) (second m1 e)
       ∙ applied m2 op.And true (is_short m2 e)
       ∙
-      ap (λ (r : Made). closing (with_code (with_other r) (Const (pos 0) ∷ [])))
+      ap (λ (r : Maker). with_closed (with_code (with_other r) (Const (pos 0) ∷ [])))
       (with_code-append m1 (b (length m1.code)) (Truth ∷ []))
-      ∙ ap (λ (r : Made). closing (with_code r (Const (pos 0) ∷ []))) (begun_else m s)
+      ∙ ap (λ (r : Maker). with_closed (with_code r (Const (pos 0) ∷ []))) (begun_else m s)
       ∙ closed_else m s t
 
-  makes_or : (ys : List Action) (b : Piece) → Makes p ys b →
+  makes_or : (ys : List Action) (b : PlacedCode) → Makes p ys b →
       Makes p (LogicMiddle op.Or ∷ (ys ++ ApplyBinop op.Or ∷ []))
       (either (only (Const (pos 1) ∷ [])) (b ⨾ only (Truth ∷ [])))
   makes_or ys b second m e =
@@ -287,23 +291,23 @@ module _ (p : Profile) (leaves : p.short_circuit ≡ true) where
       let t = b ⨾ only (Truth ∷ []) in
       let m1 = between m (Const (pos 1) ∷ []) in
       let m2 = with_code m1 (b (length m1.code)) in
-      ap (λ (r : Made). made_from r (ys ++ ApplyBinop op.Or ∷ []))
+      ap (λ (r : Maker). maker_from r (ys ++ ApplyBinop op.Or ∷ []))
       (between_sides m op.Or true (is_short m e) ∙ begun_else m s)
-      ∙ made_from-append m1 ys (ApplyBinop op.Or ∷ [])
-      ∙ ap (λ (r : Made). making r (ApplyBinop op.Or)) (second m1 e)
+      ∙ maker_from-append m1 ys (ApplyBinop op.Or ∷ [])
+      ∙ ap (λ (r : Maker). maker_with r (ApplyBinop op.Or)) (second m1 e)
       ∙ applied m2 op.Or true (is_short m2 e)
-      ∙ ap closing (with_code-append m1 (b (length m1.code)) (Truth ∷ []))
+      ∙ ap with_closed (with_code-append m1 (b (length m1.code)) (Truth ∷ []))
       ∙ closed_else m s t
 
-  makes_plain : (o : Op) (xs ys : List Action) (a b : Piece) →
-      ((m : Made) → ended_right o m ≡ with_code m (Binop o ∷ [])) → Makes p xs a → Makes p ys b →
-      Makes p (xs ++ (ys ++ ApplyBinop o ∷ [])) (both o a b)
+  makes_plain : (o : Op) (xs ys : List Action) (a b : PlacedCode) →
+      ((m : Maker) → ended_right o m ≡ with_code m (Binop o ∷ [])) → Makes p xs a → Makes p ys b →
+      Makes p (xs ++ (ys ++ ApplyBinop o ∷ [])) (both_code o a b)
   makes_plain o xs ys a b plain first second =
       let last : Makes p (ApplyBinop o ∷ []) (only (Binop o ∷ [])) = λ m e. applied m o true (is_short m e) ∙ plain m in
       makes_then p xs (ys ++ ApplyBinop o ∷ []) a (b ⨾ only (Binop o ∷ [])) first
       (makes_then p ys (ApplyBinop o ∷ []) b (only (Binop o ∷ [])) second last)
 
-  makes_short : (o : Op) (xs ys : List Action) (a b : Piece) → Makes p xs a → Makes p ys b →
+  makes_short : (o : Op) (xs ys : List Action) (a b : PlacedCode) → Makes p xs a → Makes p ys b →
       Makes p (xs ++ (middle o ++ (ys ++ ApplyBinop o ∷ []))) (short_code o a b)
   makes_short op.And xs ys a b first second =
       makes_then p xs (LogicMiddle op.And ∷ (ys ++ ApplyBinop op.And ∷ [])) a
@@ -314,12 +318,12 @@ module _ (p : Profile) (leaves : p.short_circuit ≡ true) where
   makes_short o xs ys a b first second = makes_plain o xs ys a b (λ m. refl) first second
 
 -- an operator of either profile
-makes_binary : (p : Profile) (o : Op) (xs ys : List Action) (a b : Piece) → Makes p xs a → Makes p ys b →
+makes_binary : (p : Profile) (o : Op) (xs ys : List Action) (a b : PlacedCode) → Makes p xs a → Makes p ys b →
     Makes p (xs ++ (middle o ++ (ys ++ ApplyBinop o ∷ []))) (binary_code p o a b)
 makes_binary p o xs ys a b first second = by p.short_circuit refl
   where
     by : (short : Bool) → p.short_circuit ≡ short →
-        Makes p (xs ++ (middle o ++ (ys ++ ApplyBinop o ∷ []))) (if short then short_code o a b else both o a b)
+        Makes p (xs ++ (middle o ++ (ys ++ ApplyBinop o ∷ []))) (if short then short_code o a b else both_code o a b)
     by true leaves = makes_short p leaves o xs ys a b first second
     by false full = makes_both p full o xs ys a b first second
 
@@ -373,26 +377,26 @@ module _ (p : Profile) where
       (makes_one p GiveBack (body_actions next) (Retsub ∷ []) (body_code p next) (λ m. refl) (makes_body next))
 
   -- a function: its code, and its address by its number
-  made_function : (m : Made) → m.profile ≡ p → (n : ℕ) (f : Function) (more : List Action) →
-      made_from m (function_actions n f ++ more) ≡
-      made_from (with_code (with_function m n) (function_code p f (length m.code))) more
+  made_function : (m : Maker) → m.profile ≡ p → (n : ℕ) (f : Function) (more : List Action) →
+      maker_from m (function_actions n f ++ more) ≡
+      maker_from (with_code (with_begun_function m n) (function_code p f (length m.code))) more
   made_function m e n f more =
       let acts = body_actions f.body ++ (last_return_actions ++ EndFunction (length f.variables) ∷ []) in
-      let ended : Makes p (last_return_actions ++ EndFunction (length f.variables) ∷ []) last_return =
+      let ended : Makes p (last_return_actions ++ EndFunction (length f.variables) ∷ []) last_return_code =
       λ m e. ap (coded m) (append_assoc m.code (Const (pos 0) ∷ []) (Retsub ∷ [])) in
-      made_from-append (with_function m n) acts more
-      ∙ ap (λ (r : Made). made_from r more)
+      maker_from-append (with_begun_function m n) acts more
+      ∙ ap (λ (r : Maker). maker_from r more)
       (makes_then p (body_actions f.body) (last_return_actions ++ EndFunction (length f.variables) ∷ [])
-      (body_code p f.body) last_return (makes_body f.body) ended (with_function m n) e)
+      (body_code p f.body) last_return_code (makes_body f.body) ended (with_begun_function m n) e)
 
   module _ (file : File) where
     -- one function of the order, and the others
-    made_next : (order : List ℕ) (m : Made) → m.profile ≡ p → (n : ℕ) → n < length file.functions →
-        made_from m (functions_actions file.functions (n ∷ order)) ≡
-        made_from (with_code (with_function m n) (function_code p (function_at file n) (length m.code)))
+    made_next : (order : List ℕ) (m : Maker) → m.profile ≡ p → (n : ℕ) → n < length file.functions →
+        maker_from m (functions_actions file.functions (n ∷ order)) ≡
+        maker_from (with_code (with_begun_function m n) (function_code p (function_at file n) (length m.code)))
         (functions_actions file.functions order)
     made_next order m e n known =
-        ap (λ (f : Option Function). made_from m (numbered_actions n f ++ functions_actions file.functions order))
+        ap (λ (f : Option Function). maker_from m (numbered_actions n f ++ functions_actions file.functions order))
         (slice_get-get_or file.functions n no_function known)
         ∙ made_function m e n (function_at file n) (functions_actions file.functions order)
 
@@ -400,101 +404,104 @@ module _ (p : Profile) where
     AllKnown order = (k : ℕ) → IsAmong k order → k < length file.functions
 
     -- the code of functions in this order
-    made_code : (order : List ℕ) (m : Made) → m.profile ≡ p → AllKnown order →
-        (made_from m (functions_actions file.functions order)).code ≡
+    made_code : (order : List ℕ) (m : Maker) → m.profile ≡ p → AllKnown order →
+        (maker_from m (functions_actions file.functions order)).code ≡
         m.code ++ functions_code p file order (length m.code)
     made_code [] m e known = sym (append-nil m.code)
     made_code (n ∷ order) m e known =
         let front = function_code p (function_at file n) (length m.code) in
-        ap (λ (r : Made). r.code) (made_next order m e n (known n (inl refl)))
-        ∙ made_code order (with_code (with_function m n) front) e (λ k later. known k (inr later))
+        ap (λ (r : Maker). r.code) (made_next order m e n (known n (inl refl)))
+        ∙ made_code order (with_code (with_begun_function m n) front) e (λ k later. known k (inr later))
         ∙ append_assoc m.code front (functions_code p file order (length (m.code ++ front)))
         ∙ ap (λ (at : ℕ). m.code ++ (front ++ functions_code p file order at)) (length-append m.code front)
 
     -- the addresses of the others stay
-    other_addresses : (order : List ℕ) (m : Made) → m.profile ≡ p → (k : ℕ) → AllKnown order → (IsAmong k order → ⊥) →
-        get_or (made_from m (functions_actions file.functions order)).addresses k 0 ≡ get_or m.addresses k 0
+    other_addresses : (order : List ℕ) (m : Maker) → m.profile ≡ p → (k : ℕ) → AllKnown order → (IsAmong k order → ⊥) →
+        get_or (maker_from m (functions_actions file.functions order)).addresses k 0 ≡ get_or m.addresses k 0
     other_addresses [] m e k known other = refl
     other_addresses (n ∷ order) m e k known other =
         let front = function_code p (function_at file n) (length m.code) in
         let apart : k ≢ n = λ same. other (inl same) in
-        ap (λ (r : Made). get_or r.addresses k 0) (made_next order m e n (known n (inl refl)))
+        ap (λ (r : Maker). get_or r.addresses k 0) (made_next order m e n (known n (inl refl)))
         ∙
-        other_addresses order (with_code (with_function m n) front) e k (λ j later. known j (inr later))
+        other_addresses order (with_code (with_begun_function m n) front) e k (λ j later. known j (inr later))
         (λ later. other (inr later))
         ∙ get_or-set_other m.addresses n k (length m.code) 0 apart
 
-    length-addresses : (order : List ℕ) (m : Made) → m.profile ≡ p → AllKnown order →
-        length (made_from m (functions_actions file.functions order)).addresses ≡ length m.addresses
+    length-addresses : (order : List ℕ) (m : Maker) → m.profile ≡ p → AllKnown order →
+        length (maker_from m (functions_actions file.functions order)).addresses ≡ length m.addresses
     length-addresses [] m e known = refl
     length-addresses (n ∷ order) m e known =
-        ap (λ (r : Made). length r.addresses) (made_next order m e n (known n (inl refl)))
+        ap (λ (r : Maker). length r.addresses) (made_next order m e n (known n (inl refl)))
         ∙
-        length-addresses order (with_code (with_function m n) (function_code p (function_at file n) (length m.code))) e
+        length-addresses order
+        (with_code (with_begun_function m n) (function_code p (function_at file n) (length m.code))) e
         (λ k later. known k (inr later))
         ∙ length-set m.addresses n (length m.code)
 
     -- a function's own address
-    own_if : (k n : ℕ) (order : List ℕ) (m next : Made) (place : ℕ) → next.profile ≡ p →
+    own_if : (k n : ℕ) (order : List ℕ) (m next : Maker) (registers : ℕ) → next.profile ≡ p →
         next.addresses ≡ slice_set m.addresses n (length m.code) → AllKnown order → k < length m.addresses →
         (IsAmong n order → ⊥) → IsAmong k (n ∷ order) →
-        (IsAmong k order → get_or (made_from next (functions_actions file.functions order)).addresses k 0 ≡ place) →
+        (IsAmong k order → get_or (maker_from next (functions_actions file.functions order)).addresses k 0 ≡ registers)
+        →
         (b : Bool) → (k == n) ≡ b →
-        get_or (made_from next (functions_actions file.functions order)).addresses k 0 ≡
-        (if b then length m.code else place)
-    own_if k n order m next place e set known within once here later true test =
+        get_or (maker_from next (functions_actions file.functions order)).addresses k 0 ≡
+        (if b then length m.code else registers)
+    own_if k n order m next registers e set known within once here later true test =
         let same : n ≡ k = grind (arith, nat_tests, test) in
         let other : IsAmong k order → ⊥ = subst (λ (j : ℕ). IsAmong j order → ⊥) same once in
         other_addresses order next e k known other
         ∙ ap (λ (l : List ℕ). get_or l k 0) set
         ∙ ap (λ (j : ℕ). get_or (slice_set m.addresses j (length m.code)) k 0) same
         ∙ get_or-set_same m.addresses k (length m.code) 0 within
-    own_if k n order m next place e set known within once here later false test =
+    own_if k n order m next registers e set known within once here later false test =
         later (elim here [ inl same ↦ absurd (grind (arith, nat_tests, test, same)) | inr there ↦ there ])
 
-    own_address : (order : List ℕ) (m : Made) → m.profile ≡ p → (k : ℕ) → AllKnown order → AreDistinct order →
+    own_address : (order : List ℕ) (m : Maker) → m.profile ≡ p → (k : ℕ) → AllKnown order → AreDistinct order →
         IsAmong k order → k < length m.addresses →
-        get_or (made_from m (functions_actions file.functions order)).addresses k 0 ≡
-        place_of p file k order (length m.code)
+        get_or (maker_from m (functions_actions file.functions order)).addresses k 0 ≡
+        address_in p file k order (length m.code)
     own_address [] m e k known once here within = absurd here
     own_address (n ∷ order) m e k known once here within =
         let at = length m.code in
         let front = function_code p (function_at file n) at in
-        let next = with_code (with_function m n) front in
+        let next = with_code (with_begun_function m n) front in
         let inside : k < length next.addresses = omega (arith, within, length-set m.addresses n at) in
-        ap (λ (r : Made). get_or r.addresses k 0) (made_next order m e n (known n (inl refl)))
+        ap (λ (r : Maker). get_or r.addresses k 0) (made_next order m e n (known n (inl refl)))
         ∙
-        own_if k n order m next (place_of p file k order (at + length front)) e refl (λ j later. known j (inr later))
+        own_if k n order m next (address_in p file k order (at + length front)) e refl (λ j later. known j (inr later))
         within once.0 here
         (λ there. own_address order next e k (λ j later. known j (inr later)) once.1 there inside ∙
-        ap (λ (a : ℕ). place_of p file k order a) (length-append m.code front))
+        ap (λ (a : ℕ). address_in p file k order a) (length-append m.code front))
         (k == n) refl
 
     -- What the actions of a file make: its code without the NOP, and the addresses of its functions.
-    pub made_file_code : IsResolved file → (made p (actions file)).code ++ Nop ∷ [] ≡ (code_of p file).instructions
-    made_file_code r = ap (λ (code : List Instr). code ++ Nop ∷ []) (made_code file.order (made_nothing p) refl r.only)
+    pub made_file_code : IsResolved file →
+        (maker_after p (actions file)).code ++ Nop ∷ [] ≡ (code_of p file).instructions
+    made_file_code r = ap (λ (code : List Instr). code ++ Nop ∷ []) (made_code file.order (empty_maker p) refl r.only)
 
     pub made_file_addresses : IsResolved file →
-        take (length file.functions) (made p (actions file)).addresses ≡ (code_of p file).addresses
+        take (length file.functions) (maker_after p (actions file)).addresses ≡ (code_of p file).addresses
     made_file_addresses r =
-        let made_all = (made p (actions file)).addresses in
+        let made_all = (maker_after p (actions file)).addresses in
         let n = length file.functions in
         let size : length made_all ≡ 64 =
-        length-addresses file.order (made_nothing p) refl r.only ∙ length-replicate {A = ℕ} 64 0 in
-        let place = λ (k : ℕ). place_of p file k file.order 0 in
-        ext_get_or 0 (take n made_all) (map place (range_with_len 0 n))
+        length-addresses file.order (empty_maker p) refl r.only ∙ length-replicate {A = ℕ} 64 0 in
+        let registers = λ (k : ℕ). address_in p file k file.order 0 in
+        ext_get_or 0 (take n made_all) (map registers (range_with_len 0 n))
         (omega (
           arith,
           length-take n made_all,
           size,
           r.functions,
-          length-map (range_with_len 0 n) place,
+          length-map (range_with_len 0 n) registers,
           length-range_with_len 0 n,
         ))
         (λ k within.
         let below : k < n = omega (arith, within, length-take n made_all) in
         get_or-take n made_all k 0 below
         ∙
-        own_address file.order (made_nothing p) refl k r.only r.once (r.defined k below)
+        own_address file.order (empty_maker p) refl k r.only r.once (r.defined k below)
         (omega (arith, below, r.functions, length-replicate {A = ℕ} 64 0))
-        ∙ sym (get_or-map-range_with_len place 0 n k k 0 below (zero-add k)))
+        ∙ sym (get_or-map-range_with_len registers 0 n k k 0 below (zero-add k)))

@@ -5,7 +5,7 @@ use Rattle.code.specs.declared.instr.Instr.{Instr}
 use Rattle.code.specs.declared.instr.Instr.TheVariants.{Const, Branch}
 use Rattle.code.specs.declared.want.Want.{Want}
 use Rattle.code.specs.declared.want.Want.TheVariants.{Restart}
-use Rattle.code.specs.Generation.{ObjectCode, Piece, ◌⨾◌, either}
+use Rattle.code.specs.Generation.{Program, PlacedCode, ◌⨾◌, either}
 use Rattle.code.specs.declared.frame.Frame.{Frame}
 use Rattle.code.specs.Machine.{instr_at}
 use Rattle.code.specs.Meaning.{Vars, Evaluated, Flow, Through, Returns}
@@ -13,16 +13,16 @@ use Rattle.code.proofs.Follows.{HasSizes, Arrives, Follows, wants}
 use Rattle.code.proofs.Instructions.{run, IsDepth, back_with}
 
 -- these instructions stand in the code from this address on
-abbrev pub StandsAt : ObjectCode → ℕ → List Instr → Type 0
+abbrev pub StandsAt : Program → ℕ → List Instr → Type 0
 StandsAt code at [] = Unit {0}
 StandsAt code at (i ∷ is) = (instr_at code at ≡ Some i) × StandsAt code (at + 1) is
 
 -- the two parts of a list that stands in the code
-pub record StandsBoth (code : ObjectCode) (at : ℕ) (xs ys : List Instr) : Type 0 where
+pub record StandsBoth (code : Program) (at : ℕ) (xs ys : List Instr) : Type 0 where
   pub first : StandsAt code at xs
   pub second : StandsAt code (at + length xs) ys
 
-pub stands_both : (code : ObjectCode) (at : ℕ) (xs ys : List Instr) → StandsAt code at (xs ++ ys) →
+pub stands_both : (code : Program) (at : ℕ) (xs ys : List Instr) → StandsAt code at (xs ++ ys) →
     StandsBoth code at xs ys
 stands_both code at [] ys s =
     let e : at ≡ at + 0 = omega arith in
@@ -32,36 +32,36 @@ stands_both code at (x ∷ xs) ys s =
     let e : at + 1 + length xs ≡ at + suc (length xs) = omega arith in
     record { first = (s.0, rest.first); second = subst (λ (a : ℕ). StandsAt code a ys) e rest.second }
 
-pub stands : (code : ObjectCode) (at : ℕ) (a b : Piece) → StandsAt code at ((a ⨾ b) at) →
+pub stands : (code : Program) (at : ℕ) (a b : PlacedCode) → StandsAt code at ((a ⨾ b) at) →
     StandsBoth code at (a at) (b (at + length (a at)))
 stands code at a b s = stands_both code at (a at) (b (at + length (a at))) s
 
 -- where a piece and the one behind it end
-pub ends : (at : ℕ) (a b : Piece) → at + length (a at) + length (b (at + length (a at))) ≡ at + length ((a ⨾ b) at)
+pub ends : (at : ℕ) (a b : PlacedCode) → at + length (a at) + length (b (at + length (a at))) ≡ at + length ((a ⨾ b) at)
 ends at a b = omega (arith, length-append (a at) (b (at + length (a at))))
 
 -- a choice between two pieces
-pub record StandsEither (code : ObjectCode) (at : ℕ) (s t : Piece) (other end : ℕ) : Type 0 where
+pub record StandsEither (code : Program) (at : ℕ) (s t : PlacedCode) (other end : ℕ) : Type 0 where
   pub branch : instr_at code at ≡ Some (Branch other)
   pub first : StandsAt code (at + 1) (s (at + 1))
   pub zero : instr_at code (at + 1 + length (s (at + 1))) ≡ Some (Const (pos 0))
   pub jump : instr_at code (at + 1 + length (s (at + 1)) + 1) ≡ Some (Branch end)
   pub second : StandsAt code other (t other)
 
-abbrev pub other_of : ℕ → Piece → ℕ
+abbrev pub other_of : ℕ → PlacedCode → ℕ
 other_of at s = at + 1 + length (s (at + 1)) + 1 + 1
 
-abbrev pub end_of : ℕ → Piece → Piece → ℕ
+abbrev pub end_of : ℕ → PlacedCode → PlacedCode → ℕ
 end_of at s t = other_of at s + length (t (other_of at s))
 
-pub stands_either : (code : ObjectCode) (at : ℕ) (s t : Piece) → StandsAt code at (either s t at) →
+pub stands_either : (code : Program) (at : ℕ) (s t : PlacedCode) → StandsAt code at (either s t at) →
     StandsEither code at s t (other_of at s) (end_of at s t)
 stands_either code at s t h =
     let both =
     stands_both code (at + 1) (s (at + 1)) (Const (pos 0) ∷ Branch (end_of at s t) ∷ t (other_of at s)) h.1 in
     record { branch = h.0; first = both.first; zero = both.second.0; jump = both.second.1.0; second = both.second.1.1 }
 
-pub ends_either : (at : ℕ) (s t : Piece) → end_of at s t ≡ at + length (either s t at)
+pub ends_either : (at : ℕ) (s t : PlacedCode) → end_of at s t ≡ at + length (either s t at)
 ends_either at s t =
     omega (arith, length-append (s (at + 1)) (Const (pos 0) ∷ Branch (end_of at s t) ∷ t (other_of at s)))
 
@@ -78,7 +78,7 @@ pub record Tied (e l n : ℕ) (below : List ℤ) (fs : List Frame) (vars : Vars)
 abbrev pub Evaluation : Type 0 → Type 0
 Evaluation A = Vars → ℕ → ℕ → List ℤ → Evaluated A
 
-module _ (code : ObjectCode) where
+module _ (code : Program) where
   -- the run of a function goes on behind a piece, with its values pushed
   abbrev pub gone_on : ℕ → List ℤ → List Frame → List ℤ → ℤ → Vars → List ℤ → Option Want
   gone_on at below fs temps x vars rest = wants code (run at below fs vars (temps ++ x ∷ [])) rest
@@ -92,16 +92,16 @@ module _ (code : ObjectCode) where
   flown at below f [] (Returns x) vars rest = Some Restart
   flown at below f (g ∷ fs) (Returns x) vars rest = wants code (back_with f below (g ∷ fs) vars.externals x) rest
 
-module _ (code : ObjectCode) (e l n : ℕ) where
+module _ (code : Program) (e l n : ℕ) where
   -- wherever it stands, the piece follows the evaluation and pushes its value
-  abbrev pub Evaluates : Piece → Evaluation ℤ → Type 0
+  abbrev pub Evaluates : PlacedCode → Evaluation ℤ → Type 0
   Evaluates piece ev =
       (below : List ℤ) (fs : List Frame) (at : ℕ) (vars : Vars) (temps : List ℤ) (depth frames : ℕ) (trace : List ℤ) →
       Tied e l n below fs vars temps depth frames trace → StandsAt code at (piece at) →
       Follows e l n (ev vars depth frames trace) (wants code (run at below fs vars temps) trace)
       (gone_on code (at + length (piece at)) below fs temps)
 
-  abbrev pub EvaluatesAll : Piece → Evaluation (List ℤ) → Type 0
+  abbrev pub EvaluatesAll : PlacedCode → Evaluation (List ℤ) → Type 0
   EvaluatesAll piece ev =
       (below : List ℤ) (fs : List Frame) (at : ℕ) (vars : Vars) (temps : List ℤ) (depth frames : ℕ) (trace : List ℤ) →
       Tied e l n below fs vars temps depth frames trace → StandsAt code at (piece at) →
@@ -109,7 +109,7 @@ module _ (code : ObjectCode) (e l n : ℕ) where
       (gone_on_with code (at + length (piece at)) below fs temps)
 
   -- the same of statements, which leave the stack as it was
-  abbrev pub Effects : Piece → Evaluation Flow → Type 0
+  abbrev pub Effects : PlacedCode → Evaluation Flow → Type 0
   Effects piece ev =
       (below : List ℤ) (f : Frame) (fs : List Frame) (at : ℕ) (vars : Vars) (depth frames : ℕ) (trace : List ℤ) →
       f.base ≡ length below → Tied e l n below (f ∷ fs) vars [] depth frames trace → StandsAt code at (piece at) →

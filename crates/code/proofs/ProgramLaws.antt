@@ -4,36 +4,37 @@ use Rattle.std.specs.List.{range_with_len}
 use Rattle.std.proofs.Common.{sym, ap, ◌∙◌, arith}
 use Rattle.std.proofs.lemmas.List.{length-map}
 use Rattle.std.proofs.lemmas.List.FromFn.{length-range_with_len}
-use Rattle.grammar.specs.Pools.{names_of, names_of_function}
+use Rattle.grammar.specs.Pools.{pools_of, names_of_function}
 use Rattle.grammar.specs.Tree.{File}
-use Rattle.code.specs.declared.counts.Counts.{Counts}
+use Rattle.code.specs.declared.counts.FunctionCounts.{FunctionCounts}
 use Rattle.code.specs.Finishing.{IsOfSomeFile}
-use Rattle.code.specs.Generation.{ObjectCode, counts_of, place_of}
+use Rattle.code.specs.Generation.{Program, counts_of, address_in}
 use Rattle.code.specs.Machine.{no_counts}
 
 -- there are counts of each function of a file
-counted : (file : File) → length (map counts_of (names_of file).functions) ≡ length file.functions
-counted file = length-map (names_of file).functions counts_of ∙ length-map file.functions names_of_function
+counted : (file : File) → length (map counts_of (pools_of file).functions) ≡ length file.functions
+counted file = length-map (pools_of file).functions counts_of ∙ length-map file.functions names_of_function
 
-pub addresses_of_file : (code : ObjectCode) → IsOfSomeFile code → length code.addresses ≡ length code.functions
+pub addresses_of_file : (code : Program) → IsOfSomeFile code → length code.addresses ≡ length code.functions
 addresses_of_file code of =
     let n = length of.file.functions in
-    ap (λ (c : ObjectCode). length c.addresses) of.is
-    ∙ length-map (range_with_len 0 n) (λ k. place_of code.profile of.file k of.file.order 0)
+    ap (λ (c : Program). length c.addresses) of.is
+    ∙ length-map (range_with_len 0 n) (λ k. address_in code.profile of.file k of.file.order 0)
     ∙ length-range_with_len 0 n
     ∙ sym (counted of.file)
-    ∙ sym (ap (λ (c : ObjectCode). length c.functions) of.is)
+    ∙ sym (ap (λ (c : Program). length c.functions) of.is)
 
 -- the counts of a function that there is, whatever would stand for one that isn't
-pub counts_is : (fs : List Counts) (k : ℕ) (f : Counts) → f ≡ get_or fs k f → k < length fs → f ≡ get_or fs k no_counts
+pub counts_is : (fs : List FunctionCounts) (k : ℕ) (f : FunctionCounts) → f ≡ get_or fs k f → k < length fs →
+    f ≡ get_or fs k no_counts
 counts_is [] k f e h = absurd (omega (arith, h))
 counts_is (g ∷ fs) zero f e h = e
 counts_is (g ∷ fs) (suc k) f e h = counts_is fs k f e (omega (arith, h))
 
 -- main is one of the functions
-pub main_is_known : (code : ObjectCode) → IsOfSomeFile code → code.main < length code.functions
+pub main_is_known : (code : Program) → IsOfSomeFile code → code.main < length code.functions
 main_is_known code of =
     let known = of.resolved.main in
-    let main = ap (λ (c : ObjectCode). c.main) of.is in
-    let functions = ap (λ (c : ObjectCode). length c.functions) of.is in
+    let main = ap (λ (c : Program). c.main) of.is in
+    let functions = ap (λ (c : Program). length c.functions) of.is in
     omega (arith, known, counted of.file, main, functions)

@@ -5,7 +5,7 @@ use Rattle.arith.specs.Op.{holds}
 use Rattle.code.specs.declared.instr.Instr.TheVariants.{Const, Branch, Chop, Retsub}
 use Rattle.code.specs.declared.want.Want.{Want}
 use Rattle.code.specs.declared.want.Want.TheVariants.{Quiet}
-use Rattle.code.specs.Generation.{ObjectCode, Piece, ◌⨾◌, only, no_code, past, either, loop}
+use Rattle.code.specs.Generation.{Program, PlacedCode, ◌⨾◌, only, no_code, past, either, loop}
 use Rattle.code.specs.declared.frame.Frame.{Frame}
 use Rattle.code.specs.Machine.{instr_at}
 use Rattle.code.specs.Meaning.{Vars, Evaluated, Gives, Flow, Through, Returns, and_then, tick, pass, on_through, and_on, over}
@@ -13,7 +13,7 @@ use Rattle.code.proofs.Follows.{HasSizes, Follows, chain, wants}
 use Rattle.code.proofs.Instructions.{run, IsDepth, on_const, on_chop, on_branch, on_retsub, on_retsub_of_main}
 use Rattle.code.proofs.Pieces.{StandsAt, stands, ends, other_of, end_of, stands_either, ends_either, Tied, Evaluation, gone_on, flown, Evaluates, Effects}
 
-module _ (code : ObjectCode) (e l n : ℕ) where
+module _ (code : Program) (e l n : ℕ) where
   -- where a function returns to doesn't depend on where it was
   same_return : (a b : ℕ) (below : List ℤ) (f : Frame) (fs : List Frame) (x : ℤ) (vars : Vars) (rest : List ℤ) →
       flown code a below f fs (Returns x) vars rest ≡ flown code b below f fs (Returns x) vars rest
@@ -61,7 +61,7 @@ module _ (code : ObjectCode) (e l n : ℕ) where
     same = ap (λ (a : ℕ). wants code (run a below (f ∷ fs) vars []) trace) (omega arith);
   }
 
-  pub alone_law : (a b : Piece) (ev : Evaluation ℤ) (ef : Evaluation Flow) → Evaluates code e l n a ev →
+  pub alone_law : (a b : PlacedCode) (ev : Evaluation ℤ) (ef : Evaluation Flow) → Evaluates code e l n a ev →
       Effects code e l n b ef →
       Effects code e l n (a ⨾ only (Chop ∷ []) ⨾ b)
       (λ vars depth frames trace. and_then (ev vars depth frames trace)
@@ -85,7 +85,7 @@ module _ (code : ObjectCode) (e l n : ℕ) where
       (B below f fs (at1 + 1) after depth frames r1 base
       (tied_on below (f ∷ fs) vars after depth frames trace r1 t sizes (omega (arith, h1, short))) sa.second.1)))
 
-  pub when_law : (c s b : Piece) (ev : Evaluation ℤ) (ef_s ef_b : Evaluation Flow) → Evaluates code e l n c ev →
+  pub when_law : (c s b : PlacedCode) (ev : Evaluation ℤ) (ef_s ef_b : Evaluation Flow) → Evaluates code e l n c ev →
       Effects code e l n s ef_s → Effects code e l n b ef_b →
       Effects code e l n (c ⨾ past s ⨾ b)
       (λ vars depth frames trace. and_then (ev vars depth frames trace)
@@ -148,7 +148,7 @@ module _ (code : ObjectCode) (e l n : ℕ) where
       on_branch code e l n below fs (at + 1) k vars [] to (pos 0) r1 go jump
       (λ r2 h2. next r2 (omega (arith, h1, h2))))
 
-  pub choose_law : (c s t b : Piece) (ev : Evaluation ℤ) (ef_s ef_t ef_b : Evaluation Flow) →
+  pub choose_law : (c s t b : PlacedCode) (ev : Evaluation ℤ) (ef_s ef_t ef_b : Evaluation Flow) →
       Evaluates code e l n c ev → Effects code e l n s ef_s → Effects code e l n t ef_t → Effects code e l n b ef_b →
       Effects code e l n (c ⨾ either s t ⨾ b)
       (λ vars depth frames trace. and_then (ev vars depth frames trace)
@@ -213,7 +213,7 @@ module _ (code : ObjectCode) (e l n : ℕ) where
       ]))
 
   -- what the piece does along fewer than n replies
-  abbrev pub Effects_sooner : Piece → Evaluation Flow → Type 0
+  abbrev pub Effects_sooner : PlacedCode → Evaluation Flow → Type 0
   Effects_sooner piece ev =
       (below : List ℤ) (f : Frame) (fs : List Frame) (at : ℕ) (vars : Vars) (depth frames : ℕ) (trace : List ℤ) →
       f.base ≡ length below → Tied e l n below (f ∷ fs) vars [] depth frames trace → length trace < n →
@@ -221,7 +221,8 @@ module _ (code : ObjectCode) (e l n : ℕ) where
       Follows e l n (ev vars depth frames trace) (wants code (run at below (f ∷ fs) vars []) trace)
       (flown code (at + length (piece at)) below f fs)
 
-  pub while_law : (c s b : Piece) (ev : Evaluation ℤ) (ef_s ef_b turn : Evaluation Flow) → Evaluates code e l n c ev →
+  pub while_law : (c s b : PlacedCode) (ev : Evaluation ℤ) (ef_s ef_b turn : Evaluation Flow) →
+      Evaluates code e l n c ev →
       Effects code e l n s ef_s → Effects code e l n b ef_b → Effects_sooner (loop c s ⨾ b) turn →
       Effects code e l n (loop c s ⨾ b)
       (λ vars depth frames trace. and_then (ev vars depth frames trace)
@@ -288,7 +289,7 @@ module _ (code : ObjectCode) (e l n : ℕ) where
       (λ rest. Gives (Returns x) vars rest) here base count
       (λ r1 h1. record { sizes = sizes; short = omega (arith, h1, short); same = refl })
 
-  pub return_law : (a b : Piece) (ev : Evaluation ℤ) → Evaluates code e l n a ev →
+  pub return_law : (a b : PlacedCode) (ev : Evaluation ℤ) → Evaluates code e l n a ev →
       Effects code e l n (a ⨾ only (Retsub ∷ []) ⨾ b)
       (λ vars depth frames trace. and_then (ev vars depth frames trace)
       (λ x vars rest. tick (nat_lt 1 frames) Quiet rest (λ reply rest. Gives (Returns x) vars rest)))

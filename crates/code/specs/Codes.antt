@@ -4,9 +4,9 @@ use Rattle.std.specs.List.{All}
 use Rattle.grammar.specs.Profile.{Profile}
 use Rattle.grammar.specs.Resolved.{IsResolved}
 use Rattle.grammar.specs.Tree.{File}
-use Rattle.code.specs.Generation.{ObjectCode, code_of}
+use Rattle.code.specs.Generation.{Program, code_of}
 
 -- each code is that of the file in its place, by one profile
-pub record AreCodesOf (codes : List ObjectCode) (p : Profile) (files : List File) : Type 0 where
+pub record AreProgramsOf (codes : List Program) (p : Profile) (files : List File) : Type 0 where
   pub are : codes ≡ map (code_of p) files
   pub resolved : All IsResolved files

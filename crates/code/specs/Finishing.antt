@@ -2,37 +2,37 @@
 use Rattle.std.specs.Prelude.{ℕ, ◌≡◌, ◌≤◌, Some, length, map}
 use Rattle.grammar.specs.Actions.{actions}
 use Rattle.grammar.specs.Compiled.{main_name}
-use Rattle.grammar.specs.Pools.{Names, FunctionNames, names_of}
+use Rattle.grammar.specs.Pools.{Pools, FunctionNames, pools_of}
 use Rattle.grammar.specs.Profile.{Profile}
 use Rattle.grammar.specs.Resolved.{IsResolved}
 use Rattle.grammar.specs.Scope.{number_of_name}
 use Rattle.grammar.specs.Tree.{File}
-use Rattle.code.specs.Generation.{ObjectCode, IsProgramOf}
-use Rattle.code.specs.Making.{Made}
-use Rattle.code.specs.Told.{Stands}
+use Rattle.code.specs.Generation.{Program, IsProgramOf}
+use Rattle.code.specs.Making.{Maker}
+use Rattle.code.specs.Told.{MakerRepresents}
 
 -- the number is that of the first function named main
-abbrev pub IsMain : Names → ℕ → Type 0
+abbrev pub IsMain : Pools → ℕ → Type 0
 IsMain names number = number_of_name main_name (map (λ (f : FunctionNames). f.name) names.functions) ≡ Some number
 
 -- the maker was told the actions of a resolved file, the names are that file's, and its main is the function of that
 -- name
-pub record IsTold (maker : Made) (p : Profile) (names : Names) (file : File) : Type 0 where
+pub record MakerIsTold (maker : Maker) (p : Profile) (names : Pools) (file : File) : Type 0 where
   pub resolved : IsResolved file
-  pub stands : Stands maker p (actions file)
-  pub named : names ≡ names_of file
+  pub stands : MakerRepresents maker p (actions file)
+  pub named : names ≡ pools_of file
   pub main : IsMain names file.main
 
-pub record IsToldSomeFile (maker : Made) (names : Names) : Type 0 where
+pub record IsToldSomeFile (maker : Maker) (names : Pools) : Type 0 where
   pub profile : Profile
   pub file : File
-  pub told : IsTold maker profile names file
+  pub told : MakerIsTold maker profile names file
 
 -- The code is that of a resolved file by its profile, within the profile's limit, and the function of main's number is
 -- named main.
-pub record IsOfSomeFile (code : ObjectCode) : Type 0 where
+pub record IsOfSomeFile (code : Program) : Type 0 where
   pub file : File
   pub resolved : IsResolved file
   pub is : IsProgramOf code code.profile file
   pub limit : length code.instructions ≤ code.profile.instructions
-  pub main : IsMain (names_of file) code.main
+  pub main : IsMain (pools_of file) code.main

@@ -5,7 +5,7 @@ use Rattle.grammar.specs.Profile.{Profile}
 use Rattle.grammar.specs.Resolved.{IsResolved}
 use Rattle.grammar.specs.Tree.{File}
 use Rattle.code.specs.Generation.{code_of}
-use Rattle.code.specs.Machine.{want_code, reached, start_state, is_ready, instr_at}
+use Rattle.code.specs.Machine.{want_code, reached, started_machine, is_ready, instr_at}
 use Rattle.code.specs.Meaning.{want, want_within}
 
 -- The code of a file has as many instructions as its actions make, and the last NOP.
@@ -26,5 +26,5 @@ MoreTurnsChangeNothing = (p : Profile) (file : File) → IsResolved file
 -- Along all replies the next instruction of a file's code finds on the stack all that it takes.
 abbrev pub IsAlwaysReady : Type 0
 IsAlwaysReady = (p : Profile) (file : File) → IsResolved file
-    → (trace : List ℤ) → let s = reached (code_of p file) (start_state (code_of p file)) trace in
+    → (trace : List ℤ) → let s = reached (code_of p file) (started_machine (code_of p file)) trace in
     is_ready (code_of p file) s (instr_at (code_of p file) s.at) ≡ true

@@ -7,9 +7,9 @@ pub mod Meaning
 pub mod Making
 pub mod Told
 pub mod Finishing
-pub mod Places
-pub mod Running
-pub mod Standing
+pub mod Registers
+pub mod QuietRuns
+pub mod ReachedMachines
 pub mod Codes
 pub mod Laws
 pub mod KnownPrograms

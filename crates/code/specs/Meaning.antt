@@ -3,10 +3,10 @@
 use Rattle.std.specs.Prelude.{ℕ, ℤ, pos, zero, suc, ◌+◌, List, [], ◌∷◌, Bool, true, false, length, map, replicate, get_or, slice_set, nat_lt, nat_le, if◌then◌else◌}
 use Rattle.std.specs.List.{range_with_len}
 use Rattle.arith.specs.Op.{holds, truth}
-use Rattle.grammar.specs.declared.names.Callee.{Callee}
-use Rattle.grammar.specs.declared.names.Callee.TheVariants as callee
-use Rattle.grammar.specs.declared.names.Var.{Var}
-use Rattle.grammar.specs.declared.names.Var.TheVariants.{External, Local}
+use Rattle.grammar.specs.declared.resolved_names.Callee.{Callee}
+use Rattle.grammar.specs.declared.resolved_names.Callee.TheVariants as callee
+use Rattle.grammar.specs.declared.resolved_names.Var.{Var}
+use Rattle.grammar.specs.declared.resolved_names.Var.TheVariants.{External, Local}
 use Rattle.arith.specs.declared.operators.Op.{Op}
 use Rattle.arith.specs.declared.operators.Op.TheVariants as op
 use Rattle.grammar.specs.Profile.{Profile}
@@ -15,7 +15,7 @@ use Rattle.code.specs.Functions.{function_at}
 use Rattle.code.specs.declared.want.Want.{Want}
 use Rattle.code.specs.declared.want.Want.TheVariants.{Quiet, Ask, Restart}
 use Rattle.arith.specs.Op.{value_of}
-use Rattle.code.specs.Values.{stored, asked}
+use Rattle.code.specs.Values.{stored, asked_words}
 
 -- the variables that a function can name
 pub record Vars : Type 0 where
@@ -124,7 +124,7 @@ module _ (p : Profile) (file : File) (again : Again) where
   -- a call behind its arguments
   abbrev pub called : Callee → List ℤ → Vars → ℕ → ℕ → List ℤ → Evaluated ℤ
   called (callee.Intrinsic i) arguments vars depth frames trace =
-      tick (nat_le (depth + 1) p.words) (Ask i (asked i arguments)) trace (λ reply rest. Gives reply vars rest)
+      tick (nat_le (depth + 1) p.words) (Ask i (asked_words i arguments)) trace (λ reply rest. Gives reply vars rest)
   called (callee.Function k) arguments vars depth frames trace =
       let f = function_at file k in
       let inside : Vars = record { externals = vars.externals; locals = first_locals f arguments } in

@@ -3,7 +3,7 @@ use Rattle.std.specs.Prelude.{ℕ, ◌+◌, ◌≡◌, ◌<◌, ◌≤◌, List,
 use Rattle.grammar.specs.declared.actions.Action.{Action}
 use Rattle.grammar.specs.Actions.{code_length, ends_function}
 use Rattle.grammar.specs.Profile.{Profile}
-use Rattle.code.specs.Making.{Made, made}
+use Rattle.code.specs.Making.{Maker, maker_after}
 
 -- no function is open behind these actions
 abbrev pub is_ended : List Action → Bool
@@ -12,12 +12,12 @@ is_ended (a ∷ []) = ends_function a
 is_ended (a ∷ b ∷ acts) = is_ended (b ∷ acts)
 
 -- the code and the last NOP are within the profile's limit
-abbrev pub Fits : Profile → List Action → Type 0
-Fits p acts = code_length p acts + 1 ≤ p.instructions
+abbrev pub FitsProfile : Profile → List Action → Type 0
+FitsProfile p acts = code_length p acts + 1 ≤ p.instructions
 
 -- A maker becomes this one if so many further instructions and the last NOP have room. Else its code is full, or was.
 -- As many addresses are open in any case.
-pub record Adds (old new target : Made) (count : ℕ) : Type 0 where
+pub record AddsCode (old new target : Maker) (count : ℕ) : Type 0 where
   pub room : length old.code + count < old.profile.instructions → new ≡ target
   pub full : old.profile.instructions ≤ length old.code + count → old.profile.instructions ≤ length new.code
   pub opened : length new.opened ≡ length target.opened
@@ -25,9 +25,9 @@ pub record Adds (old new target : Made) (count : ℕ) : Type 0 where
 
 -- A maker represents these actions by its profile: while they fit, it holds what they make; then its code is full.
 -- As many addresses are open as the actions leave open. At a function's end the actions fit.
-pub record Stands (maker : Made) (p : Profile) (acts : List Action) : Type 0 where
+pub record MakerRepresents (maker : Maker) (p : Profile) (acts : List Action) : Type 0 where
   pub profile : p ≡ maker.profile
-  pub holds : Fits p acts → maker ≡ made p acts
+  pub holds : FitsProfile p acts → maker ≡ maker_after p acts
   pub full : p.instructions < code_length p acts + 1 → p.instructions ≤ length maker.code
-  pub opened : length maker.opened ≡ length (made p acts).opened
-  pub ended : is_ended acts ≡ true → Fits p acts
+  pub opened : length maker.opened ≡ length (maker_after p acts).opened
+  pub ended : is_ended acts ≡ true → FitsProfile p acts

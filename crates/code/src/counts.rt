@@ -2,7 +2,7 @@
 
 /// How many parameters a function has, and how many variables with them.
 #[derive(Clone, Copy, Debug, Default, PartialEq, Eq)]
-pub struct Counts {
+pub struct FunctionCounts {
     /// Its parameters.
     pub parameters: u8,
     /// Its parameters and its locals.

@@ -5,9 +5,9 @@ ghost use Rattle.grammar.specs.Profile.{IsProfile};
 ghost use Rattle.code.specs.Finishing.{IsOfSomeFile};
 ghost use Rattle.code.specs.Machine.{address_at, counts_at};
 
-use crate::counts::Counts;
+use crate::code_limits::{MOST_FRAMES, MOST_INSTRUCTIONS, MOST_WORDS};
+use crate::counts::FunctionCounts;
 use crate::instr::Instr;
-use crate::limits::{MOST_FRAMES, MOST_INSTRUCTIONS, MOST_WORDS};
 use arrayvec::ArrayVec;
 use grammar::{MOST_NAMES, Profile};
 use std::marker::Model;
@@ -18,19 +18,19 @@ pub struct Program {
     pub(crate) profile: Profile,
     pub(crate) code: ArrayVec<Instr, MOST_INSTRUCTIONS>,
     pub(crate) addresses: ArrayVec<u16, MOST_NAMES>,
-    pub(crate) functions: ArrayVec<Counts, MOST_NAMES>,
+    pub(crate) functions: ArrayVec<FunctionCounts, MOST_NAMES>,
     pub(crate) externals: u8,
     pub(crate) main: u8,
 }
 
 impl Model for Program {
     ghost use Rattle.std.specs.Prelude.{◌≤◌};
-    ghost use Rattle.code.specs.Generation.{ObjectCode};
+    ghost use Rattle.code.specs.Generation.{Program};
     ghost use Rattle.code.specs.Finishing.{IsOfSomeFile};
     ghost use Rattle.grammar.specs.Profile.{IsProfile};
-    ghost use Rattle.grammar.specs.declared.limits.TheConstants.{MOST_NAMES};
+    ghost use Rattle.grammar.specs.declared.name_limits.TheConstants.{MOST_NAMES};
 
-    ghost Value = { ObjectCode };
+    ghost Value = { Program };
 
     ghost view = { λ p. record {
       profile = p.profile;
@@ -95,7 +95,7 @@ impl Program {
 
     /// Returns the counts of each function, by number.
     #[inline(always)]
-    pub fn functions(&self) -> &[Counts]
+    pub fn functions(&self) -> &[FunctionCounts]
         ensures { result.now ≡ self.now.functions }
     {
         self.functions.as_slice()
@@ -122,7 +122,7 @@ impl Program {
     /// Returns the counts of the function of this number.
     #[inline(always)]
     #[tactic(auto, using(crate::proofs::ProgramLaws::counts_is))]
-    pub fn counts(&self, number: u8) -> Counts
+    pub fn counts(&self, number: u8) -> FunctionCounts
         requires { number < length self.now.functions }
         ensures { result ≡ counts_at self.now number }
     {

@@ -12,27 +12,27 @@ unread_ending kind.OutOfMemory = OutOfMemory
 unread_ending _ = WrongUsage
 
 -- the exit status
-abbrev pub status_of : Ending → ℕ
-status_of Done = 0
-status_of Faulty = 1
-status_of WrongUsage = 2
-status_of (CannotOpen word) = 3
-status_of (CannotRead word) = 3
-status_of CannotWrite = 4
-status_of OutOfMemory = 5
+abbrev pub exit_status : Ending → ℕ
+exit_status Done = 0
+exit_status Faulty = 1
+exit_status WrongUsage = 2
+exit_status (CannotOpen word) = 3
+exit_status (CannotRead word) = 3
+exit_status CannotWrite = 4
+exit_status OutOfMemory = 5
 
 unfoldable pub usage_line : List ℕ
 usage_line = codes "usage: crobots (-c | -mMATCHES) [-lCYCLES] [-sSEED] [-pPROFILE] [-fFIRST] FILE..." ++ 10 ∷ []
 
 -- the line that the program puts on the channel of faults; a run that came to its end puts none
-abbrev pub line_of : Ending → List ℕ
-line_of Done = []
-line_of Faulty = []
-line_of WrongUsage = usage_line
-line_of (CannotOpen word) = codes "crobots: cannot open " ++ word.now ++ 10 ∷ []
-line_of (CannotRead word) = codes "crobots: cannot read " ++ word.now ++ 10 ∷ []
-line_of CannotWrite = codes "crobots: cannot write" ++ 10 ∷ []
-line_of OutOfMemory = codes "crobots: out of memory" ++ 10 ∷ []
+abbrev pub ending_line : Ending → List ℕ
+ending_line Done = []
+ending_line Faulty = []
+ending_line WrongUsage = usage_line
+ending_line (CannotOpen word) = codes "crobots: cannot open " ++ word.now ++ 10 ∷ []
+ending_line (CannotRead word) = codes "crobots: cannot read " ++ word.now ++ 10 ∷ []
+ending_line CannotWrite = codes "crobots: cannot write" ++ 10 ∷ []
+ending_line OutOfMemory = codes "crobots: out of memory" ++ 10 ∷ []
 
 -- a line was put: the sink took it, or it failed once and took a front of it
 abbrev pub PutsLine : Written → Written → List ℕ → Type 0
@@ -42,13 +42,13 @@ PutsLine before after line =
 
 -- the program ended so: it put the line, and answered the status
 pub record IsEnded (ending : Ending) (result : ℕ) (before after : Written) : Type 0 where
-  pub status : result ≡ status_of ending
-  pub line : PutsLine before after (line_of ending)
+  pub status : result ≡ exit_status ending
+  pub line : PutsLine before after (ending_line ending)
 
 -- how often the two sinks failed in a run that ended so: only if writing failed one of them did, once
-abbrev pub Accounts : Ending → (text faults later_text later_faults : Written) → Type 0
-Accounts CannotWrite text faults later_text later_faults =
+abbrev pub FailsAsEnded : Ending → (text faults later_text later_faults : Written) → Type 0
+FailsAsEnded CannotWrite text faults later_text later_faults =
     ((later_text.failures ≡ text.failures + 1) × (later_faults.failures ≡ faults.failures))
     ⊎ ((later_text.failures ≡ text.failures) × (later_faults.failures ≡ faults.failures + 1))
-Accounts _ text faults later_text later_faults =
+FailsAsEnded _ text faults later_text later_faults =
     (later_text.failures ≡ text.failures) × (later_faults.failures ≡ faults.failures)

@@ -1,22 +1,22 @@
 -- How the program ends, by what the words ask for, what the files hold, and which can't be opened.
 use Rattle.std.specs.Prelude.{◌≡◌, ◌⊎◌, ◌<◌, ◌≤◌, ℕ, List, Option, Some, Result, Ok, Err, All, IsErr, map, slice_get, take}
 use Rattle.std.specs.Borrow.{Bor}
-use Rattle.series.specs.declared.endings.RunFault.{RunFault}
-use Rattle.series.specs.declared.endings.RunFault.TheVariants as fault
-use Rattle.series.specs.declared.endings.Status.{Status}
-use Rattle.series.specs.declared.endings.Status.TheVariants as status
+use Rattle.series.specs.declared.run_results.RunFault.{RunFault}
+use Rattle.series.specs.declared.run_results.RunFault.TheVariants as fault
+use Rattle.series.specs.declared.run_results.Status.{Status}
+use Rattle.series.specs.declared.run_results.Status.TheVariants as status
 use Rattle.series.specs.Compiling.{Source}
 use Rattle.series.specs.Failures.{Failures}
-use Rattle.series.specs.Failures.{Accounts as Counts}
+use Rattle.series.specs.Failures.{FailsAsAnswered as Counts}
 use Rattle.series.specs.Output.{Runs}
-use Rattle.series.specs.Pieces.{Taken, taken}
+use Rattle.series.specs.Pieces.{Taken, taken_by_sinks}
 use Rattle.sinks.specs.Portions.{Takes, TakesFront, Written}
 use Rattle.series.specs.Runs.{AreSources}
 use Rattle.settings.specs.declared.faults.UseFault.{UseFault}
-use Rattle.settings.specs.Setup.{Setup}
+use Rattle.settings.specs.Settings.{Settings}
 use Rattle.command.specs.declared.endings.Ending.{Ending}
 use Rattle.command.specs.declared.endings.Ending.TheVariants.{Done, Faulty, WrongUsage, CannotOpen, CannotRead, CannotWrite, OutOfMemory}
-use Rattle.command.specs.Endings.{line_of, status_of}
+use Rattle.command.specs.Endings.{ending_line, exit_status}
 use Rattle.command.specs.Files.{Files}
 
 -- the ending is that a read of the file failed whose word is in this place
@@ -33,11 +33,12 @@ IsEndingOf fails words (Err fault.Write) ending = ending ≡ CannotWrite
 IsEndingOf fails words (Err fault.Memory) ending = ending ≡ OutOfMemory
 
 -- a run over files whose contents are known so ended in this way
-pub record RunsTo (fails : List ℕ → Type 0) (setup : Setup) (known : List (Option (List ℕ))) (ending : Ending)
+pub record RunsTo (fails : List ℕ → Type 0) (settings : Settings) (known : List (Option (List ℕ))) (ending : Ending)
     (before after : Taken) (failed failed_after : Failures) : Type 0 where
   pub answer : Result Status RunFault
-  pub ends : IsEndingOf fails setup.words answer ending
-  pub output : (sources : List Source) → AreSources sources setup.words known → Runs setup sources answer before after
+  pub ends : IsEndingOf fails settings.file_words answer ending
+  pub output : (sources : List Source) → AreSources sources settings.file_words known →
+      Runs settings sources answer before after
   pub devices : Counts answer failed failed_after
 
 -- the file of the word in this place was refused, after those of all words before it were opened
@@ -54,28 +55,28 @@ IsNotOpened files words OutOfMemory = Unit {0}
 IsNotOpened files words _ = ⊥
 
 -- How the program ends, up to its own line. Refused words end it at once; else the files are opened, and then they run.
-abbrev pub Ends : Files → Result Setup UseFault → Ending → Taken → Taken → Type 0
+abbrev pub Ends : Files → Result Settings UseFault → Ending → Taken → Taken → Type 0
 Ends files (Err fault) ending before after = ((ending ≡ WrongUsage) ⊎ (ending ≡ OutOfMemory)) × (after ≡ before)
-Ends files (Ok setup) ending before after =
-    (IsNotOpened files setup.words ending × (after ≡ before))
+Ends files (Ok settings) ending before after =
+    (IsNotOpened files settings.file_words ending × (after ≡ before))
     ⊎ ((failed : Failures) × (failed_after : Failures)
-    × RunsTo files.fails setup (map files.holds setup.words) ending before after failed failed_after)
+    × RunsTo files.fails settings (map files.holds settings.file_words) ending before after failed failed_after)
 
 -- The program ends so, puts the line of its ending, whole if the channel of faults never failed, and answers its
 -- status.
-pub record Concludes (files : Files) (asked : Result Setup UseFault) (result : ℕ)
+pub record Concludes (files : Files) (asked : Result Settings UseFault) (result : ℕ)
     (text faults later_text later_faults : Written) : Type 0 where
   pub ending : Ending
   pub between : Taken
-  pub ends : Ends files asked ending (taken text faults) between
+  pub ends : Ends files asked ending (taken_by_sinks text faults) between
   pub text_stays : later_text.portions ≡ between.text
-  pub front : TakesFront between.faults later_faults.portions (line_of ending)
+  pub front : TakesFront between.faults later_faults.portions (ending_line ending)
   pub whole : later_faults.failures ≡ faults.failures
-      → Takes between.faults later_faults.portions (line_of ending)
-  pub status : result ≡ status_of ending
+      → Takes between.faults later_faults.portions (ending_line ending)
+  pub status : result ≡ exit_status ending
 
 -- a status is at most 5, it is 2 only of refused words, and these give no other but 5
-pub record IsStatusOf (asked : Result Setup UseFault) (status : ℕ) : Type 0 where
+pub record IsStatusOf (asked : Result Settings UseFault) (status : ℕ) : Type 0 where
   pub within : status ≤ 5
   pub refused : IsErr asked → (status ≡ 2) ⊎ (status ≡ 5)
   pub only_refused : status ≡ 2 → IsErr asked

@@ -2,7 +2,7 @@
 
 ghost use Rattle.std.specs.Prelude.{◌≡◌, ℕ, ◌+◌, ◌-◌, ◌^◌, ◌<◌, ◌≤◌, List, [], ◌∷◌, ◌++◌};
 ghost use Rattle.sinks.specs.Puts.{CanFail, Puts};
-ghost use Rattle.command.specs.Endings.{status_of, line_of, PutsLine};
+ghost use Rattle.command.specs.Endings.{exit_status, ending_line, PutsLine};
 
 use series::{Pen, Sink, put_all};
 use tokens::DeviceFault;
@@ -32,12 +32,12 @@ pub enum Ending<'a> {
 
 impl Ending<'_> {
     /// Puts the ending's line, and answers the status, which a failure to put the line leaves as it is.
-    pub fn end<E: Sink>(self, err: &mut E) -> u8
+    pub fn conclude<E: Sink>(self, err: &mut E) -> u8
         requires { CanFail (E.written err.old) }
-        ensures status { result ≡ status_of self.entry }
+        ensures status { result ≡ exit_status self.entry }
         ensures line { PutsLine (E.written err.old) (E.written err.new)
-            (line_of self.entry) }
-        ensures quiet { line_of self.entry ≡ [] → (E.written err.new).failures ≡ (E.written err.old).failures }
+            (ending_line self.entry) }
+        ensures quiet { ending_line self.entry ≡ [] → (E.written err.new).failures ≡ (E.written err.old).failures }
     {
         let _ = self.put_line(err);
         self.status()
@@ -45,7 +45,7 @@ impl Ending<'_> {
 
     /// Returns the exit status.
     fn status(self) -> u8
-        ensures { result ≡ status_of self.entry }
+        ensures { result ≡ exit_status self.entry }
     {
         match self {
             Ending::Done => 0,
@@ -62,8 +62,8 @@ impl Ending<'_> {
     fn put_line<E: Sink>(self, err: &mut E) -> Result<(), DeviceFault>
         requires { CanFail (E.written err.old) }
         ensures line { Puts result (E.written err.old) (E.written err.new)
-            (line_of self.entry) }
-        ensures quiet { line_of self.entry ≡ [] → (E.written err.new).failures ≡ (E.written err.old).failures }
+            (ending_line self.entry) }
+        ensures quiet { ending_line self.entry ≡ [] → (E.written err.new).failures ≡ (E.written err.old).failures }
     {
         match self {
             Ending::Done | Ending::Faulty => Ok(()),
@@ -86,5 +86,5 @@ fn put_about<E: Sink>(err: &mut E, what: &[u8], word: &str) -> Result<(), Device
     pen.add(err, what);
     pen.add(err, word.as_bytes());
     pen.add(err, b"\n");
-    pen.done(err)
+    pen.finish(err)
 }

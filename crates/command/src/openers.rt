@@ -28,7 +28,7 @@ pub trait Opener {
     fn open(&self, word: &str) -> Result<Self::File, OpenFault>
         ensures contents { IfOk result (λ file. (Self.File.device file).to_come ≡ (files self.now).holds word.now) }
         ensures opened { OnOk result ((files self.now).opens word.now) }
-        ensures calm { IfOk result (λ file. (Self.File.device file).account.failures ≡ 0) }
+        ensures never_failed { IfOk result (λ file. (Self.File.device file).account.failures ≡ 0) }
         ensures not_ended { IfOk result (λ file. (Self.File.device file).ended ≡ false) }
         // If a read of this very file fails later, that shows it.
         ensures shows { IfOk result (λ file. ShowsFailure Self.File.device file ((files self.now).fails word.now)) }

@@ -44,9 +44,9 @@ pub fn program_of<R: Files + AllocGlobal, O: Sink, E: Sink>(
                 let words = after_first(words.as_slice());
                 program_over(rt.alloc(), &Disk::new(rt), words, out, err)
             }
-            Err(_) => Ending::OutOfMemory.end(err),
+            Err(_) => Ending::OutOfMemory.conclude(err),
         },
-        Err(fault) => unread(fault.kind()).end(err),
+        Err(fault) => unread(fault.kind()).conclude(err),
     }
 }
 

@@ -1,10 +1,10 @@
 //! Runs the program over given words, files and streams.
 
 ghost use Rattle.std.specs.Prelude.{◌≡◌, ◌⊎◌, ℕ, ◌+◌, ◌-◌, ◌^◌, ◌<◌, ◌≤◌, List, [], ◌∷◌, map, length, false, IsErr, IfOk, IfErr, All};
-ghost use Rattle.series.specs.Pieces.{taken};
+ghost use Rattle.series.specs.Pieces.{taken_by_sinks};
 ghost use Rattle.series.specs.Failures.{AreReady, accounts, failures};
 ghost use Rattle.arguments.specs.Asked.{asked};
-ghost use Rattle.command.specs.Endings.{Accounts};
+ghost use Rattle.command.specs.Endings.{FailsAsEnded};
 ghost use Rattle.command.specs.Files.{EachShows, HasFailed};
 ghost use Rattle.sinks.specs.Puts.{CanFail};
 ghost use Rattle.command.specs.Whole.{Concludes, Ends, IsNotOpened, IsStatusOf, RunsTo, TellsWrites};
@@ -35,11 +35,11 @@ pub fn program_over<'a, D: Opener, O: Sink, E: Sink>(
     ensures ended { Concludes (D.files disk.now) (asked (map (λ word. word.now) words.now)) result
         (O.written out.old) (E.written err.old) (O.written out.new) (E.written err.new) }
 {
-    ending(alloc, disk, words, out, err).end(err)
+    run_to_ending(alloc, disk, words, out, err).conclude(err)
 }
 
 /// Runs the program up to its own line.
-fn ending<'a, D: Opener, O: Sink, E: Sink>(
+fn run_to_ending<'a, D: Opener, O: Sink, E: Sink>(
     alloc: Global,
     disk: &D,
     words: &'a [&'a str],
@@ -49,8 +49,8 @@ fn ending<'a, D: Opener, O: Sink, E: Sink>(
     requires text { CanFail (O.written out.old) }
     requires faults { (E.written err.old).failures < 2 ^ 64 - 2 }
     ensures ends { Ends (D.files disk.now) (asked (map (λ word. word.now) words.now)) result
-        (taken (O.written out.old) (E.written err.old)) (taken (O.written out.new) (E.written err.new)) }
-    ensures failures { Accounts result (O.written out.old) (E.written err.old) (O.written out.new)
+        (taken_by_sinks (O.written out.old) (E.written err.old)) (taken_by_sinks (O.written out.new) (E.written err.new)) }
+    ensures failures { FailsAsEnded result (O.written out.old) (E.written err.old) (O.written out.new)
         (E.written err.new) }
 {
     let settings = match read_words(alloc, words) {
@@ -58,7 +58,7 @@ fn ending<'a, D: Opener, O: Sink, E: Sink>(
         Err(UseFault::Memory) => return Ending::OutOfMemory,
         Err(_) => return Ending::WrongUsage,
     };
-    let mut feeds = match open_files(alloc, disk, settings.words()) {
+    let mut feeds = match open_files(alloc, disk, settings.file_words()) {
         Ok(feeds) => feeds,
         Err(ending) => return ending,
     };
@@ -73,7 +73,7 @@ fn open_files<'a, D: Opener>(
 ) -> Result<Vec<D::File>, Ending<'a>>
     ensures contents { IfOk result (λ feeds. told_by D.File.device feeds.items
         ≡ map (λ word. (D.files disk.now).holds word.now) words.now) }
-    ensures calm { IfOk result (λ feeds. All (λ feed. (D.File.device feed).account.failures ≡ 0) feeds.items) }
+    ensures never_failed { IfOk result (λ feeds. All (λ feed. (D.File.device feed).account.failures ≡ 0) feeds.items) }
     ensures not_ended { IfOk result (λ feeds. All (λ feed. (D.File.device feed).ended ≡ false) feeds.items) }
     ensures shows { IfOk result (λ feeds. EachShows D.File.device (D.files disk.now).fails
         (map (λ word. word.now) words.now) feeds.items) }
@@ -100,20 +100,20 @@ fn run_files<'a, F: Feed, O: Sink, E: Sink>(
     out: &mut O,
     err: &mut E,
 ) -> Ending<'a>
-    requires ready { AreReady F.device (length settings.now.words) feeds.old
+    requires ready { AreReady F.device (length settings.now.file_words) feeds.old
         (O.written out.old) (E.written err.old) }
-    ensures ran { RunsTo (HasFailed settings.now.words (accounts F.device feeds.old) (accounts F.device feeds.new))
+    ensures ran { RunsTo (HasFailed settings.now.file_words (accounts F.device feeds.old) (accounts F.device feeds.new))
         settings.now (told_by F.device feeds.old) result
-        (taken (O.written out.old) (E.written err.old)) (taken (O.written out.new) (E.written err.new))
+        (taken_by_sinks (O.written out.old) (E.written err.old)) (taken_by_sinks (O.written out.new) (E.written err.new))
         (failures F.device feeds.old (O.written out.old) (E.written err.old))
         (failures F.device feeds.new (O.written out.new) (E.written err.new)) }
-    ensures failures { Accounts result (O.written out.old) (E.written err.old) (O.written out.new)
+    ensures failures { FailsAsEnded result (O.written out.old) (E.written err.old) (O.written out.new)
         (E.written err.new) }
 {
     match run(settings, feeds, out, err) {
         Ok(Status::Done) => Ending::Done,
         Ok(Status::Faulty) => Ending::Faulty,
-        Err(RunFault::Read(file)) => Ending::CannotRead(settings.words()[file]),
+        Err(RunFault::Read(file)) => Ending::CannotRead(settings.file_words()[file]),
         Err(RunFault::Write) => Ending::CannotWrite,
         Err(RunFault::Memory) => Ending::OutOfMemory,
     }

@@ -5,7 +5,7 @@ ghost use Rattle.std.specs.Prelude.{None, Some, ⊤};
 
 use arguments::read_words;
 use command::{Disk, FileFeed, KnownFeed, OpenFault, Opener, StreamSink, program_of, program_over};
-use series::{Recorder, Sink};
+use series::{MemorySink, Sink};
 use settings::{Mode, UseFault};
 use std::alloc::{Allocator, Global};
 use std::fs::{File, Metadata, OpenOptions};
@@ -27,7 +27,7 @@ const EMPTY: &str =
     "Externals 0\nFunction 0 main vars 0 at 0\nCode 3\n    0 CONST 0\n    1 RETSUB\n    2 NOP\n";
 
 /// Returns the bytes that a recorder took.
-fn taken(rt: &impl AllocGlobal, sink: &Recorder) -> Result<Vec<u8>, Fail> {
+fn taken(rt: &impl AllocGlobal, sink: &MemorySink) -> Result<Vec<u8>, Fail> {
     let mut all = Vec::new(rt.alloc());
     for portion in sink.portions() {
         all.extend_from_slice(portion)?;
@@ -43,8 +43,8 @@ fn check<'a, R: Abort + Files + AllocGlobal>(
     text: &[u8],
     faults: &[u8],
 ) -> Result<(), Fail> {
-    let mut out = Recorder::new(rt.alloc());
-    let mut err = Recorder::new(rt.alloc());
+    let mut out = MemorySink::new(rt.alloc());
+    let mut err = MemorySink::new(rt.alloc());
     assert_eq!(rt;
         program_over(rt.alloc(), &Disk::new(rt), words, &mut out, &mut err),
         status,
@@ -162,7 +162,7 @@ fn words_accepted(rt: HostRuntime) -> Result<(), Fail> {
                     case.second,
                     "{words:?}"
                 );
-                assert_eq!(rt; settings.words(), case.files, "{words:?}");
+                assert_eq!(rt; settings.file_words(), case.files, "{words:?}");
             }
             Err(fault) => panic!(rt; "{fault}"),
         }
@@ -316,8 +316,8 @@ fn check_full<'a, R: Abort + Files + AllocGlobal>(
     words: &'a [&'a str],
     text: &[u8],
 ) -> Result<(), Fail> {
-    let mut out = Recorder::new(rt.alloc()).with_room(10);
-    let mut err = Recorder::new(rt.alloc());
+    let mut out = MemorySink::new(rt.alloc()).with_room(10);
+    let mut err = MemorySink::new(rt.alloc());
     assert_eq!(rt;
         program_over(rt.alloc(), &Disk::new(rt), words, &mut out, &mut err),
         4,
@@ -339,8 +339,8 @@ fn not_written(rt: HostRuntime) -> Result<(), Fail> {
 
 #[test]
 fn own_line_not_written(rt: HostRuntime) -> Result<(), Fail> {
-    let mut out = Recorder::new(rt.alloc());
-    let mut err = Recorder::new(rt.alloc()).with_room(5);
+    let mut out = MemorySink::new(rt.alloc());
+    let mut err = MemorySink::new(rt.alloc()).with_room(5);
     assert_eq!(rt;
         program_over(rt.alloc(), &Disk::new(&rt), &["-x"], &mut out, &mut err),
         2
@@ -448,8 +448,8 @@ fn a_file_whose_first_read_fails_ends_the_run(rt: HostRuntime) -> Result<(), Fai
         (["-c", "a.r", "b.r", "c.r"], listing.as_bytes()),
         (["-m1", "a.r", "b.r", "c.r"], b"".as_slice()),
     ] {
-        let mut out = Recorder::new(rt.alloc());
-        let mut err = Recorder::new(rt.alloc());
+        let mut out = MemorySink::new(rt.alloc());
+        let mut err = MemorySink::new(rt.alloc());
         assert_eq!(rt;
             program_over(rt.alloc(), &Failing, &words, &mut out, &mut err),
             3
@@ -487,8 +487,8 @@ fn readers_of_known_contents(rt: HostRuntime) -> Result<(), Fail> {
     let disk = Everywhere {
         source: b"main(){}",
     };
-    let mut out = Recorder::new(rt.alloc());
-    let mut err = Recorder::new(rt.alloc());
+    let mut out = MemorySink::new(rt.alloc());
+    let mut err = MemorySink::new(rt.alloc());
     assert_eq!(rt;
         program_over(rt.alloc(), &disk, &["-c", "a.r", "b.r"], &mut out, &mut err),
         0
@@ -506,8 +506,8 @@ fn check_process<R: Abort + Files + AllocGlobal>(
     status: u8,
     faults: &[u8],
 ) -> Result<(), Fail> {
-    let mut out = Recorder::new(rt.alloc());
-    let mut err = Recorder::new(rt.alloc());
+    let mut out = MemorySink::new(rt.alloc());
+    let mut err = MemorySink::new(rt.alloc());
     assert_eq!(rt; program_of(rt, words, &mut out, &mut err), status);
     assert_eq!(rt; taken(rt, &out)?.as_slice(), b"".as_slice());
     assert_eq!(rt; taken(rt, &err)?.as_slice(), faults);
@@ -588,8 +588,8 @@ impl Files for NoMemory<'_> {
 
 #[test]
 fn out_of_memory(rt: HostRuntime) -> Result<(), Fail> {
-    let mut out = Recorder::new(rt.alloc());
-    let mut err = Recorder::new(rt.alloc());
+    let mut out = MemorySink::new(rt.alloc());
+    let mut err = MemorySink::new(rt.alloc());
     let broken = NoMemory(&rt);
     let disk = Disk::new(&broken);
     assert_eq!(rt;

@@ -10,10 +10,10 @@ use Rattle.grammar.specs.Profile.{Profile}
 use Rattle.grammar.specs.Resolved.{IsAmong, IsResolved}
 use Rattle.grammar.specs.Tree.{Body, Done, File}
 use Rattle.grammar.specs.Tree as tree
-use Rattle.grammar.specs.Pools.{Names}
+use Rattle.grammar.specs.Pools.{Pools}
 use Rattle.code.specs.Functions.{function_at, no_function}
-use Rattle.parser.specs.Files.{IsFile}
-use Rattle.trees.specs.Standing.{Kept, Stands}
+use Rattle.parser.specs.ParsedFiles.{IsFile}
+use Rattle.trees.specs.TreeMakers.{TreeMaker, TreeMakerRepresents}
 use Rattle.room.proofs.BoundLaws.{trees_are}
 use Rattle.trees.specs.Laws.{Told, told, told_functions, told_numbered, told_trees}
 use Rattle.trees.specs.Trees.{body_tree, function_tree}
@@ -193,9 +193,9 @@ module _ (asked : Counted) (p : Profile) (file : File) (resolved : IsResolved fi
       has_rows spans first second = record { runs = first ∙ runs_rows; turns = second ∙ turns_rows }
 
 -- what is told of a source, by what is told of each file that its trees may be
-pub spans_are : (asked : Counted) (p : Profile) (told : Option (List ℕ)) (before after : Kept) (names : Names)
-    (spans : SourceSpans) → Stands before p [] →
-    IsFile (λ p acts. Stands before p acts) (λ p acts. Stands after p acts) told names →
+pub spans_are : (asked : Counted) (p : Profile) (told : Option (List ℕ)) (before after : TreeMaker) (names : Pools)
+    (spans : SourceSpans) → TreeMakerRepresents before p [] →
+    IsFile (λ p acts. TreeMakerRepresents before p acts) (λ p acts. TreeMakerRepresents after p acts) told names →
     ((file : File) → IsResolved file → told_functions file.functions file.order ≡ told_trees after.functions →
     HasRows asked p file spans) →
     AreSpansOf asked p told spans

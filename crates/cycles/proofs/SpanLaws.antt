@@ -1,7 +1,7 @@
 -- The laws of spans.
 use Rattle.std.specs.Prelude.{◌≡◌, ℤ, List, [], ◌∷◌, length, Option}
 use Rattle.std.proofs.Common.{refl, arith}
-use Rattle.grammar.specs.declared.names.Callee.TheVariants as callee
+use Rattle.grammar.specs.declared.resolved_names.Callee.TheVariants as callee
 use Rattle.code.specs.Meaning.{Vars, Evaluated, Gives, Awaits, effect_within}
 use Rattle.code.specs.declared.want.Want.TheVariants.{Quiet, Ask, Restart}
 use Rattle.cycles.specs.declared.counted.Counted.{Counted}

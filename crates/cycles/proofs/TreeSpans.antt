@@ -1,6 +1,6 @@
 -- The spans of each kind of tree that the code goes through.
 use Rattle.std.proofs.Common.{◌≡◌, ℕ, ◌∙◌, Global, Vec, ap, map}
-use Rattle.grammar.specs.declared.names.Callee.{Callee}
+use Rattle.grammar.specs.declared.resolved_names.Callee.{Callee}
 use Rattle.grammar.specs.Profile.{Profile}
 use Rattle.grammar.specs.Tree.{Body}
 use Rattle.trees.specs.Trees.{arguments, body_tree, expr_tree, statement_tree}

@@ -3,13 +3,13 @@ use Rattle.std.specs.Prelude.{ℕ, ℤ, pos, zero, suc, ◌+◌, List, [], ◌�
 use Rattle.arith.specs.Op.{holds, truth, value_of}
 use Rattle.arith.specs.declared.operators.Op.{Op}
 use Rattle.arith.specs.declared.operators.Op.TheVariants as op
-use Rattle.grammar.specs.declared.names.Callee.{Callee}
-use Rattle.grammar.specs.declared.names.Callee.TheVariants as callee
+use Rattle.grammar.specs.declared.resolved_names.Callee.{Callee}
+use Rattle.grammar.specs.declared.resolved_names.Callee.TheVariants as callee
 use Rattle.grammar.specs.Profile.{Profile}
 use Rattle.grammar.specs.Tree.{Expr, Constant, Variable, Binary, Assign, Postfix, Call, Args, NoMore, Argument, Body, Done, ExpressionStatement, IfStatement, IfElseStatement, While, Return, Function, File}
 use Rattle.code.specs.Functions.{function_at}
 use Rattle.code.specs.Meaning.{Vars, Evaluated, Gives, Flow, Through, Returns, Again, and_on, and_then, assigned, binary, called, closed, effect, effect_within, first_locals, full, on_through, over, pass, push, returned, short, tick, value, value_of_variable, values}
-use Rattle.code.specs.Values.{stored, asked}
+use Rattle.code.specs.Values.{stored, asked_words}
 use Rattle.code.specs.declared.want.Want.TheVariants.{Quiet, Ask, Restart}
 use Rattle.cycles.specs.declared.counted.Counted.{Counted}
 use Rattle.cycles.specs.declared.spans.Span.{Span}
@@ -423,7 +423,8 @@ module _ (u : Counted) (p : Profile) (file : File) (again : Again) (sooner : Bod
       spends_wider u (λ (t : List ℤ). called p file again (callee.Intrinsic i) arguments vars depth frames t)
       (λ x. Some (exactly (asking u i) ⊕ exactly 0)) (λ x. Some (exactly (asking u i)))
       (λ x n h. within_all (exactly (asking u i)) n h)
-      (spends_tick u (nat_le (depth + 1) p.words) (Ask i (asked i arguments)) (λ reply rest. Gives reply vars rest)
+      (spends_tick u (nat_le (depth + 1) p.words) (Ask i (asked_words i arguments))
+      (λ reply rest. Gives reply vars rest)
       (λ x. Some (exactly 0)) (λ reply. spends_given u reply vars (λ x. Some (exactly 0)) (within_exactly 0)))
   called_takes zero (callee.Function k) arguments vars depth frames =
       spends_wider u (λ (t : List ℤ). called p file again (callee.Function k) arguments vars depth frames t)

@@ -1,8 +1,8 @@
 -- What is counted of a cycle, and along a run.
 use Rattle.std.specs.Prelude.{ℕ, ℤ, ◌+◌, ◌==◌, List, [], ◌∷◌, if◌then◌else◌}
-use Rattle.grammar.specs.declared.names.Intrinsic.{Intrinsic}
-use Rattle.grammar.specs.declared.names.Intrinsic.TheVariants.{Scan, Cannon, Drive, Damage, Speed, LocX, LocY, Rand}
-use Rattle.grammar.specs.declared.names.Intrinsic.TheVariants.{Sqrt, Sin, Cos, Tan, Atan}
+use Rattle.grammar.specs.declared.resolved_names.Intrinsic.{Intrinsic}
+use Rattle.grammar.specs.declared.resolved_names.Intrinsic.TheVariants.{Scan, Cannon, Drive, Damage, Speed, LocX, LocY, Rand}
+use Rattle.grammar.specs.declared.resolved_names.Intrinsic.TheVariants.{Sqrt, Sin, Cos, Tan, Atan}
 use Rattle.code.specs.Meaning.{Evaluated, Gives, Awaits}
 use Rattle.code.specs.declared.want.Want.{Want}
 use Rattle.code.specs.declared.want.Want.TheVariants.{Ask}

@@ -1,6 +1,6 @@
 -- Laws of spans: whatever replies come, what is counted along a run is within its span.
 use Rattle.std.specs.Prelude.{◌≡◌, ℕ, ℤ, List, ◌++◌, length, Option, Some}
-use Rattle.grammar.specs.declared.names.Callee.TheVariants as callee
+use Rattle.grammar.specs.declared.resolved_names.Callee.TheVariants as callee
 use Rattle.grammar.specs.Profile.{Profile}
 use Rattle.grammar.specs.Tree.{Expr, Body, File, While}
 use Rattle.code.specs.Meaning.{Vars, Evaluated, Gives, Flow, and_then, called, value, effect, effect_within}

@@ -4,8 +4,8 @@ ghost use Rattle.std.specs.Prelude.{◌≡◌, IfErr, IfOk};
 ghost use Rattle.tokens.specs.Feed.{MayRead};
 ghost use Rattle.grammar.specs.Resolved.{IsResolved};
 ghost use Rattle.grammar.specs.Tree.{File};
-ghost use Rattle.parser.specs.Files.{TakesEnough};
-ghost use Rattle.parser.specs.Segment.{Counts};
+ghost use Rattle.parser.specs.ParsedFiles.{TakesEnough};
+ghost use Rattle.parser.specs.Segment.{CountsRefusal};
 ghost use Rattle.room.specs.Bounds.{IsRefusedSource, goes_by};
 ghost use Rattle.trees.specs.Laws.{told_functions, told_trees};
 ghost use Rattle.cycles.specs.Files.{AreSpansOf, HasRows};
@@ -45,7 +45,7 @@ pub fn source_spans<F: Feed>(
     ensures spans { IfOk result (AreSpansOf asked profile (F.device feed.old).to_come) }
     ensures refused { IfErr result (IsRefusedSource profile (F.device feed.old).to_come) }
     ensures taken { TakesEnough result (goes_by profile) (F.device feed.old).to_come (F.device feed.new).to_come }
-    ensures counted { Counts result (F.device feed.old).account (F.device feed.new).account }
+    ensures counted { CountsRefusal result (F.device feed.old).account (F.device feed.new).account }
 {
     let mut maker = TreeMaker::new(alloc, profile);
     let _names = parse(feed, &mut maker)?;

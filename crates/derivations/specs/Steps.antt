@@ -2,7 +2,7 @@
 use Rattle.std.specs.Prelude.{ℕ, ◌-◌, List, Bool, true, false, Option, Some, None, is_some, length, slice_get, if◌then◌else◌}
 use Rattle.tokens.specs.declared.located_tokens.Token.{Token}
 use Rattle.tokens.specs.declared.located_tokens.Token.TheVariants as token
-use Rattle.grammar.specs.Grammar.{is_fault, is_punctuator, is_word, choice}
+use Rattle.grammar.specs.Grammar.{is_fault, is_punctuator, is_keyword, choice}
 use Rattle.grammar.specs.Derivation.{constant_value, is_end, name_of_token}
 use Rattle.grammar.specs.Grammar as table
 use Rattle.derivations.specs.Table.{item_of}
@@ -16,7 +16,7 @@ use Rattle.derivations.specs.declared.steps.Pending.{Pending}
 -- the token is the one that an item wants, by the tests of the definition's step
 abbrev pub is_wanted : table.Item → Token → Bool
 is_wanted (table.Exactly m) next = is_punctuator m next
-is_wanted (table.AWord w) next = is_word w next
+is_wanted (table.AKeyword w) next = is_keyword w next
 is_wanted (table.AName role) next = is_some (name_of_token next)
 is_wanted table.AConstant next = is_some (constant_value next)
 is_wanted table.AnEnd next = is_end next

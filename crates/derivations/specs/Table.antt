@@ -47,8 +47,8 @@ action_of making.Not = table.Not
 action_of making.Complement = table.Complement
 action_of making.Fetch = table.Fetch
 action_of (making.Store o) = table.Store o
-action_of (making.StepBefore o) = table.StepBefore o
-action_of (making.StepBehind o) = table.StepBehind o
+action_of (making.PrefixIncrement o) = table.PrefixIncrement o
+action_of (making.PostfixIncrement o) = table.PostfixIncrement o
 action_of making.Pass = table.Pass
 action_of making.Invoke = table.Invoke
 action_of making.Empty = table.Empty
@@ -62,7 +62,7 @@ action_of making.Define = table.Define
 
 abbrev pub item_of : Item → table.Item
 item_of (item.Exactly m) = table.Exactly m
-item_of (item.Keyword w) = table.AWord w
+item_of (item.AKeyword w) = table.AKeyword w
 item_of (item.Naming r) = table.AName (role_of r)
 item_of item.Number = table.AConstant
 item_of item.Ending = table.AnEnd

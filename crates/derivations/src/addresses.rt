@@ -7,14 +7,14 @@ use crate::trackers::{Tracker, place_of};
 use arrayvec::ArrayVec;
 use grammar::Profile;
 use std::marker::Model;
-use tokens::{Cursor, Pieces, SOURCE_BYTES, WINDOW};
+use tokens::{Cursor, MOST_SOURCE_BYTES, MemoryFeed, WINDOW_BYTES};
 
 /// The most instructions of a program in any profile, with the NOP that ends it.
 pub const MOST_PLACES: usize = 4000;
 
 /// A place in a source.
 #[derive(Clone, Copy, Debug, Default, PartialEq, Eq)]
-pub struct Place {
+pub struct SourcePosition {
     /// The line, from 1.
     pub line: u32,
     /// The column, in bytes, from 1.
@@ -23,20 +23,20 @@ pub struct Place {
 
 /// The places of a program's instructions, by their addresses. Its value is the list of them.
 #[derive(Drop)]
-pub struct Places {
-    places: ArrayVec<Place, MOST_PLACES>,
+pub struct SourcePositions {
+    places: ArrayVec<SourcePosition, MOST_PLACES>,
 }
 
-impl Model for Places {
+impl Model for SourcePositions {
     ghost use Rattle.std.specs.Prelude.{List};
-    ghost use Rattle.derivations.specs.declared.addresses.Place.{Place};
+    ghost use Rattle.derivations.specs.declared.addresses.SourcePosition.{SourcePosition};
 
-    ghost Value = { List Place };
+    ghost Value = { List SourcePosition };
 
     ghost view = { λ p. p.places.items };
 }
 
-impl Places {
+impl SourcePositions {
     /// Returns how many instructions there are, the final NOP among them.
     pub fn len(&self) -> usize
         ensures { result ≡ length self.now }
@@ -55,14 +55,14 @@ impl Places {
     /// token, a call's name, the word `if`, `else`, `while` or `return`, a statement's semicolon, the closing brace
     /// of a function for its last return, and the end of the source for the final NOP. `None` past the last
     /// instruction.
-    pub fn place(&self, address: usize) -> Option<Place>
+    pub fn place(&self, address: usize) -> Option<SourcePosition>
         ensures { result ≡ slice_get self.now address }
     {
         self.places.as_slice().get(address).copied()
     }
 
     /// Returns the places, by the addresses.
-    pub fn places(&self) -> &[Place]
+    pub fn places(&self) -> &[SourcePosition]
         ensures value { result.now ≡ self.now }
         ensures most { length result.now ≤ MOST_PLACES }
     {
@@ -74,13 +74,13 @@ impl Places {
 /// doesn't fit, or there are more instructions than a program has. No clause says that the list is as long as the
 /// program's code: tests do. Faults of names and levels are passed over. No memory is asked for.
 #[inline(never)]
-pub fn lines(source: &[u8], profile: Profile) -> Option<Places> {
-    let mut feed = Pieces::new(source, WINDOW);
+pub fn lines(source: &[u8], profile: Profile) -> Option<SourcePositions> {
+    let mut feed = MemoryFeed::new(source, WINDOW_BYTES);
     let mut cursor = Cursor::open(&mut feed).ok()?;
     let mut finder = Finder::new(source);
     let mut tracker = Tracker::start(profile);
     let mut next = finder.place(cursor.peek());
-    for _ in 0..SOURCE_BYTES + 2 {
+    for _ in 0..MOST_SOURCE_BYTES + 2 {
         let is_last = cursor.peek().token.is_last();
         let after = if is_last {
             next
@@ -100,8 +100,8 @@ pub fn lines(source: &[u8], profile: Profile) -> Option<Places> {
 }
 
 /// Returns all places: the last instruction's is the end of the source.
-fn ended(tracker: Tracker, end: Place) -> Option<Places> {
+fn ended(tracker: Tracker, end: SourcePosition) -> Option<SourcePositions> {
     let mut places = tracker.into_places();
     places.try_push(end).ok()?;
-    Some(Places { places })
+    Some(SourcePositions { places })
 }

@@ -3,7 +3,7 @@
 use crate::locations::Located;
 use crate::steps::Derivation;
 use arrayvec::ArrayVec;
-use tokens::{Name, Punctuator, Token, Word};
+use tokens::{Keyword, Name, Punctuator, Token};
 
 /// The most tokens that fit at a place: all.
 pub const MOST_FITTING: usize = PUNCTUATORS.len() + WORDS.len() + 3;
@@ -59,7 +59,13 @@ static SPELLINGS: [&str; 39] = [
 ];
 
 /// The words that fit anywhere.
-static WORDS: [Word; 5] = [Word::If, Word::Else, Word::While, Word::Return, Word::Type];
+static WORDS: [Keyword; 5] = [
+    Keyword::If,
+    Keyword::Else,
+    Keyword::While,
+    Keyword::Return,
+    Keyword::Type,
+];
 
 /// Returns the text of a punctuator.
 pub fn spelled(punctuator: Punctuator) -> &'static str {
@@ -79,7 +85,7 @@ pub fn fitting(tokens: &[Located], index: usize) -> Fitting {
         gap.add(&mut found, Token::Punctuator(*punctuator));
     }
     for word in &WORDS {
-        gap.add(&mut found, Token::Word(*word));
+        gap.add(&mut found, Token::Keyword(*word));
     }
     for token in [Token::Name(Name::new()), Token::Constant(0), Token::End] {
         gap.add(&mut found, token);

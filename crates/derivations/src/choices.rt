@@ -7,10 +7,10 @@ ghost use Rattle.grammar.specs.Grammar as table;
 ghost use Rattle.grammar.specs.Operators.{operator_at};
 ghost use Rattle.derivations.specs.Table.{action_of, item_of, role_of, symbol_of};
 
-use crate::symbols::Item::{Close, Ending, Exactly, Keyword, Make, Naming, Number, Part};
+use crate::symbols::Item::{AKeyword, Close, Ending, Exactly, Make, Naming, Number, Part};
 use crate::symbols::{Item, Production, Role, SemanticAction, Symbol};
-use grammar::{Binary, Op, StoreOp, operator_from, store_operator};
-use tokens::{Punctuator, Token, Word};
+use grammar::{BinaryOperator, Op, StoreOp, operator_from, store_operator};
+use tokens::{Keyword, Punctuator, Token};
 
 /// The most level of the binary operators.
 const TIGHTEST: u8 = 10;
@@ -50,8 +50,8 @@ fn source(next: &Token) -> Option<Production>
 {
     match next {
         Token::End => Some(Production::of(&[Ending])),
-        Token::Word(Word::Type) => Some(Production::of(&[
-            Keyword(Word::Type),
+        Token::Keyword(Keyword::Type) => Some(Production::of(&[
+            AKeyword(Keyword::Type),
             Part(Symbol::Types),
             Part(Symbol::Head),
             Part(Symbol::Source),
@@ -66,7 +66,9 @@ fn types(next: &Token) -> Production
     ensures { (after : Token) → Some result ≡ table.choice table.Types next.now after }
 {
     match next {
-        Token::Word(Word::Type) => { Production::of(&[Keyword(Word::Type), Part(Symbol::Types)]) }
+        Token::Keyword(Keyword::Type) => {
+            Production::of(&[AKeyword(Keyword::Type), Part(Symbol::Types)])
+        }
         _ => Production::of(&[]),
     }
 }
@@ -133,19 +135,19 @@ fn parameter_types(next: &Token) -> Production
     ensures { (after : Token) → Some result ≡ table.choice table.ParameterTypes next.now after }
 {
     match next {
-        Token::Word(Word::Type) => declared(Role::Typed, Symbol::ParameterTypes),
+        Token::Keyword(Keyword::Type) => declared(Role::Typed, Symbol::ParameterTypes),
         _ => Production::of(&[]),
     }
 }
 
 /// Returns the production of a declaration of names in this role, and of what follows it.
 fn declared(role: Role, others: Symbol) -> Production
-    ensures { result ≡ table.AWord Word.Type ∷ table.Part table.Types ∷ table.AName (role_of role)
+    ensures { result ≡ table.AKeyword Keyword.Type ∷ table.Part table.Types ∷ table.AName (role_of role)
         ∷ table.Part (table.More (role_of role)) ∷ table.Exactly Punctuator.Semicolon
         ∷ table.Part (symbol_of others) ∷ [] }
 {
     Production::of(&[
-        Keyword(Word::Type),
+        AKeyword(Keyword::Type),
         Part(Symbol::Types),
         Naming(role),
         Part(Symbol::More(role)),
@@ -193,7 +195,7 @@ fn declarations(next: &Token) -> Production
     ensures { (after : Token) → Some result ≡ table.choice table.Declarations next.now after }
 {
     match next {
-        Token::Word(Word::Type) => declared(Role::Local, Symbol::Declarations),
+        Token::Keyword(Keyword::Type) => declared(Role::Local, Symbol::Declarations),
         _ => Production::of(&[]),
     }
 }
@@ -217,10 +219,10 @@ fn statement(next: &Token) -> Production
             Production::of(&[Exactly(Punctuator::Semicolon)])
         }
         Token::Punctuator(Punctuator::OpenCurly) => Production::of(&[Part(Symbol::Block)]),
-        Token::Word(Word::If) => tested(Word::If, Part(Symbol::ElsePart)),
-        Token::Word(Word::While) => tested(Word::While, Make(SemanticAction::Repeat)),
-        Token::Word(Word::Return) => Production::of(&[
-            Keyword(Word::Return),
+        Token::Keyword(Keyword::If) => tested(Keyword::If, Part(Symbol::ElsePart)),
+        Token::Keyword(Keyword::While) => tested(Keyword::While, Make(SemanticAction::Repeat)),
+        Token::Keyword(Keyword::Return) => Production::of(&[
+            AKeyword(Keyword::Return),
             Part(Symbol::Back),
             Exactly(Punctuator::Semicolon),
             Make(SemanticAction::GiveBack),
@@ -234,13 +236,13 @@ fn statement(next: &Token) -> Production
 }
 
 /// Returns the production of an `if` or a `while`, by its word and what follows its body.
-fn tested(word: Word, last: Item) -> Production
-    ensures { result ≡ table.AWord word ∷ table.Exactly Punctuator.OpenRound ∷ table.Part table.Expression
+fn tested(word: Keyword, last: Item) -> Production
+    ensures { result ≡ table.AKeyword word ∷ table.Exactly Punctuator.OpenRound ∷ table.Part table.Expression
         ∷ table.Exactly Punctuator.CloseRound ∷ table.Make table.Empty ∷ table.Part table.Statement
         ∷ item_of last ∷ table.Close ∷ [] }
 {
     Production::of(&[
-        Keyword(word),
+        AKeyword(word),
         Exactly(Punctuator::OpenRound),
         Part(Symbol::Expression),
         Exactly(Punctuator::CloseRound),
@@ -256,8 +258,8 @@ fn else_part(next: &Token) -> Production
     ensures { (after : Token) → Some result ≡ table.choice table.ElsePart next.now after }
 {
     match next {
-        Token::Word(Word::Else) => Production::of(&[
-            Keyword(Word::Else),
+        Token::Keyword(Keyword::Else) => Production::of(&[
+            AKeyword(Keyword::Else),
             Make(SemanticAction::Empty),
             Part(Symbol::Statement),
             Make(SemanticAction::DecideElse),
@@ -332,7 +334,7 @@ pub(crate) fn operator_at(level: u8, token: &Token) -> Option<Op>
     ensures bounded { IfSome result (λ op. level ≤ TIGHTEST) }
 {
     match operator_from(token, level) {
-        Some(Binary { level: found, op }) if found == level => Some(op),
+        Some(BinaryOperator { level: found, op }) if found == level => Some(op),
         _ => None,
     }
 }
@@ -369,12 +371,12 @@ fn before(punctuator: Punctuator, action: SemanticAction) -> Production
 
 /// Returns the production of `++v` or `--v`.
 fn step_before(punctuator: Punctuator, op: StoreOp) -> Production
-    ensures { result ≡ table.Exactly punctuator ∷ table.AName table.Mentioned ∷ table.Make (table.StepBefore op) ∷ [] }
+    ensures { result ≡ table.Exactly punctuator ∷ table.AName table.Mentioned ∷ table.Make (table.PrefixIncrement op) ∷ [] }
 {
     Production::of(&[
         Exactly(punctuator),
         Naming(Role::Mentioned),
-        Make(SemanticAction::StepBefore(op)),
+        Make(SemanticAction::PrefixIncrement(op)),
     ])
 }
 
@@ -418,12 +420,12 @@ fn named(after: &Token) -> Production
 
 /// Returns the production of `v++` or `v--`.
 fn step_behind(punctuator: Punctuator, op: StoreOp) -> Production
-    ensures { result ≡ table.AName table.Mentioned ∷ table.Exactly punctuator ∷ table.Make (table.StepBehind op) ∷ [] }
+    ensures { result ≡ table.AName table.Mentioned ∷ table.Exactly punctuator ∷ table.Make (table.PostfixIncrement op) ∷ [] }
 {
     Production::of(&[
         Naming(Role::Mentioned),
         Exactly(punctuator),
-        Make(SemanticAction::StepBehind(op)),
+        Make(SemanticAction::PostfixIncrement(op)),
     ])
 }
 
@@ -463,7 +465,7 @@ pub fn enters(symbol: Symbol, next: &Token, after: &Token) -> bool
 {
     match (symbol, next) {
         (Symbol::FunctionBlock | Symbol::Block, Token::Punctuator(Punctuator::OpenCurly)) => true,
-        (Symbol::Statement, Token::Word(Word::If | Word::While)) => true,
+        (Symbol::Statement, Token::Keyword(Keyword::If | Keyword::While)) => true,
         (Symbol::Expression, Token::Name(_)) => store_operator(after).is_some(),
         (
             Symbol::Unary,

@@ -12,7 +12,7 @@ mod steps;
 mod symbols;
 mod trackers;
 
-pub use addresses::{MOST_PLACES, Place, Places, lines};
+pub use addresses::{MOST_PLACES, SourcePosition, SourcePositions, lines};
 pub use candidates::{Fitting, MOST_FITTING, fitting, spelled};
 pub use choices::{choice, enters};
 pub use emissions::{Emission, MOST_ACTIONS, Origin};

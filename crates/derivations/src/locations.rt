@@ -4,7 +4,9 @@ ghost use Rattle.std.specs.Prelude.{◌≤◌, length};
 
 use arrayvec::ArrayVec;
 use std::alloc::{AllocError, Global};
-use tokens::{Cursor, LexicalError, LocatedToken, Pieces, SOURCE_BYTES, Token, WINDOW};
+use tokens::{
+    Cursor, LexicalError, LocatedToken, MOST_SOURCE_BYTES, MemoryFeed, Token, WINDOW_BYTES,
+};
 
 /// The most tokens that are found without asking for memory.
 pub const MOST_TOKENS: usize = 16_384;
@@ -40,12 +42,12 @@ impl Default for Located {
 /// refused.
 pub fn locate(alloc: Global, source: &[u8]) -> Result<Vec<Located>, AllocError> {
     let mut tokens = Vec::new(alloc);
-    let mut feed = Pieces::new(source, WINDOW);
+    let mut feed = MemoryFeed::new(source, WINDOW_BYTES);
     let Ok(mut cursor) = Cursor::open(&mut feed) else {
         return Ok(tokens);
     };
     let mut places = Finder::new(source);
-    for _ in 0..SOURCE_BYTES + 2 {
+    for _ in 0..MOST_SOURCE_BYTES + 2 {
         let token = *cursor.peek();
         tokens.push(places.place(&token))?;
         if token.token.is_last() || cursor.advance(&mut feed).is_err() {
@@ -60,7 +62,7 @@ pub type Tokens = ArrayVec<Located, MOST_TOKENS>;
 
 /// Finds all tokens of a source as `locate` does, without asking for memory. Answers whether there was room for all.
 pub fn locate_in(tokens: &mut Tokens, source: &[u8]) -> bool {
-    let mut feed = Pieces::new(source, WINDOW);
+    let mut feed = MemoryFeed::new(source, WINDOW_BYTES);
     let Ok(mut cursor) = Cursor::open(&mut feed) else {
         return true;
     };

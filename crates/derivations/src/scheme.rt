@@ -4,7 +4,7 @@ use crate::choices::operator_at;
 use crate::emissions::{Emission, Origin};
 use crate::symbols::{Item, Role, SemanticAction, Symbol};
 use grammar::{Action, Callee, Op, StoreOp, Var};
-use tokens::{Punctuator, Token, Word};
+use tokens::{Keyword, Punctuator, Token};
 
 /// A constant, of any value.
 const CONSTANT: Action = Action::PushConstant(0);
@@ -42,7 +42,7 @@ pub(crate) fn emitted(front: Item, next: &Token, behind: [Option<Item>; 2]) -> E
 fn making(action: SemanticAction, behind: [Option<Item>; 2]) -> Emission {
     match action {
         SemanticAction::Empty => Emission::of(on_body(behind), Origin::Chosen),
-        SemanticAction::Store(_) | SemanticAction::StepBehind(_) => {
+        SemanticAction::Store(_) | SemanticAction::PostfixIncrement(_) => {
             Emission::of(on_rule(action), Origin::AfterChosen)
         }
         SemanticAction::Evaluate => Emission::of(on_rule(action), Origin::Passed),
@@ -52,7 +52,7 @@ fn making(action: SemanticAction, behind: [Option<Item>; 2]) -> Emission {
         | SemanticAction::Not
         | SemanticAction::Complement
         | SemanticAction::Fetch
-        | SemanticAction::StepBefore(_)
+        | SemanticAction::PrefixIncrement(_)
         | SemanticAction::Pass
         | SemanticAction::Invoke
         | SemanticAction::Decide
@@ -81,7 +81,7 @@ fn on_body(behind: [Option<Item>; 2]) -> &'static [Action] {
 fn on_choice(symbol: Symbol, next: &Token) -> &'static [Action] {
     match (symbol, *next) {
         (Symbol::FunctionBlock, Token::Punctuator(Punctuator::OpenCurly)) => { &[BEGIN_FUNCTION] }
-        (Symbol::Statement, Token::Word(Word::While)) => &[Action::BeginWhile],
+        (Symbol::Statement, Token::Keyword(Keyword::While)) => &[Action::BeginWhile],
         (Symbol::Unary, Token::Punctuator(Punctuator::Minus)) => &[CONSTANT],
         (Symbol::Tail(level), _) => match operator_at(level, next) {
             Some(Op::And) => &[Action::LogicMiddle(Op::And)],
@@ -101,8 +101,8 @@ fn on_rule(action: SemanticAction) -> &'static [Action] {
         SemanticAction::Complement => &[CONSTANT, Action::ApplyBinop(Op::BitXor)],
         SemanticAction::Fetch => &[FETCH],
         SemanticAction::Store(_) => &[STORE],
-        SemanticAction::StepBefore(_) => &[CONSTANT, STORE],
-        SemanticAction::StepBehind(_) => { &[FETCH, CONSTANT, STORE, Action::Chop] }
+        SemanticAction::PrefixIncrement(_) => &[CONSTANT, STORE],
+        SemanticAction::PostfixIncrement(_) => { &[FETCH, CONSTANT, STORE, Action::Chop] }
         SemanticAction::Invoke => &[END_CALL],
         SemanticAction::Evaluate => &[Action::Chop],
         SemanticAction::Decide | SemanticAction::DecideElse => &[Action::EndIf],

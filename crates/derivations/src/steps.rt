@@ -221,7 +221,7 @@ pub(crate) fn fits(item: Item, next: &Token) -> bool
 {
     match (item, *next) {
         (Item::Exactly(wanted), Token::Punctuator(punctuator)) => punctuator == wanted,
-        (Item::Keyword(wanted), Token::Word(word)) => word == wanted,
+        (Item::AKeyword(wanted), Token::Keyword(word)) => word == wanted,
         (Item::Naming(_), Token::Name(_)) => true,
         (Item::Number, Token::Constant(_)) => true,
         (Item::Ending, Token::End) => true,

@@ -6,7 +6,7 @@ ghost use Rattle.derivations.specs.Table.{item_of};
 use arrayvec::ArrayVec;
 use grammar::{Op, StoreOp};
 use std::marker::Model;
-use tokens::{Punctuator, Word};
+use tokens::{Keyword, Punctuator};
 
 /// What a name is there for.
 #[derive(Clone, Copy, PartialEq, Eq)]
@@ -88,9 +88,9 @@ pub enum SemanticAction {
     /// An assignment.
     Store(StoreOp),
     /// `++v` or `--v`
-    StepBefore(StoreOp),
+    PrefixIncrement(StoreOp),
     /// `v++` or `v--`
-    StepBehind(StoreOp),
+    PostfixIncrement(StoreOp),
     /// One more argument of a call.
     Pass,
     /// The end of a call.
@@ -119,7 +119,7 @@ pub enum Item {
     /// This punctuator comes next.
     Exactly(Punctuator),
     /// This word comes next.
-    Keyword(Word),
+    AKeyword(Keyword),
     /// A name comes next, in this role.
     Naming(Role),
     /// A constant comes next.

@@ -1,7 +1,7 @@
 //! Where each instruction comes from: a tracker follows the derivation token by token, in memory of fixed size, and keeps
 //! a place for each instruction of the actions that are emitted.
 
-use crate::addresses::{MOST_PLACES, Place};
+use crate::addresses::{MOST_PLACES, SourcePosition};
 use crate::emissions::{Emission, Origin};
 use crate::locations::Located;
 use crate::scheme::emitted;
@@ -15,8 +15,8 @@ use grammar::Profile;
 #[derive(Clone, Copy, Default)]
 struct Pending {
     item: Item,
-    chosen: Place,
-    after_chosen: Place,
+    chosen: SourcePosition,
+    after_chosen: SourcePosition,
 }
 
 /// Follows the derivation of a source, and keeps the place of each instruction that it makes.
@@ -24,8 +24,8 @@ struct Pending {
 pub(crate) struct Tracker {
     profile: Profile,
     stack: ArrayVec<Pending, MOST_PENDING>,
-    passed: Place,
-    places: ArrayVec<Place, MOST_PLACES>,
+    passed: SourcePosition,
+    places: ArrayVec<SourcePosition, MOST_PLACES>,
 }
 
 impl Tracker {
@@ -34,19 +34,19 @@ impl Tracker {
         let mut stack = ArrayVec::new();
         let _ = stack.try_push(Pending {
             item: Item::Part(Symbol::Source),
-            chosen: Place::default(),
-            after_chosen: Place::default(),
+            chosen: SourcePosition::default(),
+            after_chosen: SourcePosition::default(),
         });
         Tracker {
             profile,
             stack,
-            passed: Place::default(),
+            passed: SourcePosition::default(),
             places: ArrayVec::new(),
         }
     }
 
     /// Returns the places of the instructions so far.
-    pub(crate) fn into_places(self) -> ArrayVec<Place, MOST_PLACES> {
+    pub(crate) fn into_places(self) -> ArrayVec<SourcePosition, MOST_PLACES> {
         self.places
     }
 
@@ -104,7 +104,7 @@ impl Tracker {
     }
 
     /// Returns the place that an emission of the item in front comes from.
-    fn origin(&self, emission: &Emission, front: &Pending, next: Place) -> Place {
+    fn origin(&self, emission: &Emission, front: &Pending, next: SourcePosition) -> SourcePosition {
         match emission.origin() {
             Origin::Chosen => front.chosen,
             Origin::AfterChosen => front.after_chosen,
@@ -114,7 +114,7 @@ impl Tracker {
     }
 
     /// Keeps the place of so many instructions. Answers whether there was room.
-    fn keep(&mut self, count: u16, place: Place) -> bool {
+    fn keep(&mut self, count: u16, place: SourcePosition) -> bool {
         for _ in 0..count {
             if self.places.try_push(place).is_err() {
                 return false;
@@ -124,7 +124,12 @@ impl Tracker {
     }
 
     /// Replaces the item in front by a production. Answers whether there was room.
-    fn replace(&mut self, production: &Production, chosen: Place, after_chosen: Place) -> bool {
+    fn replace(
+        &mut self,
+        production: &Production,
+        chosen: SourcePosition,
+        after_chosen: SourcePosition,
+    ) -> bool {
         let _ = self.stack.pop();
         for item in production.items().iter().rev() {
             let pending = Pending {
@@ -141,8 +146,8 @@ impl Tracker {
 }
 
 /// Returns where a token begins.
-pub(crate) fn place_of(token: &Located) -> Place {
-    Place {
+pub(crate) fn place_of(token: &Located) -> SourcePosition {
+    SourcePosition {
         line: token.line,
         column: token.column,
     }

@@ -2,11 +2,11 @@
 
 ghost use Rattle.std.specs.Prelude.{◌+◌, ◌-◌, ◌^◌, ◌<◌, ◌≤◌, ◌≢◌};
 ghost use Rattle.code.specs.Machine.{want_next};
-ghost use Rattle.code.specs.Standing.{FitsProgram};
+ghost use Rattle.code.specs.ReachedMachines.{FitsProgram};
 
 use code::{Machine, Maker, Profile, Program, Want};
 use parser::parse;
-use tokens::Pieces;
+use tokens::MemoryFeed;
 
 /// The robot. Each turn is 28 cycles, each tenth one 10 more, and after 100 turns it restarts in the sixth cycle.
 pub const ROBOT: &[u8] = b"
@@ -37,7 +37,7 @@ pub struct Counts {
 /// Compiles a source without a fault.
 pub fn compiled(source: &[u8]) -> Option<Program> {
     let mut maker = Maker::new(Profile::first());
-    let names = parse(&mut Pieces::new(source, 4096), &mut maker).ok()?;
+    let names = parse(&mut MemoryFeed::new(source, 4096), &mut maker).ok()?;
     Some(maker.finish(&names))
 }
 
@@ -52,7 +52,7 @@ pub fn counted(program: &Program, cycles: u32) -> Counts
     };
     let mut left = cycles;
     while left > 0 {
-        left -= machine.coast(program, left);
+        left -= machine.run_quiet(program, left);
         if left > 0 {
             count(&mut machine, program, &mut counts);
             left -= 1;
@@ -69,7 +69,7 @@ fn count(machine: &mut Machine, program: &Program, counts: &mut Counts)
     ensures fits { FitsProgram machine.new program.now }
     ensures one { counts.new.asks + counts.new.restarts ≤ counts.old.asks + counts.old.restarts + 1 }
 {
-    match machine.stopped(program) {
+    match machine.stopped_want(program) {
         Want::Restart => {
             machine.restart(program);
             counts.restarts += 1;

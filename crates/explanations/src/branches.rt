@@ -5,7 +5,7 @@ use crate::nodes::{Kind, Node, Nodes};
 use crate::warnings::{Subject, Warnings};
 use derivations::Located;
 use grammar::{Callee, StoreOp, Var};
-use tokens::{Punctuator, Token, Word};
+use tokens::{Keyword, Punctuator, Token};
 
 /// Warns of the `if` or `while` of a node's index.
 pub fn warn_of_branch(out: &mut Warnings, subject: &Subject<'_>, index: usize, node: &Node) {
@@ -42,7 +42,7 @@ fn warn_of_body(out: &mut Warnings, tokens: &[Located], node: &Node, body: usize
                 "the `while` ends with this `;`: the block behind it is no part of it",
             );
         }
-    } else if behind != Token::Word(Word::Else) {
+    } else if behind != Token::Keyword(Keyword::Else) {
         out.tell(
             body,
             "the `if` ends with this `;`: what follows it is always done",
@@ -88,7 +88,7 @@ fn behind_simple(tokens: &[Located], begin: usize) -> Option<usize> {
 fn may_begin(located: &Located) -> bool {
     !matches!(
         located.token,
-        Token::Word(Word::Else) | Token::Punctuator(Punctuator::CloseCurly) | Token::End
+        Token::Keyword(Keyword::Else) | Token::Punctuator(Punctuator::CloseCurly) | Token::End
     )
 }
 

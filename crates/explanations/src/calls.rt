@@ -47,7 +47,7 @@ pub fn warn_of_call(
 /// Returns how many parameters a function has.
 fn parameters(nodes: &Nodes, callee: Callee) -> usize {
     match callee {
-        Callee::Intrinsic(intrinsic) => usize::from(intrinsic.arguments()),
+        Callee::Intrinsic(intrinsic) => usize::from(intrinsic.argument_count()),
         Callee::Function(number) => parameters_of(nodes, number),
     }
 }
@@ -171,7 +171,7 @@ fn is_named(tokens: &[Located], node: &Node, names: &[&str]) -> bool {
 /// Reports whether a name is one of these.
 fn is_one_of(name: &Name, names: &[&str]) -> bool {
     for other in names {
-        if name.is(other.as_bytes()) {
+        if name.has_bytes(other.as_bytes()) {
             return true;
         }
     }

@@ -6,7 +6,7 @@ ghost use Rattle.explanations.specs.Compiling.{Compiles, IsFirstFault};
 use code::Maker;
 use grammar::{ParseFault, Profile};
 use parser::parse;
-use tokens::{Pieces, WINDOW};
+use tokens::{MemoryFeed, WINDOW_BYTES};
 
 /// Compiles a source in memory by a profile, as the main program does, and drops the code.
 ///
@@ -17,7 +17,7 @@ pub fn compile(source: &[u8], profile: Profile) -> Result<(), ParseFault>
     ensures fault { IfErr result (IsFirstFault profile source.now) }
 {
     let mut maker = Maker::new(profile);
-    match parse(&mut Pieces::new(source, WINDOW), &mut maker) {
+    match parse(&mut MemoryFeed::new(source, WINDOW_BYTES), &mut maker) {
         Ok(_) => Ok(()),
         Err(fault) => Err(fault),
     }

@@ -13,7 +13,7 @@ use crate::walks::Walk;
 use crate::wanted::add_wanted;
 use derivations::{Located, fitting};
 use grammar::{Code, Diagnostic, MOST_LEVELS, MOST_NAMES, Profile};
-use tokens::{CONSTANT_MAX, NAME_BYTES, SOURCE_BYTES};
+use tokens::{MOST_CONSTANT_VALUE, MOST_NAME_BYTES, MOST_SOURCE_BYTES};
 
 /// A fault whose token is found.
 #[derive(Clone, Copy)]
@@ -144,19 +144,19 @@ fn add_limit(note: &mut Note, found: &Found<'_>) {
             add_most(
                 note,
                 "a name has at most ",
-                NAME_BYTES,
+                MOST_NAME_BYTES,
                 " letters, and this one has ",
             );
             note.number(length_of(found));
         }
         Code::ConstantTooLarge => {
             note.add("the greatest number is ");
-            note.number(u64::from(CONSTANT_MAX));
+            note.number(u64::from(MOST_CONSTANT_VALUE));
         }
         Code::SourceTooLong => add_most(
             note,
             "a source has at most ",
-            SOURCE_BYTES as usize,
+            MOST_SOURCE_BYTES as usize,
             " bytes",
         ),
         Code::NestedTooDeeply => add_most(

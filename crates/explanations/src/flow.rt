@@ -18,7 +18,7 @@ pub fn warn_of_main(out: &mut Warnings, subject: &Subject<'_>) {
 /// Reports whether a function is `main`.
 fn is_main(tokens: &[Located], body: &Body) -> bool {
     match name_at(tokens, body.token) {
-        Some(name) => name.is(b"main"),
+        Some(name) => name.has_bytes(b"main"),
         None => false,
     }
 }

@@ -1,7 +1,7 @@
 //! Heads of functions, and calls that stand where a head might.
 
 use derivations::Located;
-use tokens::{Punctuator, Token, Word};
+use tokens::{Keyword, Punctuator, Token};
 
 /// Returns the index after the bracket that closes the one right after a token. It isn't inlined, since the page's module is
 /// to be small.
@@ -37,7 +37,7 @@ pub fn is_head(tokens: &[Located], index: usize) -> bool {
 fn behind_types(tokens: &[Located], index: usize) -> usize {
     let mut behind = index;
     for located in from(tokens, index) {
-        if located.token != Token::Word(Word::Type) {
+        if located.token != Token::Keyword(Keyword::Type) {
             return behind;
         }
         behind = behind.saturating_add(1);
@@ -49,7 +49,8 @@ fn behind_types(tokens: &[Located], index: usize) -> usize {
 fn begins_block(tokens: &[Located], index: usize) -> bool {
     let open = Token::Punctuator(Punctuator::OpenCurly);
     let first = token_at(tokens, index);
-    first == open || first == Token::Word(Word::Type) && behind_declarations(tokens, index) == open
+    first == open
+        || first == Token::Keyword(Keyword::Type) && behind_declarations(tokens, index) == open
 }
 
 /// Returns the first token from an index on that belongs to no declaration.
@@ -66,7 +67,7 @@ fn behind_declarations(tokens: &[Located], index: usize) -> Token {
 fn is_declaring(token: &Token) -> bool {
     matches!(
         token,
-        Token::Word(Word::Type)
+        Token::Keyword(Keyword::Type)
             | Token::Name(_)
             | Token::Punctuator(Punctuator::Comma | Punctuator::Semicolon)
     )
@@ -84,7 +85,7 @@ pub fn is_call(tokens: &[Located], name: usize) -> bool {
 /// Reports whether a type word stands right before an index.
 fn follows_type(tokens: &[Located], index: usize) -> bool {
     match tokens.get(..index) {
-        Some([.., before]) => before.token == Token::Word(Word::Type),
+        Some([.., before]) => before.token == Token::Keyword(Keyword::Type),
         _ => false,
     }
 }
@@ -94,7 +95,7 @@ fn may_define(token: &Token) -> bool {
     matches!(
         token,
         Token::Punctuator(Punctuator::OpenCurly)
-            | Token::Word(Word::Type)
+            | Token::Keyword(Keyword::Type)
             | Token::End
             | Token::Fault(_)
     )

@@ -8,7 +8,7 @@ use crate::scenes::Scene;
 use crate::told::spelling_of;
 use derivations::{Item, Role};
 use grammar::{operator_from, store_operator};
-use tokens::{CONSTANT_MAX, Name, Punctuator, Token, Word};
+use tokens::{Keyword, MOST_CONSTANT_VALUE, Name, Punctuator, Token};
 
 /// A hint.
 #[derive(Clone, Copy)]
@@ -127,7 +127,7 @@ fn hexadecimal(digits: &[u8]) -> Option<u32> {
     for byte in digits {
         let digit = char::from(*byte).to_digit(16)?;
         let sum = value.unwrap_or(0).saturating_mul(16).saturating_add(digit);
-        if sum > CONSTANT_MAX {
+        if sum > MOST_CONSTANT_VALUE {
             return None;
         }
         value = Some(sum);
@@ -142,7 +142,7 @@ fn on_declarations(scene: &Scene<'_>) -> Option<Hint> {
             "a declaration gives no value: write `int a;` here, and `a = ..;` among the statements",
         ));
     }
-    if !scene.is_word(Word::Type) {
+    if !scene.is_word(Keyword::Type) {
         return None;
     }
     if scene.is_outside() && is_in_list(scene) {
@@ -187,9 +187,9 @@ fn on_declared_names(scene: &Scene<'_>) -> Option<Hint> {
 /// Reports whether a declaration is just ended by a semicolon.
 fn declares(scene: &Scene<'_>) -> bool {
     let chosen_at = scene.chosen_at();
-    let is_typed = scene.token(chosen_at) == Token::Word(Word::Type);
+    let is_typed = scene.token(chosen_at) == Token::Keyword(Keyword::Type);
     let before = scene.token(chosen_at.saturating_sub(1));
-    let is_external = scene.is_outside() && before == Token::Word(Word::Type);
+    let is_external = scene.is_outside() && before == Token::Keyword(Keyword::Type);
     scene.wants(Punctuator::Semicolon) && (is_typed || is_external)
 }
 
@@ -273,12 +273,12 @@ fn begins_value(token: &Token) -> bool {
 
 /// Returns the hint on conditions and branches.
 fn on_conditions(scene: &Scene<'_>) -> Option<Hint> {
-    let follows_word = scene.follows(&Token::Word(Word::If))
-        || scene.follows(&Token::Word(Word::While));
+    let follows_word = scene.follows(&Token::Keyword(Keyword::If))
+        || scene.follows(&Token::Keyword(Keyword::While));
     if follows_word {
         return Some(Hint::Text("the condition of an `if` or a `while` stands in brackets"));
     }
-    if scene.is_word(Word::Else) && scene.kinds.statement {
+    if scene.is_word(Keyword::Else) && scene.kinds.statement {
         return Some(Hint::Text(
             "an `else` follows the one statement of its `if`: put several into braces, and no `;` behind the condition",
         ));

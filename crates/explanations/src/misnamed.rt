@@ -182,7 +182,7 @@ pub fn add_perhaps(note: &mut Note, name: &str) {
 /// Returns the hint on a name that beginners call.
 fn on_called(name: &Name) -> Option<&'static str> {
     for (called, hint) in &CALLED {
-        if name.is(called.as_bytes()) {
+        if name.has_bytes(called.as_bytes()) {
             return Some(*hint);
         }
     }
@@ -228,7 +228,7 @@ fn is_variable(tokens: &[Located], name: &Name) -> bool {
 /// Reports whether a name is an intrinsic function's.
 pub fn is_intrinsic(name: &Name) -> bool {
     for intrinsic in &INTRINSICS {
-        if name.is(intrinsic.name().as_bytes()) {
+        if name.has_bytes(intrinsic.name().as_bytes()) {
             return true;
         }
     }

@@ -282,8 +282,8 @@ impl Nodes {
                 self.leaf(Kind::Fetch(var), chosen_at)
             }
             SemanticAction::Store(op) => self.store(op, chosen_at),
-            SemanticAction::StepBefore(_) => self.step(chosen_at.saturating_add(1)),
-            SemanticAction::StepBehind(_) => self.step(chosen_at),
+            SemanticAction::PrefixIncrement(_) => self.step(chosen_at.saturating_add(1)),
+            SemanticAction::PostfixIncrement(_) => self.step(chosen_at),
             SemanticAction::Pass => self.pass(),
             SemanticAction::Invoke => self.invoke(chosen_at),
             SemanticAction::Empty => self.root(Root::Mark(chosen_at)),

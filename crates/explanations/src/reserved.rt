@@ -2,7 +2,7 @@
 
 use crate::told::{character_at, spelling_of};
 use derivations::Located;
-use tokens::{Token, Word};
+use tokens::{Keyword, Token};
 
 /// The refused words, each with a hint.
 static WORDS: [(&str, &str); 20] = [
@@ -126,7 +126,7 @@ fn byte_of(source: &[u8], located: &Located) -> u8 {
 /// Reports whether the last of some tokens is `if` or `while`.
 fn follows_test(tokens: &[Located]) -> bool {
     match tokens {
-        [.., before] => matches!(before.token, Token::Word(Word::If | Word::While)),
+        [.., before] => matches!(before.token, Token::Keyword(Keyword::If | Keyword::While)),
         [] => false,
     }
 }

@@ -5,7 +5,7 @@
 use crate::heads::token_at;
 use crate::wanted::{Kinds, has};
 use derivations::{Derivation, Item, Located, Pending, Symbol};
-use tokens::{Name, Punctuator, Token, Word};
+use tokens::{Keyword, Name, Punctuator, Token};
 
 /// A place at which a token doesn't fit.
 #[derive(Clone, Copy)]
@@ -94,8 +94,8 @@ impl<'a> Scene<'a> {
     }
 
     /// Reports whether the token that doesn't fit is this word.
-    pub fn is_word(&self, word: Word) -> bool {
-        self.met() == Token::Word(word)
+    pub fn is_word(&self, word: Keyword) -> bool {
+        self.met() == Token::Keyword(word)
     }
 
     /// Reports whether a token fits.

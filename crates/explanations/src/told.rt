@@ -12,7 +12,7 @@ pub fn add_token(note: &mut Note, source: &[u8], located: &Located) {
             note.add("the name ");
             note.quote(text_of(&name));
         }
-        Token::Word(_) => {
+        Token::Keyword(_) => {
             note.add("the word ");
             note.quote(spelling_of(source, located));
         }

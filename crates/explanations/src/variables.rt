@@ -82,7 +82,7 @@ fn token_of(nodes: &Nodes, index: usize) -> usize {
 /// Returns what may be meant by the variable of a name's token that is never read.
 fn meant_as_set(subject: &Subject<'_>, uses: &Uses, token: usize) -> Meant {
     match name_at(subject.tokens, token) {
-        Some(name) if name.is(b"speed") => Meant::Words(
+        Some(name) if name.has_bytes(b"speed") => Meant::Words(
             "; the robot's speed is set by `drive(degree, speed)`",
         ),
         Some(name) => meant(subject, uses, token, &name),

@@ -1,8 +1,8 @@
 //! A walk along the derivation of a source, with what each name means where it stands.
 
 use derivations::{Derivation, Item, Located, Role, SemanticAction, StepEnd};
-use grammar::{Callee, Code, MOST_LEVELS, Profile, Scope, Var, code_of};
-use tokens::{Name, Token, Word};
+use grammar::{Callee, Code, MOST_LEVELS, Profile, Scope, Var, lexical_error_code};
+use tokens::{Keyword, Name, Token};
 
 /// What a name means where it stands.
 #[derive(Clone, Copy)]
@@ -163,23 +163,23 @@ impl<'a> Walk<'a> {
     fn meaning(&mut self, role: Role, name: &Name) -> Result<Meaning, Code> {
         let line = self.line();
         Ok(match role {
-            Role::Defined => Meaning::Begins(self.scope.define(name, line)?),
-            Role::Called => Meaning::Calls(self.scope.call(name, line)?),
-            Role::Mentioned => Meaning::Mentions(self.scope.mention(name)?),
+            Role::Defined => Meaning::Begins(self.scope.begin_definition(name, line)?),
+            Role::Called => Meaning::Calls(self.scope.resolve_call(name, line)?),
+            Role::Mentioned => Meaning::Mentions(self.scope.resolve_variable(name)?),
             Role::Parameter => {
-                self.scope.parameter(name)?;
+                self.scope.declare_parameter(name)?;
                 Meaning::Parameter
             }
             Role::Typed => {
-                self.scope.typed(name)?;
+                self.scope.declare_parameter_type(name)?;
                 Meaning::Declares
             }
             Role::Local => {
-                self.scope.local(name)?;
+                self.scope.declare_local(name)?;
                 Meaning::Declares
             }
             Role::External => {
-                self.scope.external(name)?;
+                self.scope.declare_external(name)?;
                 Meaning::External
             }
         })
@@ -222,8 +222,8 @@ impl<'a> Walk<'a> {
 /// Returns the code of the fault of a token that doesn't fit.
 fn misfit(token: &Token) -> Code {
     match token {
-        Token::Fault(fault) => code_of(*fault),
-        Token::Word(Word::Refused) => Code::ReservedWord,
+        Token::Fault(fault) => lexical_error_code(*fault),
+        Token::Keyword(Keyword::Refused) => Code::ReservedWord,
         _ => Code::SyntaxError,
     }
 }

@@ -4,7 +4,7 @@ use crate::notes::Note;
 use arrayvec::ArrayVec;
 use derivations::{Located, MOST_FITTING, spelled};
 use grammar::{operator_from, store_operator};
-use tokens::{Punctuator, Token, Word};
+use tokens::{Keyword, Punctuator, Token};
 
 /// A kind of what may stand at a place.
 #[derive(Clone, Copy, PartialEq, Eq)]
@@ -50,7 +50,7 @@ impl Kinds {
     /// Finds the kinds, by the tokens that fit.
     pub fn of(fitting: &[Located]) -> Kinds {
         Kinds {
-            statement: has(fitting, &Token::Word(Word::While)),
+            statement: has(fitting, &Token::Keyword(Keyword::While)),
             expression: has(fitting, &Token::Constant(0)),
             operator: has(fitting, &Token::Punctuator(Punctuator::Star)),
         }
@@ -59,12 +59,12 @@ impl Kinds {
     /// Returns the kind of a token that fits.
     fn kind(self, token: &Token) -> Wanted {
         match *token {
-            Token::Word(Word::Type) => Wanted::Type,
-            Token::Word(Word::Else) => Wanted::Else,
+            Token::Keyword(Keyword::Type) => Wanted::Type,
+            Token::Keyword(Keyword::Else) => Wanted::Else,
             Token::End => Wanted::End,
             Token::Name(_) => self.operand(Wanted::Name),
             Token::Punctuator(punctuator) => self.mark(punctuator),
-            Token::Word(_) | Token::Constant(_) | Token::Fault(_) => self.operand(
+            Token::Keyword(_) | Token::Constant(_) | Token::Fault(_) => self.operand(
                 Wanted::Expression,
             ),
         }

@@ -7,7 +7,7 @@ use grammar::{Intrinsic, Name, ParseFault, Pools, Profile};
 use parser::parse;
 use room::{Bound, bounds, chain};
 use std::alloc::{AllocError, Global};
-use tokens::{Pieces, WINDOW};
+use tokens::{MemoryFeed, WINDOW_BYTES};
 use trees::TreeMaker;
 
 /// What is known of a robot.
@@ -55,10 +55,10 @@ impl Facts {
     ///
     /// Those of `parse`; `Memory` also where a list of parts was refused it.
     pub fn of(alloc: Global, source: &[u8], profile: Profile) -> Result<Facts, ParseFault> {
-        let bound = bounds(alloc, &mut Pieces::new(source, WINDOW), profile)?;
-        let numbers = chain(alloc, &mut Pieces::new(source, WINDOW), profile)?;
+        let bound = bounds(alloc, &mut MemoryFeed::new(source, WINDOW_BYTES), profile)?;
+        let numbers = chain(alloc, &mut MemoryFeed::new(source, WINDOW_BYTES), profile)?;
         let mut maker = TreeMaker::new(alloc, profile);
-        let names = parse(&mut Pieces::new(source, WINDOW), &mut maker)?;
+        let names = parse(&mut MemoryFeed::new(source, WINDOW_BYTES), &mut maker)?;
         let places = kept(Places::of(alloc, source))?;
         let finder = Finder {
             alloc,
@@ -110,7 +110,7 @@ impl Finder<'_> {
 
     /// Returns what functions and loops take, with their questions of a kind.
     fn told(&self, asked: Counted) -> Result<SourceSpans, ParseFault> {
-        let mut feed = Pieces::new(self.source, WINDOW);
+        let mut feed = MemoryFeed::new(self.source, WINDOW_BYTES);
         source_spans(self.alloc, &mut feed, self.profile, asked)
     }
 

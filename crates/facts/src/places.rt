@@ -4,7 +4,7 @@ use crate::facts::KINDS;
 use derivations::{Located, locate};
 use grammar::Intrinsic;
 use std::alloc::{AllocError, Global};
-use tokens::{Punctuator, Token, Word};
+use tokens::{Keyword, Punctuator, Token};
 
 /// Where functions and loops begin, each in the order of the source: the line and the column of the name or the word. And
 /// which intrinsic functions are named.
@@ -42,7 +42,7 @@ impl Places {
         depth: u32,
     ) -> Result<(), AllocError> {
         match token.token {
-            Token::Word(Word::While) => self.loops.push((token.line, token.column))?,
+            Token::Keyword(Keyword::While) => self.loops.push((token.line, token.column))?,
             Token::Punctuator(Punctuator::OpenRound) if depth == 0 => {
                 if let Some(name) = before {
                     self.functions.push((name.line, name.column))?;
@@ -50,7 +50,7 @@ impl Places {
             }
             Token::Name(name) => {
                 for (intrinsic, is_named) in Intrinsic::ALL.iter().zip(&mut self.named) {
-                    *is_named |= name.is(intrinsic.name().as_bytes());
+                    *is_named |= name.is_stop(intrinsic.name().as_bytes());
                 }
             }
             // no other token begins a function or a loop

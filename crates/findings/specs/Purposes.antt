@@ -1,7 +1,7 @@
 -- What a robot asks the field for.
 use Rattle.std.specs.Prelude.{ℕ, ◌+◌}
-use Rattle.grammar.specs.declared.names.Intrinsic.{Intrinsic}
-use Rattle.grammar.specs.declared.names.Intrinsic.TheVariants.{Scan, Cannon, Drive, Speed, LocX, LocY}
+use Rattle.grammar.specs.declared.resolved_names.Intrinsic.{Intrinsic}
+use Rattle.grammar.specs.declared.resolved_names.Intrinsic.TheVariants.{Scan, Cannon, Drive, Speed, LocX, LocY}
 use Rattle.findings.specs.declared.shares.Purpose.{Purpose}
 use Rattle.findings.specs.declared.shares.Purpose.TheVariants.{Moving, Scanning, Shooting, Sums}
 use Rattle.findings.specs.declared.shares.Shares.{Shares}

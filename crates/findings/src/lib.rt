@@ -15,7 +15,7 @@ pub use counts::{function_at, largest};
 pub use directions::{DIRECTION_DEGREES, DIRECTIONS, direction_of};
 pub use events::{Event, Field, Listener, MOST_FIELDS};
 pub use hurts::{Loss, MOST_LOSSES, Source, losses};
-pub use runs::{News, Run, Stance, Step};
+pub use runs::{Displacement, News, Run, Stance};
 pub use seen::Seen;
 pub use shares::{Purpose, Shares, percent, purpose_of};
 pub use streaks::{Call, Streak};

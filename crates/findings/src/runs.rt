@@ -2,7 +2,7 @@
 
 ghost use Rattle.std.specs.Prelude.{◌≡◌, ◌<◌, Some, None, true, false, length};
 ghost use Rattle.arena.specs.Field.{Field, robot_at};
-ghost use Rattle.arena.specs.Standing.{StandsFor};
+ghost use Rattle.arena.specs.Representing.{RepresentsField};
 ghost use Rattle.findings.specs.Runs.{is_alike, is_even, stance_of, step_of};
 
 use arena::Arena;
@@ -29,7 +29,7 @@ impl Stance {
     pub fn of(cycle: u32, robot: usize, arena: &Arena) -> Stance
         requires { robot < length arena.now.robots }
         ensures cycle { result.cycle ≡ cycle }
-        ensures stands { (f : Field) → StandsFor arena.now f → result ≡ stance_of cycle (robot_at f robot) }
+        ensures stands { (f : Field) → RepresentsField arena.now f → result ≡ stance_of cycle (robot_at f robot) }
     {
         let (x, y) = arena.place(robot);
         Stance {
@@ -50,10 +50,10 @@ impl Stance {
     }
 
     /// Returns the way from here to there.
-    fn step_to(&self, there: &Stance) -> Step
+    fn step_to(&self, there: &Stance) -> Displacement
         ensures { result ≡ step_of self.now there.now }
     {
-        Step {
+        Displacement {
             east: i32::from(there.x) - i32::from(self.x),
             north: i32::from(there.y) - i32::from(self.y),
         }
@@ -62,16 +62,16 @@ impl Stance {
 
 /// A way, east and north, in tenths of a metre.
 #[derive(Clone, Copy, Drop)]
-pub struct Step {
+pub struct Displacement {
     /// To the east.
     pub east: i32,
     /// To the north.
     pub north: i32,
 }
 
-impl Step {
+impl Displacement {
     /// Reports whether two ways of an update are the same but for the rounding of places.
-    fn is_even(&self, other: &Step) -> bool
+    fn is_even(&self, other: &Displacement) -> bool
         ensures { result ≡ is_even self.now other.now }
     {
         self.east.abs_diff(other.east) <= 1 && self.north.abs_diff(other.north) <= 1
@@ -82,7 +82,7 @@ impl Step {
 #[derive(Clone, Copy, Default, Drop)]
 pub struct Run {
     last: Option<Stance>,
-    step: Option<Step>,
+    step: Option<Displacement>,
     is_told: bool,
 }
 
@@ -128,11 +128,11 @@ impl Run {
     /// not as before.
     fn go_straight(&mut self, last: &Stance, stance: Stance) -> News
         ensures last { self.new.last ≡ Some stance }
-        ensures goes_on { (step : Step) → self.old.step ≡ Some step → is_even step (step_of last.now stance) ≡ true
+        ensures goes_on { (step : Displacement) → self.old.step ≡ Some step → is_even step (step_of last.now stance) ≡ true
             → result.end ≡ None }
-        ensures breaks { (step : Step) → self.old.step ≡ Some step → is_even step (step_of last.now stance) ≡ false
+        ensures breaks { (step : Displacement) → self.old.step ≡ Some step → is_even step (step_of last.now stance) ≡ false
             → self.old.is_told ≡ false → result.end ≡ self.old.last }
-        ensures step { (step : Step) → self.old.step ≡ Some step → is_even step (step_of last.now stance) ≡ false
+        ensures step { (step : Displacement) → self.old.step ≡ Some step → is_even step (step_of last.now stance) ≡ false
             → self.new.step ≡ Some (step_of last.now stance) }
         ensures untold { self.new.is_told ≡ false }
     {

@@ -15,7 +15,7 @@ use grammar::{Diagnostic, ParseFault, Watched};
 use parser::parse;
 use std::io::{ErrorKind, Write};
 use std::{env, fs, io};
-use tokens::{DeviceFault, Pieces, WINDOW};
+use tokens::{DeviceFault, MemoryFeed, WINDOW_BYTES};
 use tools::{Compiled, compile};
 
 /// Lists the folded code of the file that the command line names, or writes its first fault.
@@ -40,7 +40,7 @@ fn main(rt: HostRuntime) -> io::Result<()> {
 
 /// Compiles a source by a profile, and finds what can be folded in its code.
 fn compiled(source: &[u8], profile: Profile) -> Result<(Program, Folds), ParseFault> {
-    match compile(profile, &mut Pieces::new(source, WINDOW)) {
+    match compile(profile, &mut MemoryFeed::new(source, WINDOW_BYTES)) {
         Ok(Ok(Compiled { program, .. })) => Ok((program, folds_of(source, profile)?)),
         Ok(Err(diagnostic)) => Err(ParseFault::Source(diagnostic)),
         Err(DeviceFault) => Err(ParseFault::Device),
@@ -53,6 +53,6 @@ fn folds_of(source: &[u8], profile: Profile) -> Result<Folds, ParseFault> {
         watcher: Folder::new(profile),
         builder: Maker::new(profile),
     };
-    let _ = parse(&mut Pieces::new(source, WINDOW), &mut watched)?;
+    let _ = parse(&mut MemoryFeed::new(source, WINDOW_BYTES), &mut watched)?;
     Ok(watched.watcher.into_folds())
 }

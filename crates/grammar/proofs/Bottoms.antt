@@ -7,13 +7,13 @@ use Rattle.tokens.specs.declared.located_tokens.Punctuator.{Punctuator}
 use Rattle.tokens.specs.declared.located_tokens.Punctuator.TheVariants as punctuator
 use Rattle.tokens.specs.declared.located_tokens.Token.{Token}
 use Rattle.tokens.specs.declared.located_tokens.Token.TheVariants as token
-use Rattle.tokens.specs.declared.located_tokens.Word.{Word}
-use Rattle.tokens.specs.declared.located_tokens.Word.TheVariants as word
+use Rattle.tokens.specs.declared.located_tokens.Keyword.{Keyword}
+use Rattle.tokens.specs.declared.located_tokens.Keyword.TheVariants as word
 use Rattle.arith.specs.declared.operators.Op.{Op}
 use Rattle.grammar.specs.declared.operators.StoreOp.{StoreOp}
-use Rattle.grammar.specs.Derivation.{State, Value, Definition, start, step, step_of, stepped, run, next_of, name_of_token, constant_value, matched, name_matched, replaced, constant_matched}
+use Rattle.grammar.specs.Derivation.{State, Value, Definition, initial_state, step, item_step, stepped, derived, next_token, name_of_token, constant_value, matched, name_matched, replaced, constant_matched}
 use Rattle.grammar.specs.Faults.{Fault, faults_of, faults_at}
-use Rattle.grammar.specs.Grammar.{Symbol, Source, Types, Head, More, Parameters, ParameterTypes, FunctionBlock, Block, Declarations, Statements, Statement, ElsePart, Back, Expression, Level, Tail, Unary, Primary, Arguments, MoreArguments, Role, Item, Exactly, AWord, AName, AConstant, AnEnd, Part, Make, Close, Production, choice, assignment_or, tail_production, is_fault, is_punctuator, is_word}
+use Rattle.grammar.specs.Grammar.{Symbol, Source, Types, Head, More, Parameters, ParameterTypes, FunctionBlock, Block, Declarations, Statements, Statement, ElsePart, Back, Expression, Level, Tail, Unary, Primary, Arguments, MoreArguments, Role, Item, Exactly, AKeyword, AName, AConstant, AnEnd, Part, Make, Close, Production, choice, assignment_or, tail_production, is_fault, is_punctuator, is_keyword}
 use Rattle.grammar.specs.Operators.{operator_at, store_of}
 use Rattle.grammar.specs.Laws.Parsing.{IsIn}
 use Rattle.grammar.specs.Profile.{Profile}
@@ -76,33 +76,33 @@ head_fits next after = refl
 
 choice_fits : (symbol : Symbol) (next after : Token) → fits (is_bottom (Part symbol)) (choice symbol next after) ≡ true
 choice_fits Source token.End after = refl
-choice_fits Source (token.Word word.Type) after = refl
+choice_fits Source (token.Keyword word.Type) after = refl
 choice_fits Source (token.Name name) after = refl
 choice_fits Source next after = refl
-choice_fits Types (token.Word word.Type) after = refl
+choice_fits Types (token.Keyword word.Type) after = refl
 choice_fits Types next after = refl
 choice_fits Head next after = head_fits next after
 choice_fits (More role) (token.Punctuator punctuator.Comma) after = refl
 choice_fits (More role) next after = refl
 choice_fits Parameters (token.Name name) after = refl
 choice_fits Parameters next after = refl
-choice_fits ParameterTypes (token.Word word.Type) after = refl
+choice_fits ParameterTypes (token.Keyword word.Type) after = refl
 choice_fits ParameterTypes next after = refl
 choice_fits FunctionBlock (token.Punctuator punctuator.OpenCurly) after = refl
 choice_fits FunctionBlock next after = refl
 choice_fits Block (token.Punctuator punctuator.OpenCurly) after = refl
 choice_fits Block next after = refl
-choice_fits Declarations (token.Word word.Type) after = refl
+choice_fits Declarations (token.Keyword word.Type) after = refl
 choice_fits Declarations next after = refl
 choice_fits Statements (token.Punctuator punctuator.CloseCurly) after = refl
 choice_fits Statements next after = refl
 choice_fits Statement (token.Punctuator punctuator.Semicolon) after = refl
 choice_fits Statement (token.Punctuator punctuator.OpenCurly) after = refl
-choice_fits Statement (token.Word word.If) after = refl
-choice_fits Statement (token.Word word.While) after = refl
-choice_fits Statement (token.Word word.Return) after = refl
+choice_fits Statement (token.Keyword word.If) after = refl
+choice_fits Statement (token.Keyword word.While) after = refl
+choice_fits Statement (token.Keyword word.Return) after = refl
 choice_fits Statement next after = refl
-choice_fits ElsePart (token.Word word.Else) after = refl
+choice_fits ElsePart (token.Keyword word.Else) after = refl
 choice_fits ElsePart next after = refl
 choice_fits Back (token.Punctuator punctuator.Semicolon) after = refl
 choice_fits Back next after = refl
@@ -158,15 +158,15 @@ Leads (Some t) = IsGrounded t.stack t.rest
 punctuator_is_not_last : (m : Punctuator) (t : Token) → is_punctuator m t ≡ true → is_last t ≡ false
 punctuator_is_not_last m (token.Punctuator n) h = refl
 punctuator_is_not_last m (token.Name name) h = refl
-punctuator_is_not_last m (token.Word w) h = refl
+punctuator_is_not_last m (token.Keyword w) h = refl
 punctuator_is_not_last m (token.Constant value) h = refl
 punctuator_is_not_last m token.End h = absurd cc
 punctuator_is_not_last m (token.Fault lexical_error) h = absurd cc
 
-word_is_not_last : (w : Word) (t : Token) → is_word w t ≡ true → is_last t ≡ false
+word_is_not_last : (w : Keyword) (t : Token) → is_keyword w t ≡ true → is_last t ≡ false
 word_is_not_last w (token.Punctuator n) h = refl
 word_is_not_last w (token.Name name) h = refl
-word_is_not_last w (token.Word v) h = refl
+word_is_not_last w (token.Keyword v) h = refl
 word_is_not_last w (token.Constant value) h = refl
 word_is_not_last w token.End h = absurd cc
 word_is_not_last w (token.Fault lexical_error) h = absurd cc
@@ -174,7 +174,7 @@ word_is_not_last w (token.Fault lexical_error) h = absurd cc
 name_is_not_last : (t : Token) (name : List ℕ) → name_of_token t ≡ Some name → is_last t ≡ false
 name_is_not_last (token.Punctuator n) name h = refl
 name_is_not_last (token.Name n) name h = refl
-name_is_not_last (token.Word w) name h = refl
+name_is_not_last (token.Keyword w) name h = refl
 name_is_not_last (token.Constant value) name h = refl
 name_is_not_last token.End name h = absurd cc
 name_is_not_last (token.Fault lexical_error) name h = absurd cc
@@ -182,13 +182,13 @@ name_is_not_last (token.Fault lexical_error) name h = absurd cc
 constant_is_not_last : (t : Token) (value : ℕ) → constant_value t ≡ Some value → is_last t ≡ false
 constant_is_not_last (token.Punctuator n) value h = refl
 constant_is_not_last (token.Name n) value h = refl
-constant_is_not_last (token.Word w) value h = refl
+constant_is_not_last (token.Keyword w) value h = refl
 constant_is_not_last (token.Constant v) value h = refl
 constant_is_not_last token.End value h = absurd cc
 constant_is_not_last (token.Fault lexical_error) value h = absurd cc
 
 -- after a token that isn't the last there is another
-left_behind : (item : Item) (stack : List Item) (rest : List LocatedToken) → is_last (next_of rest) ≡ false →
+left_behind : (item : Item) (stack : List Item) (rest : List LocatedToken) → is_last (next_token rest) ≡ false →
     Left (item ∷ stack) rest → Left stack (drop 1 rest)
 left_behind item stack [] other h = absurd cc
 left_behind item stack (located_token ∷ []) other h = absurd cc
@@ -201,7 +201,7 @@ left_at_end (located_token ∷ next ∷ rest) item h = h
 
 matched_leads : (b : Bool) (item : Item) (stack : List Item) (rest : List LocatedToken) (values : List Value)
     (scope : Scope) (functions : List Definition) →
-    at_bottom stack ≡ true → (b ≡ true → is_last (next_of rest) ≡ false) → Left (item ∷ stack) rest →
+    at_bottom stack ≡ true → (b ≡ true → is_last (next_token rest) ≡ false) → Left (item ∷ stack) rest →
     Leads (matched b stack rest values scope functions)
 matched_leads true item stack rest values scope functions bottom other h =
     record { bottom = bottom; left = left_behind item stack rest (other refl) h }
@@ -209,7 +209,7 @@ matched_leads false item stack rest values scope functions bottom other h = tt
 
 name_leads : (role : Role) (name : Option (List ℕ)) (item : Item) (stack : List Item) (rest : List LocatedToken)
     (values : List Value) (scope : Scope) (functions : List Definition) →
-    at_bottom stack ≡ true → ((n : List ℕ) → name ≡ Some n → is_last (next_of rest) ≡ false) →
+    at_bottom stack ≡ true → ((n : List ℕ) → name ≡ Some n → is_last (next_token rest) ≡ false) →
     Left (item ∷ stack) rest → Leads (name_matched role name stack rest values scope functions)
 name_leads role (Some name) item stack rest values scope functions bottom other h =
     record { bottom = bottom; left = left_behind item stack rest (other name refl) h }
@@ -217,7 +217,7 @@ name_leads role None item stack rest values scope functions bottom other h = tt
 
 constant_leads : (value : Option ℕ) (item : Item) (stack : List Item) (rest : List LocatedToken) (values : List Value)
     (scope : Scope) (functions : List Definition) →
-    at_bottom stack ≡ true → ((n : ℕ) → value ≡ Some n → is_last (next_of rest) ≡ false) → Left (item ∷ stack) rest →
+    at_bottom stack ≡ true → ((n : ℕ) → value ≡ Some n → is_last (next_token rest) ≡ false) → Left (item ∷ stack) rest →
     Leads (constant_matched value stack rest values scope functions)
 constant_leads (Some value) item stack rest values scope functions bottom other h =
     record { bottom = bottom; left = left_behind item stack rest (other value refl) h }
@@ -247,20 +247,23 @@ replaced_leads symbol (Some items) stack rest values scope functions fit h = rec
 replaced_leads symbol None stack rest values scope functions fit h = tt
 
 step_leads : (stack : List Item) (rest : List LocatedToken) (values : List Value) (scope : Scope)
-    (functions : List Definition) → IsGrounded stack rest → Leads (step_of stack rest values scope functions)
+    (functions : List Definition) → IsGrounded stack rest → Leads (item_step stack rest values scope functions)
 step_leads [] rest values scope functions h = tt
 step_leads (Exactly m ∷ stack) rest values scope functions h =
-    matched_leads _ (Exactly m) stack rest values scope functions h.bottom (punctuator_is_not_last m (next_of rest))
+    matched_leads _ (Exactly m) stack rest values scope functions h.bottom (punctuator_is_not_last m (next_token rest))
     h.left
-step_leads (AWord w ∷ stack) rest values scope functions h =
-    matched_leads _ (AWord w) stack rest values scope functions h.bottom (word_is_not_last w (next_of rest)) h.left
+step_leads (AKeyword w ∷ stack) rest values scope functions h =
+    matched_leads _ (AKeyword w) stack rest values scope functions h.bottom (word_is_not_last w (next_token rest))
+    h.left
 step_leads (AName role ∷ stack) rest values scope functions h =
-    name_leads role _ (AName role) stack rest values scope functions h.bottom (name_is_not_last (next_of rest)) h.left
+    name_leads role _ (AName role) stack rest values scope functions h.bottom (name_is_not_last (next_token rest))
+    h.left
 step_leads (AConstant ∷ stack) rest values scope functions h =
-    constant_leads _ AConstant stack rest values scope functions h.bottom (constant_is_not_last (next_of rest)) h.left
+    constant_leads _ AConstant stack rest values scope functions h.bottom (constant_is_not_last (next_token rest))
+    h.left
 step_leads (AnEnd ∷ stack) rest values scope functions h = end_leads _ stack rest values scope functions h.bottom h.left
 step_leads (Part symbol ∷ stack) rest values scope functions h =
-    replaced_leads symbol _ stack rest values scope functions (choice_fits symbol (next_of rest) _) h
+    replaced_leads symbol _ stack rest values scope functions (choice_fits symbol (next_token rest) _) h
 step_leads (Make rule ∷ stack) rest values scope functions h =
     record { bottom = h.bottom; left = left_same (Make rule) stack stack rest h.left }
 step_leads (Close ∷ stack) rest values scope functions h =
@@ -275,11 +278,11 @@ kept_grounded : (s : State) (o : Option State) → IsGrounded s.stack s.rest →
 kept_grounded s None h k = h
 kept_grounded s (Some t) h k = k
 
-run_grounded : (n : ℕ) (s : State) → IsGrounded s.stack s.rest → IsGrounded (run n s).stack (run n s).rest
+run_grounded : (n : ℕ) (s : State) → IsGrounded s.stack s.rest → IsGrounded (derived n s).stack (derived n s).rest
 run_grounded zero s h = h
 run_grounded (suc n) s h = run_grounded n (stepped s)
     (kept_grounded s (step s) h
-    (guarded_leads (is_fault (next_of s.rest)) _ (step_leads s.stack s.rest s.values s.scope s.functions h)))
+    (guarded_leads (is_fault (next_token s.rest)) _ (step_leads s.stack s.rest s.values s.scope s.functions h)))
 
 start_left : (located_tokens : List LocatedToken) → EndsWithLast located_tokens → Left (Part Source ∷ []) located_tokens
 start_left [] h = absurd h
@@ -295,9 +298,10 @@ some_left profile f stack (located_token ∷ rest) values scope functions left h
 -- a fault is at a token
 pub fault_at_token : (profile : Profile) (located_tokens : List LocatedToken) (n : ℕ) (f : Fault) →
     EndsWithLast located_tokens →
-    IsIn f (faults_at profile (run n (start located_tokens))) → 0 < length (run n (start located_tokens)).rest
+    IsIn f (faults_at profile (derived n (initial_state located_tokens))) →
+    0 < length (derived n (initial_state located_tokens)).rest
 fault_at_token profile located_tokens n f ends h =
-    let s : State = run n (start located_tokens) in
+    let s : State = derived n (initial_state located_tokens) in
     let grounded : IsGrounded s.stack s.rest =
-    run_grounded n (start located_tokens) (record { bottom = refl; left = start_left located_tokens ends }) in
+    run_grounded n (initial_state located_tokens) (record { bottom = refl; left = start_left located_tokens ends }) in
     some_left profile f s.stack s.rest s.values s.scope s.functions grounded.left h

@@ -7,11 +7,11 @@ use Rattle.tokens.specs.declared.located_tokens.Punctuator.{Punctuator}
 use Rattle.tokens.specs.declared.located_tokens.Punctuator.TheVariants as punctuator
 use Rattle.tokens.specs.declared.located_tokens.Token.{Token}
 use Rattle.tokens.specs.declared.located_tokens.Token.TheVariants as token
-use Rattle.tokens.specs.declared.located_tokens.Word.TheVariants as word
+use Rattle.tokens.specs.declared.located_tokens.Keyword.TheVariants as word
 use Rattle.arith.specs.declared.operators.Op.{Op}
 use Rattle.grammar.specs.declared.operators.StoreOp.{StoreOp}
-use Rattle.grammar.specs.Derivation.{State, state, Value, Definition, step, step_of, stepped, run, next_of, after_of, matched, name_matched, replaced, constant_matched}
-use Rattle.grammar.specs.Grammar.{Symbol, Source, Types, Head, More, Parameters, ParameterTypes, FunctionBlock, Block, Declarations, Statements, Statement, ElsePart, Back, Expression, Level, Tail, Unary, Primary, Arguments, MoreArguments, Role, Item, Exactly, AWord, AName, AConstant, AnEnd, Part, Make, Close, Production, choice, assignment_or, tail_production, is_fault}
+use Rattle.grammar.specs.Derivation.{State, state, Value, Definition, step, item_step, stepped, derived, next_token, token_after_next, matched, name_matched, replaced, constant_matched}
+use Rattle.grammar.specs.Grammar.{Symbol, Source, Types, Head, More, Parameters, ParameterTypes, FunctionBlock, Block, Declarations, Statements, Statement, ElsePart, Back, Expression, Level, Tail, Unary, Primary, Arguments, MoreArguments, Role, Item, Exactly, AKeyword, AName, AConstant, AnEnd, Part, Make, Close, Production, choice, assignment_or, tail_production, is_fault}
 use Rattle.grammar.specs.Operators.{operator_at, store_of}
 use Rattle.grammar.specs.Scope.{Scope}
 use Rattle.grammar.proofs.Runs.{stays}
@@ -48,7 +48,7 @@ credit_small (Part symbol ∷ stack) = symbol_small symbol
 credit_small (Make rule ∷ stack) = omega arith
 credit_small (Close ∷ stack) = omega arith
 credit_small (Exactly m ∷ stack) = omega arith
-credit_small (AWord w ∷ stack) = omega arith
+credit_small (AKeyword w ∷ stack) = omega arith
 credit_small (AName role ∷ stack) = omega arith
 credit_small (AConstant ∷ stack) = omega arith
 credit_small (AnEnd ∷ stack) = omega arith
@@ -91,9 +91,9 @@ expression_lighter = λ stack. omega arith
 statement_lighter : (t after : Token) → Lighter Statement (choice Statement t after)
 statement_lighter (token.Punctuator punctuator.Semicolon) after = λ stack. omega arith
 statement_lighter (token.Punctuator punctuator.OpenCurly) after = λ stack. omega arith
-statement_lighter (token.Word word.If) after = λ stack. omega arith
-statement_lighter (token.Word word.While) after = λ stack. omega arith
-statement_lighter (token.Word word.Return) after = λ stack. omega arith
+statement_lighter (token.Keyword word.If) after = λ stack. omega arith
+statement_lighter (token.Keyword word.While) after = λ stack. omega arith
+statement_lighter (token.Keyword word.Return) after = λ stack. omega arith
 statement_lighter t after = expression_lighter
 
 name_lighter : (after : Token) → Lighter Primary (choice Primary (token.Name []) after)
@@ -147,28 +147,28 @@ argument_lighter = λ stack. omega arith
 
 lighter : (symbol : Symbol) (t after : Token) → Lighter symbol (choice symbol t after)
 lighter Source token.End after = λ stack. omega arith
-lighter Source (token.Word word.Type) after = λ stack. omega arith
+lighter Source (token.Keyword word.Type) after = λ stack. omega arith
 lighter Source (token.Name name) after = λ stack. omega arith
 lighter Source t after = tt
-lighter Types (token.Word word.Type) after = λ stack. omega arith
+lighter Types (token.Keyword word.Type) after = λ stack. omega arith
 lighter Types t after = empty_lighter Types refl
 lighter Head t after = head_lighter t after
 lighter (More role) (token.Punctuator punctuator.Comma) after = λ stack. omega arith
 lighter (More role) t after = empty_lighter (More role) refl
 lighter Parameters (token.Name name) after = λ stack. omega arith
 lighter Parameters t after = empty_lighter Parameters refl
-lighter ParameterTypes (token.Word word.Type) after = λ stack. omega arith
+lighter ParameterTypes (token.Keyword word.Type) after = λ stack. omega arith
 lighter ParameterTypes t after = empty_lighter ParameterTypes refl
 lighter FunctionBlock (token.Punctuator punctuator.OpenCurly) after = λ stack. omega arith
 lighter FunctionBlock t after = tt
 lighter Block (token.Punctuator punctuator.OpenCurly) after = λ stack. omega arith
 lighter Block t after = tt
-lighter Declarations (token.Word word.Type) after = λ stack. omega arith
+lighter Declarations (token.Keyword word.Type) after = λ stack. omega arith
 lighter Declarations t after = empty_lighter Declarations refl
 lighter Statements (token.Punctuator punctuator.CloseCurly) after = empty_lighter Statements refl
 lighter Statements t after = more_statements_lighter
 lighter Statement t after = statement_lighter t after
-lighter ElsePart (token.Word word.Else) after = λ stack. omega arith
+lighter ElsePart (token.Keyword word.Else) after = λ stack. omega arith
 lighter ElsePart t after = rule_lighter
 lighter Back (token.Punctuator punctuator.Semicolon) after = λ stack. omega arith
 lighter Back t after = back_lighter
@@ -221,14 +221,14 @@ replaced_falls symbol (Some items) stack rest values scope functions h = omega (
 
 falls_of : (stack : List Item) (rest : List LocatedToken) (values : List Value) (scope : Scope)
     (functions : List Definition) →
-    Falls (weight (state stack rest values scope functions)) (step_of stack rest values scope functions)
+    Falls (weight (state stack rest values scope functions)) (item_step stack rest values scope functions)
 falls_of [] rest values scope functions = tt
 falls_of (Exactly m ∷ stack) [] values scope functions = tt
 falls_of (Exactly m ∷ stack) (located_token ∷ rest) values scope functions =
     matched_falls _ (Exactly m) stack located_token rest values scope functions (omega arith)
-falls_of (AWord w ∷ stack) [] values scope functions = tt
-falls_of (AWord w ∷ stack) (located_token ∷ rest) values scope functions =
-    matched_falls _ (AWord w) stack located_token rest values scope functions (omega arith)
+falls_of (AKeyword w ∷ stack) [] values scope functions = tt
+falls_of (AKeyword w ∷ stack) (located_token ∷ rest) values scope functions =
+    matched_falls _ (AKeyword w) stack located_token rest values scope functions (omega arith)
 falls_of (AName role ∷ stack) [] values scope functions = tt
 falls_of (AName role ∷ stack) (located_token ∷ rest) values scope functions =
     name_falls role _ stack located_token rest values scope functions
@@ -239,7 +239,7 @@ falls_of (AConstant ∷ stack) [] values scope functions = tt
 falls_of (AConstant ∷ stack) (located_token ∷ rest) values scope functions =
     constant_falls _ stack located_token rest values scope functions
 falls_of (Part symbol ∷ stack) rest values scope functions =
-    replaced_falls symbol _ stack rest values scope functions (lighter symbol (next_of rest) (after_of rest))
+    replaced_falls symbol _ stack rest values scope functions (lighter symbol (next_token rest) (token_after_next rest))
 falls_of (Make rule ∷ stack) rest values scope functions = omega (arith, credit_small stack)
 falls_of (Close ∷ stack) rest values scope functions = omega (arith, credit_small stack)
 
@@ -248,7 +248,8 @@ guarded_falls true n o h = tt
 guarded_falls false n o h = h
 
 pub falls : (s : State) → Falls (weight s) (step s)
-falls s = guarded_falls (is_fault (next_of s.rest)) (weight s) _ (falls_of s.stack s.rest s.values s.scope s.functions)
+falls s =
+    guarded_falls (is_fault (next_token s.rest)) (weight s) _ (falls_of s.stack s.rest s.values s.scope s.functions)
 
 -- a state from which no step leads on
 abbrev pub IsFinal : State → Type 0
@@ -257,23 +258,23 @@ IsFinal s = step s ≡ None
 pub final_stays : (s : State) → IsFinal s → stepped s ≡ s
 final_stays s e = rw e refl
 
-pub stays_final : (n : ℕ) (s : State) → IsFinal s → run n s ≡ s
+pub stays_final : (n : ℕ) (s : State) → IsFinal s → derived n s ≡ s
 stays_final n s e = stays n s (final_stays s e)
 
 -- as many steps as the weight lead to the end
 ends_at : (n : ℕ) (s : State) (o : Option State) → step s ≡ o → weight s ≤ n → Falls (weight s) o →
-    ((t : State) (m : ℕ) → suc m ≡ n → weight t ≤ m → IsFinal (run m t)) → IsFinal (run n s)
+    ((t : State) (m : ℕ) → suc m ≡ n → weight t ≤ m → IsFinal (derived m t)) → IsFinal (derived n s)
 ends_at n s None e small h again = subst (λ (t : State). IsFinal t) (sym (stays_final n s e)) e
 ends_at zero s (Some t) e small h again = absurd (omega arith)
 ends_at (suc n) s (Some t) e small h again =
     let there : stepped s ≡ t = rw e refl in
-    subst (λ (u : State). IsFinal (run n u)) (sym there) (again t n refl (omega arith))
+    subst (λ (u : State). IsFinal (derived n u)) (sym there) (again t n refl (omega arith))
 
-pub ends : (n : ℕ) (s : State) → weight s ≤ n → IsFinal (run n s)
+pub ends : (n : ℕ) (s : State) → weight s ≤ n → IsFinal (derived n s)
 ends zero s small = ends_at zero s (step s) refl small (falls s) (λ t m e h. absurd (omega arith))
 ends (suc n) s small =
     ends_at (suc n) s (step s) refl small (falls s)
-    (λ t m e h. subst (λ (k : ℕ). IsFinal (run k t)) (sym (pred_same m n e)) (ends n t (omega arith)))
+    (λ t m e h. subst (λ (k : ℕ). IsFinal (derived k t)) (sym (pred_same m n e)) (ends n t (omega arith)))
   where
     pred_same : (m n : ℕ) → suc m ≡ suc n → m ≡ n
     pred_same m n e = omega arith

@@ -12,7 +12,7 @@ use Rattle.grammar.specs.Compiled.{compiled_tokens, diagnostic, last_line, defin
 use Rattle.grammar.specs.Derivation.{State, Definition, state}
 use Rattle.grammar.specs.Faults.{definitions_actions}
 use Rattle.grammar.specs.Laws.Naming.{line_of_undefined}
-use Rattle.grammar.specs.Pools.{FunctionNames, names_of, names_of_function}
+use Rattle.grammar.specs.Pools.{FunctionNames, pools_of, names_of_function}
 use Rattle.grammar.specs.Profile.{Profile}
 use Rattle.grammar.specs.Resolved.{IsAmong, AreDistinct}
 use Rattle.grammar.specs.Scope.{Scope, function_number}
@@ -199,7 +199,7 @@ without_main_at : (located_tokens : List LocatedToken) (scope : Scope) (ds : Lis
 without_main_at located_tokens scope ds functions all named = rw (all, named) refl
 
 names_same : (scope : Scope) (ds : List Definition) (functions : List Function) (main : ℕ) →
-    map names_of_function functions ≡ scope.functions → known_names scope ≡ names_of (file_at scope ds functions main)
+    map names_of_function functions ≡ scope.functions → known_names scope ≡ pools_of (file_at scope ds functions main)
 names_same scope ds functions main e = rw e refl
 
 -- main has a number or hasn't

@@ -5,16 +5,16 @@ use Rattle.std.specs.Prelude.{Option, Some, None, nat_le, nat_lt, if◌then◌el
 use Rattle.tokens.specs.declared.located_tokens.LocatedToken.{LocatedToken}
 use Rattle.tokens.specs.declared.located_tokens.Punctuator.{Punctuator}
 use Rattle.tokens.specs.declared.located_tokens.Punctuator.TheVariants as punctuator
-use Rattle.tokens.specs.declared.located_tokens.Word.{Word}
+use Rattle.tokens.specs.declared.located_tokens.Keyword.{Keyword}
 use Rattle.grammar.specs.declared.diagnostics.Code.{Code}
 use Rattle.grammar.specs.declared.diagnostics.Code.TheVariants as code
 use Rattle.grammar.specs.Compiled.{diagnostic}
-use Rattle.grammar.specs.Derivation.{State, state, Value, Definition, definition_of, last_body, stepped, run, next_of, after_of, line_of, name_of_token}
-use Rattle.grammar.specs.Faults.{Fault, fault, faults_at, is_first, item_faults, level_faults, length_faults, name_faults, role_faults, no_room, misfits, misfit_code, levels, number_of, is_too_long, only_if}
-use Rattle.grammar.specs.Grammar.{Item, Exactly, AWord, AName, AConstant, AnEnd, Part, Make, Close, Symbol, Role, Defined, External, Parameter, Typed, Local, Called, Mentioned, Define, choice, enters, is_punctuator, is_word, is_fault}
+use Rattle.grammar.specs.Derivation.{State, state, Value, Definition, definition_of, last_body, stepped, derived, next_token, token_after_next, line_at, name_of_token}
+use Rattle.grammar.specs.Faults.{Fault, fault, faults_at, is_first, item_faults, level_faults, length_faults, name_faults, role_faults, no_room, misfits, misfit_code, levels, code_number, is_too_long, only_if}
+use Rattle.grammar.specs.Grammar.{Item, Exactly, AKeyword, AName, AConstant, AnEnd, Part, Make, Close, Symbol, Role, Defined, External, Parameter, Typed, Local, Called, Mentioned, Define, choice, enters, is_punctuator, is_keyword, is_fault}
 use Rattle.grammar.specs.Intrinsics.{is_intrinsic}
 use Rattle.grammar.specs.Laws.Parsing.{IsIn, IsFirstFault, Fails}
-use Rattle.grammar.specs.Limits.{most_levels, most_names}
+use Rattle.grammar.specs.NameLimits.{most_levels, most_names}
 use Rattle.grammar.specs.Profile.{Profile}
 use Rattle.grammar.specs.Scope.{Scope, has_begun, is_external_new, is_function_new, is_local_new, is_variable_new}
 -- a step never adds tokens
@@ -25,7 +25,7 @@ reflexive_at : (n c : ℕ) → (if nat_lt n n then true else (if nat_lt n n then
 reflexive_at n c = grind (arith, nat_tests)
 
 pub reflexive : (f : Fault) → is_first f f ≡ true
-reflexive f = reflexive_at (length f.rest) (number_of f.code)
+reflexive f = reflexive_at (length f.rest) (code_number f.code)
 
 only_one : (f g : Fault) (faults : List Fault) → faults ≡ f ∷ [] → IsIn g faults → f ≡ g
 only_one f g [] e h = absurd h
@@ -47,47 +47,47 @@ stuck profile s f still faults = record {
 
 pub fails_stuck : (profile : Profile) (s : State) (rest : List LocatedToken) (c : Code) → stepped s ≡ s →
     faults_at profile s ≡ fault rest c ∷ [] →
-    Fails profile s (diagnostic (line_of rest) c)
+    Fails profile s (diagnostic (line_at rest) c)
 fails_stuck profile s rest c still faults =
     record { fault = fault rest c; first = stuck profile s (fault rest c) still faults; line = refl; code = refl }
 
 -- a fault fits nothing
 pub at_fault : (profile : Profile) (stack : List Item) (rest : List LocatedToken) (values : List Value) (scope : Scope)
     (functions : List Definition) →
-    is_fault (next_of rest) ≡ true →
-    Fails profile (state stack rest values scope functions) (diagnostic (line_of rest) (misfit_code (next_of rest)))
+    is_fault (next_token rest) ≡ true →
+    Fails profile (state stack rest values scope functions) (diagnostic (line_at rest) (misfit_code (next_token rest)))
 at_fault profile stack rest values scope functions is = fails_stuck profile _ rest _ (rw is refl) (rw is refl)
 
 pub no_part : (profile : Profile) (symbol : Symbol) (stack : List Item) (rest : List LocatedToken) (values : List Value)
     (scope : Scope) (functions : List Definition) →
-    is_fault (next_of rest) ≡ false → choice symbol (next_of rest) (after_of rest) ≡ None →
+    is_fault (next_token rest) ≡ false → choice symbol (next_token rest) (token_after_next rest) ≡ None →
     level_faults symbol stack rest ≡ [] →
     Fails profile (state (Part symbol ∷ stack) rest values scope functions)
-    (diagnostic (line_of rest) (misfit_code (next_of rest)))
+    (diagnostic (line_at rest) (misfit_code (next_token rest)))
 no_part profile symbol stack rest values scope functions sound none clean =
     fails_stuck profile _ rest _ (rw (sound, none) refl) (rw (sound, clean, none) refl)
 
 pub no_punctuator : (profile : Profile) (m : Punctuator) (stack : List Item) (rest : List LocatedToken)
     (values : List Value) (scope : Scope) (functions : List Definition) →
-    is_fault (next_of rest) ≡ false → is_punctuator m (next_of rest) ≡ false →
+    is_fault (next_token rest) ≡ false → is_punctuator m (next_token rest) ≡ false →
     Fails profile (state (Exactly m ∷ stack) rest values scope functions)
-    (diagnostic (line_of rest) (misfit_code (next_of rest)))
+    (diagnostic (line_at rest) (misfit_code (next_token rest)))
 no_punctuator profile m stack rest values scope functions sound none =
     fails_stuck profile _ rest _ (rw (sound, none) refl) (rw (sound, none) refl)
 
-pub no_word : (profile : Profile) (w : Word) (stack : List Item) (rest : List LocatedToken) (values : List Value)
+pub no_word : (profile : Profile) (w : Keyword) (stack : List Item) (rest : List LocatedToken) (values : List Value)
     (scope : Scope) (functions : List Definition) →
-    is_fault (next_of rest) ≡ false → is_word w (next_of rest) ≡ false →
-    Fails profile (state (AWord w ∷ stack) rest values scope functions)
-    (diagnostic (line_of rest) (misfit_code (next_of rest)))
+    is_fault (next_token rest) ≡ false → is_keyword w (next_token rest) ≡ false →
+    Fails profile (state (AKeyword w ∷ stack) rest values scope functions)
+    (diagnostic (line_at rest) (misfit_code (next_token rest)))
 no_word profile w stack rest values scope functions sound none =
     fails_stuck profile _ rest _ (rw (sound, none) refl) (rw (sound, none) refl)
 
 pub no_name : (profile : Profile) (role : Role) (stack : List Item) (rest : List LocatedToken) (values : List Value)
     (scope : Scope) (functions : List Definition) →
-    is_fault (next_of rest) ≡ false → name_of_token (next_of rest) ≡ None →
+    is_fault (next_token rest) ≡ false → name_of_token (next_token rest) ≡ None →
     Fails profile (state (AName role ∷ stack) rest values scope functions)
-    (diagnostic (line_of rest) (misfit_code (next_of rest)))
+    (diagnostic (line_at rest) (misfit_code (next_token rest)))
 no_name profile role stack rest values scope functions sound none =
     fails_stuck profile _ rest _ (rw (sound, none) refl) (rw (sound, none) refl)
 
@@ -158,13 +158,13 @@ item_rest : (profile : Profile) (g : Fault) (stack : List Item) (rest : List Loc
     IsIn g (item_faults profile stack rest values scope functions) → g.rest ≡ rest
 item_rest profile g [] rest values scope functions h = absurd h
 item_rest profile g (Exactly m ∷ stack) rest values scope functions h = absurd h
-item_rest profile g (AWord w ∷ stack) rest values scope functions h = absurd h
+item_rest profile g (AKeyword w ∷ stack) rest values scope functions h = absurd h
 item_rest profile g (AName role ∷ stack) rest values scope functions h =
-    name_rest g role (name_of_token (next_of rest)) scope rest h
+    name_rest g role (name_of_token (next_token rest)) scope rest h
 item_rest profile g (AnEnd ∷ stack) rest values scope functions h = absurd h
 item_rest profile g (AConstant ∷ stack) rest values scope functions h = absurd h
 item_rest profile g (Part symbol ∷ stack) rest values scope functions h =
-    only_if_rest g (enters symbol (next_of rest) (after_of rest))
+    only_if_rest g (enters symbol (next_token rest) (token_after_next rest))
     (only_if (nat_le most_levels (levels stack)) (fault rest code.NestedTooDeeply ∷ [])) rest
     (only_if_rest g (nat_le most_levels (levels stack)) (fault rest code.NestedTooDeeply ∷ []) rest
     (single_rest g rest code.NestedTooDeeply)) h
@@ -182,23 +182,23 @@ misfits_rest g (item ∷ stack) rest (Some s) h = absurd h
 
 pub at_rest : (profile : Profile) (g : Fault) (s : State) → IsIn g (faults_at profile s) → g.rest ≡ s.rest
 at_rest profile g s h =
-    guarded_rest g (is_fault (next_of s.rest)) _ _ s.rest (single_rest g s.rest _)
+    guarded_rest g (is_fault (next_token s.rest)) _ _ s.rest (single_rest g s.rest _)
     (appended_rest g _ _ s.rest (item_rest profile g s.stack s.rest s.values s.scope s.functions)
     (misfits_rest g s.stack s.rest _)) h
 
 -- at the token after it, or later
 later_first : (profile : Profile) (f g : Fault) (s : State) (n : ℕ) → length s.rest < length f.rest →
-    IsIn g (faults_at profile (run n s)) → is_first f g ≡ true
+    IsIn g (faults_at profile (derived n s)) → is_first f g ≡ true
 later_first profile f g s n before h =
-    let at : g.rest ≡ (run n s).rest = at_rest profile g (run n s) h in
-    let keeps : length (run n s).rest ≤ length s.rest = run_keeps n s in
-    let same : length g.rest ≡ length (run n s).rest = ap length at in
+    let at : g.rest ≡ (derived n s).rest = at_rest profile g (derived n s) h in
+    let keeps : length (derived n s).rest ≤ length s.rest = run_keeps n s in
+    let same : length g.rest ≡ length (derived n s).rest = ap length at in
     let less : length g.rest < length f.rest = omega arith in
     rw (lt-ltb (length g.rest) (length f.rest) less) refl
 
 -- at the same token, with a code that is not less
-same_token_first : (f g : Fault) → g.rest ≡ f.rest → number_of f.code ≤ number_of g.code → is_first f g ≡ true
-same_token_first f g same most = rw same (tested (length f.rest) (number_of f.code) (number_of g.code) most)
+same_token_first : (f g : Fault) → g.rest ≡ f.rest → code_number f.code ≤ code_number g.code → is_first f g ≡ true
+same_token_first f g same most = rw same (tested (length f.rest) (code_number f.code) (code_number g.code) most)
   where
     tested : (n c d : ℕ) → c ≤ d → (if nat_lt n n then true else (if nat_lt n n then false else nat_le c d)) ≡ true
     tested n c d h = grind (arith, nat_tests)
@@ -211,7 +211,7 @@ now_first profile s f faults before = record {
   first = λ g is. first_at g is.steps is.here;
 }
   where
-    first_at : (g : Fault) (n : ℕ) → IsIn g (faults_at profile (run n s)) → is_first f g ≡ true
+    first_at : (g : Fault) (n : ℕ) → IsIn g (faults_at profile (derived n s)) → is_first f g ≡ true
     first_at g zero h = subst (λ (x : Fault). is_first f x ≡ true) (only_one f g _ faults h) (reflexive f)
     first_at g (suc n) h = later_first profile f g (stepped s) n before h
 
@@ -224,7 +224,7 @@ matched_first profile s f faults second before = record {
   first = λ g is. first_at g is.steps is.here;
 }
   where
-    first_at : (g : Fault) (n : ℕ) → IsIn g (faults_at profile (run n s)) → is_first f g ≡ true
+    first_at : (g : Fault) (n : ℕ) → IsIn g (faults_at profile (derived n s)) → is_first f g ≡ true
     first_at g zero h = subst (λ (x : Fault). is_first f x ≡ true) (only_one f g _ faults h) (reflexive f)
     first_at g (suc zero) h = second g h
     first_at g (suc (suc n)) h = later_first profile f g (stepped (stepped s)) n before h
@@ -270,7 +270,8 @@ too_long profile stack located_token rest values scope functions sound fits long
 pub too_deep : (profile : Profile) (symbol : Symbol) (m : Punctuator) (items stack : List Item)
     (located_token : LocatedToken) (rest : List LocatedToken) (values : List Value) (scope : Scope)
     (functions : List Definition) →
-    is_fault located_token.token ≡ false → choice symbol located_token.token (next_of rest) ≡ Some (Exactly m ∷ items) →
+    is_fault located_token.token ≡ false →
+    choice symbol located_token.token (next_token rest) ≡ Some (Exactly m ∷ items) →
     is_punctuator m located_token.token ≡ true →
     level_faults symbol stack (located_token ∷ rest) ≡ fault (located_token ∷ rest) code.NestedTooDeeply ∷ [] →
     Fails profile (state (Part symbol ∷ stack) (located_token ∷ rest) values scope functions)
@@ -285,11 +286,12 @@ too_deep profile symbol m items stack located_token rest values scope functions 
 }
 
 -- By a word.
-pub too_deep_word : (profile : Profile) (symbol : Symbol) (w : Word) (items stack : List Item)
+pub too_deep_word : (profile : Profile) (symbol : Symbol) (w : Keyword) (items stack : List Item)
     (located_token : LocatedToken) (rest : List LocatedToken) (values : List Value) (scope : Scope)
     (functions : List Definition) →
-    is_fault located_token.token ≡ false → choice symbol located_token.token (next_of rest) ≡ Some (AWord w ∷ items) →
-    is_word w located_token.token ≡ true →
+    is_fault located_token.token ≡ false →
+    choice symbol located_token.token (next_token rest) ≡ Some (AKeyword w ∷ items) →
+    is_keyword w located_token.token ≡ true →
     level_faults symbol stack (located_token ∷ rest) ≡ fault (located_token ∷ rest) code.NestedTooDeeply ∷ [] →
     Fails profile (state (Part symbol ∷ stack) (located_token ∷ rest) values scope functions)
     (diagnostic located_token.line code.NestedTooDeeply)
@@ -304,30 +306,30 @@ too_deep_word profile symbol w items stack located_token rest values scope funct
 
 -- A fault of a role has a greater code than that of a level.
 
-single_code : (g : Fault) (rest : List LocatedToken) (c : Code) → 9 ≤ number_of c → IsIn g (fault rest c ∷ []) →
-    9 ≤ number_of g.code
-single_code g rest c least (inl p) = subst (λ (f : Fault). 9 ≤ number_of f.code) p least
+single_code : (g : Fault) (rest : List LocatedToken) (c : Code) → 9 ≤ code_number c → IsIn g (fault rest c ∷ []) →
+    9 ≤ code_number g.code
+single_code g rest c least (inl p) = subst (λ (f : Fault). 9 ≤ code_number f.code) p least
 single_code g rest c least (inr h) = absurd h
 
-only_if_code : (g : Fault) (b : Bool) (faults : List Fault) → (IsIn g faults → 9 ≤ number_of g.code) →
-    IsIn g (only_if b faults) → 9 ≤ number_of g.code
+only_if_code : (g : Fault) (b : Bool) (faults : List Fault) → (IsIn g faults → 9 ≤ code_number g.code) →
+    IsIn g (only_if b faults) → 9 ≤ code_number g.code
 only_if_code g true faults each h = each h
 only_if_code g false faults each h = absurd h
 
-guarded_code : (g : Fault) (b : Bool) (xs ys : List Fault) → (IsIn g xs → 9 ≤ number_of g.code) →
-    (IsIn g ys → 9 ≤ number_of g.code) →
-    IsIn g (if b then xs else ys) → 9 ≤ number_of g.code
+guarded_code : (g : Fault) (b : Bool) (xs ys : List Fault) → (IsIn g xs → 9 ≤ code_number g.code) →
+    (IsIn g ys → 9 ≤ code_number g.code) →
+    IsIn g (if b then xs else ys) → 9 ≤ code_number g.code
 guarded_code g true xs ys p q h = p h
 guarded_code g false xs ys p q h = q h
 
-no_room_code : (g : Fault) (new : Bool) (count : ℕ) (c : Code) (rest : List LocatedToken) → 9 ≤ number_of c →
-    IsIn g (no_room new count c rest) → 9 ≤ number_of g.code
+no_room_code : (g : Fault) (new : Bool) (count : ℕ) (c : Code) (rest : List LocatedToken) → 9 ≤ code_number c →
+    IsIn g (no_room new count c rest) → 9 ≤ code_number g.code
 no_room_code g new count c rest least h =
     only_if_code g new (only_if (nat_le most_names count) (fault rest c ∷ []))
     (only_if_code g (nat_le most_names count) (fault rest c ∷ []) (single_code g rest c least)) h
 
 role_code : (g : Fault) (role : Role) (name : List ℕ) (scope : Scope) (rest : List LocatedToken) →
-    IsIn g (role_faults role name scope rest) → 9 ≤ number_of g.code
+    IsIn g (role_faults role name scope rest) → 9 ≤ code_number g.code
 role_code g Defined name scope rest h =
     guarded_code g (is_intrinsic name) (fault rest code.IntrinsicRedefined ∷ [])
     (if has_begun name scope then fault rest code.FunctionDefinedTwice ∷
@@ -361,7 +363,7 @@ deep_before_role : (g : Fault) (role : Role) (name : List ℕ) (scope : Scope) (
     IsIn g faults → is_first (fault rest code.NestedTooDeeply) g ≡ true
 deep_before_role g role name scope rest faults same h =
     let here : IsIn g (role_faults role name scope rest) = subst (λ (fs : List Fault). IsIn g fs) same h in
-    let large : 9 ≤ number_of g.code = role_code g role name scope rest here in
+    let large : 9 ≤ code_number g.code = role_code g role name scope rest here in
     same_token_first (fault rest code.NestedTooDeeply) g (role_rest g role name scope rest here) (omega arith)
 
 -- A level beyond the last one, opened by a name: the name may have a fault of its role, which comes after.
@@ -369,7 +371,7 @@ pub too_deep_name : (profile : Profile) (symbol : Symbol) (role : Role) (name : 
     (located_token : LocatedToken) (rest : List LocatedToken) (values : List Value) (scope : Scope)
     (functions : List Definition) →
     is_fault located_token.token ≡ false →
-    choice symbol located_token.token (next_of rest) ≡ Some (AName role ∷ items) →
+    choice symbol located_token.token (next_token rest) ≡ Some (AName role ∷ items) →
     name_of_token located_token.token ≡ Some name →
     level_faults symbol stack (located_token ∷ rest) ≡ fault (located_token ∷ rest) code.NestedTooDeeply ∷ [] →
     Fails profile (state (Part symbol ∷ stack) (located_token ∷ rest) values scope functions)

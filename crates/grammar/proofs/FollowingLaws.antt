@@ -2,10 +2,10 @@
 use Rattle.std.proofs.Common.{◌≡◌, ℕ, ◌+◌, ◌<◌, ◌≤◌, List, [], ◌∷◌, ◌++◌, refl, ap, ◌∙◌, subst, Bool, true, false, arith, lt-ltb, le-leb, length, inl, inr}
 use Rattle.std.proofs.lemmas.Bool.Decides.{nat_tests}
 use Rattle.std.specs.Prelude.{Option, Some, None, if◌then◌else◌, pos, slice_get}
-use Rattle.grammar.specs.declared.names.Callee.{Callee}
-use Rattle.grammar.specs.declared.names.Callee.TheVariants as callee
-use Rattle.grammar.specs.declared.names.Var.{Var}
-use Rattle.grammar.specs.declared.names.Var.TheVariants as var
+use Rattle.grammar.specs.declared.resolved_names.Callee.{Callee}
+use Rattle.grammar.specs.declared.resolved_names.Callee.TheVariants as callee
+use Rattle.grammar.specs.declared.resolved_names.Var.{Var}
+use Rattle.grammar.specs.declared.resolved_names.Var.TheVariants as var
 use Rattle.arith.specs.declared.operators.Op.{Op}
 use Rattle.arith.specs.declared.operators.Op.TheVariants as op
 use Rattle.grammar.specs.declared.actions.Action.{Action}
@@ -15,7 +15,7 @@ use Rattle.grammar.specs.declared.actions.Action.TheVariants.{BeginWhile, WhileT
 use Rattle.grammar.specs.declared.actions.Action.TheVariants.{BeginFunction, EndFunction}
 use Rattle.grammar.specs.Actions.{expr_actions, args_actions, body_actions, last_return, middle, function_actions}
 use Rattle.grammar.specs.Actions.{functions_actions, numbered_actions}
-use Rattle.grammar.specs.Following.{Open, InFunction, AValue, BeforeRight, InCall, InBranch, InElse, BeforeTest, InTurn, Opened, Origin, Number, Fetched, Stepped, Computed, open_count, is_place, few_open, follow, follow_all, then_follow, is_var_numbered, is_callee_numbered, statement_done, call_done, is_number, same_op, same_var}
+use Rattle.grammar.specs.Following.{Open, InFunction, AValue, BeforeRight, InCall, InBranch, InElse, BeforeTest, InTurn, Opened, Origin, Number, Fetched, Incremented, Computed, open_count, may_take_statement, few_open, follow, follow_all, then_follow, is_var_numbered, is_callee_numbered, statement_done, call_done, is_number, same_op, same_var}
 use Rattle.grammar.specs.Nesting.{nesting, args_nesting, body_nesting, right_side}
 use Rattle.arith.specs.Op.{is_logic}
 -- how the value of an expression came about
@@ -163,7 +163,7 @@ mutual
   expr_leads (Postfix op v) outer o h small =
       also (FetchVariable v) _ _ (AValue (Fetched v) ∷ outer ∷ o) _ (rw (var_numbered v h) refl) (omega arith)
       (also (PushConstant (pos 1)) _ _ (AValue (Number (pos 1)) ∷ AValue (Fetched v) ∷ outer ∷ o) _ refl (omega arith)
-      (also (StoreVariable v op) _ _ (AValue (Stepped v) ∷ AValue (Fetched v) ∷ outer ∷ o) _
+      (also (StoreVariable v op) _ _ (AValue (Incremented v) ∷ AValue (Fetched v) ∷ outer ∷ o) _
       (rw (var_numbered v h) refl) (omega arith)
       (act Chop _ _ (rw (same_itself v) refl) (omega arith))))
   expr_leads (Call f args) outer o h small =
@@ -186,7 +186,7 @@ abbrev pub settled : Bool → Opened → Opened
 settled returned (InFunction parameters before ∷ o) = InFunction parameters returned ∷ o
 settled returned o = o
 
-pub done_settles : (returned : Bool) (o : Opened) → is_place o ≡ true →
+pub done_settles : (returned : Bool) (o : Opened) → may_take_statement o ≡ true →
     statement_done returned o ≡ Some (settled returned o)
 done_settles returned [] e = absurd (cc)
 done_settles returned (InFunction parameters before ∷ o) e = refl
@@ -195,7 +195,8 @@ done_settles returned (InElse ∷ o) e = refl
 done_settles returned (InTurn ∷ o) e = refl
 done_settles returned (x ∷ o) e = absurd (cc)
 
-pub settled_place : (returned : Bool) (o : Opened) → is_place o ≡ true → is_place (settled returned o) ≡ true
+pub settled_place : (returned : Bool) (o : Opened) → may_take_statement o ≡ true →
+    may_take_statement (settled returned o) ≡ true
 settled_place returned [] e = absurd (cc)
 settled_place returned (InFunction parameters before ∷ o) e = refl
 settled_place returned (x ∷ o) e = e
@@ -215,12 +216,13 @@ behind_body (While c s rest) o = behind_body rest (settled false o)
 behind_body (Return e rest) o = behind_body rest (settled (is_number 0 (origin_of e)) o)
 
 -- an expression at a statement's place
-value_leads : (e : Expr) (o : Opened) → is_place o ≡ true → InExpr 64 64 64 e → open_count o + nesting e ≤ 200 →
+value_leads : (e : Expr) (o : Opened) → may_take_statement o ≡ true → InExpr 64 64 64 e →
+    open_count o + nesting e ≤ 200 →
     Leads (expr_actions e) o (AValue (origin_of e) ∷ o)
 value_leads e [] place h small = absurd (cc)
 value_leads e (outer ∷ o) place h small = expr_leads e outer o h small
 
-pub chop_settles : (origin : Origin) (o : Opened) → is_place o ≡ true →
+pub chop_settles : (origin : Origin) (o : Opened) → may_take_statement o ≡ true →
     follow Chop (AValue origin ∷ o) ≡ Some (settled false o)
 chop_settles origin [] e = absurd (cc)
 chop_settles origin (AValue below ∷ o) e = absurd (cc)
@@ -243,7 +245,8 @@ inside (Return e rest) x o same = ap (behind_body rest) (same (is_number 0 (orig
 pub leads_to : (acts : List Action) (o p q : Opened) → p ≡ q → Leads acts o p → Leads acts o q
 leads_to acts o p q e a = subst (λ (r : Opened). Leads acts o r) e a
 
-pub body_leads : (b : Body) (o : Opened) → is_place o ≡ true → InBody 64 64 64 b → open_count o + body_nesting b ≤ 200 →
+pub body_leads : (b : Body) (o : Opened) → may_take_statement o ≡ true → InBody 64 64 64 b →
+    open_count o + body_nesting b ≤ 200 →
     Leads (body_actions b) o (behind_body b o)
 body_leads Done o place h small = record { is = refl }
 body_leads (ExpressionStatement e rest) o place h small =

@@ -4,7 +4,7 @@ use Rattle.std.proofs.lemmas.Bool.{cases_eq}
 use Rattle.std.proofs.lemmas.List.{get_or-set_other, get_or-set_same}
 use Rattle.std.proofs.lemmas.Slice.Eq.{bytes_eq-Decides}
 use Rattle.std.specs.Str.{bytes_eq}
-use Rattle.grammar.specs.Laws.Index.{IsIndexed, NoneBefore, Notes, bucket_of, start_of}
+use Rattle.grammar.specs.Laws.Index.{IsIndexed, NoFunctionBefore, Notes, bucket_of, start_of}
 use Rattle.grammar.specs.Pools.{FunctionNames}
 use Rattle.grammar.specs.Scope.{only_named}
 
@@ -34,7 +34,7 @@ pub ruleset notes = (noted, stays)
 
 -- no function with a name is before the one from which on it is looked for
 pub none_before : (name : List ℕ) (functions : List FunctionNames) (index : List ℕ) → IsIndexed functions index →
-    NoneBefore (start_of name index) name functions
+    NoFunctionBefore (start_of name index) name functions
 none_before name functions index kept =
     record
     { none = λ k before within. by k before within (bytes_eq name (get_or functions k (only_named [])).name) refl }

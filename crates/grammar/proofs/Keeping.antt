@@ -6,14 +6,14 @@ use Rattle.tokens.specs.declared.located_tokens.Punctuator.{Punctuator}
 use Rattle.tokens.specs.declared.located_tokens.Punctuator.TheVariants as punctuator
 use Rattle.tokens.specs.declared.located_tokens.Token.{Token}
 use Rattle.tokens.specs.declared.located_tokens.Token.TheVariants as token
-use Rattle.tokens.specs.declared.located_tokens.Word.TheVariants as word
+use Rattle.tokens.specs.declared.located_tokens.Keyword.TheVariants as word
 use Rattle.arith.specs.declared.operators.Op.{Op}
 use Rattle.grammar.specs.declared.operators.StoreOp.{StoreOp}
-use Rattle.grammar.specs.Derivation.{State, state, Value, Definition, step, step_of, stepped, run, next_of, after_of, line_of, matched, name_matched, constant_matched, replaced, name_of_token, constant_value, is_end, defined, behind_rule}
-use Rattle.grammar.specs.Grammar.{Symbol, Source, Types, Head, More, Parameters, ParameterTypes, FunctionBlock, Block, Declarations, Statements, Statement, ElsePart, Back, Expression, Level, Tail, Unary, Primary, Arguments, MoreArguments, Role, Defined, External, Parameter, Typed, Local, Called, Mentioned, Item, Exactly, AWord, AName, AConstant, AnEnd, Part, Make, Close, SemanticAction, Define, Production, choice, assignment_or, tail_production, is_fault, is_punctuator, is_word}
+use Rattle.grammar.specs.Derivation.{State, state, Value, Definition, step, item_step, stepped, derived, next_token, token_after_next, line_at, matched, name_matched, constant_matched, replaced, name_of_token, constant_value, is_end, functions_defined, scope_after_action}
+use Rattle.grammar.specs.Grammar.{Symbol, Source, Types, Head, More, Parameters, ParameterTypes, FunctionBlock, Block, Declarations, Statements, Statement, ElsePart, Back, Expression, Level, Tail, Unary, Primary, Arguments, MoreArguments, Role, Defined, External, Parameter, Typed, Local, Called, Mentioned, Item, Exactly, AKeyword, AName, AConstant, AnEnd, Part, Make, Close, SemanticAction, Define, Production, choice, assignment_or, tail_production, is_fault, is_punctuator, is_keyword}
 use Rattle.grammar.specs.Laws.{KeepsFunction, BlocksKeepTheFunction}
 use Rattle.grammar.specs.Operators.{operator_at, store_of}
-use Rattle.grammar.specs.Scope.{Scope, behind_name, is_external_new, is_local_new, is_variable_new, is_function_new, with_external, with_variable, with_new_function}
+use Rattle.grammar.specs.Scope.{Scope, scope_after_name, is_external_new, is_local_new, is_variable_new, is_function_new, with_external, with_variable, with_new_function}
 
 -- Inner items: they neither begin a function, nor give it a parameter, nor end it.
 
@@ -96,25 +96,25 @@ choice_inner Source next after h = absurd (cc)
 choice_inner Head next after h = absurd (cc)
 choice_inner Parameters next after h = absurd (cc)
 choice_inner FunctionBlock next after h = absurd (cc)
-choice_inner Types (token.Word word.Type) after h = refl
+choice_inner Types (token.Keyword word.Type) after h = refl
 choice_inner Types next after h = refl
 choice_inner (More role) (token.Punctuator punctuator.Comma) after h = more_inner role h
 choice_inner (More role) next after h = refl
-choice_inner ParameterTypes (token.Word word.Type) after h = refl
+choice_inner ParameterTypes (token.Keyword word.Type) after h = refl
 choice_inner ParameterTypes next after h = refl
 choice_inner Block (token.Punctuator punctuator.OpenCurly) after h = refl
 choice_inner Block next after h = refl
-choice_inner Declarations (token.Word word.Type) after h = refl
+choice_inner Declarations (token.Keyword word.Type) after h = refl
 choice_inner Declarations next after h = refl
 choice_inner Statements (token.Punctuator punctuator.CloseCurly) after h = refl
 choice_inner Statements next after h = refl
 choice_inner Statement (token.Punctuator punctuator.Semicolon) after h = refl
 choice_inner Statement (token.Punctuator punctuator.OpenCurly) after h = refl
-choice_inner Statement (token.Word word.If) after h = refl
-choice_inner Statement (token.Word word.While) after h = refl
-choice_inner Statement (token.Word word.Return) after h = refl
+choice_inner Statement (token.Keyword word.If) after h = refl
+choice_inner Statement (token.Keyword word.While) after h = refl
+choice_inner Statement (token.Keyword word.Return) after h = refl
 choice_inner Statement next after h = refl
-choice_inner ElsePart (token.Word word.Else) after h = refl
+choice_inner ElsePart (token.Keyword word.Else) after h = refl
 choice_inner ElsePart next after h = refl
 choice_inner Back (token.Punctuator punctuator.Semicolon) after h = refl
 choice_inner Back next after h = refl
@@ -154,7 +154,7 @@ kept_either true scope new h = h
 kept_either false scope new h = kept scope
 
 name_keeps : (role : Role) (name : List ℕ) (line : ℕ) (scope : Scope) → is_inner_role role ≡ true →
-    KeepsFunction scope (behind_name role name line scope)
+    KeepsFunction scope (scope_after_name role name line scope)
 name_keeps Defined name line scope h = absurd (cc)
 name_keeps External name line scope h =
     kept_either (is_external_new name scope) scope (with_external name scope)
@@ -172,13 +172,13 @@ name_keeps Mentioned name line scope h =
     (record { number = refl; begun = refl; name = refl; parameters = refl })
 
 rule_keeps : (rule : SemanticAction) (scope : Scope) → is_inner (Make rule) ≡ true →
-    KeepsFunction scope (behind_rule rule scope)
+    KeepsFunction scope (scope_after_action rule scope)
 rule_keeps Define scope h = absurd (cc)
 rule_keeps rule scope h = kept scope
 
 defines_none : (rule : SemanticAction) (values : List Value) (scope : Scope) (functions : List Definition) →
     is_inner (Make rule) ≡ true →
-    length (functions ++ defined rule values scope) ≡ length functions
+    length (functions ++ functions_defined rule values scope) ≡ length functions
 defines_none Define values scope functions h = absurd (cc)
 defines_none rule values scope functions h = length-append functions [] ∙ omega arith
 
@@ -208,7 +208,7 @@ name_stands : (role : Role) (o : Option (List ℕ)) (items base : List Item) (re
     IfStands base scope (length functions) (name_matched role o (items ++ base) rest values scope functions)
 name_stands role None items base rest values scope functions r h = tt
 name_stands role (Some name) items base rest values scope functions r h =
-    record { items = items; inner = h; over = refl; keeps = name_keeps role name (line_of rest) scope r; same = refl }
+    record { items = items; inner = h; over = refl; keeps = name_keeps role name (line_at rest) scope r; same = refl }
 
 constant_stands : (o : Option ℕ) (items base : List Item) (rest : List LocatedToken) (values : List Value)
     (scope : Scope) (functions : List Definition) → all_inner items ≡ true →
@@ -233,20 +233,20 @@ part_stands (Some front) items base rest values scope functions p h =
 
 item_stands : (item : Item) (items base : List Item) (rest : List LocatedToken) (values : List Value) (scope : Scope)
     (functions : List Definition) → is_inner item ≡ true → all_inner items ≡ true →
-    IfStands base scope (length functions) (step_of (item ∷ items ++ base) rest values scope functions)
+    IfStands base scope (length functions) (item_step (item ∷ items ++ base) rest values scope functions)
 item_stands (Exactly m) items base rest values scope functions i h =
-    matched_stands (is_punctuator m (next_of rest)) items base rest values scope functions h
-item_stands (AWord w) items base rest values scope functions i h =
-    matched_stands (is_word w (next_of rest)) items base rest values scope functions h
+    matched_stands (is_punctuator m (next_token rest)) items base rest values scope functions h
+item_stands (AKeyword w) items base rest values scope functions i h =
+    matched_stands (is_keyword w (next_token rest)) items base rest values scope functions h
 item_stands (AName role) items base rest values scope functions i h =
-    name_stands role (name_of_token (next_of rest)) items base rest values scope functions i h
+    name_stands role (name_of_token (next_token rest)) items base rest values scope functions i h
 item_stands AConstant items base rest values scope functions i h =
-    constant_stands (constant_value (next_of rest)) items base rest values scope functions h
+    constant_stands (constant_value (next_token rest)) items base rest values scope functions h
 item_stands AnEnd items base rest values scope functions i h =
-    matched_stands (is_end (next_of rest)) items base rest values scope functions h
+    matched_stands (is_end (next_token rest)) items base rest values scope functions h
 item_stands (Part symbol) items base rest values scope functions i h =
-    part_stands (choice symbol (next_of rest) (after_of rest)) items base rest values scope functions
-    (choice_inner symbol (next_of rest) (after_of rest) i) h
+    part_stands (choice symbol (next_token rest) (token_after_next rest)) items base rest values scope functions
+    (choice_inner symbol (next_token rest) (token_after_next rest) i) h
 item_stands (Make rule) items base rest values scope functions i h =
     record {
       items = items;
@@ -306,22 +306,22 @@ part_more None stack rest values scope functions = tt
 part_more (Some items) stack rest values scope functions = omega arith
 
 item_more : (stack : List Item) (rest : List LocatedToken) (values : List Value) (scope : Scope)
-    (functions : List Definition) → IfMore (length functions) (step_of stack rest values scope functions)
+    (functions : List Definition) → IfMore (length functions) (item_step stack rest values scope functions)
 item_more [] rest values scope functions = tt
 item_more (Exactly m ∷ stack) rest values scope functions =
-    matched_more (is_punctuator m (next_of rest)) stack rest values scope functions
-item_more (AWord w ∷ stack) rest values scope functions =
-    matched_more (is_word w (next_of rest)) stack rest values scope functions
+    matched_more (is_punctuator m (next_token rest)) stack rest values scope functions
+item_more (AKeyword w ∷ stack) rest values scope functions =
+    matched_more (is_keyword w (next_token rest)) stack rest values scope functions
 item_more (AName role ∷ stack) rest values scope functions =
-    name_more role (name_of_token (next_of rest)) stack rest values scope functions
+    name_more role (name_of_token (next_token rest)) stack rest values scope functions
 item_more (AConstant ∷ stack) rest values scope functions =
-    constant_more (constant_value (next_of rest)) stack rest values scope functions
+    constant_more (constant_value (next_token rest)) stack rest values scope functions
 item_more (AnEnd ∷ stack) rest values scope functions =
-    matched_more (is_end (next_of rest)) stack rest values scope functions
+    matched_more (is_end (next_token rest)) stack rest values scope functions
 item_more (Part symbol ∷ stack) rest values scope functions =
-    part_more (choice symbol (next_of rest) (after_of rest)) stack rest values scope functions
+    part_more (choice symbol (next_token rest) (token_after_next rest)) stack rest values scope functions
 item_more (Make rule ∷ stack) rest values scope functions =
-    omega (arith, length-append functions (defined rule values scope))
+    omega (arith, length-append functions (functions_defined rule values scope))
 item_more (Close ∷ stack) rest values scope functions = omega arith
 
 stepped_more : (b : Bool) (s : State) (o : Option State) → IfMore (length s.functions) o →
@@ -330,31 +330,33 @@ stepped_more true s o h = omega arith
 stepped_more false s None h = omega arith
 stepped_more false s (Some t) h = h
 
-run_more : (n : ℕ) (s : State) → length s.functions ≤ length (run n s).functions
+run_more : (n : ℕ) (s : State) → length s.functions ≤ length (derived n s).functions
 run_more zero s = omega arith
 run_more (suc n) s =
     omega (
       arith,
       run_more n (stepped s),
-      stepped_more (is_fault (next_of s.rest)) s (step_of s.stack s.rest s.values s.scope s.functions)
+      stepped_more (is_fault (next_token s.rest)) s (item_step s.stack s.rest s.values s.scope s.functions)
           (item_more s.stack s.rest s.values s.scope s.functions),
     )
 
 -- A derivation that defined no function didn't pass the end of the one that it is in.
 
 abbrev KeepsFrom : ℕ → Scope → ℕ → State → Type 0
-KeepsFrom n known count s = length (run n s).functions ≡ count → KeepsFunction known (run n s).scope
+KeepsFrom n known count s = length (derived n s).functions ≡ count → KeepsFunction known (derived n s).scope
 
 -- at a function's end a step adds it, or the derivation stays
 end_keeps : (b : Bool) (n : ℕ) (stack : List Item) (known : Scope) (count : ℕ) (s : State) →
     length s.functions ≡ count → KeepsFrom n known count s →
     KeepsFrom n known count
-    (unwrap_or (if b then None else step_of (Make Define ∷ stack) s.rest s.values s.scope s.functions) s)
+    (unwrap_or (if b then None else item_step (Make Define ∷ stack) s.rest s.values s.scope s.functions) s)
 end_keeps true n stack known count s before again = again
 end_keeps false n stack known count s before again = λ same. absurd (
     let behind : State =
-    state stack s.rest [] (behind_rule Define s.scope) (s.functions ++ defined Define s.values s.scope) in
-    omega (arith, before, same, run_more n behind, length-append s.functions (defined Define s.values s.scope)))
+    state stack s.rest [] (scope_after_action Define s.scope) (s.functions ++ functions_defined Define s.values s.scope)
+    in
+    omega
+    (arith, before, same, run_more n behind, length-append s.functions (functions_defined Define s.values s.scope)))
 
 step_keeps : (n : ℕ) (items stack : List Item) (known : Scope) (count : ℕ) (s : State) → all_inner items ≡ true →
     s.stack ≡ items ++ Make Define ∷ stack →
@@ -364,14 +366,14 @@ step_keeps : (n : ℕ) (items stack : List Item) (known : Scope) (count : ℕ) (
 step_keeps n [] stack known count s inner over h again =
     subst
     (λ (xs : List Item). KeepsFrom n known count
-    (unwrap_or (if is_fault (next_of s.rest) then None else step_of xs s.rest s.values s.scope s.functions) s))
+    (unwrap_or (if is_fault (next_token s.rest) then None else item_step xs s.rest s.values s.scope s.functions) s))
     (sym over)
-    (end_keeps (is_fault (next_of s.rest)) n stack known count s h.same (again s h))
+    (end_keeps (is_fault (next_token s.rest)) n stack known count s h.same (again s h))
 step_keeps n (item ∷ items) stack known count s inner over h again =
-    again (stepped s) (stays base known count s (step s) h (guarded_stands (is_fault (next_of s.rest)) base s.scope
-    (length s.functions) (step_of s.stack s.rest s.values s.scope s.functions)
+    again (stepped s) (stays base known count s (step s) h (guarded_stands (is_fault (next_token s.rest)) base s.scope
+    (length s.functions) (item_step s.stack s.rest s.values s.scope s.functions)
     (subst
-    (λ (xs : List Item). IfStands base s.scope (length s.functions) (step_of xs s.rest s.values s.scope s.functions))
+    (λ (xs : List Item). IfStands base s.scope (length s.functions) (item_step xs s.rest s.values s.scope s.functions))
     (sym over)
     (item_stands item items base s.rest s.values s.scope s.functions
     (front_inner (is_inner item) (all_inner items) inner) (others_inner (is_inner item) (all_inner items) inner)))))
@@ -388,7 +390,8 @@ run_keeps (suc n) stack known count s h =
 -- from inner items over a function's end to any state before the next function is defined
 pub inner_keeps : (n : ℕ) (items stack after : List Item) (rest later : List LocatedToken) (values left : List Value)
     (known learnt : Scope) (functions : List Definition) → all_inner items ≡ true →
-    run n (state (items ++ Make Define ∷ stack) rest values known functions) ≡ state after later left learnt functions →
+    derived n (state (items ++ Make Define ∷ stack) rest values known functions) ≡
+    state after later left learnt functions →
     KeepsFunction known learnt
 inner_keeps n items stack after rest later values left known learnt functions inner leads =
     subst (λ (t : State). KeepsFunction known t.scope) leads

@@ -3,14 +3,14 @@ use Rattle.std.proofs.Common.{◌≡◌, ℕ, zero, suc, ◌<◌, List, [], ◌�
 use Rattle.std.specs.Prelude.{Option, Some, None, if◌then◌else◌, unwrap_or, slice_get, set}
 use Rattle.tokens.specs.declared.located_tokens.LocatedToken.{LocatedToken}
 use Rattle.grammar.specs.Compiled.{order_of}
-use Rattle.grammar.specs.Derivation.{State, state, start, Value, Definition, definition_of, last_body, next_of, after_of, line_of, name_of_token, constant_value, is_end, matched, name_matched, constant_matched, replaced, step_of, step, stepped, run}
+use Rattle.grammar.specs.Derivation.{State, state, initial_state, Value, Definition, definition_of, last_body, next_token, token_after_next, line_at, name_of_token, constant_value, is_end, matched, name_matched, constant_matched, replaced, item_step, step, stepped, derived}
 use Rattle.grammar.specs.Faults.{faults_at, faults_in}
-use Rattle.grammar.specs.Grammar.{Item, Exactly, AWord, AName, AConstant, AnEnd, Part, Make, Close, Define, Role, Defined, External, Parameter, Typed, Local, Called, Mentioned, Production, choice, is_fault, is_punctuator, is_word}
+use Rattle.grammar.specs.Grammar.{Item, Exactly, AKeyword, AName, AConstant, AnEnd, Part, Make, Close, Define, Role, Defined, External, Parameter, Typed, Local, Called, Mentioned, Production, choice, is_fault, is_punctuator, is_keyword}
 use Rattle.grammar.specs.Laws.Parsing.{Passes}
 use Rattle.grammar.specs.Pools.{FunctionNames, names_of_function}
 use Rattle.grammar.specs.Profile.{Profile}
 use Rattle.grammar.specs.Resolved.{IsAmong, AreDistinct}
-use Rattle.grammar.specs.Scope.{Scope, behind_name, end_definition, is_function_new, only_named, with_function, is_external_new, is_local_new, is_variable_new, with_external, with_parameter, with_variable}
+use Rattle.grammar.specs.Scope.{Scope, scope_after_name, end_definition, is_function_new, only_named, with_function, is_external_new, is_local_new, is_variable_new, with_external, with_parameter, with_variable}
 use Rattle.grammar.proofs.Phases.{phase_of}
 use Rattle.grammar.proofs.ResolvedLaws.{Sound, Busy, among_last, ended, stepped_sound, run_sound, start_sound}
 use Rattle.grammar.proofs.Runs.{append_empty}
@@ -18,10 +18,10 @@ use Rattle.grammar.proofs.Places.{get_append, get_set_same, get_set_other}
 
 -- a derivation that comes from the start without a fault is sound
 pub sound_of_passes : (profile : Profile) (located_tokens : List LocatedToken) (s : State) →
-    Passes profile (start located_tokens) s → Sound s
+    Passes profile (initial_state located_tokens) s → Sound s
 sound_of_passes profile located_tokens s p =
     subst (λ (t : State). Sound t) p.leads
-    (run_sound profile p.steps (start located_tokens) p.clean (start_sound located_tokens))
+    (run_sound profile p.steps (initial_state located_tokens) p.clean (start_sound located_tokens))
 
 -- the names of each function that was defined are at its number
 abbrev pub AreNamed : List FunctionNames → List Definition → Type 0
@@ -48,7 +48,7 @@ function_named name line scope ds h =
     named_if (is_function_new name scope) _ scope ds (named_wider scope.functions (only_named name ∷ []) ds h) h
 
 role_named : (role : Role) (name : List ℕ) (line : ℕ) (scope : Scope) (ds : List Definition) →
-    AreNamed scope.functions ds → AreNamed (behind_name role name line scope).functions ds
+    AreNamed scope.functions ds → AreNamed (scope_after_name role name line scope).functions ds
 role_named Defined name line scope ds h = function_named name line scope ds h
 role_named External name line scope ds h = named_if (is_external_new name scope) (with_external name scope) scope ds h h
 role_named Parameter name line scope ds h = named_if (is_local_new name scope) (with_parameter name scope) scope ds h h
@@ -112,7 +112,7 @@ name_named : (role : Role) (name : Option (List ℕ)) (stack : List Item) (rest 
     (scope : Scope) (ds : List Definition) → AreNamed scope.functions ds →
     IfNamed (name_matched role name stack rest values scope ds)
 name_named role None stack rest values scope ds h = tt
-name_named role (Some name) stack rest values scope ds h = role_named role name (line_of rest) scope ds h
+name_named role (Some name) stack rest values scope ds h = role_named role name (line_at rest) scope ds h
 
 constant_named : (value : Option ℕ) (stack : List Item) (rest : List LocatedToken) (values : List Value) (scope : Scope)
     (ds : List Definition) → AreNamed scope.functions ds →
@@ -132,19 +132,20 @@ same_named functions ds h = subst (λ (xs : List Definition). AreNamed functions
 
 step_named : (stack : List Item) (rest : List LocatedToken) (values : List Value) (scope : Scope) (ds : List Definition)
     → Sound (state stack rest values scope ds) →
-    AreNamed scope.functions ds → IfNamed (step_of stack rest values scope ds)
+    AreNamed scope.functions ds → IfNamed (item_step stack rest values scope ds)
 step_named [] rest values scope ds s h = tt
 step_named (Exactly m ∷ stack) rest values scope ds s h =
-    matched_named (is_punctuator m (next_of rest)) stack rest values scope ds h
-step_named (AWord w ∷ stack) rest values scope ds s h =
-    matched_named (is_word w (next_of rest)) stack rest values scope ds h
+    matched_named (is_punctuator m (next_token rest)) stack rest values scope ds h
+step_named (AKeyword w ∷ stack) rest values scope ds s h =
+    matched_named (is_keyword w (next_token rest)) stack rest values scope ds h
 step_named (AName role ∷ stack) rest values scope ds s h =
-    name_named role (name_of_token (next_of rest)) stack rest values scope ds h
+    name_named role (name_of_token (next_token rest)) stack rest values scope ds h
 step_named (AConstant ∷ stack) rest values scope ds s h =
-    constant_named (constant_value (next_of rest)) stack rest values scope ds h
-step_named (AnEnd ∷ stack) rest values scope ds s h = matched_named (is_end (next_of rest)) stack rest values scope ds h
+    constant_named (constant_value (next_token rest)) stack rest values scope ds h
+step_named (AnEnd ∷ stack) rest values scope ds s h =
+    matched_named (is_end (next_token rest)) stack rest values scope ds h
 step_named (Part symbol ∷ stack) rest values scope ds s h =
-    part_named (choice symbol (next_of rest) (after_of rest)) stack rest values scope ds h
+    part_named (choice symbol (next_token rest) (token_after_next rest)) stack rest values scope ds h
 step_named (Make Define ∷ stack) rest values scope ds s h = define_named stack rest values scope ds s h
 step_named (Make rule ∷ stack) rest values scope ds s h = same_named scope.functions ds h
 step_named (Close ∷ stack) rest values scope ds s h = h
@@ -163,12 +164,12 @@ kept_named s (Some t) h k = k
 stepped_named : (s : State) → Sound s → AreNamed s.scope.functions s.functions →
     AreNamed (stepped s).scope.functions (stepped s).functions
 stepped_named s sound h = kept_named s (step s) h
-    (guarded_named (is_fault (next_of s.rest)) (step_of s.stack s.rest s.values s.scope s.functions)
+    (guarded_named (is_fault (next_token s.rest)) (item_step s.stack s.rest s.values s.scope s.functions)
     (step_named s.stack s.rest s.values s.scope s.functions (record { known = sound.known; tied = sound.tied }) h))
 
 run_named : (profile : Profile) (n : ℕ) (s : State) → faults_in profile n s ≡ [] → Sound s →
     AreNamed s.scope.functions s.functions →
-    AreNamed (run n s).scope.functions (run n s).functions
+    AreNamed (derived n s).scope.functions (derived n s).functions
 run_named profile zero s clean sound h = h
 run_named profile (suc n) s clean sound h =
     run_named profile n (stepped s) (append_empty (faults_at profile s) (faults_in profile n (stepped s)) clean).1
@@ -177,7 +178,7 @@ run_named profile (suc n) s clean sound h =
 
 -- so it is wherever a derivation leads without a fault
 pub named_of_passes : (profile : Profile) (located_tokens : List LocatedToken) (s : State) →
-    Passes profile (start located_tokens) s → AreNamed s.scope.functions s.functions
+    Passes profile (initial_state located_tokens) s → AreNamed s.scope.functions s.functions
 named_of_passes profile located_tokens s p =
     subst (λ (t : State). AreNamed t.scope.functions t.functions) p.leads
-    (run_named profile p.steps (start located_tokens) p.clean (start_sound located_tokens) tt)
+    (run_named profile p.steps (initial_state located_tokens) p.clean (start_sound located_tokens) tt)

@@ -4,7 +4,7 @@ use Rattle.std.proofs.lemmas.Bool.Decides.{nat_tests}
 use Rattle.std.specs.Prelude.{nat_lt, nat_le, if◌then◌else◌, Some, slice_get}
 use Rattle.grammar.specs.declared.diagnostics.Code.{Code}
 use Rattle.grammar.specs.declared.diagnostics.Code.TheVariants as code
-use Rattle.grammar.specs.Faults.{Fault, is_first, first_of, number_of}
+use Rattle.grammar.specs.Faults.{Fault, is_first, first_fault, code_number}
 use Rattle.grammar.specs.Laws.Parsing.{IsIn}
 use Rattle.grammar.proofs.Firsts.{reflexive}
 
@@ -29,13 +29,13 @@ before_trans a c b d x e (inr p) (inl q) = inl (omega (arith, p.0))
 before_trans a c b d x e (inr p) (inr q) = inr (omega (arith, p.0, q.0), omega (arith, p.1, q.1))
 
 pub trans : (f g h : Fault) → is_first f g ≡ true → is_first g h ≡ true → is_first f h ≡ true
-trans f g h p q = tested (length f.rest) (number_of f.code) (length h.rest) (number_of h.code)
-    (before_trans _ _ (length g.rest) (number_of g.code) _ _
-    (meaning (length f.rest) (number_of f.code) (length g.rest) (number_of g.code) p)
-    (meaning (length g.rest) (number_of g.code) (length h.rest) (number_of h.code) q))
+trans f g h p q = tested (length f.rest) (code_number f.code) (length h.rest) (code_number h.code)
+    (before_trans _ _ (length g.rest) (code_number g.code) _ _
+    (meaning (length f.rest) (code_number f.code) (length g.rest) (code_number g.code) p)
+    (meaning (length g.rest) (code_number g.code) (length h.rest) (code_number h.code) q))
 
 pub total : (f g : Fault) → is_first f g ≡ false → is_first g f ≡ true
-total f g h = total_at (length f.rest) (number_of f.code) (length g.rest) (number_of g.code) h
+total f g h = total_at (length f.rest) (code_number f.code) (length g.rest) (code_number g.code) h
 
 same_both : (a c b d : ℕ) → (b < a) ⊎ ((a ≡ b) × (c ≤ d)) → (a < b) ⊎ ((b ≡ a) × (d ≤ c)) → (a ≡ b) × (c ≡ d)
 same_both a c b d (inl p) (inl q) = absurd (omega arith)
@@ -50,7 +50,7 @@ all_codes =
     code.TooManyFunctions ∷ code.FunctionDefinedTwice ∷ code.IntrinsicRedefined ∷ code.BadParameterDeclaration ∷
     code.TooMuchCode ∷ code.FunctionNotDefined ∷ code.NoMainFunction ∷ []
 
-found : (c : Code) → slice_get all_codes (number_of c) ≡ Some c
+found : (c : Code) → slice_get all_codes (code_number c) ≡ Some c
 unfolding all_codes
 found code.BadCharacter = refl
 found code.CommentNotClosed = refl
@@ -72,17 +72,17 @@ found code.NoMainFunction = refl
 some_same : (c d : Code) → Some c ≡ Some d → c ≡ d
 some_same c d e = cc
 
-pub same_code : (c d : Code) → number_of c ≡ number_of d → c ≡ d
+pub same_code : (c d : Code) → code_number c ≡ code_number d → c ≡ d
 same_code c d e = some_same c d (sym (found c) ∙ ap (λ n. slice_get all_codes n) e ∙ found d)
 
 -- two faults that each come first are at one place, with one code
 pub same_place : (f g : Fault) → is_first f g ≡ true → is_first g f ≡ true →
     (length f.rest ≡ length g.rest) × (f.code ≡ g.code)
 same_place f g p q =
-    let both : (length f.rest ≡ length g.rest) × (number_of f.code ≡ number_of g.code) =
-    same_both (length f.rest) (number_of f.code) (length g.rest) (number_of g.code)
-    (meaning (length f.rest) (number_of f.code) (length g.rest) (number_of g.code) p)
-    (meaning (length g.rest) (number_of g.code) (length f.rest) (number_of f.code) q) in
+    let both : (length f.rest ≡ length g.rest) × (code_number f.code ≡ code_number g.code) =
+    same_both (length f.rest) (code_number f.code) (length g.rest) (code_number g.code)
+    (meaning (length f.rest) (code_number f.code) (length g.rest) (code_number g.code) p)
+    (meaning (length g.rest) (code_number g.code) (length f.rest) (code_number f.code) q) in
     (both.0, same_code f.code g.code both.1)
 
 -- the first of a list is one of it
@@ -93,7 +93,7 @@ chosen_in true f g h faults (inr k) = inr (inr k)
 chosen_in false f g h faults (inl e) = inr (inl e)
 chosen_in false f g h faults (inr k) = inr (inr k)
 
-pub first_in : (f : Fault) (faults : List Fault) → IsIn (first_of f faults) (f ∷ faults)
+pub first_in : (f : Fault) (faults : List Fault) → IsIn (first_fault f faults) (f ∷ faults)
 first_in f [] = inl refl
 first_in f (g ∷ faults) = chosen_in (is_first f g) f g _ faults (first_in (if is_first f g then f else g) faults)
 
@@ -104,17 +104,17 @@ chosen_before true f g e = (reflexive f, e)
 chosen_before false f g e = (total f g e, reflexive g)
 
 pub first_least : (f : Fault) (faults : List Fault) (g : Fault) → IsIn g (f ∷ faults) →
-    is_first (first_of f faults) g ≡ true
+    is_first (first_fault f faults) g ≡ true
 first_least f [] g (inl e) = subst (λ (x : Fault). is_first f x ≡ true) e (reflexive f)
 first_least f [] g (inr h) = absurd h
 first_least f (x ∷ faults) g (inl e) =
-    subst (λ (y : Fault). is_first (first_of (if is_first f x then f else x) faults) y ≡ true) e
-    (trans (first_of (if is_first f x then f else x) faults) (if is_first f x then f else x) f
+    subst (λ (y : Fault). is_first (first_fault (if is_first f x then f else x) faults) y ≡ true) e
+    (trans (first_fault (if is_first f x then f else x) faults) (if is_first f x then f else x) f
     (first_least (if is_first f x then f else x) faults (if is_first f x then f else x) (inl refl))
     (chosen_before (is_first f x) f x refl).0)
 first_least f (x ∷ faults) g (inr (inl e)) =
-    subst (λ (y : Fault). is_first (first_of (if is_first f x then f else x) faults) y ≡ true) e
-    (trans (first_of (if is_first f x then f else x) faults) (if is_first f x then f else x) x
+    subst (λ (y : Fault). is_first (first_fault (if is_first f x then f else x) faults) y ≡ true) e
+    (trans (first_fault (if is_first f x then f else x) faults) (if is_first f x then f else x) x
     (first_least (if is_first f x then f else x) faults (if is_first f x then f else x) (inl refl))
     (chosen_before (is_first f x) f x refl).1)
 first_least f (x ∷ faults) g (inr (inr h)) = first_least (if is_first f x then f else x) faults g (inr h)

@@ -1,13 +1,13 @@
 -- What was read of a source is needed, if no fault is before it.
 use Rattle.std.proofs.Common.{◌≡◌, ℕ, ◌<◌, ◌≤◌, List, [], ◌∷◌, ◌++◌, sym, ap, ◌∙◌, subst, arith, length, length-append, le_refl}
 use Rattle.tokens.specs.Ends.{IsRising}
-use Rattle.tokens.specs.Reading.{reach_of}
+use Rattle.tokens.specs.Cursors.{reach_of}
 use Rattle.tokens.specs.Tokens.{tokens}
 use Rattle.tokens.specs.declared.located_tokens.LocatedToken.{LocatedToken}
 use Rattle.tokens.proofs.EndLemmas.{tokens-rising}
-use Rattle.grammar.specs.Compiled.{all_faults, enough}
-use Rattle.grammar.specs.Derivation.{State, start, run}
-use Rattle.grammar.specs.Faults.{Fault, first_of}
+use Rattle.grammar.specs.Compiled.{all_faults, enough_steps}
+use Rattle.grammar.specs.Derivation.{State, initial_state, derived}
+use Rattle.grammar.specs.Faults.{Fault, first_fault}
 use Rattle.grammar.specs.Laws.{WhatWasReadIsNeeded}
 use Rattle.grammar.specs.Need.{last_end, need, needed}
 use Rattle.grammar.specs.Laws.Parsing.{IsIn, IsFault}
@@ -77,11 +77,11 @@ reach_by place (x ∷ before) left (located_token ∷ passed) rest is fewer some
 
 fault_by : (profile : Profile) (bytes : List ℕ) (passed rest : List LocatedToken) (f : Fault) →
     tokens bytes ≡ passed ++ rest → length f.rest ≤ length rest →
-    IsFault profile (start (tokens bytes)) f → reach_of rest ≤ reach_of f.rest
+    IsFault profile (initial_state (tokens bytes)) f → reach_of rest ≤ reach_of f.rest
 fault_by profile bytes passed rest f is fewer comes =
-    let s : State = run comes.steps (start (tokens bytes)) in
+    let s : State = derived comes.steps (initial_state (tokens bytes)) in
     let at : f.rest ≡ s.rest = at_rest profile f s comes.here in
-    let behind : IsRest s.rest (tokens bytes) = run_rests comes.steps (start (tokens bytes)) in
+    let behind : IsRest s.rest (tokens bytes) = run_rests comes.steps (initial_state (tokens bytes)) in
     let some : 0 < length s.rest = fault_at_token profile (tokens bytes) comes.steps f (tokens_end bytes) comes.here in
     subst (λ xs. reach_of rest ≤ reach_of xs) (sym at)
     (reach_by 0 behind.before s.rest passed rest (sym behind.is ∙ is) (subst (λ xs. length xs ≤ length rest) at fewer)
@@ -90,14 +90,15 @@ fault_by profile bytes passed rest f is fewer comes =
 pub what_was_read_is_needed : WhatWasReadIsNeeded
 unfolding need
 what_was_read_is_needed profile bytes passed rest is none =
-    by (all_faults profile (tokens bytes)) (gathered profile (enough (tokens bytes)) (start (tokens bytes)))
+    by (all_faults profile (tokens bytes))
+    (gathered profile (enough_steps (tokens bytes)) (initial_state (tokens bytes)))
   where
-    by : (faults : List Fault) → ((f : Fault) → IsIn f faults → IsFault profile (start (tokens bytes)) f) →
+    by : (faults : List Fault) → ((f : Fault) → IsIn f faults → IsFault profile (initial_state (tokens bytes)) f) →
         reach_of rest ≤ needed (tokens bytes) faults
     by [] each =
         subst (λ xs. reach_of rest ≤ last_end xs) (sym is)
         (all_by_last 0 passed rest (subst (IsRising 0) is (tokens-rising bytes)))
     by (f ∷ faults) each =
-        let comes : IsFault profile (start (tokens bytes)) (first_of f faults) =
-        each (first_of f faults) (first_in f faults) in
-        fault_by profile bytes passed rest (first_of f faults) is (none (first_of f faults) comes) comes
+        let comes : IsFault profile (initial_state (tokens bytes)) (first_fault f faults) =
+        each (first_fault f faults) (first_in f faults) in
+        fault_by profile bytes passed rest (first_fault f faults) is (none (first_fault f faults) comes) comes

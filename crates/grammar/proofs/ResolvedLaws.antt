@@ -5,15 +5,15 @@ use Rattle.std.proofs.lemmas.List.{length-map, length-set, map-append}
 use Rattle.std.specs.Prelude.{Option, Some, None, Result, Ok, Err, if◌then◌else◌, unwrap_or, map, slice_get, ◌==◌}
 use Rattle.tokens.specs.declared.located_tokens.LocatedToken.{LocatedToken}
 use Rattle.grammar.specs.declared.diagnostics.Diagnostic.{Diagnostic}
-use Rattle.grammar.specs.Compiled.{order_of, defined_as, in_front, all_defined, file_of, resolved, verdict, main_name, all_faults, last_state, enough, last_line}
-use Rattle.grammar.specs.Derivation.{State, state, start, Value, Definition, definition_of, last_body, made, of_name, next_of, after_of, line_of, name_of_token, constant_value, matched, name_matched, constant_matched, replaced, step_of, step, stepped, run}
+use Rattle.grammar.specs.Compiled.{order_of, defined_as, in_front, all_defined, file_of, resolved, verdict, main_name, all_faults, last_state, enough_steps, last_line}
+use Rattle.grammar.specs.Derivation.{State, state, initial_state, Value, Definition, definition_of, last_body, trees_after, name_tree, next_token, token_after_next, line_at, name_of_token, constant_value, matched, name_matched, constant_matched, replaced, item_step, step, stepped, derived}
 use Rattle.grammar.specs.Faults.{Fault, faults_at, faults_in, item_faults, name_faults, role_faults, misfit, misfits}
-use Rattle.grammar.specs.Grammar.{Item, Exactly, AWord, AName, AConstant, AnEnd, Part, Make, Close, Symbol, SemanticAction, Operate, Negate, Not, Complement, Fetch, Store, StepBefore, StepBehind, Pass, Invoke, Empty, Evaluate, Decide, DecideElse, Repeat, Zero, GiveBack, Define, Role, Defined, External, Parameter, Typed, Local, Called, Mentioned, Production, choice, is_fault}
+use Rattle.grammar.specs.Grammar.{Item, Exactly, AKeyword, AName, AConstant, AnEnd, Part, Make, Close, Symbol, SemanticAction, Operate, Negate, Not, Complement, Fetch, Store, PrefixIncrement, PostfixIncrement, Pass, Invoke, Empty, Evaluate, Decide, DecideElse, Repeat, Zero, GiveBack, Define, Role, Defined, External, Parameter, Typed, Local, Called, Mentioned, Production, choice, is_fault}
 use Rattle.grammar.specs.Laws.{CompiledIsResolved}
 use Rattle.grammar.specs.Profile.{Profile}
 use Rattle.grammar.specs.Pools.{FunctionNames}
 use Rattle.grammar.specs.Resolved.{InFile, IsAmong, AreDistinct, IsResolved}
-use Rattle.grammar.specs.Scope.{Scope, behind_name, end_definition, function_number, number_for}
+use Rattle.grammar.specs.Scope.{Scope, scope_after_name, end_definition, function_number, number_or_next}
 use Rattle.grammar.specs.Tree.{Function, File}
 use Rattle.grammar.proofs.Phases.{Phase, Outside, Before, Inside, Wrong, Stays, inside, outside_then, begun, by_role, phase_of, part_stays}
 use Rattle.grammar.proofs.DistinctNames.{distinct_front, HaveNames, names, names_append, names_kept}
@@ -106,39 +106,41 @@ tied_ended Wrong values old new ds more change t = absurd t
 name_sound : (role : Role) (name : List ℕ) (stack : List Item) (rest : List LocatedToken) (line : ℕ)
     (left : List LocatedToken) (values : List Value) (scope : Scope) (ds : List Definition) →
     Known scope ds → Clean (role_faults role name scope rest) → Tied (by_role role (phase_of stack)) values scope ds →
-    Sound (state stack left (of_name role name scope ++ values) (behind_name role name line scope) ds)
+    Sound (state stack left (name_tree role name scope ++ values) (scope_after_name role name line scope) ds)
 name_sound Defined name stack rest line left values scope ds k clean t =
     let w : BeginsWell name line scope ds = definition_begins name line scope ds rest k clean in
     record {
       known = w.known;
-      tied = tied_begun (phase_of stack) values scope (behind_name Defined name line scope) ds
+      tied = tied_begun (phase_of stack) values scope (scope_after_name Defined name line scope) ds
           (λ q. record {
             within = rw q.none tt;
-            begun = w.begun ∙ ap (λ ns. ns ++ number_for name scope ∷ []) q.begun;
+            begun = w.begun ∙ ap (λ ns. ns ++ number_or_next name scope ∷ []) q.begun;
             named = w.named;
           }) t;
     }
 name_sound External name stack rest line left values scope ds k clean t =
-    let g : Grows scope (behind_name External name line scope) ds =
+    let g : Grows scope (scope_after_name External name line scope) ds =
     role_grows External name line scope ds rest tt k clean in
     record { known = g.known; tied = tied_grows (phase_of stack) values scope _ ds g t }
 name_sound Parameter name stack rest line left values scope ds k clean t =
-    let g : Grows scope (behind_name Parameter name line scope) ds =
+    let g : Grows scope (scope_after_name Parameter name line scope) ds =
     role_grows Parameter name line scope ds rest tt k clean in
     record { known = g.known; tied = tied_grows (phase_of stack) values scope _ ds g t }
 name_sound Typed name stack rest line left values scope ds k clean t =
-    let g : Grows scope (behind_name Typed name line scope) ds = role_grows Typed name line scope ds rest tt k clean in
+    let g : Grows scope (scope_after_name Typed name line scope) ds =
+    role_grows Typed name line scope ds rest tt k clean in
     record { known = g.known; tied = tied_grows (phase_of stack) values scope _ ds g t }
 name_sound Local name stack rest line left values scope ds k clean t =
-    let g : Grows scope (behind_name Local name line scope) ds = role_grows Local name line scope ds rest tt k clean in
+    let g : Grows scope (scope_after_name Local name line scope) ds =
+    role_grows Local name line scope ds rest tt k clean in
     record { known = g.known; tied = tied_grows (phase_of stack) values scope _ ds g t }
 name_sound Called name stack rest line left values scope ds k clean t =
-    let g : Grows scope (behind_name Called name line scope) ds =
+    let g : Grows scope (scope_after_name Called name line scope) ds =
     role_grows Called name line scope ds rest tt k clean in
     record {
       known = g.known;
       tied = tied_inside (phase_of stack) values _ scope _ ds
-          (λ b. let c : Busy values (behind_name Called name line scope) ds = busy_grows values scope _ ds g b in
+          (λ b. let c : Busy values (scope_after_name Called name line scope) ds = busy_grows values scope _ ds g b in
           record {
             within = (record { callable = callee_in name line scope; arguments = tt }, c.within);
             begun = c.begun;
@@ -146,12 +148,13 @@ name_sound Called name stack rest line left values scope ds k clean t =
           }) t;
     }
 name_sound Mentioned name stack rest line left values scope ds k clean t =
-    let g : Grows scope (behind_name Mentioned name line scope) ds =
+    let g : Grows scope (scope_after_name Mentioned name line scope) ds =
     role_grows Mentioned name line scope ds rest tt k clean in
     record {
       known = g.known;
       tied = tied_inside (phase_of stack) values _ scope _ ds
-          (λ b. let c : Busy values (behind_name Mentioned name line scope) ds = busy_grows values scope _ ds g b in
+          (λ b. let c : Busy values (scope_after_name Mentioned name line scope) ds =
+          busy_grows values scope _ ds g b in
           record { within = (variable_in name scope, c.within); begun = c.begun; named = c.named }) t;
     }
 
@@ -218,12 +221,12 @@ define_sound stack rest values scope ds k t = record {
 make_sound : (rule : SemanticAction) (stack : List Item) (rest : List LocatedToken) (values : List Value)
     (scope : Scope) (ds : List Definition) →
     Known scope ds → Tied (inside (phase_of stack)) values scope ds →
-    Sound (state stack rest (made rule values) scope (ds ++ []))
+    Sound (state stack rest (trees_after rule values) scope (ds ++ []))
 make_sound rule stack rest values scope ds k t =
-    subst (λ (xs : List Definition). Sound (state stack rest (made rule values) scope xs))
+    subst (λ (xs : List Definition). Sound (state stack rest (trees_after rule values) scope xs))
     (sym (append-nil ds)) (record {
       known = k;
-      tied = tied_inside (phase_of stack) values (made rule values) scope scope ds
+      tied = tied_inside (phase_of stack) values (trees_after rule values) scope scope ds
           (λ b. record { within = made_in _ _ _ rule values b.within; begun = b.begun; named = b.named }) t;
     })
 
@@ -254,33 +257,33 @@ named_sound : (role : Role) (name : Option (List ℕ)) (stack : List Item) (rest
     IfSound (name_matched role name stack rest values scope ds)
 named_sound role None stack rest values scope ds clean k t = tt
 named_sound role (Some name) stack rest values scope ds clean k t =
-    name_sound role name stack rest (line_of rest) (drop 1 rest) values scope ds k clean t
+    name_sound role name stack rest (line_at rest) (drop 1 rest) values scope ds k clean t
 
 part_sound : (symbol : Symbol) (production : Production) (stack : List Item) (rest : List LocatedToken)
     (values : List Value) (scope : Scope) (ds : List Definition) →
-    choice symbol (next_of rest) (after_of rest) ≡ production →
+    choice symbol (next_token rest) (token_after_next rest) ≡ production →
     Sound (state (Part symbol ∷ stack) rest values scope ds) →
     IfSound (replaced production stack rest values scope ds)
 part_sound symbol None stack rest values scope ds e s = tt
 part_sound symbol (Some items) stack rest values scope ds e s = record {
   known = s.known;
   tied = tied_stays (phase_of (Part symbol ∷ stack)) (phase_of (items ++ stack)) values scope ds
-      (part_stays symbol (next_of rest) (after_of rest) items stack e) s.tied;
+      (part_stays symbol (next_token rest) (token_after_next rest) items stack e) s.tied;
 }
 
 sound_of : (profile : Profile) (stack : List Item) (rest : List LocatedToken) (values : List Value) (scope : Scope)
     (ds : List Definition) →
     Clean (item_faults profile stack rest values scope ds) → Sound (state stack rest values scope ds) →
-    IfSound (step_of stack rest values scope ds)
+    IfSound (item_step stack rest values scope ds)
 sound_of profile [] rest values scope ds clean s = tt
 sound_of profile (Exactly m ∷ stack) rest values scope ds clean s =
     matched_sound _ stack rest values scope ds (record { known = s.known; tied = s.tied })
-sound_of profile (AWord w ∷ stack) rest values scope ds clean s =
+sound_of profile (AKeyword w ∷ stack) rest values scope ds clean s =
     matched_sound _ stack rest values scope ds (record { known = s.known; tied = s.tied })
 sound_of profile (AName role ∷ stack) rest values scope ds clean s =
-    named_sound role (name_of_token (next_of rest)) stack rest values scope ds clean s.known s.tied
+    named_sound role (name_of_token (next_token rest)) stack rest values scope ds clean s.known s.tied
 sound_of profile (AConstant ∷ stack) rest values scope ds clean s =
-    constant_sound (constant_value (next_of rest)) stack rest values scope ds s.known s.tied
+    constant_sound (constant_value (next_token rest)) stack rest values scope ds s.known s.tied
 sound_of profile (AnEnd ∷ stack) rest values scope ds clean s =
     matched_sound _ stack rest values scope ds (record { known = s.known; tied = s.tied })
 sound_of profile (Part symbol ∷ stack) rest values scope ds clean s =
@@ -299,10 +302,10 @@ sound_of profile (Make Fetch ∷ stack) rest values scope ds clean s =
     make_sound Fetch stack rest values scope ds s.known s.tied
 sound_of profile (Make (Store o) ∷ stack) rest values scope ds clean s =
     make_sound (Store o) stack rest values scope ds s.known s.tied
-sound_of profile (Make (StepBefore o) ∷ stack) rest values scope ds clean s =
-    make_sound (StepBefore o) stack rest values scope ds s.known s.tied
-sound_of profile (Make (StepBehind o) ∷ stack) rest values scope ds clean s =
-    make_sound (StepBehind o) stack rest values scope ds s.known s.tied
+sound_of profile (Make (PrefixIncrement o) ∷ stack) rest values scope ds clean s =
+    make_sound (PrefixIncrement o) stack rest values scope ds s.known s.tied
+sound_of profile (Make (PostfixIncrement o) ∷ stack) rest values scope ds clean s =
+    make_sound (PostfixIncrement o) stack rest values scope ds s.known s.tied
 sound_of profile (Make Pass ∷ stack) rest values scope ds clean s =
     make_sound Pass stack rest values scope ds s.known s.tied
 sound_of profile (Make Invoke ∷ stack) rest values scope ds clean s =
@@ -334,18 +337,19 @@ kept_sound s (Some t) h k = k
 
 pub stepped_sound : (profile : Profile) (s : State) → faults_at profile s ≡ [] → Sound s → Sound (stepped s)
 stepped_sound profile s clean h = kept_sound s (step s) h
-    (guarded_sound (is_fault (next_of s.rest)) s.rest (item_faults profile s.stack s.rest s.values s.scope s.functions)
-    (misfits s.stack s.rest (step_of s.stack s.rest s.values s.scope s.functions))
-    (step_of s.stack s.rest s.values s.scope s.functions) clean
+    (guarded_sound (is_fault (next_token s.rest)) s.rest
+    (item_faults profile s.stack s.rest s.values s.scope s.functions)
+    (misfits s.stack s.rest (item_step s.stack s.rest s.values s.scope s.functions))
+    (item_step s.stack s.rest s.values s.scope s.functions) clean
     (λ c. sound_of profile s.stack s.rest s.values s.scope s.functions c (record { known = h.known; tied = h.tied })))
 
-pub run_sound : (profile : Profile) (n : ℕ) (s : State) → faults_in profile n s ≡ [] → Sound s → Sound (run n s)
+pub run_sound : (profile : Profile) (n : ℕ) (s : State) → faults_in profile n s ≡ [] → Sound s → Sound (derived n s)
 run_sound profile zero s clean h = h
 run_sound profile (suc n) s clean h =
     run_sound profile n (stepped s) (append_empty (faults_at profile s) (faults_in profile n (stepped s)) clean).1
     (stepped_sound profile s (append_empty (faults_at profile s) (faults_in profile n (stepped s)) clean).0 h)
 
-pub start_sound : (located_tokens : List LocatedToken) → Sound (start located_tokens)
+pub start_sound : (located_tokens : List LocatedToken) → Sound (initial_state located_tokens)
 start_sound located_tokens = record {
   known = record {
     externals = omega arith;
@@ -560,7 +564,8 @@ compiled_is_resolved profile located_tokens file e =
     is_clean located_tokens (all_faults profile located_tokens) (last_state located_tokens).scope
     (last_state located_tokens).functions file e in
     let s : Sound (last_state located_tokens) =
-    run_sound profile (enough located_tokens) (start located_tokens) c.clean (start_sound located_tokens) in
+    run_sound profile (enough_steps located_tokens) (initial_state located_tokens) c.clean (start_sound located_tokens)
+    in
     let m : IsMade (last_state located_tokens).scope (order_of (last_state located_tokens).functions)
     (all_defined 0 (last_state located_tokens).scope.lines (last_state located_tokens).functions)
     (function_number main_name (last_state located_tokens).scope) file =

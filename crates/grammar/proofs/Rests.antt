@@ -2,8 +2,8 @@
 use Rattle.std.proofs.Common.{◌≡◌, ◌≤◌, ℕ, zero, suc, List, [], ◌∷◌, ◌++◌, refl, sym, ap, ◌∙◌, Bool, true, false, arith, length, drop, append_assoc, length-append}
 use Rattle.std.specs.Prelude.{Option, Some, None, unwrap_or, if◌then◌else◌}
 use Rattle.tokens.specs.declared.located_tokens.LocatedToken.{LocatedToken}
-use Rattle.grammar.specs.Derivation.{State, Value, Definition, step, step_of, stepped, run, next_of, matched, name_matched, replaced, constant_matched}
-use Rattle.grammar.specs.Grammar.{Item, Exactly, AWord, AName, AConstant, AnEnd, Part, Make, Close, Role, Production, is_fault}
+use Rattle.grammar.specs.Derivation.{State, Value, Definition, step, item_step, stepped, derived, next_token, matched, name_matched, replaced, constant_matched}
+use Rattle.grammar.specs.Grammar.{Item, Exactly, AKeyword, AName, AConstant, AnEnd, Part, Make, Close, Role, Production, is_fault}
 use Rattle.grammar.specs.Scope.{Scope}
 
 pub record IsRest (rest all : List LocatedToken) : Type 0 where
@@ -49,10 +49,10 @@ replaced_rests (Some items) stack rest values scope functions = rest_itself rest
 replaced_rests None stack rest values scope functions = tt
 
 step_rests : (stack : List Item) (rest : List LocatedToken) (values : List Value) (scope : Scope)
-    (functions : List Definition) → Rests rest (step_of stack rest values scope functions)
+    (functions : List Definition) → Rests rest (item_step stack rest values scope functions)
 step_rests [] rest values scope functions = tt
 step_rests (Exactly m ∷ stack) rest values scope functions = matched_rests _ stack rest values scope functions
-step_rests (AWord w ∷ stack) rest values scope functions = matched_rests _ stack rest values scope functions
+step_rests (AKeyword w ∷ stack) rest values scope functions = matched_rests _ stack rest values scope functions
 step_rests (AName role ∷ stack) rest values scope functions = name_rests role _ stack rest values scope functions
 step_rests (AnEnd ∷ stack) rest values scope functions = matched_rests _ stack rest values scope functions
 step_rests (AConstant ∷ stack) rest values scope functions = constant_rests _ stack rest values scope functions
@@ -69,13 +69,13 @@ kept_rests : (s : State) (o : Option State) → Rests s.rest o → IsRest (unwra
 kept_rests s None h = rest_itself s.rest
 kept_rests s (Some t) h = h
 
-pub run_rests : (n : ℕ) (s : State) → IsRest (run n s).rest s.rest
+pub run_rests : (n : ℕ) (s : State) → IsRest (derived n s).rest s.rest
 run_rests zero s = rest_itself s.rest
 run_rests (suc n) s = rest_of_rest _ _ _ (run_rests n (stepped s))
     (kept_rests s (step s)
-    (guarded_rests (is_fault (next_of s.rest)) s.rest _ (step_rests s.stack s.rest s.values s.scope s.functions)))
+    (guarded_rests (is_fault (next_token s.rest)) s.rest _ (step_rests s.stack s.rest s.values s.scope s.functions)))
 
-pub run_keeps : (n : ℕ) (s : State) → length (run n s).rest ≤ length s.rest
+pub run_keeps : (n : ℕ) (s : State) → length (derived n s).rest ≤ length s.rest
 run_keeps n s =
-    let rest : IsRest (run n s).rest s.rest = run_rests n s in
-    omega (arith, ap length rest.is, length-append rest.before (run n s).rest)
+    let rest : IsRest (derived n s).rest s.rest = run_rests n s in
+    omega (arith, ap length rest.is, length-append rest.before (derived n s).rest)

@@ -1,22 +1,22 @@
 -- Segments of a derivation one after another, and how a first fault goes back along one.
 use Rattle.std.proofs.Common.{◌≡◌, ℕ, zero, suc, ◌+◌, List, [], ◌∷◌, ◌++◌, refl, sym, ap, ◌∙◌, subst, zero-add, suc-add, append_assoc}
 use Rattle.grammar.specs.declared.diagnostics.Diagnostic.{Diagnostic}
-use Rattle.grammar.specs.Derivation.{State, stepped, run}
+use Rattle.grammar.specs.Derivation.{State, stepped, derived}
 use Rattle.grammar.specs.Faults.{Fault, faults_at, faults_in}
 use Rattle.grammar.specs.Laws.Parsing.{IsIn, IsFault, IsFirstFault, Fails, Passes}
 use Rattle.grammar.specs.Profile.{Profile}
 
-pub run-add : (m n : ℕ) (s : State) → run (m + n) s ≡ run n (run m s)
-run-add zero n s = ap (λ k. run k s) (zero-add n)
-run-add (suc m) n s = ap (λ k. run k s) (suc-add m n) ∙ run-add m n (stepped s)
+pub derived-add : (m n : ℕ) (s : State) → derived (m + n) s ≡ derived n (derived m s)
+derived-add zero n s = ap (λ k. derived k s) (zero-add n)
+derived-add (suc m) n s = ap (λ k. derived k s) (suc-add m n) ∙ derived-add m n (stepped s)
 
 -- a state that no step changes
-pub stays : (n : ℕ) (s : State) → stepped s ≡ s → run n s ≡ s
+pub stays : (n : ℕ) (s : State) → stepped s ≡ s → derived n s ≡ s
 stays zero s e = refl
-stays (suc n) s e = ap (λ t. run n t) e ∙ stays n s e
+stays (suc n) s e = ap (λ t. derived n t) e ∙ stays n s e
 
 pub faults_in-add : (profile : Profile) (m n : ℕ) (s : State) →
-    faults_in profile (m + n) s ≡ faults_in profile m s ++ faults_in profile n (run m s)
+    faults_in profile (m + n) s ≡ faults_in profile m s ++ faults_in profile n (derived m s)
 faults_in-add profile zero n s = ap (λ k. faults_in profile k s) (zero-add n)
 faults_in-add profile (suc m) n s =
     ap (λ k. faults_in profile k s) (suc-add m n)
@@ -24,7 +24,7 @@ faults_in-add profile (suc m) n s =
     ∙
     sym
     (append_assoc (faults_at profile s) (faults_in profile m (stepped s))
-    (faults_in profile n (run m (stepped s))))
+    (faults_in profile n (derived m (stepped s))))
 
 pub here : (profile : Profile) (s : State) → Passes profile s s
 here profile s = record { steps = 0; leads = refl; clean = refl }
@@ -35,7 +35,7 @@ both_empty xs ys p q = rw (p, q) refl
 pub then : (profile : Profile) (s t u : State) → Passes profile s t → Passes profile t u → Passes profile s u
 then profile s t u a b = record {
   steps = a.steps + b.steps;
-  leads = run-add a.steps b.steps s ∙ ap (λ v. run b.steps v) a.leads ∙ b.leads;
+  leads = derived-add a.steps b.steps s ∙ ap (λ v. derived b.steps v) a.leads ∙ b.leads;
   clean = faults_in-add profile a.steps b.steps s
       ∙ both_empty _ _ a.clean (ap (λ v. faults_in profile b.steps v) a.leads ∙ b.clean);
 }
@@ -50,24 +50,25 @@ none_in f [] e h = h
 none_in f (g ∷ faults) e h = cc
 
 later_at : (profile : Profile) (m : ℕ) (s : State) (f : Fault) →
-    ((n : ℕ) → IsIn f (faults_at profile (run n (stepped s))) → IsFault profile (run m (stepped s)) f) →
-    faults_at profile s ≡ [] → (n : ℕ) → IsIn f (faults_at profile (run n s)) → IsFault profile (run m (stepped s)) f
+    ((n : ℕ) → IsIn f (faults_at profile (derived n (stepped s))) → IsFault profile (derived m (stepped s)) f) →
+    faults_at profile s ≡ [] → (n : ℕ) → IsIn f (faults_at profile (derived n s)) →
+    IsFault profile (derived m (stepped s)) f
 later_at profile m s f again clean zero h = absurd (none_in f _ clean h)
 later_at profile m s f again clean (suc n) h = again n h
 
 -- if the first m states are clean, a fault of the derivation comes after them
 pub later : (profile : Profile) (m : ℕ) (s : State) (f : Fault) → faults_in profile m s ≡ [] → (n : ℕ) →
-    IsIn f (faults_at profile (run n s)) → IsFault profile (run m s) f
+    IsIn f (faults_at profile (derived n s)) → IsFault profile (derived m s) f
 later profile zero s f clean n h = record { steps = n; here = h }
 later profile (suc m) s f clean n h =
     let parts : (faults_at profile s ≡ []) × (faults_in profile m (stepped s) ≡ []) =
     append_empty (faults_at profile s) (faults_in profile m (stepped s)) clean in
     later_at profile m s f (λ k g. later profile m (stepped s) f parts.1 k g) parts.0 n h
 
-pub sooner : (profile : Profile) (m : ℕ) (s : State) (f : Fault) → IsFault profile (run m s) f → IsFault profile s f
+pub sooner : (profile : Profile) (m : ℕ) (s : State) (f : Fault) → IsFault profile (derived m s) f → IsFault profile s f
 sooner profile m s f h = record {
   steps = m + h.steps;
-  here = subst (λ (t : State). IsIn f (faults_at profile t)) (sym (run-add m h.steps s)) h.here;
+  here = subst (λ (t : State). IsIn f (faults_at profile t)) (sym (derived-add m h.steps s)) h.here;
 }
 
 -- a first fault goes back along a segment without faults

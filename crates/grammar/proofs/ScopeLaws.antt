@@ -16,8 +16,8 @@ use Rattle.grammar.specs.declared.diagnostics.Code.TheVariants as code
 use Rattle.grammar.specs.Faults.{fault, no_room, parameter_faults}
 use Rattle.grammar.specs.Grammar.{Called}
 use Rattle.grammar.specs.Intrinsics.{intrinsic_named}
-use Rattle.grammar.specs.Laws.Index.{NoneBefore}
-use Rattle.grammar.specs.Laws.Naming.{IsKept, Knows, line_of_undefined}
+use Rattle.grammar.specs.Laws.Index.{NoFunctionBefore}
+use Rattle.grammar.specs.Laws.Naming.{IsScopeKept, LearnsName, line_of_undefined}
 use Rattle.grammar.specs.Pools.{FunctionNames}
 use Rattle.grammar.specs.Scope.{Scope, is_local_new, is_function_new, function_number, number_of_name, only_named, with_new_function}
 
@@ -67,7 +67,7 @@ not_there name fs none =
     at : {n : ℕ} → n ≡ length fs → cond (nat_lt n (length fs)) (Some n) None ≡ None
     at e = rw e (rw (le-ltb (length fs) (length fs) (omega arith)) refl)
 
-pub nowhere : (name : List ℕ) (fs : List FunctionNames) (n : ℕ) → NoneBefore n name fs → length fs ≤ n →
+pub nowhere : (name : List ℕ) (fs : List FunctionNames) (n : ℕ) → NoFunctionBefore n name fs → length fs ≤ n →
     None ≡ number_of_name name (map (λ f. f.name) fs)
 nowhere name fs n none past = not_there name fs (λ k h. none.none k (omega (arith, h, past)) h)
 
@@ -92,13 +92,14 @@ there name fs n f h none here is = sym (position_of_map (bytes_eq name) (λ f. f
     at e = rw e (rw (lt-ltb n (length fs) h) refl)
 
 pub first_there : (name : List ℕ) (fs : List FunctionNames) (n : ℕ) (f : FunctionNames) → n < length fs →
-    NoneBefore n name fs → f ≡ slice_index_or fs n f → bytes_eq name f.name ≡ true →
+    NoFunctionBefore n name fs → f ≡ slice_index_or fs n f → bytes_eq name f.name ≡ true →
     Some n ≡ number_of_name name (map (λ f. f.name) fs)
 first_there name fs n f h none here is = there name fs n f h (λ k l. none.none k l (omega (arith, h, l))) here is
 
 -- one function more that hasn't
 pub none_more : (name : List ℕ) (fs : List FunctionNames) (n : ℕ) (f : FunctionNames) → n < length fs →
-    NoneBefore n name fs → f ≡ slice_index_or fs n f → bytes_eq name f.name ≡ false → NoneBefore (n + 1) name fs
+    NoFunctionBefore n name fs → f ≡ slice_index_or fs n f → bytes_eq name f.name ≡ false →
+    NoFunctionBefore (n + 1) name fs
 none_more name fs n f h none here other = record { none = λ k less within. by k less within (nat_lt k n) refl }
   where
     by : (k : ℕ) → k < n + 1 → k < length fs → (b : Bool) → nat_lt k n ≡ b →
@@ -125,14 +126,14 @@ called_full name scope rest own unknown large =
 -- a function is called for the first time
 pub called_new : (name : List ℕ) (line : ℕ) (scope new : Scope) → intrinsic_named name ≡ None →
     function_number name scope ≡ None → nat_le 64 (length scope.functions) ≡ false →
-    new ≡ with_new_function name line scope → Knows Called name line scope new
+    new ≡ with_new_function name line scope → LearnsName Called name line scope new
 called_new name line scope new own unknown small e = rw e (record {
   clean = λ rest. room (is_function_new name scope) (length scope.functions) code.TooManyFunctions rest small;
   behind = rw (function_new name scope own unknown) refl;
 })
 
 pub kept_nothing : {F : Type 0} (functions : List F) (lines begun : List ℕ) → functions ≡ [] → lines ≡ [] → begun ≡ [] →
-    IsKept functions lines begun
+    IsScopeKept functions lines begun
 unfolding IsDistinct
 kept_nothing functions lines begun p q r =
     rw (p, q, r) (record { few = omega arith; lined = refl; once = tt; known = λ k h. absurd (cc) })
@@ -152,9 +153,9 @@ distinct_snoc (x ∷ xs) n d f = (
 )
 
 -- one more definition begins
-pub kept_begun : {F : Type 0} (functions : List F) (lines begun : List ℕ) (n : ℕ) → IsKept functions lines begun →
+pub kept_begun : {F : Type 0} (functions : List F) (lines begun : List ℕ) (n : ℕ) → IsScopeKept functions lines begun →
     n < length functions → list_any (λ k. eqb k n) begun ≡ false
-    → IsKept functions lines (begun ++ n ∷ [])
+    → IsScopeKept functions lines (begun ++ n ∷ [])
 kept_begun functions lines begun n kept within new = record {
   few = kept.few;
   lined = kept.lined;
@@ -171,7 +172,7 @@ kept_begun functions lines begun n kept within new = record {
         alone false a = a
 
 -- and there is room for it
-pub room_begun : {F : Type 0} (functions : List F) (lines begun : List ℕ) (n : ℕ) → IsKept functions lines begun →
+pub room_begun : {F : Type 0} (functions : List F) (lines begun : List ℕ) (n : ℕ) → IsScopeKept functions lines begun →
     n < length functions → list_any (λ k. eqb k n) begun ≡ false
     → length begun < 64
 room_begun functions lines begun n kept within new =
@@ -187,7 +188,7 @@ any_swapped q [] = refl
 any_swapped q (x ∷ xs) = ap₂ (λ a b. a || b) (eqb_swapped x q) (any_swapped q xs)
 
 -- a function that wasn't mentioned has no definition
-pub not_begun : {F : Type 0} (functions : List F) (lines begun : List ℕ) → IsKept functions lines begun →
+pub not_begun : {F : Type 0} (functions : List F) (lines begun : List ℕ) → IsScopeKept functions lines begun →
     false ≡ list_any (λ k. eqb k (length functions)) begun
 not_begun functions lines begun kept = by (list_any (λ k. eqb k (length functions)) begun) refl
   where

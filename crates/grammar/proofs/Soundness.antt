@@ -8,15 +8,15 @@ use Rattle.std.specs.Str.{bytes_eq}
 use Rattle.tokens.specs.declared.located_tokens.LocatedToken.{LocatedToken}
 use Rattle.grammar.specs.declared.diagnostics.Code.{Code}
 use Rattle.grammar.specs.declared.diagnostics.Code.TheVariants as code
-use Rattle.grammar.specs.declared.names.Callee.{Callee}
-use Rattle.grammar.specs.declared.names.Intrinsic.{Intrinsic}
-use Rattle.grammar.specs.Derivation.{Value, AnExpr, AVariable, ACall, ABody, Definition, last_body, made}
+use Rattle.grammar.specs.declared.resolved_names.Callee.{Callee}
+use Rattle.grammar.specs.declared.resolved_names.Intrinsic.{Intrinsic}
+use Rattle.grammar.specs.Derivation.{Value, AnExpr, AVariable, ACall, ABody, Definition, last_body, trees_after}
 use Rattle.grammar.specs.Faults.{Fault, fault, no_room, role_faults}
-use Rattle.grammar.specs.Grammar.{SemanticAction, Operate, Negate, Not, Complement, Fetch, Store, StepBefore, StepBehind, Pass, Invoke, Empty, Evaluate, Decide, DecideElse, Repeat, Zero, GiveBack, Define, Role, Defined, External, Parameter, Typed, Local, Called, Mentioned}
+use Rattle.grammar.specs.Grammar.{SemanticAction, Operate, Negate, Not, Complement, Fetch, Store, PrefixIncrement, PostfixIncrement, Pass, Invoke, Empty, Evaluate, Decide, DecideElse, Repeat, Zero, GiveBack, Define, Role, Defined, External, Parameter, Typed, Local, Called, Mentioned}
 use Rattle.grammar.specs.Intrinsics.{intrinsic_named, is_intrinsic}
 use Rattle.grammar.specs.Pools.{FunctionNames}
 use Rattle.grammar.specs.Resolved.{IsVariable, IsCallable, InExpr, InArgs, InBody, InFile, IsAmong, AreDistinct}
-use Rattle.grammar.specs.Scope.{Scope, number_of_name, function_number, variable_of, callee_or, callee_of, is_variable_new, is_local_new, is_external_new, is_function_new, number_for, has_begun, with_variable, with_parameter, with_external, with_function, behind_name, begun_with, begin_definition, only_named}
+use Rattle.grammar.specs.Scope.{Scope, number_of_name, function_number, variable_of, callee_or, callee_of, is_variable_new, is_local_new, is_external_new, is_function_new, number_or_next, has_begun, with_variable, with_parameter, with_external, with_function, scope_after_name, begun_with, begin_definition, only_named}
 use Rattle.grammar.specs.Tree as tree
 use Rattle.grammar.specs.Tree.{Expr, Args, Body, add_argument, join}
 use Rattle.grammar.proofs.DistinctNames.{among_append, distinct_append, less_of, local_free, external_free, variable_free, function_free, names, names_more, named_there, HaveNames, names_wider}
@@ -74,15 +74,15 @@ last_body_in e l n values h = tt
 
 -- what a rule makes is among the same names
 pub made_in : (e l n : ℕ) (rule : SemanticAction) (values : List Value) → ValuesIn e l n values →
-    ValuesIn e l n (made rule values)
+    ValuesIn e l n (trees_after rule values)
 made_in e l n (Operate o) (AnExpr b ∷ AnExpr a ∷ values) h = ((h.1.0, h.0), h.1.1)
 made_in e l n Negate (AnExpr x ∷ values) h = ((tt, h.0), h.1)
 made_in e l n Not (AnExpr x ∷ values) h = ((h.0, tt), h.1)
 made_in e l n Complement (AnExpr x ∷ values) h = ((h.0, tt), h.1)
 made_in e l n Fetch (AVariable v ∷ values) h = h
 made_in e l n (Store o) (AnExpr x ∷ AVariable v ∷ values) h = ((h.1.0, h.0), h.1.1)
-made_in e l n (StepBefore o) (AVariable v ∷ values) h = ((h.0, tt), h.1)
-made_in e l n (StepBehind o) (AVariable v ∷ values) h = h
+made_in e l n (PrefixIncrement o) (AVariable v ∷ values) h = ((h.0, tt), h.1)
+made_in e l n (PostfixIncrement o) (AVariable v ∷ values) h = h
 made_in e l n Pass (AnExpr x ∷ ACall f args ∷ values) h =
     (record { callable = h.1.0.callable; arguments = argument_in e l n args x h.1.0.arguments h.0 }, h.1.1)
 made_in e l n Invoke (ACall f args ∷ values) h = ((h.0.callable, h.0.arguments), h.1)
@@ -323,11 +323,11 @@ room_if false count c rest clean is = absurd (cc)
 
 -- the number for a function is one of those known after its mention
 pub number_in : (name : List ℕ) (line : ℕ) (scope : Scope) → is_intrinsic name ≡ false →
-    number_for name scope < length (with_function name line scope).functions
+    number_or_next name scope < length (with_function name line scope).functions
 number_in name line scope own = at_place (function_number name scope) refl
   where
     at_place : (p : Option ℕ) → function_number name scope ≡ p →
-        number_for name scope < length (with_function name line scope).functions
+        number_or_next name scope < length (with_function name line scope).functions
     at_place (Some k) e = rw (own, e) (function_below name scope k e)
     at_place None e =
         rw (own, e)
@@ -342,7 +342,7 @@ callable_or None k n h = h refl
 pub callee_in : (name : List ℕ) (line : ℕ) (scope : Scope) →
     IsCallable (length (with_function name line scope).functions) (callee_of name scope)
 callee_in name line scope =
-    callable_or (intrinsic_named name) (number_for name scope) _ (λ e. number_in name line scope (rw e refl))
+    callable_or (intrinsic_named name) (number_or_next name scope) _ (λ e. number_in name line scope (rw e refl))
 
 -- a variable mentioned is one of those known after its mention
 abbrev pub behind_mention : List ℕ → Scope → Scope
@@ -378,7 +378,7 @@ Begins role = Unit {0}
 
 pub role_grows : (role : Role) (name : List ℕ) (line : ℕ) (scope : Scope) (ds : List Definition)
     (rest : List LocatedToken) → Begins role → Known scope ds →
-    Clean (role_faults role name scope rest) → Grows scope (behind_name role name line scope) ds
+    Clean (role_faults role name scope rest) → Grows scope (scope_after_name role name line scope) ds
 role_grows Defined name line scope ds rest other k clean = absurd other
 role_grows External name line scope ds rest other k clean =
     grows_if (is_external_new name scope) scope (with_external name scope) scope ds
@@ -415,12 +415,12 @@ role_grows Mentioned name line scope ds rest other k clean =
 -- what a definition that begins makes known
 pub record BeginsWell (name : List ℕ) (line : ℕ) (scope : Scope) (ds : List Definition) : Type 0 where
   pub known : Known (begin_definition name line scope) ds
-  pub begun : (begin_definition name line scope).begun ≡ scope.begun ++ number_for name scope ∷ []
-  pub named : slice_get (names (begin_definition name line scope).functions) (number_for name scope) ≡ Some name
+  pub begun : (begin_definition name line scope).begun ≡ scope.begun ++ number_or_next name scope ∷ []
+  pub named : slice_get (names (begin_definition name line scope).functions) (number_or_next name scope) ≡ Some name
 
 -- the name for a number stands at it after its mention
 named_at : (name : List ℕ) (line : ℕ) (scope : Scope) → is_intrinsic name ≡ false →
-    slice_get (names (with_function name line scope).functions) (number_for name scope) ≡ Some name
+    slice_get (names (with_function name line scope).functions) (number_or_next name scope) ≡ Some name
 named_at name line scope own = at_place (function_number name scope) refl
   where
     last_there : (all : List (List ℕ)) → slice_get (all ++ name ∷ []) (length all) ≡ Some name
@@ -428,7 +428,7 @@ named_at name line scope own = at_place (function_number name scope) refl
     last_there (x ∷ all) = last_there all
 
     at_place : (p : Option ℕ) → function_number name scope ≡ p →
-        slice_get (names (with_function name line scope).functions) (number_for name scope) ≡ Some name
+        slice_get (names (with_function name line scope).functions) (number_or_next name scope) ≡ Some name
     at_place (Some k) e = rw (own, e) (named_there name (names scope.functions) k e)
     at_place None e =
         rw (own, e, names_more scope.functions name, sym (length-map scope.functions (λ (f : FunctionNames). f.name)))
@@ -438,9 +438,9 @@ pub definition_begins : (name : List ℕ) (line : ℕ) (scope : Scope) (ds : Lis
     Known scope ds → Clean (role_faults Defined name scope rest) → BeginsWell name line scope ds
 definition_begins name line scope ds rest k clean = at_tests (is_intrinsic name) (has_begun name scope) refl refl clean
   where
-    all_below : (j : ℕ) → IsAmong j scope.begun ⊎ (j ≡ number_for name scope) →
+    all_below : (j : ℕ) → IsAmong j scope.begun ⊎ (j ≡ number_or_next name scope) →
         Grows scope (with_function name line scope) ds →
-        number_for name scope < length (with_function name line scope).functions →
+        number_or_next name scope < length (with_function name line scope).functions →
         j < length (with_function name line scope).functions
     all_below j (inl i) g within =
         let low : j < length scope.functions = k.below j i in omega (arith, g.wider.functions)
@@ -460,8 +460,8 @@ definition_begins name line scope ds rest k clean = at_tests (is_intrinsic name)
         let g : Grows scope (with_function name line scope) ds =
         function_grows name line scope ds k
         (room_if (is_function_new name scope) (length scope.functions) code.TooManyFunctions rest h) in
-        let at : begun_with name scope ≡ scope.begun ++ number_for name scope ∷ [] = rw is refl in
-        let within : number_for name scope < length (with_function name line scope).functions =
+        let at : begun_with name scope ≡ scope.begun ++ number_or_next name scope ∷ [] = rw is refl in
+        let within : number_or_next name scope < length (with_function name line scope).functions =
         number_in name line scope is in
         record {
           known = record {
@@ -472,11 +472,11 @@ definition_begins name line scope ds rest k clean = at_tests (is_intrinsic name)
             parameters = omega arith;
             definitions = g.known.definitions;
             begun = subst (λ (ns : List ℕ). AreDistinct ns) (sym at)
-                (distinct_append scope.begun (number_for name scope) k.begun
-                (not_among (number_for name scope) scope.begun was));
+                (distinct_append scope.begun (number_or_next name scope) k.begun
+                (not_among (number_or_next name scope) scope.begun was));
             below =
                 λ j i. all_below j
-                (among_append j (number_for name scope) scope.begun (subst (λ (ns : List ℕ). IsAmong j ns) at i)) g
+                (among_append j (number_or_next name scope) scope.begun (subst (λ (ns : List ℕ). IsAmong j ns) at i)) g
                 within;
             distinct_externals = g.known.distinct_externals;
             distinct_variables = tt;

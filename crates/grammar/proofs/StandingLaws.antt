@@ -3,13 +3,13 @@ use Rattle.std.proofs.Common.{◌≡◌, ◌≤◌, List, [], ◌∷◌, ◌++�
 use Rattle.std.specs.Prelude.{Some}
 use Rattle.grammar.specs.declared.actions.Action.{Action}
 use Rattle.grammar.specs.Beginning.{IsBeginning}
-use Rattle.grammar.specs.Building.{Meaning, AppendsAll, MayFollow, MayFollowAll, StandsOpen}
+use Rattle.grammar.specs.Building.{Representation, AppendsAll, MayFollow, MayFollowAll, LeavesOpen}
 use Rattle.grammar.specs.Following.{Opened, follow, follow_all, open_count}
 use Rattle.grammar.proofs.Beginnings.{begins_with, follows_begins}
 use Rattle.grammar.proofs.FollowingLaws.{follow_append, follow_one}
 
 -- if a builder represents a list that leaves this open, an action may come that may follow what is open
-pub may_follow : (before : Meaning) (opened next : Opened) (action : Action) → StandsOpen before opened →
+pub may_follow : (before : Representation) (opened next : Opened) (action : Action) → LeavesOpen before opened →
     follow action opened ≡ Some next → open_count next ≤ 200 → MayFollow before action
 may_follow before opened next action s e small =
     let is : follow_all (s.acts ++ action ∷ []) [] ≡ Some next =
@@ -22,9 +22,9 @@ may_follow before opened next action s e small =
     }
 
 -- after appended actions, what they leave open is open
-pub stands_then : (before behind : Meaning) (acts : List Action) (opened next : Opened) →
-    AppendsAll before behind acts → StandsOpen before opened →
-    follow_all acts opened ≡ Some next → StandsOpen behind next
+pub stands_then : (before behind : Representation) (acts : List Action) (opened next : Opened) →
+    AppendsAll before behind acts → LeavesOpen before opened →
+    follow_all acts opened ≡ Some next → LeavesOpen behind next
 stands_then before behind acts opened next added s leads = record {
   profile = s.profile;
   acts = s.acts ++ acts;
@@ -33,7 +33,8 @@ stands_then before behind acts opened next added s leads = record {
 }
 
 -- the first of some actions may follow
-pub may_front : (before : Meaning) (xs ys : List Action) → MayFollowAll before (xs ++ ys) → MayFollowAll before xs
+pub may_front : (before : Representation) (xs ys : List Action) → MayFollowAll before (xs ++ ys) →
+    MayFollowAll before xs
 may_front before xs ys may =
     record {
       profile = may.profile;
@@ -42,7 +43,8 @@ may_front before xs ys may =
       begins = begins_with (may.acts ++ xs) ys (subst IsBeginning (sym (append_assoc may.acts xs ys)) may.begins);
     }
 
-pub may_first : (before : Meaning) (x : Action) (xs : List Action) → MayFollowAll before (x ∷ xs) → MayFollow before x
+pub may_first : (before : Representation) (x : Action) (xs : List Action) → MayFollowAll before (x ∷ xs) →
+    MayFollow before x
 may_first before x xs may =
     record {
       profile = may.profile;
@@ -54,7 +56,7 @@ may_first before x xs may =
     }
 
 -- if the first ones were reported, the others may follow
-pub may_then : (before behind : Meaning) (xs ys : List Action) → AppendsAll before behind xs →
+pub may_then : (before behind : Representation) (xs ys : List Action) → AppendsAll before behind xs →
     MayFollowAll before (xs ++ ys) → MayFollowAll behind ys
 may_then before behind xs ys added may =
     record {
@@ -65,10 +67,10 @@ may_then before behind xs ys added may =
     }
 
 -- actions reported one after another
-pub appends_both : (before between behind : Meaning) (xs ys : List Action) → AppendsAll before between xs →
+pub appends_both : (before between behind : Representation) (xs ys : List Action) → AppendsAll before between xs →
     AppendsAll between behind ys → AppendsAll before behind (xs ++ ys)
 appends_both before between behind xs ys first second p acts s =
     subst (behind p) (append_assoc acts xs ys) (second p (acts ++ xs) (first p acts s))
 
-pub appends_none : (before : Meaning) → AppendsAll before before []
+pub appends_none : (before : Representation) → AppendsAll before before []
 appends_none before p acts s = subst (before p) (sym (append-nil acts)) s

@@ -6,7 +6,7 @@ use Rattle.grammar.specs.declared.actions.Action.{Action}
 use Rattle.grammar.specs.declared.actions.Action.TheVariants.{LogicMiddle, BeginCall, IfTest, ElsePart, BeginWhile}
 use Rattle.grammar.specs.declared.actions.Action.TheVariants.{WhileTest, BeginFunction}
 use Rattle.grammar.specs.Actions.{expr_actions, body_actions}
-use Rattle.grammar.specs.Following.{InFunction, AValue, BeforeRight, InCall, InBranch, InElse, BeforeTest, InTurn, Open, Opened, open_count, is_number, statement_done, within}
+use Rattle.grammar.specs.Following.{InFunction, AValue, BeforeRight, InCall, InBranch, InElse, BeforeTest, InTurn, Open, Opened, open_count, is_number, statement_done, opens_within}
 use Rattle.grammar.specs.Nesting.{nesting, body_nesting}
 use Rattle.arith.specs.Op.{is_logic}
 use Rattle.grammar.specs.Laws.Origins.{origin_of, ends_in_return}
@@ -150,7 +150,7 @@ add_opens r s (InLoop c b outer) h = refl
 
 -- What is at the innermost.
 
-pub within_hole : (x : Open) (h : Hole) → within x (open_hole h) ≡ Some (x ∷ open_hole h)
+pub within_hole : (x : Open) (h : Hole) → opens_within x (open_hole h) ≡ Some (x ∷ open_hole h)
 within_hole x (Statement (InFun n k b)) = refl
 within_hole x (Statement (InFirst c b outer)) = refl
 within_hole x (Statement (InSecond c s b outer)) = refl

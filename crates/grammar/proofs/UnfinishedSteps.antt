@@ -3,10 +3,10 @@ use Rattle.std.proofs.Common.{◌≡◌, ℕ, ◌+◌, ◌≤◌, [], ◌∷◌,
 use Rattle.std.proofs.lemmas.Bool.Decides.{nat_tests}
 use Rattle.std.proofs.lemmas.List.{append-nil}
 use Rattle.std.specs.Prelude.{ℤ, pos, negsuc, Option, Some, None, if◌then◌else◌}
-use Rattle.grammar.specs.declared.names.Callee.{Callee}
-use Rattle.grammar.specs.declared.names.Callee.TheVariants as callee
-use Rattle.grammar.specs.declared.names.Var.{Var}
-use Rattle.grammar.specs.declared.names.Var.TheVariants as var
+use Rattle.grammar.specs.declared.resolved_names.Callee.{Callee}
+use Rattle.grammar.specs.declared.resolved_names.Callee.TheVariants as callee
+use Rattle.grammar.specs.declared.resolved_names.Var.{Var}
+use Rattle.grammar.specs.declared.resolved_names.Var.TheVariants as var
 use Rattle.arith.specs.declared.operators.Op.{Op}
 use Rattle.grammar.specs.declared.operators.StoreOp.{StoreOp}
 use Rattle.grammar.specs.declared.actions.Action.{Action}
@@ -15,7 +15,7 @@ use Rattle.grammar.specs.declared.actions.Action.TheVariants.{LogicMiddle, Begin
 use Rattle.grammar.specs.declared.actions.Action.TheVariants.{BeginWhile, WhileTest, EndWhile, GiveBack, Chop}
 use Rattle.grammar.specs.declared.actions.Action.TheVariants.{BeginFunction, EndFunction}
 use Rattle.grammar.specs.Actions.{expr_actions, args_actions, body_actions}
-use Rattle.grammar.specs.Following.{AValue, BeforeRight, InCall, InBranch, InElse, BeforeTest, Opened, Origin, Number, Fetched, Stepped, Computed, open_count, is_place, is_number, is_step, is_var_numbered, is_callee_numbered, same_var, same_op, stored, statement_done, call_done, only_on, within, follow}
+use Rattle.grammar.specs.Following.{AValue, BeforeRight, InCall, InBranch, InElse, BeforeTest, Opened, Origin, Number, Fetched, Incremented, Computed, open_count, may_take_statement, is_number, is_increment, is_var_numbered, is_callee_numbered, same_var, same_op, stored_origin, statement_done, call_done, only_on, opens_within, follow}
 use Rattle.grammar.specs.Nesting.{nesting, args_nesting, body_nesting, right_side}
 use Rattle.arith.specs.Op.{is_logic}
 use Rattle.grammar.specs.Laws.Origins.{origin_of, ends_in_return}
@@ -70,18 +70,18 @@ number_is n (Variable v) h = absurd (cc)
 number_is n (Binary op a b) h = absurd (cc)
 number_is n (Assign op v e) h = split (is_number 1 (origin_of e)) h
   where
-    split : (b : Bool) → is_number n (if b then Stepped v else Computed) ≡ true → Assign op v e ≡ Constant (pos n)
+    split : (b : Bool) → is_number n (if b then Incremented v else Computed) ≡ true → Assign op v e ≡ Constant (pos n)
     split true k = absurd (cc)
     split false k = absurd (cc)
 number_is n (Postfix op v) h = absurd (cc)
 number_is n (Call f args) h = absurd (cc)
 
-pub step_is : (v : Var) (o under : Origin) → is_step (stored v o) under ≡ true →
-    (is_number 1 o ≡ true) × (is_step (Stepped v) under ≡ true)
+pub step_is : (v : Var) (o under : Origin) → is_increment (stored_origin v o) under ≡ true →
+    (is_number 1 o ≡ true) × (is_increment (Incremented v) under ≡ true)
 step_is v o under h = split (is_number 1 o) h
   where
-    split : (b : Bool) → is_step (if b then Stepped v else Computed) under ≡ true →
-        (b ≡ true) × (is_step (Stepped v) under ≡ true)
+    split : (b : Bool) → is_increment (if b then Incremented v else Computed) under ≡ true →
+        (b ≡ true) × (is_increment (Incremented v) under ≡ true)
     split true k = (refl, k)
     split false k = absurd (cc)
 
@@ -91,13 +91,14 @@ same_var_is (var.External m) (var.External n) h = ap var.External (grind (arith,
 same_var_is (var.Local m) (var.External n) h = absurd (cc)
 same_var_is (var.External m) (var.Local n) h = absurd (cc)
 
-pub fetched_is : (v : Var) (e : Expr) → is_step (Stepped v) (origin_of e) ≡ true → e ≡ Variable v
+pub fetched_is : (v : Var) (e : Expr) → is_increment (Incremented v) (origin_of e) ≡ true → e ≡ Variable v
 fetched_is v (Constant n) h = absurd (cc)
 fetched_is v (Variable w) h = ap Variable (sym (same_var_is v w h))
 fetched_is v (Binary op a b) h = absurd (cc)
 fetched_is v (Assign op w e) h = split (is_number 1 (origin_of e)) h
   where
-    split : (b : Bool) → is_step (Stepped v) (if b then Stepped w else Computed) ≡ true → Assign op w e ≡ Variable v
+    split : (b : Bool) → is_increment (Incremented v) (if b then Incremented w else Computed) ≡ true →
+        Assign op w e ≡ Variable v
     split true k = absurd (cc)
     split false k = absurd (cc)
 fetched_is v (Postfix op w) h = absurd (cc)
@@ -120,7 +121,7 @@ push value h q fits e small =
 fetch : (v : Var) (h : Hole) (q : Opened) → HoleFits h → follow (FetchVariable v) (open_hole h) ≡ Some q →
     open_count q ≤ 200 → Steps (FetchVariable v) h q
 fetch v h q fits e small =
-    let both = if_true (is_var_numbered v) (within (AValue (Fetched v)) (open_hole h)) q e in
+    let both = if_true (is_var_numbered v) (opens_within (AValue (Fetched v)) (open_hole h)) q e in
     let is : AValue (Fetched v) ∷ open_hole h ≡ q = some_same _ q (sym (within_hole (AValue (Fetched v)) h) ∙ both.1) in
     record {
       next = Behind (Variable v) h;
@@ -132,7 +133,7 @@ fetch v h q fits e small =
 store : (v : Var) (op : StoreOp) (h : Hole) (q : Opened) → HoleFits h →
     follow (StoreVariable v op) (open_hole h) ≡ Some q → open_count q ≤ 200 → Steps (StoreVariable v op) h q
 store v op (Behind x h) q fits e small =
-    let both = only_true (is_var_numbered v) (AValue (stored v (origin_of x)) ∷ open_hole h) q e in
+    let both = only_true (is_var_numbered v) (AValue (stored_origin v (origin_of x)) ∷ open_hole h) q e in
     record {
       next = Behind (Assign op v x) h;
       opens = both.1;
@@ -264,7 +265,7 @@ settled a h p s r q fits more same e adds = record {
 if_test : (h : Hole) (q : Opened) → HoleFits h → follow IfTest (open_hole h) ≡ Some q → open_count q ≤ 200 →
     Steps IfTest h q
 if_test (Behind c (Statement p)) q fits e small =
-    let both = only_true (is_place (open_place p)) (InBranch ∷ open_place p) q e in
+    let both = only_true (may_take_statement (open_place p)) (InBranch ∷ open_place p) q e in
     record {
       next = Statement (InFirst c Done p);
       opens = both.1;
@@ -308,7 +309,7 @@ end_if h q fits e small = absurd (cc)
 begin_while : (h : Hole) (q : Opened) → HoleFits h → follow BeginWhile (open_hole h) ≡ Some q → open_count q ≤ 200 →
     Steps BeginWhile h q
 begin_while (Statement p) q fits e small =
-    let both = only_true (is_place (open_place p)) (BeforeTest ∷ open_place p) q e in
+    let both = only_true (may_take_statement (open_place p)) (BeforeTest ∷ open_place p) q e in
     record { next = Test p; opens = both.1; adds = refl; fits = (fits, omega (arith, small, ap open_count both.1)) }
 begin_while h q fits e small = absurd (cc)
 
@@ -356,7 +357,8 @@ chop_place o (InLoop c b outer) = refl
 chop_step : (x y : Expr) (h : Hole) (q : Opened) → HoleFits (Behind x (Behind y h)) →
     follow Chop (open_hole (Behind x (Behind y h))) ≡ Some q → open_count q ≤ 200 → Steps Chop (Behind x (Behind y h)) q
 chop_step (Assign op v e) y h q fits is small =
-    let both = only_true (is_step (stored v (origin_of e)) (origin_of y)) (AValue Computed ∷ open_hole h) q is in
+    let both =
+    only_true (is_increment (stored_origin v (origin_of e)) (origin_of y)) (AValue Computed ∷ open_hole h) q is in
     let parts = step_is v (origin_of e) (origin_of y) both.0 in
     let one : e ≡ Constant (pos 1) = number_is 1 e parts.0 in
     let old : y ≡ Variable v = fetched_is v y parts.1 in

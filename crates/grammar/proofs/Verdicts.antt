@@ -3,9 +3,9 @@ use Rattle.std.proofs.Common.{◌≡◌, ◌≤◌, ℕ, zero, suc, ◌+◌, ◌
 use Rattle.std.specs.Prelude.{Err}
 use Rattle.tokens.specs.declared.located_tokens.LocatedToken.{LocatedToken}
 use Rattle.grammar.specs.declared.diagnostics.Diagnostic.{Diagnostic}
-use Rattle.grammar.specs.Compiled.{compiled_tokens, verdict, resolved, enough, diagnostic}
-use Rattle.grammar.specs.Derivation.{State, Definition, start, stepped, run, line_of}
-use Rattle.grammar.specs.Faults.{Fault, faults_at, faults_in, first_of}
+use Rattle.grammar.specs.Compiled.{compiled_tokens, verdict, resolved, enough_steps, diagnostic}
+use Rattle.grammar.specs.Derivation.{State, Definition, initial_state, stepped, derived, line_at}
+use Rattle.grammar.specs.Faults.{Fault, faults_at, faults_in, first_fault}
 use Rattle.grammar.specs.Laws.Parsing.{IsIn, IsFault, IsFirstFault, Fails, Passes}
 use Rattle.grammar.specs.Profile.{Profile}
 use Rattle.grammar.specs.Scope.{Scope}
@@ -14,7 +14,7 @@ use Rattle.grammar.proofs.Endings.{IsFinal, ends, stays_final, final_stays}
 use Rattle.grammar.proofs.Firsts.{at_rest}
 use Rattle.grammar.proofs.Order.{first_in, first_least, same_place}
 pub use Rattle.grammar.proofs.Rests.{IsRest, run_rests}
-use Rattle.grammar.proofs.Runs.{append_empty, run-add, faults_in-add}
+use Rattle.grammar.proofs.Runs.{append_empty, derived-add, faults_in-add}
 
 -- A derivation without a fault.
 
@@ -41,39 +41,43 @@ apart (suc m) (suc n) = wider m n (apart m n)
 
 record Reaches (profile : Profile) (n : ℕ) (s t : State) : Type 0 where
   clean : faults_in profile n s ≡ []
-  there : run n s ≡ t
+  there : derived n s ≡ t
 
-reached : (profile : Profile) (n m : ℕ) (s t : State) → IsFinal (run n s) → run m s ≡ t → faults_in profile m s ≡ [] →
+reached : (profile : Profile) (n m : ℕ) (s t : State) → IsFinal (derived n s) → derived m s ≡ t →
+    faults_in profile m s ≡ [] →
     IsFinal t → faults_at profile t ≡ [] →
     Apart m n ⊎ Apart n m → Reaches profile n s t
 reached profile n m s t final leads clean ended quiet (inl a) = record {
   clean = subst (λ (k : ℕ). faults_in profile k s ≡ []) a.sum
       (faults_in-add profile m a.more s ∙ rw (clean, leads, final_clean profile a.more t ended quiet) refl);
-  there = subst (λ (k : ℕ). run k s ≡ t) a.sum (run-add m a.more s ∙ rw leads (stays_final a.more t ended));
+  there = subst (λ (k : ℕ). derived k s ≡ t) a.sum (derived-add m a.more s ∙ rw leads (stays_final a.more t ended));
 }
 reached profile n m s t final leads clean ended quiet (inr a) = record {
   clean =
       (append_empty (faults_in profile n s) _
       (sym (faults_in-add profile n a.more s) ∙ subst (λ (k : ℕ). faults_in profile k s ≡ []) (sym a.sum) clean)).0;
-  there = sym (stays_final a.more (run n s) final) ∙ sym (run-add n a.more s) ∙
-      subst (λ (k : ℕ). run k s ≡ t) (sym a.sum) leads;
+  there = sym (stays_final a.more (derived n s) final) ∙ sym (derived-add n a.more s) ∙
+      subst (λ (k : ℕ). derived k s ≡ t) (sym a.sum) leads;
 }
 
-pub weighs : (located_tokens : List LocatedToken) → weight (start located_tokens) + 1 ≡ enough located_tokens
+pub weighs : (located_tokens : List LocatedToken) →
+    weight (initial_state located_tokens) + 1 ≡ enough_steps located_tokens
 weighs located_tokens = omega arith
 
-pub enough_ends : (located_tokens : List LocatedToken) → IsFinal (run (enough located_tokens) (start located_tokens))
-enough_ends located_tokens = ends (enough located_tokens) (start located_tokens)
-    (subst (λ (n : ℕ). weight (start located_tokens) ≤ n) (weighs located_tokens)
-    (le-add_right (weight (start located_tokens)) 1))
+pub enough_ends : (located_tokens : List LocatedToken) →
+    IsFinal (derived (enough_steps located_tokens) (initial_state located_tokens))
+enough_ends located_tokens = ends (enough_steps located_tokens) (initial_state located_tokens)
+    (subst (λ (n : ℕ). weight (initial_state located_tokens) ≤ n) (weighs located_tokens)
+    (le-add_right (weight (initial_state located_tokens)) 1))
 
 pub clean_verdict : (profile : Profile) (located_tokens : List LocatedToken) (t : State) →
-    Passes profile (start located_tokens) t → IsFinal t → faults_at profile t ≡ [] →
+    Passes profile (initial_state located_tokens) t → IsFinal t → faults_at profile t ≡ [] →
     compiled_tokens profile located_tokens ≡ resolved located_tokens t.scope t.functions
 clean_verdict profile located_tokens t p ended quiet =
-    let r : Reaches profile (enough located_tokens) (start located_tokens) t =
-    reached profile (enough located_tokens) p.steps (start located_tokens) t (enough_ends located_tokens) p.leads
-    p.clean ended quiet (apart p.steps (enough located_tokens)) in
+    let r : Reaches profile (enough_steps located_tokens) (initial_state located_tokens) t =
+    reached profile (enough_steps located_tokens) p.steps (initial_state located_tokens) t (enough_ends located_tokens)
+    p.leads
+    p.clean ended quiet (apart p.steps (enough_steps located_tokens)) in
     rw (r.clean, r.there) refl
 
 -- A derivation with a fault.
@@ -108,12 +112,12 @@ gathered profile (suc n) s f h =
         let k : IsFault profile (stepped s) f = again h in record { steps = suc k.steps; here = k.here }
 
 -- and each that comes was gathered
-at_final : (profile : Profile) (k : ℕ) (s : State) (f : Fault) → IsFinal s → IsIn f (faults_at profile (run k s)) →
+at_final : (profile : Profile) (k : ℕ) (s : State) (f : Fault) → IsFinal s → IsIn f (faults_at profile (derived k s)) →
     IsIn f (faults_at profile s)
 at_final profile k s f final h = subst (λ (t : State). IsIn f (faults_at profile t)) (stays_final k s final) h
 
-pub all_gathered : (profile : Profile) (n : ℕ) (s : State) (k : ℕ) (f : Fault) → IsFinal (run n s) →
-    IsIn f (faults_at profile (run k s)) → IsIn f (faults_in profile (suc n) s)
+pub all_gathered : (profile : Profile) (n : ℕ) (s : State) (k : ℕ) (f : Fault) → IsFinal (derived n s) →
+    IsIn f (faults_at profile (derived k s)) → IsIn f (faults_in profile (suc n) s)
 all_gathered profile zero s k f final h = in_append_left f (faults_at profile s) [] (at_final profile k s f final h)
 all_gathered profile (suc n) s zero f final h = in_append_left f (faults_at profile s) _ h
 all_gathered profile (suc n) s (suc k) f final h =
@@ -131,38 +135,38 @@ same_tails (p ∷ a) (q ∷ b) x y e l = same_tails a b x y (cc) l
 same_rest : (profile : Profile) (s : State) (f g : Fault) → IsFault profile s f → IsFault profile s g →
     length f.rest ≡ length g.rest → f.rest ≡ g.rest
 same_rest profile s f g a b l =
-    let p : f.rest ≡ (run a.steps s).rest = at_rest profile f (run a.steps s) a.here in
-    let q : g.rest ≡ (run b.steps s).rest = at_rest profile g (run b.steps s) b.here in
-    let x : IsRest (run a.steps s).rest s.rest = run_rests a.steps s in
-    let y : IsRest (run b.steps s).rest s.rest = run_rests b.steps s in
+    let p : f.rest ≡ (derived a.steps s).rest = at_rest profile f (derived a.steps s) a.here in
+    let q : g.rest ≡ (derived b.steps s).rest = at_rest profile g (derived b.steps s) b.here in
+    let x : IsRest (derived a.steps s).rest s.rest = run_rests a.steps s in
+    let y : IsRest (derived b.steps s).rest s.rest = run_rests b.steps s in
     p ∙ same_tails x.before y.before _ _ (sym x.is ∙ y.is) (ap length (sym p) ∙ l ∙ ap length q) ∙ sym q
 
 verdict_at : (profile : Profile) (located_tokens : List LocatedToken) (s : State) (f : Fault) (faults : List Fault)
     (scope : Scope) (functions : List Definition) →
     IsFirstFault profile s f → ((g : Fault) → IsIn g faults → IsFault profile s g) → IsIn f faults →
-    verdict located_tokens faults scope functions ≡ Err (diagnostic (line_of f.rest) f.code)
+    verdict located_tokens faults scope functions ≡ Err (diagnostic (line_at f.rest) f.code)
 verdict_at profile located_tokens s f [] scope functions first sound h = absurd h
 verdict_at profile located_tokens s f (g ∷ gs) scope functions first sound h =
-    let one : IsFault profile s (first_of g gs) = sound (first_of g gs) (first_in g gs) in
-    let same : (length f.rest ≡ length (first_of g gs).rest) × (f.code ≡ (first_of g gs).code) =
-    same_place f (first_of g gs) (first.first (first_of g gs) one) (first_least g gs f h) in
-    let rest : f.rest ≡ (first_of g gs).rest = same_rest profile s f (first_of g gs) first.comes one same.0 in
+    let one : IsFault profile s (first_fault g gs) = sound (first_fault g gs) (first_in g gs) in
+    let same : (length f.rest ≡ length (first_fault g gs).rest) × (f.code ≡ (first_fault g gs).code) =
+    same_place f (first_fault g gs) (first.first (first_fault g gs) one) (first_least g gs f h) in
+    let rest : f.rest ≡ (first_fault g gs).rest = same_rest profile s f (first_fault g gs) first.comes one same.0 in
     rw (rest, same.1) refl
 
 pub fault_verdict : (profile : Profile) (located_tokens : List LocatedToken) (d : Diagnostic) →
-    Fails profile (start located_tokens) d → compiled_tokens profile located_tokens ≡ Err d
+    Fails profile (initial_state located_tokens) d → compiled_tokens profile located_tokens ≡ Err d
 fault_verdict profile located_tokens d h =
-    let n : ℕ = weight (start located_tokens) in
-    let here : IsIn h.fault (faults_in profile (suc n) (start located_tokens)) =
-    all_gathered profile n (start located_tokens) h.first.comes.steps h.fault
-    (ends n (start located_tokens) (le_refl n)) h.first.comes.here in
-    let there : IsIn h.fault (faults_in profile (enough located_tokens) (start located_tokens)) =
-    subst (λ (k : ℕ). IsIn h.fault (faults_in profile k (start located_tokens)))
+    let n : ℕ = weight (initial_state located_tokens) in
+    let here : IsIn h.fault (faults_in profile (suc n) (initial_state located_tokens)) =
+    all_gathered profile n (initial_state located_tokens) h.first.comes.steps h.fault
+    (ends n (initial_state located_tokens) (le_refl n)) h.first.comes.here in
+    let there : IsIn h.fault (faults_in profile (enough_steps located_tokens) (initial_state located_tokens)) =
+    subst (λ (k : ℕ). IsIn h.fault (faults_in profile k (initial_state located_tokens)))
     (sym (add-one n) ∙ weighs located_tokens) here in
-    verdict_at profile located_tokens (start located_tokens) h.fault
-    (faults_in profile (enough located_tokens) (start located_tokens)) _ _ h.first
-    (gathered profile (enough located_tokens) (start located_tokens)) there
-    ∙ ap Err (same_diagnostic d (diagnostic (line_of h.fault.rest) h.fault.code) h.line h.code)
+    verdict_at profile located_tokens (initial_state located_tokens) h.fault
+    (faults_in profile (enough_steps located_tokens) (initial_state located_tokens)) _ _ h.first
+    (gathered profile (enough_steps located_tokens) (initial_state located_tokens)) there
+    ∙ ap Err (same_diagnostic d (diagnostic (line_at h.fault.rest) h.fault.code) h.line h.code)
   where
     same_diagnostic : (d e : Diagnostic) → d.line ≡ e.line → d.code ≡ e.code → e ≡ d
     same_diagnostic d e p q = sym (ap₂ diagnostic p q)

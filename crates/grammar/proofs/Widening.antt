@@ -1,9 +1,9 @@
 -- What is among so many names is among more.
 use Rattle.std.proofs.Common.{ℕ, ◌≤◌, arith, length}
-use Rattle.grammar.specs.declared.names.Callee.{Callee}
-use Rattle.grammar.specs.declared.names.Callee.TheVariants as callee
-use Rattle.grammar.specs.declared.names.Var.{Var}
-use Rattle.grammar.specs.declared.names.Var.TheVariants as var
+use Rattle.grammar.specs.declared.resolved_names.Callee.{Callee}
+use Rattle.grammar.specs.declared.resolved_names.Callee.TheVariants as callee
+use Rattle.grammar.specs.declared.resolved_names.Var.{Var}
+use Rattle.grammar.specs.declared.resolved_names.Var.TheVariants as var
 use Rattle.grammar.specs.Resolved.{IsVariable, IsCallable, InExpr, InArgs, InBody, InFile}
 use Rattle.grammar.specs.Tree.{Expr, Constant, Variable, Binary, Assign, Postfix, Call, Args, NoMore, Argument, Body, Done, ExpressionStatement, IfStatement, IfElseStatement, While, Return, Function}
 

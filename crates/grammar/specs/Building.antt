@@ -10,45 +10,45 @@ use Rattle.grammar.specs.Following.{Opened, follow_all}
 use Rattle.grammar.specs.Profile.{Profile}
 
 -- the profiles by which a builder goes, with the lists of actions that it represents
-abbrev pub Meaning : Type 1
-Meaning = Profile → List Action → Type 0
+abbrev pub Representation : Type 1
+Representation = Profile → List Action → Type 0
 
 -- a list is represented after which the action may follow
-pub record MayFollow (before : Meaning) (action : Action) : Type 0 where
+pub record MayFollow (before : Representation) (action : Action) : Type 0 where
   pub profile : Profile
   pub acts : List Action
   pub stood : before profile acts
   pub begins : IsBeginning (acts ++ action ∷ [])
 
 -- a list is represented after which these actions may follow, one after another
-pub record MayFollowAll (before : Meaning) (more : List Action) : Type 0 where
+pub record MayFollowAll (before : Representation) (more : List Action) : Type 0 where
   pub profile : Profile
   pub acts : List Action
   pub stood : before profile acts
   pub begins : IsBeginning (acts ++ more)
 
 -- a list is represented that leaves this open
-pub record StandsOpen (before : Meaning) (opened : Opened) : Type 0 where
+pub record LeavesOpen (before : Representation) (opened : Opened) : Type 0 where
   pub profile : Profile
   pub acts : List Action
   pub stood : before profile acts
   pub opens : follow_all acts [] ≡ Some opened
 
 -- each list represented before, with these actions at its end, is represented after the call
-abbrev pub AppendsAll : Meaning → Meaning → List Action → Type 0
+abbrev pub AppendsAll : Representation → Representation → List Action → Type 0
 AppendsAll before behind more = (profile : Profile) (acts : List Action) → before profile acts
     → behind profile (acts ++ more)
 
-abbrev pub Appends : Meaning → Meaning → Action → Type 0
+abbrev pub Appends : Representation → Representation → Action → Type 0
 Appends before behind action = AppendsAll before behind (action ∷ [])
 
 -- the code so far and the last NOP are within the profile's limit
-abbrev pub FitsWithin : Meaning → Type 0
+abbrev pub FitsWithin : Representation → Type 0
 FitsWithin before = (profile : Profile) (acts : List Action) → before profile acts
     → code_length profile acts + 1 ≤ profile.instructions
 
 -- they pass it
-abbrev pub IsOver : Meaning → Type 0
+abbrev pub IsOver : Representation → Type 0
 IsOver before = (profile : Profile) (acts : List Action) → before profile acts
     → profile.instructions < code_length profile acts + 1
 
@@ -60,13 +60,13 @@ Refuses (Err fault.Full) denied = ⊥
 
 -- What the end of a function says of the code so far: `Ok` that it fits with the last NOP, `Full` that it is over the
 -- limit, and `Memory` that it fits and memory was refused.
-abbrev pub Measures : {A : Type 0} → Result A BuildFault → Type 0 → Meaning → Type 0
+abbrev pub Measures : {A : Type 0} → Result A BuildFault → Type 0 → Representation → Type 0
 Measures (Ok x) denied before = FitsWithin before
 Measures (Err fault.Full) denied before = IsOver before
 Measures (Err fault.Memory) denied before = denied × FitsWithin before
 
 -- What the answer to an action says: the end of a function alone measures the code. Any other action refuses for want
 -- of memory alone.
-abbrev pub Judges : {A : Type 0} → Result A BuildFault → Type 0 → Meaning → Action → Type 0
+abbrev pub Judges : {A : Type 0} → Result A BuildFault → Type 0 → Representation → Action → Type 0
 Judges result denied before (EndFunction variables) = Measures result denied before
 Judges result denied before action = Refuses result denied

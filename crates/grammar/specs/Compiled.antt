@@ -6,8 +6,8 @@ use Rattle.tokens.specs.declared.located_tokens.LocatedToken.{LocatedToken}
 use Rattle.grammar.specs.declared.diagnostics.Code.{Code}
 use Rattle.grammar.specs.declared.diagnostics.Code.TheVariants as code
 use Rattle.grammar.specs.declared.diagnostics.Diagnostic.{Diagnostic}
-use Rattle.grammar.specs.Derivation.{State, Definition, start, run, line_of}
-use Rattle.grammar.specs.Faults.{Fault, faults_in, first_of}
+use Rattle.grammar.specs.Derivation.{State, Definition, initial_state, derived, line_at}
+use Rattle.grammar.specs.Faults.{Fault, faults_in, first_fault}
 use Rattle.grammar.specs.Profile.{Profile}
 use Rattle.grammar.specs.Scope.{Scope, function_number}
 use Rattle.grammar.specs.Tree.{Function, File}
@@ -59,20 +59,20 @@ resolved located_tokens scope definitions =
 abbrev pub verdict : List LocatedToken → List Fault → Scope → List Definition → Result File Diagnostic
 verdict located_tokens [] scope definitions = resolved located_tokens scope definitions
 verdict located_tokens (f ∷ faults) scope definitions =
-    let first = first_of f faults in Err (diagnostic (line_of first.rest) first.code)
+    let first = first_fault f faults in Err (diagnostic (line_at first.rest) first.code)
 
 -- A derivation of so many tokens has ended after this many steps: at most 40 a token, and 71 for the whole. That it has
 -- is the law `EachDerivationEnds` (`Laws.antt`), so the two numbers decide nothing.
-abbrev pub enough : List LocatedToken → ℕ
-enough located_tokens = 40 * length located_tokens + 71
+abbrev pub enough_steps : List LocatedToken → ℕ
+enough_steps located_tokens = 40 * length located_tokens + 71
 
 -- the last state of a derivation
 abbrev pub last_state : List LocatedToken → State
-last_state located_tokens = run (enough located_tokens) (start located_tokens)
+last_state located_tokens = derived (enough_steps located_tokens) (initial_state located_tokens)
 
 -- the faults of a derivation
 abbrev pub all_faults : Profile → List LocatedToken → List Fault
-all_faults profile located_tokens = faults_in profile (enough located_tokens) (start located_tokens)
+all_faults profile located_tokens = faults_in profile (enough_steps located_tokens) (initial_state located_tokens)
 
 abbrev pub compiled_tokens : Profile → List LocatedToken → Result File Diagnostic
 compiled_tokens profile located_tokens =

@@ -6,17 +6,17 @@ use Rattle.tokens.specs.declared.located_tokens.LexicalError.TheVariants as lexi
 use Rattle.tokens.specs.declared.located_tokens.LocatedToken.{LocatedToken}
 use Rattle.tokens.specs.declared.located_tokens.Token.{Token}
 use Rattle.tokens.specs.declared.located_tokens.Token.TheVariants as token
-use Rattle.tokens.specs.declared.located_tokens.Word.TheVariants as word
+use Rattle.tokens.specs.declared.located_tokens.Keyword.TheVariants as word
 use Rattle.grammar.specs.declared.diagnostics.Code.{Code}
 use Rattle.grammar.specs.declared.diagnostics.Code.TheVariants as code
 use Rattle.grammar.specs.declared.actions.Action.{Action}
 use Rattle.grammar.specs.Actions.{code_length, function_actions}
-use Rattle.grammar.specs.Derivation.{State, Value, Definition, definition_of, last_body, step_of, stepped, next_of}
-use Rattle.grammar.specs.Derivation.{after_of, name_of_token}
+use Rattle.grammar.specs.Derivation.{State, Value, Definition, definition_of, last_body, item_step, stepped, next_token}
+use Rattle.grammar.specs.Derivation.{token_after_next, name_of_token}
 use Rattle.grammar.specs.Grammar.{Item, AName, Part, Make, Close, Define, Symbol, Role, Defined, External, Parameter}
 use Rattle.grammar.specs.Grammar.{Typed, Local, Called, Mentioned, is_fault, enters}
 use Rattle.grammar.specs.Intrinsics.{is_intrinsic}
-use Rattle.grammar.specs.Limits.{most_levels, most_names}
+use Rattle.grammar.specs.NameLimits.{most_levels, most_names}
 use Rattle.grammar.specs.Profile.{Profile}
 use Rattle.grammar.specs.Scope.{Scope, has_begun, is_external_new, is_function_new, is_local_new, is_variable_new}
 
@@ -29,23 +29,23 @@ abbrev pub fault : List LocatedToken → Code → Fault
 fault rest c = record { rest = rest; code = c }
 
 -- the number of a code
-abbrev pub number_of : Code → ℕ
-number_of code.BadCharacter = 1
-number_of code.CommentNotClosed = 2
-number_of code.NameTooLong = 3
-number_of code.ConstantTooLarge = 4
-number_of code.SourceTooLong = 5
-number_of code.SyntaxError = 6
-number_of code.ReservedWord = 7
-number_of code.NestedTooDeeply = 8
-number_of code.TooManyVariables = 9
-number_of code.TooManyFunctions = 10
-number_of code.FunctionDefinedTwice = 11
-number_of code.IntrinsicRedefined = 12
-number_of code.BadParameterDeclaration = 13
-number_of code.TooMuchCode = 14
-number_of code.FunctionNotDefined = 15
-number_of code.NoMainFunction = 16
+abbrev pub code_number : Code → ℕ
+code_number code.BadCharacter = 1
+code_number code.CommentNotClosed = 2
+code_number code.NameTooLong = 3
+code_number code.ConstantTooLarge = 4
+code_number code.SourceTooLong = 5
+code_number code.SyntaxError = 6
+code_number code.ReservedWord = 7
+code_number code.NestedTooDeeply = 8
+code_number code.TooManyVariables = 9
+code_number code.TooManyFunctions = 10
+code_number code.FunctionDefinedTwice = 11
+code_number code.IntrinsicRedefined = 12
+code_number code.BadParameterDeclaration = 13
+code_number code.TooMuchCode = 14
+code_number code.FunctionNotDefined = 15
+code_number code.NoMainFunction = 16
 
 abbrev pub lexical_error_code : LexicalError → Code
 lexical_error_code lexical_error.BadCharacter = code.BadCharacter
@@ -57,7 +57,7 @@ lexical_error_code lexical_error.SourceTooLong = code.SourceTooLong
 -- the code of a token that doesn't fit
 abbrev pub misfit_code : Token → Code
 misfit_code (token.Fault f) = lexical_error_code f
-misfit_code (token.Word word.Refused) = code.ReservedWord
+misfit_code (token.Keyword word.Refused) = code.ReservedWord
 misfit_code next = code.SyntaxError
 
 -- how many levels are open: each stays open until its production is done
@@ -72,7 +72,7 @@ only_if b faults = if b then faults else []
 -- a symbol enters a level beyond the last one
 abbrev pub level_faults : Symbol → List Item → List LocatedToken → List Fault
 level_faults symbol stack rest =
-    only_if (enters symbol (next_of rest) (after_of rest))
+    only_if (enters symbol (next_token rest) (token_after_next rest))
     (only_if (nat_le most_levels (levels stack)) (fault rest code.NestedTooDeeply ∷ []))
 
 -- a new name for which there is no room after so many
@@ -129,7 +129,8 @@ length_faults profile scope functions values rest =
 -- the faults at the next item
 abbrev pub item_faults : Profile → List Item → List LocatedToken → List Value → Scope → List Definition → List Fault
 item_faults profile (Part symbol ∷ stack) rest values scope functions = level_faults symbol stack rest
-item_faults profile (AName role ∷ stack) rest values scope functions = name_faults role (name_of_token (next_of rest))
+item_faults profile (AName role ∷ stack) rest values scope functions =
+    name_faults role (name_of_token (next_token rest))
     scope rest
 item_faults profile (Make Define ∷ stack) rest values scope functions = length_faults profile scope functions values
     rest
@@ -137,7 +138,7 @@ item_faults profile stack rest values scope functions = []
 
 -- the fault of a token that doesn't fit
 abbrev pub misfit : List LocatedToken → List Fault
-misfit rest = fault rest (misfit_code (next_of rest)) ∷ []
+misfit rest = fault rest (misfit_code (next_token rest)) ∷ []
 
 -- if something is still to derive, and no step leads on
 abbrev pub misfits : List Item → List LocatedToken → Option State → List Fault
@@ -148,9 +149,9 @@ misfits (item ∷ stack) rest (Some s) = []
 -- the faults at one state of a derivation
 abbrev pub faults_of : Profile → List Item → List LocatedToken → List Value → Scope → List Definition → List Fault
 faults_of profile stack rest values scope functions =
-    if is_fault (next_of rest) then misfit rest
+    if is_fault (next_token rest) then misfit rest
     else item_faults profile stack rest values scope functions
-    ++ misfits stack rest (step_of stack rest values scope functions)
+    ++ misfits stack rest (item_step stack rest values scope functions)
 
 abbrev pub faults_at : Profile → State → List Fault
 faults_at profile s = faults_of profile s.stack s.rest s.values s.scope s.functions
@@ -164,9 +165,9 @@ faults_in profile (suc n) s = faults_at profile s ++ faults_in profile n (steppe
 abbrev pub is_first : Fault → Fault → Bool
 is_first f g =
     if nat_lt (length g.rest) (length f.rest) then true
-    else (if nat_lt (length f.rest) (length g.rest) then false else nat_le (number_of f.code) (number_of g.code))
+    else (if nat_lt (length f.rest) (length g.rest) then false else nat_le (code_number f.code) (code_number g.code))
 
 -- the first of a fault and further ones
-abbrev pub first_of : Fault → List Fault → Fault
-first_of f [] = f
-first_of f (g ∷ faults) = first_of (if is_first f g then f else g) faults
+abbrev pub first_fault : Fault → List Fault → Fault
+first_fault f [] = f
+first_fault f (g ∷ faults) = first_fault (if is_first f g then f else g) faults

@@ -3,24 +3,24 @@ use Rattle.std.specs.Prelude.{ℕ, ℤ, pos, ◌+◌, List, [], ◌∷◌, Bool,
 use Rattle.std.specs.Prelude.{IsTrue, nat_lt, nat_le, if◌then◌else◌}
 use denote.Enum.Bare.{sameb}
 use Rattle.arith.specs.contracts.operators.Op as ops
-use Rattle.grammar.specs.declared.names.Callee.{Callee}
-use Rattle.grammar.specs.declared.names.Callee.TheVariants as callee
-use Rattle.grammar.specs.declared.names.Var.{Var}
-use Rattle.grammar.specs.declared.names.Var.TheVariants as var
+use Rattle.grammar.specs.declared.resolved_names.Callee.{Callee}
+use Rattle.grammar.specs.declared.resolved_names.Callee.TheVariants as callee
+use Rattle.grammar.specs.declared.resolved_names.Var.{Var}
+use Rattle.grammar.specs.declared.resolved_names.Var.TheVariants as var
 use Rattle.arith.specs.declared.operators.Op.{Op}
 use Rattle.grammar.specs.declared.actions.Action.{Action}
 use Rattle.grammar.specs.declared.actions.Action.TheVariants.{PushConstant, FetchVariable, StoreVariable, ApplyBinop}
 use Rattle.grammar.specs.declared.actions.Action.TheVariants.{LogicMiddle, BeginCall, EndCall, IfTest, ElsePart, EndIf}
 use Rattle.grammar.specs.declared.actions.Action.TheVariants.{BeginWhile, WhileTest, EndWhile, GiveBack, Chop}
 use Rattle.grammar.specs.declared.actions.Action.TheVariants.{BeginFunction, EndFunction}
-use Rattle.grammar.specs.Limits.{most_names, most_open}
+use Rattle.grammar.specs.NameLimits.{most_names, most_open}
 use Rattle.arith.specs.Op.{is_logic}
 
 -- how a value came about, as far as it matters for what follows
 pub data Origin : Type 0 where
   Number : (value : ℤ) → Origin  -- a constant
   Fetched : (v : Var) → Origin  -- a variable's value
-  Stepped : (v : Var) → Origin  -- a store of 1 by an operator, as ++ and -- make
+  Incremented : (v : Var) → Origin  -- a store of 1 by an operator, as ++ and -- make
   Computed : Origin
 
 -- what is open
@@ -38,35 +38,35 @@ pub data Open : Type 0 where
 abbrev pub Opened : Type 0
 Opened = List Open
 
-abbrev pub counts : Open → ℕ
-counts (InFunction parameters returned) = 0
-counts (AValue origin) = 0
-counts inner = 1
+abbrev pub open_weight : Open → ℕ
+open_weight (InFunction parameters returned) = 0
+open_weight (AValue origin) = 0
+open_weight inner = 1
 
 abbrev pub open_count : Opened → ℕ
 open_count [] = 0
-open_count (inner ∷ opened) = counts inner + open_count opened
+open_count (inner ∷ opened) = open_weight inner + open_count opened
 
 -- where a statement may be
-abbrev pub is_place : Opened → Bool
-is_place (InFunction parameters returned ∷ opened) = true
-is_place (InBranch ∷ opened) = true
-is_place (InElse ∷ opened) = true
-is_place (InTurn ∷ opened) = true
-is_place opened = false
+abbrev pub may_take_statement : Opened → Bool
+may_take_statement (InFunction parameters returned ∷ opened) = true
+may_take_statement (InBranch ∷ opened) = true
+may_take_statement (InElse ∷ opened) = true
+may_take_statement (InTurn ∷ opened) = true
+may_take_statement opened = false
 
 abbrev pub only_on : Bool → Opened → Option Opened
 only_on b opened = if b then Some opened else None
 
 -- a value, a call or a right side is inside of something
-abbrev pub within : Open → Opened → Option Opened
-within inner [] = None
-within inner (outer ∷ opened) = Some (inner ∷ outer ∷ opened)
+abbrev pub opens_within : Open → Opened → Option Opened
+opens_within inner [] = None
+opens_within inner (outer ∷ opened) = Some (inner ∷ outer ∷ opened)
 
 -- after a statement, which is `return 0;` or not
 abbrev pub statement_done : Bool → Opened → Option Opened
 statement_done returned (InFunction parameters before ∷ opened) = Some (InFunction parameters returned ∷ opened)
-statement_done returned opened = only_on (is_place opened) opened
+statement_done returned opened = only_on (may_take_statement opened) opened
 
 abbrev pub call_done : Opened → Option Opened
 call_done (AValue origin ∷ opened) = call_done opened
@@ -83,12 +83,12 @@ is_number n (Number (pos m)) = m == n
 is_number n origin = false
 
 -- the new value of a variable over its old one, as v++ and v-- leave them
-abbrev pub is_step : Origin → Origin → Bool
-is_step (Stepped v) (Fetched w) = same_var v w
-is_step origin below = false
+abbrev pub is_increment : Origin → Origin → Bool
+is_increment (Incremented v) (Fetched w) = same_var v w
+is_increment origin below = false
 
-abbrev pub stored : Var → Origin → Origin
-stored v origin = if is_number 1 origin then Stepped v else Computed
+abbrev pub stored_origin : Var → Origin → Origin
+stored_origin v origin = if is_number 1 origin then Incremented v else Computed
 
 abbrev pub is_var_numbered : Var → Bool
 is_var_numbered (var.Local n) = nat_lt n most_names
@@ -103,25 +103,26 @@ same_op o p = sameb ops.the_type o p
 
 -- what is open after an action, if it may follow
 abbrev pub follow : Action → Opened → Option Opened
-follow (PushConstant value) opened = within (AValue (Number value)) opened
-follow (FetchVariable v) opened = if is_var_numbered v then within (AValue (Fetched v)) opened else None
-follow (StoreVariable v op) (AValue origin ∷ opened) = only_on (is_var_numbered v) (AValue (stored v origin) ∷ opened)
+follow (PushConstant value) opened = opens_within (AValue (Number value)) opened
+follow (FetchVariable v) opened = if is_var_numbered v then opens_within (AValue (Fetched v)) opened else None
+follow (StoreVariable v op) (AValue origin ∷ opened) =
+    only_on (is_var_numbered v) (AValue (stored_origin v origin) ∷ opened)
 follow (ApplyBinop op) (AValue right ∷ AValue left ∷ opened) = if is_logic op then None else Some
     (AValue Computed ∷ opened)
 follow (ApplyBinop op) (AValue right ∷ BeforeRight o ∷ AValue left ∷ opened) = only_on (same_op op o)
     (AValue Computed ∷ opened)
 follow (LogicMiddle op) (AValue left ∷ opened) = only_on (is_logic op) (BeforeRight op ∷ AValue left ∷ opened)
-follow BeginCall opened = within InCall opened
+follow BeginCall opened = opens_within InCall opened
 follow (EndCall callee) opened = if is_callee_numbered callee then call_done opened else None
-follow IfTest (AValue condition ∷ opened) = only_on (is_place opened) (InBranch ∷ opened)
+follow IfTest (AValue condition ∷ opened) = only_on (may_take_statement opened) (InBranch ∷ opened)
 follow ElsePart (InBranch ∷ opened) = Some (InElse ∷ opened)
 follow EndIf (InBranch ∷ opened) = statement_done false opened
 follow EndIf (InElse ∷ opened) = statement_done false opened
-follow BeginWhile opened = only_on (is_place opened) (BeforeTest ∷ opened)
+follow BeginWhile opened = only_on (may_take_statement opened) (BeforeTest ∷ opened)
 follow WhileTest (AValue condition ∷ BeforeTest ∷ opened) = Some (InTurn ∷ opened)
 follow EndWhile (InTurn ∷ opened) = statement_done false opened
 follow GiveBack (AValue origin ∷ opened) = statement_done (is_number 0 origin) opened
-follow Chop (AValue origin ∷ AValue below ∷ opened) = only_on (is_step origin below) (AValue Computed ∷ opened)
+follow Chop (AValue origin ∷ AValue below ∷ opened) = only_on (is_increment origin below) (AValue Computed ∷ opened)
 follow Chop (AValue origin ∷ opened) = statement_done false opened
 follow (BeginFunction number parameters) [] =
     only_on (nat_lt number most_names && nat_le parameters most_names) (InFunction parameters false ∷ [])

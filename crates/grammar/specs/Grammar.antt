@@ -7,8 +7,8 @@ use Rattle.tokens.specs.contracts.located_tokens.Punctuator as punctuators
 use Rattle.tokens.specs.contracts.located_tokens.Word as words
 use Rattle.tokens.specs.declared.located_tokens.Punctuator.{Punctuator}
 use Rattle.tokens.specs.declared.located_tokens.Punctuator.TheVariants as punctuator
-use Rattle.tokens.specs.declared.located_tokens.Word.{Word}
-use Rattle.tokens.specs.declared.located_tokens.Word.TheVariants as word
+use Rattle.tokens.specs.declared.located_tokens.Keyword.{Keyword}
+use Rattle.tokens.specs.declared.located_tokens.Keyword.TheVariants as word
 use Rattle.tokens.specs.declared.located_tokens.Token.{Token}
 use Rattle.tokens.specs.declared.located_tokens.Token.TheVariants as token
 use Rattle.arith.specs.declared.operators.Op.{Op}
@@ -56,8 +56,8 @@ pub data SemanticAction : Type 0 where
   Complement : SemanticAction  -- ~e
   Fetch : SemanticAction  -- of a variable: its value
   Store : (op : StoreOp) → SemanticAction  -- of a variable and an expression: the assignment
-  StepBefore : (op : StoreOp) → SemanticAction  -- of a variable: ++v or --v
-  StepBehind : (op : StoreOp) → SemanticAction  -- v++ or v--
+  PrefixIncrement : (op : StoreOp) → SemanticAction  -- of a variable: ++v or --v
+  PostfixIncrement : (op : StoreOp) → SemanticAction  -- v++ or v--
   Pass : SemanticAction  -- of a call and an expression: the call with this argument after the others
   Invoke : SemanticAction  -- of a call: the expression
   Empty : SemanticAction  -- a body without statements
@@ -72,7 +72,7 @@ pub data SemanticAction : Type 0 where
 -- what a derivation still has to match or to do
 pub data Item : Type 0 where
   Exactly : (m : Punctuator) → Item  -- this punctuator comes next
-  AWord : (w : Word) → Item  -- this word
+  AKeyword : (w : Keyword) → Item  -- this word
   AName : (role : Role) → Item  -- a name, in this role
   AConstant : Item  -- a constant comes next
   AnEnd : Item  -- the end comes next
@@ -90,12 +90,12 @@ abbrev pub is_punctuator : Punctuator → Token → Bool
 is_punctuator m (token.Punctuator n) = same_punctuator m n
 is_punctuator m _ = false
 
-abbrev pub same_word : Word → Word → Bool
-same_word w v = sameb words.the_type w v
+abbrev pub same_keyword : Keyword → Keyword → Bool
+same_keyword w v = sameb words.the_type w v
 
-abbrev pub is_word : Word → Token → Bool
-is_word w (token.Word v) = same_word w v
-is_word w _ = false
+abbrev pub is_keyword : Keyword → Token → Bool
+is_keyword w (token.Keyword v) = same_keyword w v
+is_keyword w _ = false
 
 abbrev pub is_fault : Token → Bool
 is_fault (token.Fault lexical_error) = true
@@ -114,12 +114,12 @@ tail_production n (Some op) m = Exactly m ∷ Part (Level (n + 1)) ∷ Make (Ope
 -- the production of a symbol if the next token is no fault
 abbrev pub choice : Symbol → Token → Token → Production
 choice Source token.End after = Some (AnEnd ∷ [])
-choice Source (token.Word word.Type) after = Some (AWord word.Type ∷ Part Types ∷ Part Head ∷ Part Source ∷ [])
+choice Source (token.Keyword word.Type) after = Some (AKeyword word.Type ∷ Part Types ∷ Part Head ∷ Part Source ∷ [])
 choice Source (token.Name name) after =
     Some (AName Defined ∷ Exactly punctuator.OpenRound ∷ Part Parameters ∷ Exactly punctuator.CloseRound
     ∷ Part ParameterTypes ∷ Part FunctionBlock ∷ Part Source ∷ [])
 choice Source next after = None
-choice Types (token.Word word.Type) after = Some (AWord word.Type ∷ Part Types ∷ [])
+choice Types (token.Keyword word.Type) after = Some (AKeyword word.Type ∷ Part Types ∷ [])
 choice Types next after = Some []
 choice Head (token.Name name) (token.Punctuator punctuator.OpenRound) =
     Some (AName Defined ∷ Exactly punctuator.OpenRound ∷ Part Parameters ∷ Exactly punctuator.CloseRound
@@ -131,8 +131,8 @@ choice (More role) (token.Punctuator punctuator.Comma) after = Some
 choice (More role) next after = Some []
 choice Parameters (token.Name name) after = Some (AName Parameter ∷ Part (More Parameter) ∷ [])
 choice Parameters next after = Some []
-choice ParameterTypes (token.Word word.Type) after =
-    Some (AWord word.Type ∷ Part Types ∷ AName Typed ∷ Part (More Typed) ∷ Exactly punctuator.Semicolon
+choice ParameterTypes (token.Keyword word.Type) after =
+    Some (AKeyword word.Type ∷ Part Types ∷ AName Typed ∷ Part (More Typed) ∷ Exactly punctuator.Semicolon
     ∷ Part ParameterTypes ∷ [])
 choice ParameterTypes next after = Some []
 choice FunctionBlock (token.Punctuator punctuator.OpenCurly) after =
@@ -143,25 +143,25 @@ choice Block (token.Punctuator punctuator.OpenCurly) after =
     Some (Exactly punctuator.OpenCurly ∷ Part Declarations ∷ Part Statements ∷ Exactly punctuator.CloseCurly ∷ Close
     ∷ [])
 choice Block next after = None
-choice Declarations (token.Word word.Type) after =
-    Some (AWord word.Type ∷ Part Types ∷ AName Local ∷ Part (More Local) ∷ Exactly punctuator.Semicolon
+choice Declarations (token.Keyword word.Type) after =
+    Some (AKeyword word.Type ∷ Part Types ∷ AName Local ∷ Part (More Local) ∷ Exactly punctuator.Semicolon
     ∷ Part Declarations ∷ [])
 choice Declarations next after = Some []
 choice Statements (token.Punctuator punctuator.CloseCurly) after = Some []
 choice Statements next after = Some (Part Statement ∷ Part Statements ∷ [])
 choice Statement (token.Punctuator punctuator.Semicolon) after = Some (Exactly punctuator.Semicolon ∷ [])
 choice Statement (token.Punctuator punctuator.OpenCurly) after = Some (Part Block ∷ [])
-choice Statement (token.Word word.If) after =
-    Some (AWord word.If ∷ Exactly punctuator.OpenRound ∷ Part Expression ∷ Exactly punctuator.CloseRound ∷ Make Empty
+choice Statement (token.Keyword word.If) after =
+    Some (AKeyword word.If ∷ Exactly punctuator.OpenRound ∷ Part Expression ∷ Exactly punctuator.CloseRound ∷ Make Empty
     ∷ Part Statement ∷ Part ElsePart ∷ Close ∷ [])
-choice Statement (token.Word word.While) after =
-    Some (AWord word.While ∷ Exactly punctuator.OpenRound ∷ Part Expression ∷ Exactly punctuator.CloseRound
+choice Statement (token.Keyword word.While) after =
+    Some (AKeyword word.While ∷ Exactly punctuator.OpenRound ∷ Part Expression ∷ Exactly punctuator.CloseRound
     ∷ Make Empty ∷ Part Statement ∷ Make Repeat ∷ Close ∷ [])
-choice Statement (token.Word word.Return) after = Some
-    (AWord word.Return ∷ Part Back ∷ Exactly punctuator.Semicolon ∷ Make GiveBack ∷ [])
+choice Statement (token.Keyword word.Return) after = Some
+    (AKeyword word.Return ∷ Part Back ∷ Exactly punctuator.Semicolon ∷ Make GiveBack ∷ [])
 choice Statement next after = Some (Part Expression ∷ Exactly punctuator.Semicolon ∷ Make Evaluate ∷ [])
-choice ElsePart (token.Word word.Else) after = Some
-    (AWord word.Else ∷ Make Empty ∷ Part Statement ∷ Make DecideElse ∷ [])
+choice ElsePart (token.Keyword word.Else) after = Some
+    (AKeyword word.Else ∷ Make Empty ∷ Part Statement ∷ Make DecideElse ∷ [])
 choice ElsePart next after = Some (Make Decide ∷ [])
 choice Back (token.Punctuator punctuator.Semicolon) after = Some (Make Zero ∷ [])
 choice Back next after = Some (Part Expression ∷ [])
@@ -178,18 +178,18 @@ choice Unary (token.Punctuator punctuator.Not) after = Some
 choice Unary (token.Punctuator punctuator.Tilde) after = Some
     (Exactly punctuator.Tilde ∷ Part Unary ∷ Make Complement ∷ Close ∷ [])
 choice Unary (token.Punctuator punctuator.PlusPlus) after = Some
-    (Exactly punctuator.PlusPlus ∷ AName Mentioned ∷ Make (StepBefore store.Add) ∷ [])
+    (Exactly punctuator.PlusPlus ∷ AName Mentioned ∷ Make (PrefixIncrement store.Add) ∷ [])
 choice Unary (token.Punctuator punctuator.MinusMinus) after = Some
-    (Exactly punctuator.MinusMinus ∷ AName Mentioned ∷ Make (StepBefore store.Subtract) ∷ [])
+    (Exactly punctuator.MinusMinus ∷ AName Mentioned ∷ Make (PrefixIncrement store.Subtract) ∷ [])
 choice Unary next after = Some (Part Primary ∷ [])
 choice Primary (token.Constant value) after = Some (AConstant ∷ [])
 choice Primary (token.Name name) (token.Punctuator punctuator.OpenRound) =
     Some (AName Called ∷ Exactly punctuator.OpenRound ∷ Part Arguments ∷ Exactly punctuator.CloseRound ∷ Make Invoke
     ∷ Close ∷ [])
 choice Primary (token.Name name) (token.Punctuator punctuator.PlusPlus) = Some
-    (AName Mentioned ∷ Exactly punctuator.PlusPlus ∷ Make (StepBehind store.Add) ∷ [])
+    (AName Mentioned ∷ Exactly punctuator.PlusPlus ∷ Make (PostfixIncrement store.Add) ∷ [])
 choice Primary (token.Name name) (token.Punctuator punctuator.MinusMinus) = Some
-    (AName Mentioned ∷ Exactly punctuator.MinusMinus ∷ Make (StepBehind store.Subtract) ∷ [])
+    (AName Mentioned ∷ Exactly punctuator.MinusMinus ∷ Make (PostfixIncrement store.Subtract) ∷ [])
 choice Primary (token.Name name) after = Some (AName Mentioned ∷ Make Fetch ∷ [])
 choice Primary (token.Punctuator punctuator.OpenRound) after =
     Some (Exactly punctuator.OpenRound ∷ Part Expression ∷ Exactly punctuator.CloseRound ∷ Close ∷ [])
@@ -205,8 +205,8 @@ choice MoreArguments next after = Some []
 abbrev pub enters : Symbol → Token → Token → Bool
 enters FunctionBlock (token.Punctuator punctuator.OpenCurly) after = true
 enters Block (token.Punctuator punctuator.OpenCurly) after = true
-enters Statement (token.Word word.If) after = true
-enters Statement (token.Word word.While) after = true
+enters Statement (token.Keyword word.If) after = true
+enters Statement (token.Keyword word.While) after = true
 enters Expression (token.Name name) (token.Punctuator m) = is_some (store_of m)
 enters Unary (token.Punctuator punctuator.Minus) after = true
 enters Unary (token.Punctuator punctuator.Not) after = true

@@ -2,39 +2,39 @@
 use Rattle.std.specs.Prelude.{ℕ, List, [], ◌∷◌, Bool, Option, codes, is_some}
 use Rattle.std.specs.List.{find}
 use Rattle.std.specs.Str.{bytes_eq}
-use Rattle.grammar.specs.declared.names.Intrinsic.{Intrinsic}
-use Rattle.grammar.specs.declared.names.Intrinsic.TheVariants.{Scan, Cannon, Drive, Damage, Speed, LocX, LocY, Rand}
-use Rattle.grammar.specs.declared.names.Intrinsic.TheVariants.{Sqrt, Sin, Cos, Tan, Atan}
+use Rattle.grammar.specs.declared.resolved_names.Intrinsic.{Intrinsic}
+use Rattle.grammar.specs.declared.resolved_names.Intrinsic.TheVariants.{Scan, Cannon, Drive, Damage, Speed, LocX, LocY, Rand}
+use Rattle.grammar.specs.declared.resolved_names.Intrinsic.TheVariants.{Sqrt, Sin, Cos, Tan, Atan}
 
-abbrev pub arguments_of : Intrinsic → ℕ
-arguments_of Scan = 2
-arguments_of Cannon = 2
-arguments_of Drive = 2
-arguments_of Damage = 0
-arguments_of Speed = 0
-arguments_of LocX = 0
-arguments_of LocY = 0
-arguments_of Rand = 1
-arguments_of Sqrt = 1
-arguments_of Sin = 1
-arguments_of Cos = 1
-arguments_of Tan = 1
-arguments_of Atan = 1
+abbrev pub argument_count : Intrinsic → ℕ
+argument_count Scan = 2
+argument_count Cannon = 2
+argument_count Drive = 2
+argument_count Damage = 0
+argument_count Speed = 0
+argument_count LocX = 0
+argument_count LocY = 0
+argument_count Rand = 1
+argument_count Sqrt = 1
+argument_count Sin = 1
+argument_count Cos = 1
+argument_count Tan = 1
+argument_count Atan = 1
 
-unfoldable pub name_of : Intrinsic → List ℕ
-name_of Scan = codes "scan"
-name_of Cannon = codes "cannon"
-name_of Drive = codes "drive"
-name_of Damage = codes "damage"
-name_of Speed = codes "speed"
-name_of LocX = codes "loc_x"
-name_of LocY = codes "loc_y"
-name_of Rand = codes "rand"
-name_of Sqrt = codes "sqrt"
-name_of Sin = codes "sin"
-name_of Cos = codes "cos"
-name_of Tan = codes "tan"
-name_of Atan = codes "atan"
+unfoldable pub intrinsic_name : Intrinsic → List ℕ
+intrinsic_name Scan = codes "scan"
+intrinsic_name Cannon = codes "cannon"
+intrinsic_name Drive = codes "drive"
+intrinsic_name Damage = codes "damage"
+intrinsic_name Speed = codes "speed"
+intrinsic_name LocX = codes "loc_x"
+intrinsic_name LocY = codes "loc_y"
+intrinsic_name Rand = codes "rand"
+intrinsic_name Sqrt = codes "sqrt"
+intrinsic_name Sin = codes "sin"
+intrinsic_name Cos = codes "cos"
+intrinsic_name Tan = codes "tan"
+intrinsic_name Atan = codes "atan"
 
 -- each intrinsic function
 abbrev pub all_intrinsics : List Intrinsic
@@ -42,7 +42,7 @@ all_intrinsics = Scan ∷ Cannon ∷ Drive ∷ Damage ∷ Speed ∷ LocX ∷ Loc
 
 -- the intrinsic function of this name, if there is one
 unfoldable pub intrinsic_named : List ℕ → Option Intrinsic
-intrinsic_named name = find (λ i. bytes_eq name (name_of i)) all_intrinsics
+intrinsic_named name = find (λ i. bytes_eq name (intrinsic_name i)) all_intrinsics
 
 abbrev pub is_intrinsic : List ℕ → Bool
 is_intrinsic name = is_some (intrinsic_named name)

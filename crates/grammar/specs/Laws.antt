@@ -8,20 +8,20 @@ pub mod Origins
 pub mod Finished
 use Rattle.std.specs.Prelude.{◌≡◌, ◌≤◌, ℕ, List, [], ◌∷◌, ◌++◌, length, Some, None, Ok, Err}
 use Rattle.std.specs.Prelude.{slice_get}
-use Rattle.tokens.specs.Reading.{reach_of}
+use Rattle.tokens.specs.Cursors.{reach_of}
 use Rattle.tokens.specs.Tokens.{tokens}
 use Rattle.tokens.specs.declared.located_tokens.LocatedToken.{LocatedToken}
 use Rattle.grammar.specs.declared.diagnostics.Diagnostic.{Diagnostic}
 use Rattle.grammar.specs.Compiled.{compiled_tokens, last_state, resolved}
-use Rattle.grammar.specs.Derivation.{State, state, Value, Definition, start, step, run}
+use Rattle.grammar.specs.Derivation.{State, state, Value, Definition, initial_state, step, derived}
 use Rattle.grammar.specs.Faults.{Fault, faults_at}
 use Rattle.grammar.specs.declared.actions.Action.{Action}
 use Rattle.grammar.specs.Actions.{actions}
-use Rattle.grammar.specs.Building.{Meaning, MayFollow, StandsOpen}
+use Rattle.grammar.specs.Building.{Representation, MayFollow, LeavesOpen}
 use Rattle.grammar.specs.Beginning.{IsBeginning}
 use Rattle.grammar.specs.Following.{AreInOrder, Opened, follow, follow_all, open_count}
 use Rattle.grammar.specs.Grammar.{Declarations, Statements, Item, Part, Make, Define}
-use Rattle.grammar.specs.Limits.{most_open}
+use Rattle.grammar.specs.NameLimits.{most_open}
 use Rattle.grammar.specs.Need.{need}
 use Rattle.grammar.specs.Nesting.{body_nesting}
 use Rattle.grammar.specs.Laws.Parsing.{Fails, IsFault, Passes}
@@ -37,13 +37,13 @@ EachDerivationEnds = (located_tokens : List LocatedToken) → step (last_state l
 -- a source whose derivation ends without a fault is the file of its last state, or lacks a function
 abbrev pub FaultlessIsResolved : Type 0
 FaultlessIsResolved = (profile : Profile) (located_tokens : List LocatedToken) (t : State) →
-    Passes profile (start located_tokens) t → step t ≡ None → faults_at profile t ≡ []
+    Passes profile (initial_state located_tokens) t → step t ≡ None → faults_at profile t ≡ []
     → compiled_tokens profile located_tokens ≡ resolved located_tokens t.scope t.functions
 
 -- any other is its first fault: the one at the earliest token, and there the one with the least code
 abbrev pub FirstFaultDecides : Type 0
 FirstFaultDecides = (profile : Profile) (located_tokens : List LocatedToken) (d : Diagnostic)
-    → Fails profile (start located_tokens) d → compiled_tokens profile located_tokens ≡ Err d
+    → Fails profile (initial_state located_tokens) d → compiled_tokens profile located_tokens ≡ Err d
 
 -- the actions of a resolved file may follow one another, and leave nothing open, if no function has too much open
 -- at once
@@ -65,8 +65,8 @@ CompiledIsResolved = (profile : Profile) (located_tokens : List LocatedToken) (f
     → compiled_tokens profile located_tokens ≡ Ok file → IsResolved file
 
 -- to a builder that represents a list that leaves this open, an action may be reported that may follow what is open
-abbrev pub MayBeTold : Meaning → Type 0
-MayBeTold stands = (opened next : Opened) (action : Action) → StandsOpen stands opened
+abbrev pub MayBeTold : Representation → Type 0
+MayBeTold stands = (opened next : Opened) (action : Action) → LeavesOpen stands opened
     → follow action opened ≡ Some next → open_count next ≤ most_open → MayFollow stands action
 
 -- the function that is being defined keeps its number, its name and its parameters, and no other definition begins
@@ -80,7 +80,7 @@ pub record KeepsFunction (known learnt : Scope) : Type 0 where
 abbrev pub BlocksKeepTheFunction : Type 0
 BlocksKeepTheFunction = (n : ℕ) (stack : List Item) (rest later : List LocatedToken) (values left : List Value)
     (known learnt : Scope) (functions : List Definition) →
-    run n (state (Part Declarations ∷ Part Statements ∷ Make Define ∷ stack) rest values known functions)
+    derived n (state (Part Declarations ∷ Part Statements ∷ Make Define ∷ stack) rest values known functions)
     ≡ state (Make Define ∷ stack) later left learnt functions →
     KeepsFunction known learnt
 
@@ -89,5 +89,5 @@ BlocksKeepTheFunction = (n : ℕ) (stack : List Item) (rest later : List Located
 abbrev pub WhatWasReadIsNeeded : Type 0
 WhatWasReadIsNeeded = (profile : Profile) (bytes : List ℕ) (passed rest : List LocatedToken)
     → tokens bytes ≡ passed ++ rest →
-    ((f : Fault) → IsFault profile (start (tokens bytes)) f → length f.rest ≤ length rest)
+    ((f : Fault) → IsFault profile (initial_state (tokens bytes)) f → length f.rest ≤ length rest)
     → reach_of rest ≤ need profile bytes

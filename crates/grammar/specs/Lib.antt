@@ -7,7 +7,7 @@ pub mod Pools
 pub mod Grammar
 pub mod Scope
 pub mod Derivation
-pub mod Limits
+pub mod NameLimits
 pub mod Faults
 pub mod Compiled
 pub mod Need
@@ -17,5 +17,5 @@ pub mod Resolved
 pub mod Nesting
 pub mod Building
 pub mod Laws
-pub mod Texts
+pub mod DiagnosticTexts
 pub mod KnownSources

@@ -1,13 +1,13 @@
 -- How far a source need be read, and what has been reported to a builder by then.
 use Rattle.std.specs.Prelude.{ℕ, zero, suc, List, [], ◌∷◌, ◌++◌, Bool, true, false, ◌&&◌, not, nat_le, if◌then◌else◌}
-use Rattle.tokens.specs.Reading.{reach_of}
+use Rattle.tokens.specs.Cursors.{reach_of}
 use Rattle.tokens.specs.Tokens.{tokens}
 use Rattle.tokens.specs.declared.located_tokens.LocatedToken.{LocatedToken}
 use Rattle.grammar.specs.declared.actions.Action.{Action}
 use Rattle.grammar.specs.Actions.{function_actions}
-use Rattle.grammar.specs.Compiled.{all_faults, enough}
-use Rattle.grammar.specs.Derivation.{State, Value, definition_of, last_body, is_end, start, stepped}
-use Rattle.grammar.specs.Faults.{Fault, first_of}
+use Rattle.grammar.specs.Compiled.{all_faults, enough_steps}
+use Rattle.grammar.specs.Derivation.{State, Value, definition_of, last_body, is_end, initial_state, stepped}
+use Rattle.grammar.specs.Faults.{Fault, first_fault}
 use Rattle.grammar.specs.Grammar.{Item, Make, Define}
 use Rattle.grammar.specs.Profile.{Profile}
 use Rattle.grammar.specs.Scope.{Scope}
@@ -21,7 +21,7 @@ last_end (located_token ∷ other ∷ rest) = last_end (other ∷ rest)
 -- up to the token after the first fault; if there is none, all of the source
 abbrev pub needed : List LocatedToken → List Fault → ℕ
 needed located_tokens [] = last_end located_tokens
-needed located_tokens (f ∷ faults) = reach_of (first_of f faults).rest
+needed located_tokens (f ∷ faults) = reach_of (first_fault f faults).rest
 
 abbrev pub need_tokens : Profile → List LocatedToken → ℕ
 need_tokens profile located_tokens = needed located_tokens (all_faults profile located_tokens)
@@ -57,7 +57,7 @@ built_in count zero s = []
 built_in count (suc n) s = built_of count s.stack s.rest s.values s.scope ++ built_in count n (stepped s)
 
 abbrev pub built_tokens : List LocatedToken → ℕ → List Action
-built_tokens located_tokens count = built_in count (enough located_tokens) (start located_tokens)
+built_tokens located_tokens count = built_in count (enough_steps located_tokens) (initial_state located_tokens)
 
 -- what has been reported to a builder for certain once so many bytes of a source were read
 unfoldable pub built : List ℕ → ℕ → List Action

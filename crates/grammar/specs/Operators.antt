@@ -4,17 +4,17 @@ use Rattle.tokens.specs.declared.located_tokens.Punctuator.{Punctuator}
 use Rattle.tokens.specs.declared.located_tokens.Punctuator.TheVariants as punctuator
 use Rattle.tokens.specs.declared.located_tokens.Token.{Token}
 use Rattle.tokens.specs.declared.located_tokens.Token.TheVariants as token
-use Rattle.grammar.specs.declared.operators.Binary.{Binary}
+use Rattle.grammar.specs.declared.operators.BinaryOperator.{BinaryOperator}
 use Rattle.arith.specs.declared.operators.Op.{Op}
 use Rattle.arith.specs.declared.operators.Op.TheVariants as op
 use Rattle.grammar.specs.declared.operators.StoreOp.{StoreOp}
 use Rattle.grammar.specs.declared.operators.StoreOp.TheVariants as store
 
-abbrev pub at_level : ℕ → Op → Option Binary
+abbrev pub at_level : ℕ → Op → Option BinaryOperator
 at_level n o = Some (record { level = n; op = o })
 
 -- the binary operator that a punctuator spells
-abbrev pub binary_of : Punctuator → Option Binary
+abbrev pub binary_of : Punctuator → Option BinaryOperator
 binary_of punctuator.OrOr = at_level 1 op.Or
 binary_of punctuator.AndAnd = at_level 2 op.And
 binary_of punctuator.Or = at_level 3 op.BitOr
@@ -56,7 +56,7 @@ binary_punctuator op.Multiply = punctuator.Star
 binary_punctuator op.Divide = punctuator.Slash
 binary_punctuator op.Remainder = punctuator.Percent
 
-abbrev pub if_at : ℕ → Option Binary → Option Op
+abbrev pub if_at : ℕ → Option BinaryOperator → Option Op
 if_at n None = None
 if_at n (Some b) = if b.level == n then Some b.op else None
 
@@ -66,7 +66,7 @@ operator_at n (token.Punctuator m) = if_at n (binary_of m)
 operator_at n _ = None
 
 -- the operator that a token spells, with its level
-abbrev pub operator_of : Token → Option Binary
+abbrev pub operator_of : Token → Option BinaryOperator
 operator_of (token.Punctuator m) = binary_of m
 operator_of _ = None
 

@@ -8,12 +8,12 @@ pub record FunctionNames : Type 0 where
   pub parameters : ℕ
   pub variables : List (List ℕ)
 
-pub record Names : Type 0 where
+pub record Pools : Type 0 where
   pub externals : List (List ℕ)
   pub functions : List FunctionNames
 
 abbrev pub names_of_function : Function → FunctionNames
 names_of_function f = record { name = f.name; parameters = f.parameters; variables = f.variables }
 
-abbrev pub names_of : File → Names
-names_of file = record { externals = file.externals; functions = map names_of_function file.functions }
+abbrev pub pools_of : File → Pools
+pools_of file = record { externals = file.externals; functions = map names_of_function file.functions }

@@ -4,14 +4,14 @@ use Rattle.std.specs.Prelude.{if◌then◌else◌, ◌+◌, ◌==◌}
 use Rattle.std.specs.List.{position, list_any}
 use Rattle.std.specs.Option.{option_map, option_or}
 use Rattle.std.specs.Str.{bytes_eq}
-use Rattle.grammar.specs.declared.names.Callee.{Callee}
-use Rattle.grammar.specs.declared.names.Callee.TheVariants as callee
-use Rattle.grammar.specs.declared.names.Intrinsic.{Intrinsic}
-use Rattle.grammar.specs.declared.names.Var.{Var}
-use Rattle.grammar.specs.declared.names.Var.TheVariants as var
+use Rattle.grammar.specs.declared.resolved_names.Callee.{Callee}
+use Rattle.grammar.specs.declared.resolved_names.Callee.TheVariants as callee
+use Rattle.grammar.specs.declared.resolved_names.Intrinsic.{Intrinsic}
+use Rattle.grammar.specs.declared.resolved_names.Var.{Var}
+use Rattle.grammar.specs.declared.resolved_names.Var.TheVariants as var
 use Rattle.grammar.specs.Grammar.{Role, Defined, External, Parameter, Typed, Local, Called, Mentioned}
 use Rattle.grammar.specs.Intrinsics.{intrinsic_named, is_intrinsic}
-use Rattle.grammar.specs.Pools.{FunctionNames, Names}
+use Rattle.grammar.specs.Pools.{FunctionNames, Pools}
 
 pub record Scope : Type 0 where
   pub externals : List (List ℕ)  -- the externals declared
@@ -22,7 +22,7 @@ pub record Scope : Type 0 where
   pub current : FunctionNames  -- its name, and its parameters and variables so far
 
 -- what is known with these names, lines and definitions
-abbrev pub scope_with : Names → List ℕ → List ℕ → ℕ → FunctionNames → Scope
+abbrev pub scope_with : Pools → List ℕ → List ℕ → ℕ → FunctionNames → Scope
 scope_with pools lines begun number current = record {
   externals = pools.externals;
   functions = pools.functions;
@@ -72,8 +72,8 @@ abbrev pub is_function_new : List ℕ → Scope → Bool
 is_function_new name scope = if is_intrinsic name then Bool.false else is_none (function_number name scope)
 
 -- a function's number, which is the next one if it is new
-abbrev pub number_for : List ℕ → Scope → ℕ
-number_for name scope = unwrap_or (function_number name scope) (length scope.functions)
+abbrev pub number_or_next : List ℕ → Scope → ℕ
+number_or_next name scope = unwrap_or (function_number name scope) (length scope.functions)
 
 abbrev pub callee_or : Option Intrinsic → ℕ → Callee
 callee_or None number = callee.Function number
@@ -81,11 +81,11 @@ callee_or (Some i) number = callee.Intrinsic i
 
 -- what a call of this name calls
 abbrev pub callee_of : List ℕ → Scope → Callee
-callee_of name scope = callee_or (intrinsic_named name) (number_for name scope)
+callee_of name scope = callee_or (intrinsic_named name) (number_or_next name scope)
 
 -- whether a definition of the function began before
 abbrev pub has_begun : List ℕ → Scope → Bool
-has_begun name scope = list_any (λ k. k == number_for name scope) scope.begun
+has_begun name scope = list_any (λ k. k == number_or_next name scope) scope.begun
 
 abbrev pub with_variable : List ℕ → Scope → Scope
 with_variable name scope = record scope {
@@ -114,14 +114,14 @@ with_function name line scope = if is_function_new name scope then with_new_func
 
 -- the numbers of the definitions begun, with this one; an intrinsic function has no number
 abbrev pub begun_with : List ℕ → Scope → List ℕ
-begun_with name scope = if is_intrinsic name then scope.begun else scope.begun ++ number_for name scope ∷ []
+begun_with name scope = if is_intrinsic name then scope.begun else scope.begun ++ number_or_next name scope ∷ []
 
 -- a definition begins: the function is mentioned, and has no variables yet
 abbrev pub begin_definition : List ℕ → ℕ → Scope → Scope
 begin_definition name line scope =
     record (with_function name line scope) {
       begun = begun_with name scope;
-      number = number_for name scope;
+      number = number_or_next name scope;
       current = only_named name;
     }
 
@@ -133,11 +133,11 @@ end_definition scope = record scope {
 }
 
 -- what is known after a name in a role
-abbrev pub behind_name : Role → List ℕ → ℕ → Scope → Scope
-behind_name Defined name line scope = begin_definition name line scope
-behind_name External name line scope = if is_external_new name scope then with_external name scope else scope
-behind_name Parameter name line scope = if is_local_new name scope then with_parameter name scope else scope
-behind_name Typed name line scope = scope
-behind_name Local name line scope = if is_local_new name scope then with_variable name scope else scope
-behind_name Called name line scope = with_function name line scope
-behind_name Mentioned name line scope = if is_variable_new name scope then with_variable name scope else scope
+abbrev pub scope_after_name : Role → List ℕ → ℕ → Scope → Scope
+scope_after_name Defined name line scope = begin_definition name line scope
+scope_after_name External name line scope = if is_external_new name scope then with_external name scope else scope
+scope_after_name Parameter name line scope = if is_local_new name scope then with_parameter name scope else scope
+scope_after_name Typed name line scope = scope
+scope_after_name Local name line scope = if is_local_new name scope then with_variable name scope else scope
+scope_after_name Called name line scope = with_function name line scope
+scope_after_name Mentioned name line scope = if is_variable_new name scope then with_variable name scope else scope

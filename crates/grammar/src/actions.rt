@@ -3,9 +3,9 @@
 ghost use Rattle.std.specs.Prelude.{◌≡◌, ◌≤◌};
 ghost use Rattle.grammar.specs.Actions.{instructions};
 
-use crate::names::{Callee, Var};
 use crate::operators::StoreOp;
 use crate::profiles::Profile;
+use crate::resolved_names::{Callee, Var};
 use arith::Op;
 
 /// An action: a step in building a program.

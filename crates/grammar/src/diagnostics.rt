@@ -2,7 +2,7 @@
 
 ghost use Rattle.std.specs.Prelude.{◌≡◌};
 ghost use Rattle.grammar.specs.Faults.{lexical_error_code};
-ghost use Rattle.grammar.specs.Texts.{text_of};
+ghost use Rattle.grammar.specs.DiagnosticTexts.{text_of};
 
 use crate::build::BuildFault;
 use tokens::{DeviceFault, LexicalError};
@@ -46,7 +46,7 @@ pub enum Code {
 
 impl Code {
     /// Returns the text of the diagnostic, as the program prints it after the file's name and the line.
-    #[tactic(auto, unfolding(crate::specs::Texts::text_of))]
+    #[tactic(auto, unfolding(crate::specs::DiagnosticTexts::text_of))]
     pub fn text(self) -> &'static str
         ensures { result.now ≡ text_of self }
     {
@@ -72,7 +72,7 @@ impl Code {
 }
 
 /// Returns the code of a lexical error.
-pub fn code_of(lexical_error: LexicalError) -> Code
+pub fn lexical_error_code(lexical_error: LexicalError) -> Code
     ensures { result ≡ lexical_error_code lexical_error }
 {
     match lexical_error {

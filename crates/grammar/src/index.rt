@@ -3,7 +3,7 @@
 ghost use Rattle.std.specs.Prelude.{◌≡◌, ◌<◌, []};
 ghost use Rattle.grammar.specs.Laws.Index.{IsIndexed, Notes, bucket_of, start_of};
 
-use crate::limits::MOST_NAMES;
+use crate::name_limits::MOST_NAMES;
 use tokens::Name;
 
 /// How many buckets there are for the names.
@@ -27,7 +27,7 @@ impl Index {
 
     /// Returns a number before which no function has this name.
     #[inline(always)]
-    pub(crate) fn start(&self, name: &Name) -> usize
+    pub(crate) fn first_candidate(&self, name: &Name) -> usize
         ensures { result ≡ start_of name.now self.now.earliest }
     {
         self.earliest[bucket(name)] as usize

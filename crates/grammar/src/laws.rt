@@ -8,7 +8,7 @@ ghost use Rattle.grammar.specs.Laws.{EachDerivationEnds, EachFileFollows, Faultl
 ghost use Rattle.grammar.specs.Laws.{MayBeTold, WhatIsInOrderBegins, WhatWasReadIsNeeded};
 
 use crate::build::Build;
-use crate::names::Intrinsic;
+use crate::resolved_names::Intrinsic;
 
 /// Proves that the derivation of each list of tokens ends, and leads to what the source is: a file, or its first fault.
 pub fn derivations()

@@ -7,25 +7,25 @@ mod build;
 mod diagnostics;
 mod index;
 pub mod laws;
-mod limits;
-mod names;
+mod name_limits;
 mod operators;
 mod pools;
 mod profiles;
+mod resolved_names;
 mod scope;
 mod watching;
 
 pub use actions::Action;
 pub use arith::Op;
 pub use build::{Build, BuildFault};
-pub use diagnostics::{Code, Diagnostic, ParseFault, code_of};
-pub use limits::{MOST_LEVELS, MOST_NAMES};
-pub use names::{Callee, Intrinsic, Var};
+pub use diagnostics::{Code, Diagnostic, ParseFault, lexical_error_code};
+pub use name_limits::{MOST_LEVELS, MOST_NAMES};
 pub use operators::{
-    Binary, StoreOp, operator_from, operator_punctuator, store_operator, store_punctuator,
+    BinaryOperator, StoreOp, operator_from, operator_punctuator, store_operator, store_punctuator,
 };
-pub use pools::{Function, Pools};
+pub use pools::{FunctionNames, Pools};
 pub use profiles::{MOST_PROFILE, Profile};
-pub use scope::{Scope, intrinsic, number_of};
+pub use resolved_names::{Callee, Intrinsic, Var};
+pub use scope::{Scope, intrinsic_named, name_number};
 pub use tokens::{DeviceFault, Feed, Name};
 pub use watching::{Watch, Watched};

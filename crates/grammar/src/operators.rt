@@ -37,7 +37,7 @@ pub enum StoreOp {
 
 /// A binary operator with its level: 1 binds loosest, 10 tightest.
 #[derive(Clone, Copy, Debug, PartialEq, Eq)]
-pub struct Binary {
+pub struct BinaryOperator {
     /// The level, from 1 to 10.
     pub level: u8,
     /// The operator.
@@ -68,7 +68,7 @@ impl StoreOp {
 
 /// Returns the operator that a token spells, with its level, if that is this level or a tighter one.
 #[inline(always)]
-pub fn operator_from(token: &Token, level: u8) -> Option<Binary>
+pub fn operator_from(token: &Token, level: u8) -> Option<BinaryOperator>
     ensures { result ≡ operator_from level token.now }
 {
     let Token::Punctuator(punctuator) = *token else {
@@ -82,7 +82,7 @@ pub fn operator_from(token: &Token, level: u8) -> Option<Binary>
 
 /// Returns the binary operator that a punctuator spells.
 #[inline(always)]
-fn binary_of(punctuator: Punctuator) -> Option<Binary>
+fn binary_of(punctuator: Punctuator) -> Option<BinaryOperator>
     ensures { result ≡ binary_of punctuator }
 {
     let (level, op) = match punctuator {
@@ -106,7 +106,7 @@ fn binary_of(punctuator: Punctuator) -> Option<Binary>
         Punctuator::Percent => (10, Op::Remainder),
         _ => return None,
     };
-    Some(Binary { level, op })
+    Some(BinaryOperator { level, op })
 }
 
 /// Returns the operator of an assignment that the token spells.

@@ -2,23 +2,23 @@
 
 ghost use Rattle.std.specs.Prelude.{◌≡◌, ◌+◌, ◌<◌, ◌≤◌, ℕ, List, [], ◌∷◌, ◌++◌, length, set};
 
-use crate::limits::MOST_NAMES;
+use crate::name_limits::MOST_NAMES;
 use arrayvec::ArrayVec;
 use std::marker::Model;
 use tokens::Name;
 
 /// A function's name, and its variables: the parameters first, then the locals by first mention.
 #[derive(Drop)]
-pub struct Function {
+pub struct FunctionNames {
     name: Name,
     parameters: u8,
     variables: ArrayVec<Name, MOST_NAMES>,
 }
 
-impl Model for Function {
+impl Model for FunctionNames {
     ghost use Rattle.std.specs.Prelude.{◌≤◌, length};
     ghost use Rattle.grammar.specs.Pools.{FunctionNames};
-    ghost use Rattle.grammar.specs.declared.limits.TheConstants.{MOST_NAMES};
+    ghost use Rattle.grammar.specs.declared.name_limits.TheConstants.{MOST_NAMES};
 
     ghost Value = { FunctionNames };
 
@@ -27,11 +27,11 @@ impl Model for Function {
     ghost invariant = { λ f. (f.parameters ≤ length f.variables.items) × (f.parameters ≤ MOST_NAMES) };
 }
 
-impl Default for Function {
+impl Default for FunctionNames {
     ghost is_default = { λ f. f ≡ record { name = []; parameters = 0; variables = [] } };
 
-    fn default() -> Function {
-        Function {
+    fn default() -> FunctionNames {
+        FunctionNames {
             name: Name::default(),
             parameters: 0,
             variables: ArrayVec::new(),
@@ -39,12 +39,12 @@ impl Default for Function {
     }
 }
 
-impl Function {
+impl FunctionNames {
     /// Makes a function without variables.
-    pub fn new(name: Name) -> Function
+    pub fn new(name: Name) -> FunctionNames
         ensures { result ≡ record { name = name; parameters = 0; variables = [] } }
     {
-        Function {
+        FunctionNames {
             name,
             parameters: 0,
             variables: ArrayVec::new(),
@@ -59,7 +59,7 @@ impl Function {
     }
 
     /// Returns how many parameters the function has.
-    pub fn parameters(&self) -> u8
+    pub fn parameter_count(&self) -> u8
         ensures count { result ≡ self.now.parameters }
         ensures most { result ≤ MOST_NAMES }
     {
@@ -84,7 +84,7 @@ impl Function {
     }
 
     /// Becomes a function without variables, in its place: only the names that were there are blanked.
-    pub(crate) fn restart(&mut self, name: &Name)
+    pub(crate) fn become_new(&mut self, name: &Name)
         ensures { self.new ≡ record { name = name.now; parameters = 0; variables = [] } }
     {
         self.name = *name;
@@ -93,10 +93,10 @@ impl Function {
     }
 
     /// Becomes the same as another function, in its place: only the names that are there are copied.
-    pub(crate) fn copy_from(&mut self, other: &Function)
+    pub(crate) fn copy_from(&mut self, other: &FunctionNames)
         ensures { self.new ≡ other.now }
     {
-        self.restart(&other.name);
+        self.become_new(&other.name);
         for name in other.variables.as_slice() {
             self.variables.push(*name);
         }
@@ -122,16 +122,16 @@ impl Function {
 #[derive(Drop)]
 pub struct Pools {
     externals: ArrayVec<Name, MOST_NAMES>,
-    functions: [Function; MOST_NAMES],
+    functions: [FunctionNames; MOST_NAMES],
     count: u8,
 }
 
 impl Model for Pools {
     ghost use Rattle.std.specs.Prelude.{◌≤◌, take};
-    ghost use Rattle.grammar.specs.Pools.{Names};
-    ghost use Rattle.grammar.specs.declared.limits.TheConstants.{MOST_NAMES};
+    ghost use Rattle.grammar.specs.Pools.{Pools};
+    ghost use Rattle.grammar.specs.declared.name_limits.TheConstants.{MOST_NAMES};
 
-    ghost Value = { Names };
+    ghost Value = { Pools };
 
     ghost view = { λ p. record { externals = p.externals.items; functions = take p.count p.functions } };
 
@@ -169,7 +169,7 @@ impl Pools {
     }
 
     /// Returns the functions by number.
-    pub fn functions(&self) -> &[Function]
+    pub fn functions(&self) -> &[FunctionNames]
         ensures names { result.now ≡ self.now.functions }
         ensures most { length result.now ≤ MOST_NAMES }
     {
@@ -177,7 +177,7 @@ impl Pools {
     }
 
     /// Adds a function, with the next number.
-    pub fn define(&mut self, function: Function)
+    pub fn push_function(&mut self, function: FunctionNames)
         requires { length self.old.functions < MOST_NAMES }
         ensures { self.new ≡ record {
           externals = self.old.externals;
@@ -201,13 +201,13 @@ impl Pools {
         requires { length self.old.functions < MOST_NAMES }
         ensures { self.new ≡ record self.old { functions = self.old.functions ++ only_named name.now ∷ [] } }
     {
-        self.functions[self.count as usize].restart(name);
+        self.functions[self.count as usize].become_new(name);
         self.count += 1;
     }
 
     /// Makes the function of this number the same as another. Does nothing past the functions.
     #[tactic(auto, using(crate::proofs::ScopeLaws::in_place))]
-    pub(crate) fn set_function(&mut self, number: u8, function: &Function)
+    pub(crate) fn set_function(&mut self, number: u8, function: &FunctionNames)
         ensures { self.new ≡ record self.old { functions = set self.old.functions number function.now } }
     {
         if number < self.count {

@@ -4,55 +4,55 @@ ghost use Rattle.std.specs.Prelude.{◌≡◌, ◌<◌, ◌≤◌, ℕ, List, []
 ghost use Rattle.std.specs.Prelude.{IfSome, OnOk, map, nat_le, is_some, ◌==◌, true, false};
 ghost use Rattle.std.specs.Str.{bytes_eq};
 ghost use Rattle.std.specs.List.{position, list_any};
-ghost use Rattle.grammar.specs.Intrinsics.{intrinsic_named, is_intrinsic, name_of as intrinsic_name};
-ghost use Rattle.grammar.specs.Laws.Index.{NoneBefore};
+ghost use Rattle.grammar.specs.Intrinsics.{intrinsic_named, is_intrinsic, intrinsic_name};
+ghost use Rattle.grammar.specs.Laws.Index.{NoFunctionBefore};
 ghost use Rattle.grammar.specs.Laws.Naming.{line_of_undefined};
 ghost use Rattle.grammar.specs.Scope.{number_of_name};
 ghost use Rattle.std.specs.Prelude.{unwrap_or, if◌then◌else◌};
 
 use crate::diagnostics::Code;
 use crate::index::Index;
-use crate::limits::MOST_NAMES;
-use crate::names::{Callee, Intrinsic, Var};
-use crate::pools::{Function, Pools};
+use crate::name_limits::MOST_NAMES;
+use crate::pools::{FunctionNames, Pools};
+use crate::resolved_names::{Callee, Intrinsic, Var};
 use arrayvec::ArrayVec;
 use std::marker::Model;
-use tokens::{NAME_BYTES, Name};
+use tokens::{MOST_NAME_BYTES, Name};
 
 /// Returns the number of a name among names.
 #[inline(always)]
-pub fn number_of(names: &[Name], name: &Name) -> Option<usize>
+pub fn name_number(names: &[Name], name: &Name) -> Option<usize>
     ensures { result ≡ number_of_name name.now names.now }
 {
-    names.iter().position(|other| name.same(other))
+    names.iter().position(|other| name.is_same(other))
 }
 
 /// Returns the intrinsic function of this name. Its first byte leaves few to compare it with.
-#[tactic(auto, unfolding(crate::specs::Intrinsics::intrinsic_named, crate::specs::Intrinsics::name_of))]
-pub fn intrinsic(name: &Name) -> Option<Intrinsic>
+#[tactic(auto, unfolding(crate::specs::Intrinsics::intrinsic_named, crate::specs::Intrinsics::intrinsic_name))]
+pub fn intrinsic_named(name: &Name) -> Option<Intrinsic>
     ensures { result ≡ intrinsic_named name.now }
 {
     match name.as_bytes().first()? {
-        b'a' => called(Intrinsic::Atan, name),
-        b'c' => called(Intrinsic::Cannon, name).or(called(Intrinsic::Cos, name)),
-        b'd' => called(Intrinsic::Drive, name).or(called(Intrinsic::Damage, name)),
-        b'l' => called(Intrinsic::LocX, name).or(called(Intrinsic::LocY, name)),
-        b'r' => called(Intrinsic::Rand, name),
-        b's' => called(Intrinsic::Scan, name)
-            .or(called(Intrinsic::Speed, name))
-            .or(called(Intrinsic::Sqrt, name))
-            .or(called(Intrinsic::Sin, name)),
-        b't' => called(Intrinsic::Tan, name),
+        b'a' => if_named(Intrinsic::Atan, name),
+        b'c' => if_named(Intrinsic::Cannon, name).or(if_named(Intrinsic::Cos, name)),
+        b'd' => if_named(Intrinsic::Drive, name).or(if_named(Intrinsic::Damage, name)),
+        b'l' => if_named(Intrinsic::LocX, name).or(if_named(Intrinsic::LocY, name)),
+        b'r' => if_named(Intrinsic::Rand, name),
+        b's' => if_named(Intrinsic::Scan, name)
+            .or(if_named(Intrinsic::Speed, name))
+            .or(if_named(Intrinsic::Sqrt, name))
+            .or(if_named(Intrinsic::Sin, name)),
+        b't' => if_named(Intrinsic::Tan, name),
         _ => None,
     }
 }
 
 /// Returns this intrinsic function if the name is its.
 #[inline(always)]
-fn called(intrinsic: Intrinsic, name: &Name) -> Option<Intrinsic>
+fn if_named(intrinsic: Intrinsic, name: &Name) -> Option<Intrinsic>
     ensures { result ≡ (if bytes_eq name.now (intrinsic_name intrinsic) then Some intrinsic else None) }
 {
-    if name.is(intrinsic.name().as_bytes()) {
+    if name.has_bytes(intrinsic.name().as_bytes()) {
         Some(intrinsic)
     } else {
         None
@@ -66,29 +66,29 @@ pub struct Scope {
     lines: ArrayVec<u32, MOST_NAMES>,
     begun: ArrayVec<u8, MOST_NAMES>,
     number: u8,
-    current: Function,
+    current: FunctionNames,
     index: Index,
 }
 
 impl Model for Scope {
     ghost use Rattle.grammar.specs.Laws.Index.{IsIndexed};
-    ghost use Rattle.grammar.specs.Laws.Naming.{IsKept};
-    ghost use Rattle.grammar.specs.Scope.{Scope as Known, scope_with};
+    ghost use Rattle.grammar.specs.Laws.Naming.{IsScopeKept};
+    ghost use Rattle.grammar.specs.Scope.{Scope, scope_with};
 
-    ghost Value = { Known };
+    ghost Value = { Scope };
 
     ghost view = { λ s. scope_with s.pools s.lines.items s.begun.items s.number s.current };
 
-    ghost invariant = { λ s. IsKept s.pools.functions s.lines.items s.begun.items
+    ghost invariant = { λ s. IsScopeKept s.pools.functions s.lines.items s.begun.items
         × IsIndexed s.pools.functions s.index.earliest };
 }
 
 impl Scope {
     ghost use Rattle.grammar.specs.Grammar.{Defined, External, Parameter, Typed, Local, Called, Mentioned};
     ghost use Rattle.grammar.specs.Compiled.{main_name};
-    ghost use Rattle.grammar.specs.Laws.Naming.{Knows, RefusesName, line_of_undefined};
+    ghost use Rattle.grammar.specs.Laws.Naming.{LearnsName, RefusesName, line_of_undefined};
     ghost use Rattle.grammar.specs.Resolved.{IsCallable, IsVariable};
-    ghost use Rattle.grammar.specs.Scope.{no_names, behind_name, end_definition, has_begun, number_for, is_local_new};
+    ghost use Rattle.grammar.specs.Scope.{no_names, scope_after_name, end_definition, has_begun, number_or_next, is_local_new};
     ghost use Rattle.grammar.specs.Scope.{is_external_new, with_variable, with_parameter, with_external};
     ghost use Rattle.grammar.specs.Scope.{variable_named, variable_of, callee_of, with_new_function};
     ghost use Rattle.grammar.specs.Laws.Naming.{with_begun};
@@ -104,7 +104,7 @@ impl Scope {
             lines: ArrayVec::new(),
             begun: ArrayVec::new(),
             number: 0,
-            current: Function::new(Name::new()),
+            current: FunctionNames::new(Name::new()),
             index: Index::new(),
         }
     }
@@ -118,20 +118,20 @@ impl Scope {
         self.lines.clear();
         self.begun.clear();
         self.number = 0;
-        self.current.restart(&Name::new());
+        self.current.become_new(&Name::new());
         self.index = Index::new();
     }
 
     /// Resolves a mentioned name to its variable. A name that has none becomes the function's next local.
     #[inline(always)]
     #[tactic(auto, using(crate::proofs::ScopeLaws::names))]
-    pub fn mention(&mut self, name: &Name) -> Result<Var, Code>
+    pub fn resolve_variable(&mut self, name: &Name) -> Result<Var, Code>
         ensures known { IfOk result (λ v. (v ≡ variable_of name.now self.old)
-            × ((line : ℕ) → Knows Mentioned name.now line self.old self.new)) }
+            × ((line : ℕ) → LearnsName Mentioned name.now line self.old self.new)) }
         ensures within { IfOk result (IsVariable MOST_NAMES MOST_NAMES) }
         ensures refused { IfErr result (λ c. RefusesName Mentioned name.now self.old c) }
     {
-        match self.variable(name) {
+        match self.known_variable(name) {
             Some(var) => Ok(var),
             None => self.add_local(name),
         }
@@ -139,8 +139,8 @@ impl Scope {
 
     /// Declares a local. A name that is declared again names the same variable.
     #[tactic(auto, using(crate::proofs::ScopeLaws::names))]
-    pub fn local(&mut self, name: &Name) -> Result<(), Code>
-        ensures known { OnOk result ((line : ℕ) → Knows Local name.now line self.old self.new) }
+    pub fn declare_local(&mut self, name: &Name) -> Result<(), Code>
+        ensures known { OnOk result ((line : ℕ) → LearnsName Local name.now line self.old self.new) }
         ensures refused { IfErr result (λ c. RefusesName Local name.now self.old c) }
     {
         if !self.is_local_new(name) {
@@ -152,21 +152,21 @@ impl Scope {
 
     /// Adds a parameter of the list. A name that is there already is a fault.
     #[tactic(auto, using(crate::proofs::ScopeLaws::names))]
-    pub fn parameter(&mut self, name: &Name) -> Result<(), Code>
-        ensures known { OnOk result ((line : ℕ) → Knows Parameter name.now line self.old self.new) }
+    pub fn declare_parameter(&mut self, name: &Name) -> Result<(), Code>
+        ensures known { OnOk result ((line : ℕ) → LearnsName Parameter name.now line self.old self.new) }
         ensures refused { IfErr result (λ c. RefusesName Parameter name.now self.old c) }
     {
         if !self.is_local_new(name) {
             return Err(Code::BadParameterDeclaration);
         }
-        check_room(self.current.variables().len())?;
+        check_variable_room(self.current.variables().len())?;
         self.add_parameter(name);
         Ok(())
     }
 
     /// Declares a parameter after the list, in which it has to be.
-    pub fn typed(&self, name: &Name) -> Result<(), Code>
-        ensures known { OnOk result ((line : ℕ) → Knows Typed name.now line self.now self.now) }
+    pub fn declare_parameter_type(&self, name: &Name) -> Result<(), Code>
+        ensures known { OnOk result ((line : ℕ) → LearnsName Typed name.now line self.now self.now) }
         ensures refused { IfErr result (λ c. RefusesName Typed name.now self.now c) }
     {
         if self.is_local_new(name) {
@@ -178,12 +178,12 @@ impl Scope {
 
     /// Declares an external. A name that is declared again names the same variable.
     #[tactic(auto, using(crate::proofs::ScopeLaws::names))]
-    pub fn external(&mut self, name: &Name) -> Result<(), Code>
-        ensures known { OnOk result ((line : ℕ) → Knows External name.now line self.old self.new) }
+    pub fn declare_external(&mut self, name: &Name) -> Result<(), Code>
+        ensures known { OnOk result ((line : ℕ) → LearnsName External name.now line self.old self.new) }
         ensures refused { IfErr result (λ c. RefusesName External name.now self.old c) }
     {
         if self.is_external_new(name) {
-            check_room(self.pools.externals().len())?;
+            check_variable_room(self.pools.externals().len())?;
             self.add_external(name);
         }
         Ok(())
@@ -191,35 +191,35 @@ impl Scope {
 
     /// Resolves a called name. A function of the file that is new is known from here on, by the line of this name.
     #[tactic(auto, using(crate::proofs::ScopeLaws::names))]
-    pub fn call(&mut self, name: &Name, line: u32) -> Result<Callee, Code>
+    pub fn resolve_call(&mut self, name: &Name, line: u32) -> Result<Callee, Code>
         ensures known { IfOk result (λ callee. (callee ≡ callee_of name.now self.old)
-            × Knows Called name.now line self.old self.new) }
+            × LearnsName Called name.now line self.old self.new) }
         ensures within { IfOk result (IsCallable MOST_NAMES) }
         ensures refused { IfErr result (λ c. RefusesName Called name.now self.old c) }
     {
-        if let Some(intrinsic) = intrinsic(name) {
+        if let Some(intrinsic) = intrinsic_named(name) {
             return Ok(Callee::Intrinsic(intrinsic));
         }
         let known = self.function_number(name);
-        let number = self.number_for(known, name, line)?;
+        let number = self.number_or_next(known, name, line)?;
         Ok(Callee::Function(number))
     }
 
     /// Begins the definition of a function at this name, on this line, and returns the function's number.
-    pub fn define(&mut self, name: &Name, line: u32) -> Result<u8, Code>
-        ensures number { IfOk result (λ n. (n ≡ number_for name.now self.old) × (n < MOST_NAMES)) }
-        ensures known { OnOk result (Knows Defined name.now line self.old self.new) }
+    pub fn begin_definition(&mut self, name: &Name, line: u32) -> Result<u8, Code>
+        ensures number { IfOk result (λ n. (n ≡ number_or_next name.now self.old) × (n < MOST_NAMES)) }
+        ensures known { OnOk result (LearnsName Defined name.now line self.old self.new) }
         ensures refused { IfErr result (λ c. RefusesName Defined name.now self.old c) }
     {
-        if intrinsic(name).is_some() {
+        if intrinsic_named(name).is_some() {
             return Err(Code::IntrinsicRedefined);
         }
         let known = self.function_number(name);
         if self.has_begun(known) {
             return Err(Code::FunctionDefinedTwice);
         }
-        let number = self.number_for(known, name, line)?;
-        self.begin(number, name);
+        let number = self.number_or_next(known, name, line)?;
+        self.note_begun(number, name);
         Ok(number)
     }
 
@@ -229,19 +229,19 @@ impl Scope {
     {
         self.pools.set_function(self.number, &self.current);
         self.index.note(self.current.name(), self.number);
-        self.current.restart(&Name::new());
+        self.current.become_new(&Name::new());
     }
 
     /// Returns how many parameters the function that is being defined has so far.
-    pub fn parameters(&self) -> u8
+    pub fn parameter_count(&self) -> u8
         ensures count { result ≡ self.now.current.parameters }
         ensures most { result ≤ MOST_NAMES }
     {
-        self.current.parameters()
+        self.current.parameter_count()
     }
 
     /// Returns how many variables it has so far, its parameters among them.
-    pub fn variables(&self) -> u8
+    pub fn variable_count(&self) -> u8
         ensures count { result ≡ length self.now.current.variables }
         ensures first { self.now.current.parameters ≤ result }
         ensures most { result ≤ MOST_NAMES }
@@ -250,7 +250,7 @@ impl Scope {
     }
 
     /// Returns the line of the first mention of the earliest mentioned function whose definition didn't begin.
-    pub fn undefined(&self) -> Option<u32>
+    pub fn undefined_line(&self) -> Option<u32>
         ensures { result ≡ line_of_undefined 0 self.now.lines self.now.begun }
     {
         line_of_undefined(self.lines.as_slice(), self.begun.as_slice())
@@ -260,7 +260,7 @@ impl Scope {
     pub fn has_main(&self) -> bool
         ensures { result ≡ is_some (function_number main_name self.now) }
     {
-        self.function_number(&name_of(b"main")).is_some()
+        self.function_number(&name_of_bytes(b"main")).is_some()
     }
 
     /// Shows the names of the file, where they are.
@@ -279,25 +279,25 @@ impl Scope {
 
     /// Returns the variable of a name: one of the function's, or else an external.
     #[inline(always)]
-    fn variable(&self, name: &Name) -> Option<Var>
+    fn known_variable(&self, name: &Name) -> Option<Var>
         ensures value { result ≡ variable_named name.now self.now }
         ensures within { IfSome result (IsVariable MOST_NAMES MOST_NAMES) }
     {
-        if let Some(number) = number_of(self.current.variables(), name) {
+        if let Some(number) = name_number(self.current.variables(), name) {
             return Some(Var::Local(number as u8));
         }
-        let number = number_of(self.pools.externals(), name)?;
+        let number = name_number(self.pools.externals(), name)?;
         Some(Var::External(number as u8))
     }
 
     /// Returns the number of a function of the file, which is the next one if it is new.
     #[tactic(auto, using(crate::proofs::ScopeLaws::calls))]
-    fn number_for(&mut self, known: Option<usize>, name: &Name, line: u32) -> Result<u8, Code>
+    fn number_or_next(&mut self, known: Option<usize>, name: &Name, line: u32) -> Result<u8, Code>
         requires own { intrinsic_named name.now ≡ None }
         requires number { known ≡ function_number name.now self.old }
         requires within { IfSome known (λ n. n < MOST_NAMES) }
-        ensures number { IfOk result (λ n. (n ≡ number_for name.now self.old) × (n < MOST_NAMES)) }
-        ensures known { OnOk result (Knows Called name.now line self.old self.new) }
+        ensures number { IfOk result (λ n. (n ≡ number_or_next name.now self.old) × (n < MOST_NAMES)) }
+        ensures known { OnOk result (LearnsName Called name.now line self.old self.new) }
         ensures refused { IfErr result (λ c. RefusesName Called name.now self.old c) }
     {
         if let Some(number) = known {
@@ -314,7 +314,11 @@ impl Scope {
         ensures number { result ≡ function_number name.now self.now }
         ensures within { IfSome result (λ n. n < MOST_NAMES) }
     {
-        function_number(self.pools.functions(), self.index.start(name), name)
+        function_number(
+            self.pools.functions(),
+            self.index.first_candidate(name),
+            name,
+        )
     }
 
     /// Reports whether there is no room for a further function.
@@ -349,14 +353,14 @@ impl Scope {
 
     /// Begins the definition of the function of this number and name.
     #[tactic(auto, using(crate::proofs::ScopeLaws::beginnings))]
-    fn begin(&mut self, number: u8, name: &Name)
+    fn note_begun(&mut self, number: u8, name: &Name)
         requires within { number < length self.old.functions }
         requires new { list_any (λ k. k == number) self.old.begun ≡ false }
         ensures { self.new ≡ with_begun number name.now self.old }
     {
         self.begun.push(number);
         self.number = number;
-        self.current.restart(name);
+        self.current.become_new(name);
     }
 
     /// Reports whether the function has no variable of this name.
@@ -364,14 +368,14 @@ impl Scope {
     fn is_local_new(&self, name: &Name) -> bool
         ensures { result ≡ is_local_new name.now self.now }
     {
-        number_of(self.current.variables(), name).is_none()
+        name_number(self.current.variables(), name).is_none()
     }
 
     /// Reports whether the file has no external of this name.
     fn is_external_new(&self, name: &Name) -> bool
         ensures { result ≡ is_external_new name.now self.now }
     {
-        number_of(self.pools.externals(), name).is_none()
+        name_number(self.pools.externals(), name).is_none()
     }
 
     /// Adds a variable to the function, if there is room, and returns it.
@@ -383,7 +387,7 @@ impl Scope {
             × (nat_le MOST_NAMES (length self.old.current.variables) ≡ true)) }
     {
         let number = self.current.variables().len();
-        check_room(number)?;
+        check_variable_room(number)?;
         self.current.add_local(name);
         Ok(Var::Local(number as u8))
     }
@@ -406,7 +410,7 @@ impl Scope {
 }
 
 /// Checks that a list of so many variables, a function's or the externals, has room for one more.
-fn check_room(variables: usize) -> Result<(), Code>
+fn check_variable_room(variables: usize) -> Result<(), Code>
     ensures room { OnOk result (nat_le MOST_NAMES variables ≡ false) }
     ensures full { IfErr result (λ c. (c ≡ Code.TooManyVariables) × (nat_le MOST_NAMES variables ≡ true)) }
 {
@@ -419,12 +423,12 @@ fn check_room(variables: usize) -> Result<(), Code>
 
 /// Returns the number of a function that was mentioned.
 #[tactic(auto, using(crate::proofs::ScopeLaws::first_there, crate::proofs::ScopeLaws::nowhere))]
-fn function_number(functions: &[Function], start: usize, name: &Name) -> Option<usize>
-    requires { NoneBefore start name.now functions.now }
+fn function_number(functions: &[FunctionNames], start: usize, name: &Name) -> Option<usize>
+    requires { NoFunctionBefore start name.now functions.now }
     ensures { result ≡ number_of_name name.now (map (λ f. f.name) functions.now) }
 {
     for number in start..functions.len() {
-        if name.same(functions[number].name()) {
+        if name.is_same(functions[number].name()) {
             return Some(number);
         }
     }
@@ -432,8 +436,8 @@ fn function_number(functions: &[Function], start: usize, name: &Name) -> Option<
 }
 
 /// Makes the name of these bytes.
-fn name_of(bytes: &[u8]) -> Name
-    requires { length bytes.now ≤ NAME_BYTES }
+fn name_of_bytes(bytes: &[u8]) -> Name
+    requires { length bytes.now ≤ MOST_NAME_BYTES }
     ensures { result ≡ bytes.now }
 {
     let mut name = Name::new();

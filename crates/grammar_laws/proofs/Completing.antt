@@ -3,20 +3,20 @@ use Rattle.std.proofs.Common.{◌≡◌, ◌≤◌, ℕ, ◌+◌, List, [], ◌�
 use Rattle.std.proofs.Common.{append-nil, length}
 use Rattle.std.proofs.lemmas.List.{length-replicate}
 use Rattle.std.specs.Prelude.{pos, replicate}
-use Rattle.grammar.specs.declared.names.Callee.TheVariants as callee
-use Rattle.grammar.specs.declared.names.Var.TheVariants as var
+use Rattle.grammar.specs.declared.resolved_names.Callee.TheVariants as callee
+use Rattle.grammar.specs.declared.resolved_names.Var.TheVariants as var
 use Rattle.grammar.specs.declared.actions.Action.{Action}
 use Rattle.grammar.specs.declared.actions.Action.TheVariants.{PushConstant, BeginCall, BeginFunction, EndFunction}
 use Rattle.grammar.specs.declared.actions.Action.TheVariants.{EndIf}
 use Rattle.grammar.specs.Actions.{body_actions, last_return}
 use Rattle.grammar.specs.Beginning.{AreTellable, IsTellable}
-use Rattle.grammar.specs.Derivation.{Value, Definition, last_body, made}
+use Rattle.grammar.specs.Derivation.{Value, Definition, last_body, trees_after}
 use Rattle.grammar_laws.specs.Emission.{on_rule}
 use Rattle.grammar.specs.Faults.{definitions_actions}
 use Rattle.grammar.specs.Grammar.{Symbol, Source, Types, Head, More, Parameters, ParameterTypes, FunctionBlock, Block}
 use Rattle.grammar.specs.Grammar.{Declarations, Statements, Statement, ElsePart, Back, Expression, Level, Tail, Unary}
 use Rattle.grammar.specs.Grammar.{Primary, Arguments, MoreArguments, Role, Defined, External, Parameter, Typed, Local}
-use Rattle.grammar.specs.Grammar.{Called, Mentioned, Item, Exactly, AWord, AName, AConstant, AnEnd, Part, Make, Close}
+use Rattle.grammar.specs.Grammar.{Called, Mentioned, Item, Exactly, AKeyword, AName, AConstant, AnEnd, Part, Make, Close}
 use Rattle.grammar.specs.Grammar.{SemanticAction, Define, Decide}
 use Rattle.grammar.specs.Tree as tree
 use Rattle.grammar.specs.Tree.{Body}
@@ -135,7 +135,7 @@ part_completes A Statements stack on values n k ds acts h =
 part_completes A Statement stack on values n k ds acts h =
     on values n k ds acts (no_more_statements A (room_in stack + 2) (Tells A stack) values n k ds acts h)
 part_completes A ElsePart stack on values n k ds acts h =
-    front A ds acts (EndIf ∷ []) (on (made Decide values) n k ds (acts ++ EndIf ∷ [])
+    front A ds acts (EndIf ∷ []) (on (trees_after Decide values) n k ds (acts ++ EndIf ∷ [])
     (without_else A stack values n k ds acts h))
 part_completes A Back stack on values n k ds acts h =
     value_completes A (room_in stack + 2) (Tells A stack) on values n k ds acts h
@@ -157,13 +157,14 @@ rule_completes : (A : Type 0) (rule : SemanticAction) (stack : List Item) → Co
     Completed A (λ vs m j more told. Ruled A rule stack (Tells A stack) vs m j more told)
 rule_completes A Define stack on values n k ds acts h = defined A (Tells A stack) values n k ds acts h
 rule_completes A rule stack on values n k ds acts h =
-    front A ds acts (on_rule rule stack values 0) (on (made rule values) n k ds (acts ++ on_rule rule stack values 0) h)
+    front A ds acts (on_rule rule stack values 0)
+    (on (trees_after rule values) n k ds (acts ++ on_rule rule stack values 0) h)
 
 pub completes : (A : Type 0) (stack : List Item) (values : List Value) (n k : ℕ) (ds : List Definition)
     (acts : List Action) → Tells A stack values n k ds acts → Completes A ds acts
 completes A [] values n k ds acts h = ended A ds acts h.told h.fit
 completes A (Exactly m ∷ stack) values n k ds acts h = completes A stack values n k ds acts h
-completes A (AWord w ∷ stack) values n k ds acts h = completes A stack values n k ds acts h
+completes A (AKeyword w ∷ stack) values n k ds acts h = completes A stack values n k ds acts h
 completes A (AName role ∷ stack) values n k ds acts h =
     name_completes A role (Tells A stack) (λ vs m j more told. completes A stack vs m j more told) values n k ds acts h
 completes A (AConstant ∷ stack) values n k ds acts h =

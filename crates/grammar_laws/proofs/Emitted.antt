@@ -7,15 +7,15 @@ use Rattle.tokens.specs.declared.located_tokens.LocatedToken.{LocatedToken}
 use Rattle.grammar.specs.declared.actions.Action.{Action}
 use Rattle.grammar.specs.Actions.{function_actions}
 use Rattle.grammar.specs.Beginning.{IsBeginning}
-use Rattle.grammar.specs.Derivation.{State, start, Value, Definition, last_body, definition_of, next_of, after_of}
+use Rattle.grammar.specs.Derivation.{State, initial_state, Value, Definition, last_body, definition_of, next_token, token_after_next}
 use Rattle.grammar.specs.Derivation.{name_of_token, constant_value, is_end, matched, name_matched, constant_matched}
-use Rattle.grammar.specs.Derivation.{replaced, step_of, stepped, run}
+use Rattle.grammar.specs.Derivation.{replaced, item_step, stepped, derived}
 use Rattle.grammar_laws.specs.Emission.{on_item, emitted, emissions}
 use Rattle.grammar.specs.Faults.{definitions_actions, faults_at, faults_in}
-use Rattle.grammar.specs.Grammar.{Item, Exactly, AWord, AName, AConstant, AnEnd, Part, Make, Close, Operate, Negate}
-use Rattle.grammar.specs.Grammar.{Not, Complement, Fetch, Store, StepBefore, StepBehind, Pass, Invoke, Empty, Evaluate}
+use Rattle.grammar.specs.Grammar.{Item, Exactly, AKeyword, AName, AConstant, AnEnd, Part, Make, Close, Operate, Negate}
+use Rattle.grammar.specs.Grammar.{Not, Complement, Fetch, Store, PrefixIncrement, PostfixIncrement, Pass, Invoke, Empty, Evaluate}
 use Rattle.grammar.specs.Grammar.{Decide, DecideElse, Repeat, Zero, GiveBack, Define, Role, Production, choice}
-use Rattle.grammar.specs.Grammar.{is_fault, is_punctuator, is_word}
+use Rattle.grammar.specs.Grammar.{is_fault, is_punctuator, is_keyword}
 use Rattle.grammar.specs.Profile.{Profile}
 use Rattle.grammar.specs.Scope.{Scope}
 use Rattle.grammar.proofs.Beginnings.{beginning_follows}
@@ -29,7 +29,7 @@ use Rattle.grammar_laws.proofs.TellingLimits.{allowed, unlimited}
 use Rattle.grammar_laws.proofs.TellingSteps.{StateTells, defined_told, stepped_tells}
 use Rattle.grammar_laws.proofs.Telling.{Ends, Tells}
 
-pub start_tells : (A : Type 0) (located_tokens : List LocatedToken) → StateTells A (start located_tokens) []
+pub start_tells : (A : Type 0) (located_tokens : List LocatedToken) → StateTells A (initial_state located_tokens) []
 start_tells A located_tokens = record {
   told = refl;
   fit = λ a. tt;
@@ -83,21 +83,21 @@ replaced_part (Some items) stack rest values scope ds acts h = h
 
 step_part : (A : Type 0) (stack : List Item) (rest : List LocatedToken) (values : List Value) (scope : Scope)
     (ds : List Definition) (acts : List Action) → Tells A stack values scope.number scope.current.parameters ds acts →
-    HasPart (acts ++ on_item stack (next_of rest) values scope) ds →
-    IfPart (step_of stack rest values scope ds) (acts ++ on_item stack (next_of rest) values scope)
+    HasPart (acts ++ on_item stack (next_token rest) values scope) ds →
+    IfPart (item_step stack rest values scope ds) (acts ++ on_item stack (next_token rest) values scope)
 step_part A [] rest values scope ds acts t h = tt
 step_part A (Exactly m ∷ stack) rest values scope ds acts t h =
-    matched_part (is_punctuator m (next_of rest)) stack rest values scope ds _ h
-step_part A (AWord w ∷ stack) rest values scope ds acts t h =
-    matched_part (is_word w (next_of rest)) stack rest values scope ds _ h
+    matched_part (is_punctuator m (next_token rest)) stack rest values scope ds _ h
+step_part A (AKeyword w ∷ stack) rest values scope ds acts t h =
+    matched_part (is_keyword w (next_token rest)) stack rest values scope ds _ h
 step_part A (AName role ∷ stack) rest values scope ds acts t h =
-    named_part role (name_of_token (next_of rest)) stack rest values scope ds _ h
+    named_part role (name_of_token (next_token rest)) stack rest values scope ds _ h
 step_part A (AConstant ∷ stack) rest values scope ds acts t h =
-    constant_part (constant_value (next_of rest)) stack rest values scope ds _ h
+    constant_part (constant_value (next_token rest)) stack rest values scope ds _ h
 step_part A (AnEnd ∷ stack) rest values scope ds acts t h =
-    matched_part (is_end (next_of rest)) stack rest values scope ds _ h
+    matched_part (is_end (next_token rest)) stack rest values scope ds _ h
 step_part A (Part symbol ∷ stack) rest values scope ds acts t h =
-    replaced_part (choice symbol (next_of rest) (after_of rest)) stack rest values scope ds _ h
+    replaced_part (choice symbol (next_token rest) (token_after_next rest)) stack rest values scope ds _ h
 step_part A (Make Define ∷ stack) rest values scope ds acts t h =
     record {
       part = [];
@@ -110,8 +110,8 @@ step_part A (Make Not ∷ stack) rest values scope ds acts t h = no_more _ ds h
 step_part A (Make Complement ∷ stack) rest values scope ds acts t h = no_more _ ds h
 step_part A (Make Fetch ∷ stack) rest values scope ds acts t h = no_more _ ds h
 step_part A (Make (Store o) ∷ stack) rest values scope ds acts t h = no_more _ ds h
-step_part A (Make (StepBefore o) ∷ stack) rest values scope ds acts t h = no_more _ ds h
-step_part A (Make (StepBehind o) ∷ stack) rest values scope ds acts t h = no_more _ ds h
+step_part A (Make (PrefixIncrement o) ∷ stack) rest values scope ds acts t h = no_more _ ds h
+step_part A (Make (PostfixIncrement o) ∷ stack) rest values scope ds acts t h = no_more _ ds h
 step_part A (Make Pass ∷ stack) rest values scope ds acts t h = no_more _ ds h
 step_part A (Make Invoke ∷ stack) rest values scope ds acts t h = no_more _ ds h
 step_part A (Make Empty ∷ stack) rest values scope ds acts t h = no_more _ ds h
@@ -137,10 +137,10 @@ guarded_part s false o acts more h k = kept_part s o (acts ++ more) (more_part a
 stepped_part : (A : Type 0) (s : State) (acts : List Action) → StateTells A s acts → HasPart acts s.functions →
     HasPart (acts ++ emitted s) (stepped s).functions
 stepped_part A s acts t h =
-    guarded_part s (is_fault (next_of s.rest)) (step_of s.stack s.rest s.values s.scope s.functions) acts
-    (on_item s.stack (next_of s.rest) s.values s.scope) h
+    guarded_part s (is_fault (next_token s.rest)) (item_step s.stack s.rest s.values s.scope s.functions) acts
+    (on_item s.stack (next_token s.rest) s.values s.scope) h
     (step_part A s.stack s.rest s.values s.scope s.functions acts t
-    (more_part acts (on_item s.stack (next_of s.rest) s.values s.scope) s.functions h))
+    (more_part acts (on_item s.stack (next_token s.rest) s.values s.scope) s.functions h))
 
 -- Any steps.
 
@@ -148,10 +148,10 @@ record Emitted (s : State) (acts : List Action) : Type 0 where
   tells : StateTells ⊥ s acts
   part : HasPart acts s.functions
 
-emits : (n : ℕ) (s : State) (acts : List Action) → Emitted s acts → Emitted (run n s) (acts ++ emissions n s)
+emits : (n : ℕ) (s : State) (acts : List Action) → Emitted s acts → Emitted (derived n s) (acts ++ emissions n s)
 emits zero s acts h = subst (λ (xs : List Action). Emitted s xs) (sym (append-nil acts)) h
 emits (suc n) s acts h =
-    subst (λ (xs : List Action). Emitted (run n (stepped s)) xs)
+    subst (λ (xs : List Action). Emitted (derived n (stepped s)) xs)
     (append_assoc acts (emitted s) (emissions n (stepped s)))
     (emits n (stepped s) (acts ++ emitted s) (record {
       tells = stepped_tells ⊥ s acts (λ e. unlimited s.stack s.rest s.scope) h.tells;
@@ -160,17 +160,17 @@ emits (suc n) s acts h =
     }))
 
 emits_from_start : (n : ℕ) (located_tokens : List LocatedToken) →
-    Emitted (run n (start located_tokens)) (emissions n (start located_tokens))
-emits_from_start n located_tokens = emits n (start located_tokens) []
+    Emitted (derived n (initial_state located_tokens)) (emissions n (initial_state located_tokens))
+emits_from_start n located_tokens = emits n (initial_state located_tokens) []
     (record { tells = start_tells ⊥ located_tokens; part = record { part = []; is = refl } })
 
 clean_tells : (profile : Profile) (n : ℕ) (s : State) (acts : List Action) → faults_in profile n s ≡ [] → Sound s →
-    StateTells (Unit {0}) s acts → StateTells (Unit {0}) (run n s) (acts ++ emissions n s)
+    StateTells (Unit {0}) s acts → StateTells (Unit {0}) (derived n s) (acts ++ emissions n s)
 clean_tells profile zero s acts clean sound h = subst (λ (xs : List Action). StateTells (Unit {0}) s xs)
     (sym (append-nil acts)) h
 clean_tells profile (suc n) s acts clean sound h =
     let parts = append_empty (faults_at profile s) (faults_in profile n (stepped s)) clean in
-    subst (λ (xs : List Action). StateTells (Unit {0}) (run n (stepped s)) xs)
+    subst (λ (xs : List Action). StateTells (Unit {0}) (derived n (stepped s)) xs)
     (append_assoc acts (emitted s) (emissions n (stepped s)))
     (clean_tells profile n (stepped s) (acts ++ emitted s) parts.1 (stepped_sound profile s parts.0 sound)
     (stepped_tells (Unit {0}) s acts (allowed profile s parts.0 sound) h))
@@ -178,8 +178,8 @@ clean_tells profile (suc n) s acts clean sound h =
 -- The laws.
 
 pub emits_its_functions : EmitsItsFunctions
-emits_its_functions n located_tokens done = sym (ends (run n (start located_tokens))
-    (emissions n (start located_tokens)) done (emits_from_start n located_tokens).tells).told
+emits_its_functions n located_tokens done = sym (ends (derived n (initial_state located_tokens))
+    (emissions n (initial_state located_tokens)) done (emits_from_start n located_tokens).tells).told
   where
     ends : (s : State) (acts : List Action) → s.stack ≡ [] → StateTells ⊥ s acts → Ends ⊥ s.functions acts
     ends s acts e h = subst (λ (stack : List Item).
@@ -205,7 +205,8 @@ part_of_one acts ds h c = record {
 }
 
 pub emits_a_part : EmitsAPart
-emits_a_part n located_tokens = whole (run n (start located_tokens)) (emissions n (start located_tokens))
+emits_a_part n located_tokens =
+    whole (derived n (initial_state located_tokens)) (emissions n (initial_state located_tokens))
     (emits_from_start n located_tokens)
   where
     whole : (s : State) (acts : List Action) → Emitted s acts → IsPart acts s.functions
@@ -219,23 +220,23 @@ begins s acts h =
     record { functions = s.functions ++ c.further; tellable = c.fit tt; rest = c.rest; begins = c.begins }
 
 clean_from_start : (profile : Profile) (n : ℕ) (located_tokens : List LocatedToken) →
-    faults_in profile n (start located_tokens) ≡ [] →
-    StateTells (Unit {0}) (run n (start located_tokens)) (emissions n (start located_tokens))
-clean_from_start profile n located_tokens clean = clean_tells profile n (start located_tokens) [] clean
+    faults_in profile n (initial_state located_tokens) ≡ [] →
+    StateTells (Unit {0}) (derived n (initial_state located_tokens)) (emissions n (initial_state located_tokens))
+clean_from_start profile n located_tokens clean = clean_tells profile n (initial_state located_tokens) [] clean
     (start_sound located_tokens) (start_tells (Unit {0}) located_tokens)
 
 pub emits_a_beginning : EmitsABeginning
 emits_a_beginning profile n located_tokens clean =
-    begins (run n (start located_tokens)) (emissions n (start located_tokens))
+    begins (derived n (initial_state located_tokens)) (emissions n (initial_state located_tokens))
     (clean_from_start profile n located_tokens clean)
 
 pub next_may_follow : NextMayFollow
 next_may_follow profile other n located_tokens clean quiet =
-    begins (stepped (run n (start located_tokens)))
-    (emissions n (start located_tokens) ++ emitted (run n (start located_tokens)))
-    (stepped_tells (Unit {0}) (run n (start located_tokens)) (emissions n (start located_tokens))
-    (allowed other (run n (start located_tokens)) quiet
-    (run_sound profile n (start located_tokens) clean (start_sound located_tokens)))
+    begins (stepped (derived n (initial_state located_tokens)))
+    (emissions n (initial_state located_tokens) ++ emitted (derived n (initial_state located_tokens)))
+    (stepped_tells (Unit {0}) (derived n (initial_state located_tokens)) (emissions n (initial_state located_tokens))
+    (allowed other (derived n (initial_state located_tokens)) quiet
+    (run_sound profile n (initial_state located_tokens) clean (start_sound located_tokens)))
     (clean_from_start profile n located_tokens clean))
 
 pub beginnings_are_numbered : BeginningsAreNumbered

@@ -5,9 +5,9 @@ use Rattle.std.proofs.lemmas.Option.{slice_get-get_or}
 use Rattle.std.specs.Prelude.{Option, Some, None, Ok, get_or, if◌then◌else◌, slice_get}
 use Rattle.tokens.specs.declared.located_tokens.LocatedToken.{LocatedToken}
 use Rattle.grammar.specs.Actions.{actions}
-use Rattle.grammar.specs.Compiled.{all_defined, all_faults, defined_as, enough, last_line, last_state}
+use Rattle.grammar.specs.Compiled.{all_defined, all_faults, defined_as, enough_steps, last_line, last_state}
 use Rattle.grammar.specs.Compiled.{main_name, order_of}
-use Rattle.grammar.specs.Derivation.{Definition, State, next_of, run, start, step_of}
+use Rattle.grammar.specs.Derivation.{Definition, State, next_token, derived, initial_state, item_step}
 use Rattle.grammar_laws.specs.Emitted.{EmitsItsFile}
 use Rattle.grammar.specs.Faults.{Fault, definitions_actions, faults_at, faults_in, item_faults, misfit, misfits}
 use Rattle.grammar.specs.Grammar.{Item, is_fault}
@@ -20,7 +20,7 @@ use Rattle.grammar.proofs.FileLaws.{actions_there, there}
 use Rattle.grammar.proofs.Phases.{phase_of}
 use Rattle.grammar.proofs.ResolvedLaws.{AreDefined, IsClean, IsMade, Sound, are_defined, distinct_of, is_clean, is_made}
 use Rattle.grammar.proofs.ResolvedLaws.{made_file, order_below, run_sound, start_sound}
-use Rattle.grammar.proofs.Runs.{append_empty, faults_in-add, run-add}
+use Rattle.grammar.proofs.Runs.{append_empty, faults_in-add, derived-add}
 use Rattle.grammar.proofs.Verdicts.{weighs}
 use Rattle.grammar.proofs.Weight.{weight}
 
@@ -36,34 +36,35 @@ nothing_left (item ∷ stack) rest false xs (Some s) final clean = absurd (cc)
 
 done : (profile : Profile) (s : State) → IsFinal s → faults_at profile s ≡ [] → s.stack ≡ []
 done profile s final clean =
-    nothing_left s.stack s.rest (is_fault (next_of s.rest))
+    nothing_left s.stack s.rest (is_fault (next_token s.rest))
     (item_faults profile s.stack s.rest s.values s.scope s.functions)
-    (step_of s.stack s.rest s.values s.scope s.functions) final clean
+    (item_step s.stack s.rest s.values s.scope s.functions) final clean
 
 -- one step before the last of those that are enough the derivation has ended
 last_is_done : (profile : Profile) (located_tokens : List LocatedToken) → all_faults profile located_tokens ≡ [] →
     (last_state located_tokens).stack ≡ []
 last_is_done profile located_tokens clean =
-    subst (λ (n : ℕ). (run n (start located_tokens)).stack ≡ []) (weighs located_tokens)
-    (subst (λ (t : State). t.stack ≡ []) (sym (run-add most 1 (start located_tokens) ∙ final_stays before final))
+    subst (λ (n : ℕ). (derived n (initial_state located_tokens)).stack ≡ []) (weighs located_tokens)
+    (subst (λ (t : State). t.stack ≡ [])
+    (sym (derived-add most 1 (initial_state located_tokens) ∙ final_stays before final))
     (done profile before final quiet))
   where
     most : ℕ
-    most = weight (start located_tokens)
+    most = weight (initial_state located_tokens)
 
     before : State
-    before = run most (start located_tokens)
+    before = derived most (initial_state located_tokens)
 
     final : IsFinal before
-    final = ends most (start located_tokens) (le_refl most)
+    final = ends most (initial_state located_tokens) (le_refl most)
 
-    both : faults_in profile most (start located_tokens) ++ faults_in profile 1 before ≡ []
-    both = sym (faults_in-add profile most 1 (start located_tokens))
-        ∙ subst (λ (n : ℕ). faults_in profile n (start located_tokens) ≡ []) (sym (weighs located_tokens)) clean
+    both : faults_in profile most (initial_state located_tokens) ++ faults_in profile 1 before ≡ []
+    both = sym (faults_in-add profile most 1 (initial_state located_tokens))
+        ∙ subst (λ (n : ℕ). faults_in profile n (initial_state located_tokens) ≡ []) (sym (weighs located_tokens)) clean
 
     quiet : faults_at profile before ≡ []
     quiet = (append_empty (faults_at profile before) []
-        (append_empty (faults_in profile most (start located_tokens)) (faults_in profile 1 before) both).1).0
+        (append_empty (faults_in profile most (initial_state located_tokens)) (faults_in profile 1 before) both).1).0
 
 -- The functions of the file are those defined, each by its number.
 
@@ -98,9 +99,10 @@ file_told s functions main h found =
 
 pub emits_its_file : EmitsItsFile
 emits_its_file profile located_tokens file compiled =
-    emits_its_functions (enough located_tokens) located_tokens (last_is_done profile located_tokens c.clean)
+    emits_its_functions (enough_steps located_tokens) located_tokens (last_is_done profile located_tokens c.clean)
     ∙ file_told (last_state located_tokens) m.all m.place
-    (run_sound profile (enough located_tokens) (start located_tokens) c.clean (start_sound located_tokens)) m.found
+    (run_sound profile (enough_steps located_tokens) (initial_state located_tokens) c.clean
+    (start_sound located_tokens)) m.found
     ∙ ap actions m.is
   where
     c : IsClean located_tokens (all_faults profile located_tokens) (last_state located_tokens).scope

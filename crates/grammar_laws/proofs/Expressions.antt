@@ -4,7 +4,7 @@ use Rattle.std.specs.Prelude.{Some}
 use Rattle.tokens.specs.declared.located_tokens.Punctuator.TheVariants as punctuator
 use Rattle.tokens.specs.declared.located_tokens.Token.{Token}
 use Rattle.tokens.specs.declared.located_tokens.Token.TheVariants as token
-use Rattle.grammar.specs.declared.names.Callee.{Callee}
+use Rattle.grammar.specs.declared.resolved_names.Callee.{Callee}
 use Rattle.arith.specs.declared.operators.Op.{Op}
 use Rattle.grammar.specs.declared.operators.StoreOp.{StoreOp}
 use Rattle.grammar.specs.declared.operators.StoreOp.TheVariants as store
@@ -104,7 +104,7 @@ before_begins : (step : Step) (name : List ℕ) (tokens : List Token) (stack : L
     Leads
     (at (Part Unary ∷ stack) (token.Punctuator (step_punctuator step) ∷ token.Name name ∷ tokens) values scope
     functions)
-    (at (Make (grammar.StepBefore (step_op step)) ∷ stack) tokens (AVariable (variable_of name scope) ∷ values)
+    (at (Make (grammar.PrefixIncrement (step_op step)) ∷ stack) tokens (AVariable (variable_of name scope) ∷ values)
     (mentioned name scope) functions)
 before_begins Up name tokens stack values scope functions = record { steps = 3; leads = refl }
 before_begins Down name tokens stack values scope functions = record { steps = 3; leads = refl }
@@ -114,7 +114,7 @@ behind_begins : (step : Step) (name : List ℕ) (tokens : List Token) (stack : L
     Leads
     (at (Part Unary ∷ stack) (token.Name name ∷ token.Punctuator (step_punctuator step) ∷ tokens) values scope
     functions)
-    (at (Make (grammar.StepBehind (step_op step)) ∷ stack) tokens (AVariable (variable_of name scope) ∷ values)
+    (at (Make (grammar.PostfixIncrement (step_op step)) ∷ stack) tokens (AVariable (variable_of name scope) ∷ values)
     (mentioned name scope) functions)
 behind_begins Up name tokens stack values scope functions = record { steps = 4; leads = refl }
 behind_begins Down name tokens stack values scope functions = record { steps = 4; leads = refl }
@@ -134,7 +134,7 @@ stepped_before step name c rest stack values scope functions =
     (then _ _ _ (down 10 1 stack tokens values scope functions refl refl)
     (then _ _ _ (before_begins step name (token.Punctuator (closing_punctuator c) ∷ rest) above values scope functions)
     (then _ _ _
-    (make (grammar.StepBefore (step_op step)) above (token.Punctuator (closing_punctuator c) ∷ rest) _
+    (make (grammar.PrefixIncrement (step_op step)) above (token.Punctuator (closing_punctuator c) ∷ rest) _
     (AnExpr whole ∷ values) (mentioned name scope) functions refl refl refl refl)
     (up 10 1 c stack rest (AnExpr whole ∷ values) (mentioned name scope) functions))))
 
@@ -149,7 +149,7 @@ stepped_behind step name c rest stack values scope functions =
     (then _ _ _ (down 10 1 stack tokens values scope functions refl refl)
     (then _ _ _ (behind_begins step name (token.Punctuator (closing_punctuator c) ∷ rest) above values scope functions)
     (then _ _ _
-    (make (grammar.StepBehind (step_op step)) above (token.Punctuator (closing_punctuator c) ∷ rest) _
+    (make (grammar.PostfixIncrement (step_op step)) above (token.Punctuator (closing_punctuator c) ∷ rest) _
     (AnExpr whole ∷ values) (mentioned name scope) functions refl refl refl refl)
     (up 10 1 c stack rest (AnExpr whole ∷ values) (mentioned name scope) functions))))
 

@@ -6,9 +6,9 @@ use Rattle.std.specs.Prelude.{ℤ, ◌-◌, ◌==◌, Option, Some, None, if◌t
 use Rattle.tokens.specs.declared.located_tokens.Punctuator.{Punctuator}
 use Rattle.tokens.specs.declared.located_tokens.Punctuator.TheVariants as punctuator
 use Rattle.tokens.specs.declared.located_tokens.Token.TheVariants as token
-use Rattle.grammar.specs.declared.names.Callee.{Callee}
-use Rattle.grammar.specs.declared.names.Var.{Var}
-use Rattle.grammar.specs.declared.operators.Binary.{Binary}
+use Rattle.grammar.specs.declared.resolved_names.Callee.{Callee}
+use Rattle.grammar.specs.declared.resolved_names.Var.{Var}
+use Rattle.grammar.specs.declared.operators.BinaryOperator.{BinaryOperator}
 use Rattle.arith.specs.declared.operators.Op.{Op}
 use Rattle.arith.specs.declared.operators.Op.TheVariants as op
 use Rattle.grammar.specs.declared.operators.StoreOp.{StoreOp}
@@ -149,7 +149,7 @@ while_fits A small room c s less f g = record {
 
 -- The two operators with a right side are of the levels 1 and 2.
 
-record IsLow (b : Option Binary) : Type 0 where
+record IsLow (b : Option BinaryOperator) : Type 0 where
   low : (n : ℕ) (o : Op) → if_at n b ≡ Some o → is_logic o ≡ true → n ≤ 2
 
 other : (level : ℕ) (o : Op) → is_logic o ≡ false → IsLow (Some (record { level = level; op = o }))

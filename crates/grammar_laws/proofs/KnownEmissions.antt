@@ -1,10 +1,10 @@
 -- What the derivations of known sources emit, worked out.
 use Rattle.std.proofs.Common.{refl}
-use Rattle.grammar.specs.Intrinsics.{intrinsic_named, name_of}
+use Rattle.grammar.specs.Intrinsics.{intrinsic_named, intrinsic_name}
 use Rattle.grammar_laws.specs.KnownEmissions.{KnownEmissions}
 
 pub emissions_known : KnownEmissions
-unfolding intrinsic_named name_of
+unfolding intrinsic_named intrinsic_name
 emissions_known = record {
   loop_emits = refl;
   broken_off = refl;

@@ -1,10 +1,10 @@
 -- The known spellings, worked out.
 use Rattle.std.proofs.Common.{refl}
-use Rattle.grammar.specs.Intrinsics.{intrinsic_named, name_of}
+use Rattle.grammar.specs.Intrinsics.{intrinsic_named, intrinsic_name}
 use Rattle.grammar_laws.specs.KnownSpellings.{KnownSpellings}
 
 pub spellings : KnownSpellings
-unfolding intrinsic_named name_of
+unfolding intrinsic_named intrinsic_name
 spellings = record {
   difference_spelled = refl;
   difference_resolved = refl;

@@ -4,20 +4,20 @@ use Rattle.std.proofs.lemmas.List.{append-nil}
 use Rattle.std.specs.Prelude.{Some}
 use Rattle.tokens.specs.declared.located_tokens.LocatedToken.{LocatedToken}
 use Rattle.tokens.specs.declared.located_tokens.Token.{Token}
-use Rattle.grammar.specs.Derivation.{State, state, Value, Definition, run, next_of, after_of, made, defined, behind_rule}
+use Rattle.grammar.specs.Derivation.{State, state, Value, Definition, derived, next_token, token_after_next, trees_after, functions_defined, scope_after_action}
 use Rattle.grammar.specs.Grammar.{Item, Part, Make, Close, Symbol, SemanticAction, choice, is_fault}
 use Rattle.grammar.specs.Scope.{Scope}
-use Rattle.grammar.proofs.Runs.{run-add}
+use Rattle.grammar.proofs.Runs.{derived-add}
 
 -- some steps of the derivation lead from s to t
 pub record Leads (s t : State) : Type 0 where
   pub steps : ℕ
-  pub leads : run steps s ≡ t
+  pub leads : derived steps s ≡ t
 
 pub then : (s t u : State) → Leads s t → Leads t u → Leads s u
 then s t u a b = record {
   steps = a.steps + b.steps;
-  leads = run-add a.steps b.steps s ∙ ap (λ v. run b.steps v) a.leads ∙ b.leads;
+  leads = derived-add a.steps b.steps s ∙ ap (λ v. derived b.steps v) a.leads ∙ b.leads;
 }
 
 -- a token in a place of no meaning
@@ -32,10 +32,10 @@ abbrev pub at : List Item → List Token → List Value → Scope → List Defin
 at stack tokens values scope functions = state stack (located_tokens_of tokens) values scope functions
 
 abbrev pub first : List Token → Token
-first tokens = next_of (located_tokens_of tokens)
+first tokens = next_token (located_tokens_of tokens)
 
 abbrev pub second : List Token → Token
-second tokens = after_of (located_tokens_of tokens)
+second tokens = token_after_next (located_tokens_of tokens)
 
 -- a symbol is replaced
 pub part : (symbol : Symbol) (items stack : List Item) (tokens : List Token) (values : List Value) (scope : Scope)
@@ -48,8 +48,8 @@ part symbol items stack tokens values scope functions sound chosen =
 -- a tree is made; no rule but that of a function's end adds to the functions
 pub make : (rule : SemanticAction) (stack : List Item) (tokens : List Token) (values left : List Value) (scope : Scope)
     (functions : List Definition) →
-    is_fault (first tokens) ≡ false → made rule values ≡ left → defined rule values scope ≡ [] →
-    behind_rule rule scope ≡ scope →
+    is_fault (first tokens) ≡ false → trees_after rule values ≡ left → functions_defined rule values scope ≡ [] →
+    scope_after_action rule scope ≡ scope →
     Leads (at (Make rule ∷ stack) tokens values scope functions) (at stack tokens left scope functions)
 make rule stack tokens values left scope functions sound is quiet same =
     record { steps = 1; leads = rw (sound, is, quiet, same, append-nil functions) refl }

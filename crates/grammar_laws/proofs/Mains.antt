@@ -3,7 +3,7 @@ use Rattle.std.proofs.Common.{◌≡◌, List, [], ◌∷◌, ◌++◌, refl, ap
 use Rattle.tokens.specs.declared.located_tokens.Punctuator.TheVariants as punctuator
 use Rattle.tokens.specs.declared.located_tokens.Token.{Token}
 use Rattle.tokens.specs.declared.located_tokens.Token.TheVariants as token
-use Rattle.grammar.specs.Derivation.{State, state, start, ABody, Definition, definition_of}
+use Rattle.grammar.specs.Derivation.{State, state, initial_state, ABody, Definition, definition_of}
 use Rattle.grammar.specs.Grammar as grammar
 use Rattle.grammar.specs.Grammar.{Item, Exactly, Part, Make, Close, Declarations, Empty, Define}
 use Rattle.grammar.specs.Scope.{Scope, end_definition}
@@ -40,7 +40,7 @@ main_ends body learnt k = record {
 }
 
 pub derives_main : (s : Statement) →
-    Leads (start (located_tokens_of (in_main (spell_statement s))))
+    Leads (initial_state (located_tokens_of (in_main (spell_statement s))))
     (over (body_of s in_body) (behind_statement s in_body))
 derives_main s =
     let tokens : List Token = spell_statement s ++ close in

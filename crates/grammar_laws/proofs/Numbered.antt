@@ -6,14 +6,14 @@ use Rattle.tokens.specs.declared.located_tokens.LocatedToken.{LocatedToken}
 use Rattle.tokens.specs.declared.located_tokens.Token.{Token}
 use Rattle.tokens.specs.declared.located_tokens.Token.TheVariants as token
 use Rattle.grammar.specs.declared.diagnostics.Code.TheVariants as code
-use Rattle.grammar.specs.Compiled.{order_of, all_defined, all_faults, defined_as, enough, last_line, last_state, main_name}
-use Rattle.grammar.specs.Derivation.{State, state, start, Value, Definition, definition_of, last_body, of_name, next_of, after_of, line_of, name_of_token, constant_value, is_end, matched, name_matched, constant_matched, replaced, step_of, step, stepped, run}
+use Rattle.grammar.specs.Compiled.{order_of, all_defined, all_faults, defined_as, enough_steps, last_line, last_state, main_name}
+use Rattle.grammar.specs.Derivation.{State, state, initial_state, Value, Definition, definition_of, last_body, name_tree, next_token, token_after_next, line_at, name_of_token, constant_value, is_end, matched, name_matched, constant_matched, replaced, item_step, step, stepped, derived}
 use Rattle.grammar.specs.Faults.{Fault, fault, faults_at, faults_in, item_faults, definition_faults, name_faults, role_faults, misfit, misfits}
-use Rattle.grammar.specs.Grammar.{Item, Exactly, AWord, AName, AConstant, AnEnd, Part, Make, Close, Define, Role, Defined, External, Parameter, Typed, Local, Called, Mentioned, Production, choice, is_fault, is_punctuator, is_word}
+use Rattle.grammar.specs.Grammar.{Item, Exactly, AKeyword, AName, AConstant, AnEnd, Part, Make, Close, Define, Role, Defined, External, Parameter, Typed, Local, Called, Mentioned, Production, choice, is_fault, is_punctuator, is_keyword}
 use Rattle.grammar.specs.Intrinsics.{is_intrinsic}
 use Rattle.grammar.specs.Pools.{FunctionNames, names_of_function}
 use Rattle.grammar.specs.Profile.{Profile}
-use Rattle.grammar.specs.Scope.{Scope, behind_name, end_definition, function_number, is_external_new, is_function_new, is_local_new, is_variable_new, with_external, with_function, with_parameter, with_variable, variable_of, callee_of, only_named}
+use Rattle.grammar.specs.Scope.{Scope, scope_after_name, end_definition, function_number, is_external_new, is_function_new, is_local_new, is_variable_new, with_external, with_function, with_parameter, with_variable, variable_of, callee_of, only_named}
 use Rattle.grammar.specs.Tree.{Function, File}
 use Rattle.grammar.proofs.FileLaws.{named_at}
 use Rattle.grammar.proofs.NamedFunctions.{AreNamed, named_of_passes}
@@ -41,7 +41,7 @@ name_agrees : (role : Role) (name : Option (List ℕ)) (stack : List Item) (rest
     (values : List Value) (scope : Scope) (ds : List Definition) (h : History) → Agrees h scope →
     IfAgrees (says role name) h (name_matched role name stack rest values scope ds)
 name_agrees role None stack rest values scope ds h a = refl
-name_agrees role (Some name) stack rest values scope ds h a = agrees_named role name (line_of rest) h scope a
+name_agrees role (Some name) stack rest values scope ds h a = agrees_named role name (line_at rest) h scope a
 
 constant_agrees : (value : Option ℕ) (stack : List Item) (rest : List LocatedToken) (values : List Value)
     (scope : Scope) (ds : List Definition) (h : History) → Agrees h scope →
@@ -57,20 +57,20 @@ part_agrees (Some items) stack rest values scope ds h a = a
 
 step_agrees : (stack : List Item) (rest : List LocatedToken) (values : List Value) (scope : Scope)
     (ds : List Definition) (h : History) → Agrees h scope →
-    IfAgrees (said_of stack rest) h (step_of stack rest values scope ds)
+    IfAgrees (said_of stack rest) h (item_step stack rest values scope ds)
 step_agrees [] rest values scope ds h a = refl
 step_agrees (Exactly m ∷ stack) rest values scope ds h a =
-    matched_agrees (is_punctuator m (next_of rest)) stack rest values scope ds h a
-step_agrees (AWord w ∷ stack) rest values scope ds h a =
-    matched_agrees (is_word w (next_of rest)) stack rest values scope ds h a
+    matched_agrees (is_punctuator m (next_token rest)) stack rest values scope ds h a
+step_agrees (AKeyword w ∷ stack) rest values scope ds h a =
+    matched_agrees (is_keyword w (next_token rest)) stack rest values scope ds h a
 step_agrees (AName role ∷ stack) rest values scope ds h a =
-    name_agrees role (name_of_token (next_of rest)) stack rest values scope ds h a
+    name_agrees role (name_of_token (next_token rest)) stack rest values scope ds h a
 step_agrees (AConstant ∷ stack) rest values scope ds h a =
-    constant_agrees (constant_value (next_of rest)) stack rest values scope ds h a
+    constant_agrees (constant_value (next_token rest)) stack rest values scope ds h a
 step_agrees (AnEnd ∷ stack) rest values scope ds h a =
-    matched_agrees (is_end (next_of rest)) stack rest values scope ds h a
+    matched_agrees (is_end (next_token rest)) stack rest values scope ds h a
 step_agrees (Part symbol ∷ stack) rest values scope ds h a =
-    part_agrees (choice symbol (next_of rest) (after_of rest)) stack rest values scope ds h a
+    part_agrees (choice symbol (next_token rest) (token_after_next rest)) stack rest values scope ds h a
 step_agrees (Make Define ∷ stack) rest values scope ds h a = agrees_ended h scope a
 step_agrees (Make rule ∷ stack) rest values scope ds h a = a
 step_agrees (Close ∷ stack) rest values scope ds h a = a
@@ -87,21 +87,22 @@ kept_agrees s more h (Some t) a k = k
 
 stepped_agrees : (s : State) (h : History) → Agrees h s.scope → Agrees (said s ++ h) (stepped s).scope
 stepped_agrees s h a = kept_agrees s (said s) h (step s) a
-    (guarded_agrees (is_fault (next_of s.rest)) (said_of s.stack s.rest) h
-    (step_of s.stack s.rest s.values s.scope s.functions)
+    (guarded_agrees (is_fault (next_token s.rest)) (said_of s.stack s.rest) h
+    (item_step s.stack s.rest s.values s.scope s.functions)
     (step_agrees s.stack s.rest s.values s.scope s.functions h a))
 
-run_agrees : (n : ℕ) (s : State) (h : History) → Agrees h s.scope → Agrees (said_in n s ++ h) (run n s).scope
+run_agrees : (n : ℕ) (s : State) (h : History) → Agrees h s.scope → Agrees (said_in n s ++ h) (derived n s).scope
 run_agrees zero s h a = a
 run_agrees (suc n) s h a =
-    subst (λ (k : History). Agrees k (run n (stepped s)).scope) (sym (append_assoc (said_in n (stepped s)) (said s) h))
+    subst (λ (k : History). Agrees k (derived n (stepped s)).scope)
+    (sym (append_assoc (said_in n (stepped s)) (said s) h))
     (run_agrees n (stepped s) (said s ++ h) (stepped_agrees s h a))
 
 pub agrees_at : (located_tokens : List LocatedToken) (n : ℕ) →
     Agrees (said_at n located_tokens) (state_at n located_tokens).scope
 agrees_at located_tokens n =
     subst (λ (k : History). Agrees k (state_at n located_tokens).scope) (append-nil (said_at n located_tokens))
-    (run_agrees n (start located_tokens) [] agrees_first)
+    (run_agrees n (initial_state located_tokens) [] agrees_first)
 
 -- What a name makes.
 
@@ -110,9 +111,9 @@ no_fault (token.Fault f) name e = absurd (cc)
 no_fault t name e = refl
 
 values_behind : (s : State) (stack : List Item) (role : Role) (name : List ℕ) → s.stack ≡ AName role ∷ stack →
-    name_of_token (next_of s.rest) ≡ Some name →
-    (stepped s).values ≡ of_name role name s.scope ++ s.values
-values_behind s stack role name here named = rw (no_fault (next_of s.rest) name named, here, named) refl
+    name_of_token (next_token s.rest) ≡ Some name →
+    (stepped s).values ≡ name_tree role name s.scope ++ s.values
+values_behind s stack role name here named = rw (no_fault (next_token s.rest) name named, here, named) refl
 
 pub mentions : MentionsAreNumbered
 mentions located_tokens n name next = record {
@@ -168,7 +169,7 @@ function_counts name line h scope ds c = by (is_function_new name scope) refl
 -- a definition begins
 begun_counts : (name : List ℕ) (line : ℕ) (h : History) (scope : Scope) (ds : List Definition) →
     is_intrinsic name ≡ false → Counts h scope ds →
-    Counts (Says Defined name ∷ h) (behind_name Defined name line scope) ds
+    Counts (Says Defined name ∷ h) (scope_after_name Defined name line scope) ds
 begun_counts name line h scope ds own c = record {
   names = functions_said name line scope (function_names h) c.names;
   current = λ e. number_right name line scope own;
@@ -185,25 +186,25 @@ own_name name scope rest clean = by (is_intrinsic name) refl
 
 named_counts : (role : Role) (name : List ℕ) (line : ℕ) (rest : List LocatedToken) (h : History) (scope : Scope)
     (ds : List Definition) → role_faults role name scope rest ≡ [] →
-    Counts h scope ds → Counts (Says role name ∷ h) (behind_name role name line scope) ds
+    Counts h scope ds → Counts (Says role name ∷ h) (scope_after_name role name line scope) ds
 named_counts Defined name line rest h scope ds clean c =
     begun_counts name line h scope ds (own_name name scope rest clean) c
 named_counts External name line rest h scope ds clean c =
-    more_counts (Says External name ∷ h) h scope (behind_name External name line scope) ds refl c
+    more_counts (Says External name ∷ h) h scope (scope_after_name External name line scope) ds refl c
     (keeps_if (is_external_new name scope) (with_external name scope) scope
     (record { names = refl; begun = refl; number = refl; name = refl }))
 named_counts Parameter name line rest h scope ds clean c =
-    more_counts (Says Parameter name ∷ h) h scope (behind_name Parameter name line scope) ds refl c
+    more_counts (Says Parameter name ∷ h) h scope (scope_after_name Parameter name line scope) ds refl c
     (keeps_if (is_local_new name scope) (with_parameter name scope) scope
     (record { names = refl; begun = refl; number = refl; name = refl }))
 named_counts Typed name line rest h scope ds clean c = record { names = c.names; current = c.current }
 named_counts Local name line rest h scope ds clean c =
-    more_counts (Says Local name ∷ h) h scope (behind_name Local name line scope) ds refl c
+    more_counts (Says Local name ∷ h) h scope (scope_after_name Local name line scope) ds refl c
     (keeps_if (is_local_new name scope) (with_variable name scope) scope
     (record { names = refl; begun = refl; number = refl; name = refl }))
 named_counts Called name line rest h scope ds clean c = function_counts name line h scope ds c
 named_counts Mentioned name line rest h scope ds clean c =
-    more_counts (Says Mentioned name ∷ h) h scope (behind_name Mentioned name line scope) ds refl c
+    more_counts (Says Mentioned name ∷ h) h scope (scope_after_name Mentioned name line scope) ds refl c
     (keeps_if (is_variable_new name scope) (with_variable name scope) scope
     (record { names = refl; begun = refl; number = refl; name = refl }))
 
@@ -255,7 +256,7 @@ name_counts : (role : Role) (name : Option (List ℕ)) (stack : List Item) (rest
     IfCounts (says role name) h (name_matched role name stack rest values scope ds)
 name_counts role None stack rest values scope ds h clean c = refl
 name_counts role (Some name) stack rest values scope ds h clean c =
-    named_counts role name (line_of rest) rest h scope ds clean c
+    named_counts role name (line_at rest) rest h scope ds clean c
 
 constant_counts : (value : Option ℕ) (stack : List Item) (rest : List LocatedToken) (values : List Value)
     (scope : Scope) (ds : List Definition) (h : History) → Counts h scope ds →
@@ -272,20 +273,20 @@ part_counts (Some items) stack rest values scope ds h c = c
 step_counts : (profile : Profile) (stack : List Item) (rest : List LocatedToken) (values : List Value) (scope : Scope)
     (ds : List Definition) (h : History) →
     item_faults profile stack rest values scope ds ≡ [] → Sound (state stack rest values scope ds) → Counts h scope ds →
-    IfCounts (said_of stack rest) h (step_of stack rest values scope ds)
+    IfCounts (said_of stack rest) h (item_step stack rest values scope ds)
 step_counts profile [] rest values scope ds h clean s c = refl
 step_counts profile (Exactly m ∷ stack) rest values scope ds h clean s c =
-    matched_counts (is_punctuator m (next_of rest)) stack rest values scope ds h c
-step_counts profile (AWord w ∷ stack) rest values scope ds h clean s c =
-    matched_counts (is_word w (next_of rest)) stack rest values scope ds h c
+    matched_counts (is_punctuator m (next_token rest)) stack rest values scope ds h c
+step_counts profile (AKeyword w ∷ stack) rest values scope ds h clean s c =
+    matched_counts (is_keyword w (next_token rest)) stack rest values scope ds h c
 step_counts profile (AName role ∷ stack) rest values scope ds h clean s c =
-    name_counts role (name_of_token (next_of rest)) stack rest values scope ds h clean c
+    name_counts role (name_of_token (next_token rest)) stack rest values scope ds h clean c
 step_counts profile (AConstant ∷ stack) rest values scope ds h clean s c =
-    constant_counts (constant_value (next_of rest)) stack rest values scope ds h c
+    constant_counts (constant_value (next_token rest)) stack rest values scope ds h c
 step_counts profile (AnEnd ∷ stack) rest values scope ds h clean s c =
-    matched_counts (is_end (next_of rest)) stack rest values scope ds h c
+    matched_counts (is_end (next_token rest)) stack rest values scope ds h c
 step_counts profile (Part symbol ∷ stack) rest values scope ds h clean s c =
-    part_counts (choice symbol (next_of rest) (after_of rest)) stack rest values scope ds h c
+    part_counts (choice symbol (next_token rest) (token_after_next rest)) stack rest values scope ds h c
 step_counts profile (Make Define ∷ stack) rest values scope ds h clean s c =
     ended_counts values (definition_of scope (last_body values)) h scope ds
     (ended (phase_of stack) values scope ds s.tied) c
@@ -307,31 +308,31 @@ kept_counting s more h (Some t) c k = k
 stepped_counts : (profile : Profile) (s : State) (h : History) → faults_at profile s ≡ [] → Sound s →
     Counts h s.scope s.functions → Counts (said s ++ h) (stepped s).scope (stepped s).functions
 stepped_counts profile s h clean sound c = kept_counting s (said s) h (step s) c
-    (guarded_counts (is_fault (next_of s.rest)) (said_of s.stack s.rest) h s.rest
+    (guarded_counts (is_fault (next_token s.rest)) (said_of s.stack s.rest) h s.rest
     (item_faults profile s.stack s.rest s.values s.scope s.functions)
-    (misfits s.stack s.rest (step_of s.stack s.rest s.values s.scope s.functions))
-    (step_of s.stack s.rest s.values s.scope s.functions) clean
+    (misfits s.stack s.rest (item_step s.stack s.rest s.values s.scope s.functions))
+    (item_step s.stack s.rest s.values s.scope s.functions) clean
     (λ e. step_counts profile s.stack s.rest s.values s.scope s.functions h e
     (record { known = sound.known; tied = sound.tied }) c))
 
 run_counts : (profile : Profile) (n : ℕ) (s : State) (h : History) → faults_in profile n s ≡ [] → Sound s →
     Counts h s.scope s.functions →
-    Counts (said_in n s ++ h) (run n s).scope (run n s).functions
+    Counts (said_in n s ++ h) (derived n s).scope (derived n s).functions
 run_counts profile zero s h clean sound c = c
 run_counts profile (suc n) s h clean sound c =
     let parts = append_empty (faults_at profile s) (faults_in profile n (stepped s)) clean in
-    subst (λ (k : History). Counts k (run n (stepped s)).scope (run n (stepped s)).functions)
+    subst (λ (k : History). Counts k (derived n (stepped s)).scope (derived n (stepped s)).functions)
     (sym (append_assoc (said_in n (stepped s)) (said s) h))
     (run_counts profile n (stepped s) (said s ++ h) parts.1 (stepped_sound profile s parts.0 sound)
     (stepped_counts profile s h parts.0 sound c))
 
 counts_at : (profile : Profile) (located_tokens : List LocatedToken) (n : ℕ) →
-    faults_in profile n (start located_tokens) ≡ [] →
+    faults_in profile n (initial_state located_tokens) ≡ [] →
     Counts (said_at n located_tokens) (state_at n located_tokens).scope (state_at n located_tokens).functions
 counts_at profile located_tokens n clean =
     subst (λ (k : History). Counts k (state_at n located_tokens).scope (state_at n located_tokens).functions)
     (append-nil (said_at n located_tokens))
-    (run_counts profile n (start located_tokens) [] clean (start_sound located_tokens)
+    (run_counts profile n (initial_state located_tokens) [] clean (start_sound located_tokens)
     (record { names = refl; current = λ e. absurd (omega (arith, e)) }))
 
 pub calls : CallsAreNumbered
@@ -344,7 +345,8 @@ calls profile located_tokens n name clean next = record {
 
 -- Definitions.
 
-functions_behind : (s : State) (stack : List Item) → s.stack ≡ Make Define ∷ stack → is_fault (next_of s.rest) ≡ false →
+functions_behind : (s : State) (stack : List Item) → s.stack ≡ Make Define ∷ stack →
+    is_fault (next_token s.rest) ≡ false →
     (stepped s).functions ≡ s.functions ++ definition_of s.scope (last_body s.values) ∷ []
 functions_behind s stack here sound = rw (sound, here) refl
 
@@ -359,7 +361,7 @@ definitions profile located_tokens n clean ending =
     let c : Counts h s.scope s.functions = counts_at profile located_tokens n clean in
     let busy : Busy s.values s.scope s.functions =
     busy_at s ending.stack ending.define_next
-    (run_sound profile n (start located_tokens) clean (start_sound located_tokens)) in
+    (run_sound profile n (initial_state located_tokens) clean (start_sound located_tokens)) in
     record {
       definition = definition_of s.scope (last_body s.values);
       adds = functions_behind s ending.stack ending.define_next ending.sound;
@@ -398,18 +400,20 @@ files profile located_tokens file e =
     is_made (last_line located_tokens) s.scope (order_of s.functions) (all_defined 0 s.scope.lines s.functions)
     (function_number main_name s.scope) file c.is in
     let sound : Sound s =
-    run_sound profile (enough located_tokens) (start located_tokens) c.clean (start_sound located_tokens) in
+    run_sound profile (enough_steps located_tokens) (initial_state located_tokens) c.clean (start_sound located_tokens)
+    in
     let named : AreNamed s.scope.functions s.functions =
-    named_of_passes profile located_tokens s (record { steps = enough located_tokens; leads = refl; clean = c.clean })
+    named_of_passes profile located_tokens s
+    (record { steps = enough_steps located_tokens; leads = refl; clean = c.clean })
     in
     let same : map names_of_function m.all ≡ s.scope.functions =
     functions_named s.scope s.functions m.all (are_defined 0 s.scope.lines s.functions m.all m.found) named
     sound.known.lines in
     record {
       externals = ap (λ (f : File). f.externals) (sym m.is) ∙
-          (agrees_at located_tokens (enough located_tokens)).externals;
+          (agrees_at located_tokens (enough_steps located_tokens)).externals;
       functions =
           ap (λ (f : File). map (λ (g : Function). g.name) f.functions) (sym m.is) ∙ names_mapped m.all ∙
           ap (λ fs. map (λ (f : FunctionNames). f.name) fs) same
-          ∙ (counts_at profile located_tokens (enough located_tokens) c.clean).names;
+          ∙ (counts_at profile located_tokens (enough_steps located_tokens) c.clean).names;
     }

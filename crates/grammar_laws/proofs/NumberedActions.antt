@@ -1,21 +1,21 @@
 -- Actions that may follow one another have numbers below the limits.
 use Rattle.std.proofs.Common.{◌≡◌, ℕ, List, [], ◌∷◌, refl, Bool, true, false}
 use Rattle.std.specs.Prelude.{Option, Some, None, IsTrue, is_some, if◌then◌else◌}
-use Rattle.grammar.specs.declared.names.Var.{Var}
+use Rattle.grammar.specs.declared.resolved_names.Var.{Var}
 use Rattle.grammar.specs.declared.operators.StoreOp.{StoreOp}
 use Rattle.grammar.specs.declared.actions.Action.{Action}
 use Rattle.grammar.specs.declared.actions.Action.TheVariants.{FetchVariable, StoreVariable, EndCall, BeginFunction}
 use Rattle.grammar.specs.declared.actions.Action.TheVariants.{EndFunction}
 use Rattle.grammar_laws.specs.Emitted.{IsNumbered, AreNumbered}
 use Rattle.grammar.specs.Following.{AValue, Fetched, InFunction, Opened, call_done, few_open, follow, follow_all}
-use Rattle.grammar.specs.Following.{is_callee_numbered, is_var_numbered, stored, then_follow, within}
+use Rattle.grammar.specs.Following.{is_callee_numbered, is_var_numbered, stored_origin, then_follow, opens_within}
 use Rattle.grammar.specs.Resolved.{IsVariable}
 use Rattle.grammar.proofs.Beginnings.{begin_makes, finish_makes}
 use Rattle.grammar.proofs.UnfinishedSteps.{callee_in, if_true, only_true, variable_in}
 
 store_numbered : (v : Var) (op : StoreOp) (o q : Opened) → follow (StoreVariable v op) o ≡ Some q → IsVariable 64 64 v
 store_numbered v op (AValue origin ∷ o) q e = variable_in v
-    (only_true (is_var_numbered v) (AValue (stored v origin) ∷ o) q e).0
+    (only_true (is_var_numbered v) (AValue (stored_origin v origin) ∷ o) q e).0
 store_numbered v op o q e = absurd (cc)
 
 function_numbered : (number parameters : ℕ) (o q : Opened) → follow (BeginFunction number parameters) o ≡ Some q →
@@ -30,7 +30,7 @@ finish_numbered variables o q e = absurd (cc)
 
 action_numbered : (a : Action) (o q : Opened) → follow a o ≡ Some q → IsNumbered a
 action_numbered (FetchVariable v) o q e = variable_in v
-    (if_true (is_var_numbered v) (within (AValue (Fetched v)) o) q e).0
+    (if_true (is_var_numbered v) (opens_within (AValue (Fetched v)) o) q e).0
 action_numbered (StoreVariable v op) o q e = store_numbered v op o q e
 action_numbered (EndCall f) o q e = callee_in f (if_true (is_callee_numbered f) (call_done o) q e).0
 action_numbered (BeginFunction number parameters) o q e = function_numbered number parameters o q e

@@ -3,12 +3,12 @@ use Rattle.std.proofs.Common.{◌≡◌, ℕ, ◌+◌, List, [], ◌∷◌, ◌+
 use Rattle.std.proofs.lemmas.List.{length-map}
 use Rattle.std.specs.Option.{option_map, option_or}
 use Rattle.std.specs.Prelude.{Option, Some, None, not, is_none, unwrap_or, slice_get, if◌then◌else◌}
-use Rattle.grammar.specs.declared.names.Intrinsic.{Intrinsic}
-use Rattle.grammar.specs.declared.names.Var.TheVariants as var
+use Rattle.grammar.specs.declared.resolved_names.Intrinsic.{Intrinsic}
+use Rattle.grammar.specs.declared.resolved_names.Var.TheVariants as var
 use Rattle.grammar.specs.Grammar.{Role, Defined, External, Parameter, Typed, Local, Called, Mentioned}
 use Rattle.grammar.specs.Intrinsics.{intrinsic_named, is_intrinsic}
 use Rattle.grammar.specs.Pools.{FunctionNames}
-use Rattle.grammar.specs.Scope.{Scope, no_names, behind_name, end_definition, number_of_name, function_number, variable_of, is_variable_new, is_function_new, number_for, callee_of, callee_or, with_function, with_new_function, with_variable, with_parameter, with_external, only_named}
+use Rattle.grammar.specs.Scope.{Scope, no_names, scope_after_name, end_definition, number_of_name, function_number, variable_of, is_variable_new, is_function_new, number_or_next, callee_of, callee_or, with_function, with_new_function, with_variable, with_parameter, with_external, only_named}
 use Rattle.grammar_laws.specs.Numbering.{Says, Ends, History, IsVariableOf, IsCalleeOf, is_among, distinct, unless, external_names, own_names, parameter_count, defined_name, function_names}
 use Rattle.grammar_laws.proofs.Distinct.{among_distinct, distinct_last, number_found, missing, get_last}
 
@@ -134,7 +134,7 @@ function_kept : (name : List ℕ) (line : ℕ) (scope : Scope) →
 function_kept name line scope = kept_if (is_function_new name scope) (with_new_function name line scope) scope refl refl
 
 pub agrees_named : (role : Role) (name : List ℕ) (line : ℕ) (h : History) (scope : Scope) → Agrees h scope →
-    Agrees (Says role name ∷ h) (behind_name role name line scope)
+    Agrees (Says role name ∷ h) (scope_after_name role name line scope)
 agrees_named Defined name line h scope a = record {
   externals = (function_kept name line scope).0 ∙ a.externals;
   variables = refl;
@@ -258,7 +258,7 @@ functions_said name line scope said e = by (is_intrinsic name)
 
 -- the number of a function that has one
 pub number_right : (name : List ℕ) (line : ℕ) (scope : Scope) → is_intrinsic name ≡ false →
-    slice_get (names_in (with_function name line scope)) (number_for name scope) ≡ Some name
+    slice_get (names_in (with_function name line scope)) (number_or_next name scope) ≡ Some name
 number_right name line scope own = rw own (by (function_number name scope) refl)
   where
     by : (o : Option ℕ) → function_number name scope ≡ o →
@@ -278,11 +278,11 @@ pub callee_right : (name : List ℕ) (h : History) (scope : Scope) → names_in 
 callee_right name h scope e = by (intrinsic_named name) refl
   where
     by : (o : Option Intrinsic) → intrinsic_named name ≡ o →
-        IsCalleeOf (Says Called name ∷ h) name (callee_or o (number_for name scope))
+        IsCalleeOf (Says Called name ∷ h) name (callee_or o (number_or_next name scope))
     by (Some i) is = is
     by None is =
         let own : is_intrinsic name ≡ false = rw is refl in (
           own,
-          ap (λ ns. slice_get ns (number_for name scope)) (sym (functions_said name 0 scope (function_names h) e)) ∙
+          ap (λ ns. slice_get ns (number_or_next name scope)) (sym (functions_said name 0 scope (function_names h) e)) ∙
               number_right name 0 scope own,
         )

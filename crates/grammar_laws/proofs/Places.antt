@@ -4,9 +4,9 @@ use Rattle.std.proofs.lemmas.List.{map-append}
 use Rattle.std.specs.Prelude.{Option, Some, None, unwrap_or, if◌then◌else◌}
 use Rattle.std.specs.Option.{option_map}
 use Rattle.tokens.specs.declared.located_tokens.LocatedToken.{LocatedToken}
-use Rattle.grammar.specs.Derivation.{State, state, Value, Definition, step, step_of, stepped, run, next_of, after_of, matched, name_matched, constant_matched, replaced, name_of_token, constant_value, of_name, defined, behind_rule, is_end}
-use Rattle.grammar.specs.Grammar.{Item, Exactly, AWord, AName, AConstant, AnEnd, Part, Make, Close, Role, Defined, External, Parameter, Typed, Local, Called, Mentioned, SemanticAction, Define, Production, choice, is_punctuator, is_word, is_fault}
-use Rattle.grammar.specs.Scope.{Scope, behind_name, with_function, with_new_function, with_variable, with_parameter, with_external, is_function_new, is_variable_new, is_local_new, is_external_new}
+use Rattle.grammar.specs.Derivation.{State, state, Value, Definition, step, item_step, stepped, derived, next_token, token_after_next, matched, name_matched, constant_matched, replaced, name_of_token, constant_value, name_tree, functions_defined, scope_after_action, is_end}
+use Rattle.grammar.specs.Grammar.{Item, Exactly, AKeyword, AName, AConstant, AnEnd, Part, Make, Close, Role, Defined, External, Parameter, Typed, Local, Called, Mentioned, SemanticAction, Define, Production, choice, is_punctuator, is_keyword, is_fault}
+use Rattle.grammar.specs.Scope.{Scope, scope_after_name, with_function, with_new_function, with_variable, with_parameter, with_external, is_function_new, is_variable_new, is_local_new, is_external_new}
 use Rattle.grammar_laws.specs.RoundTrip.{tokens_of}
 use Rattle.grammar_laws.proofs.Leading.{located_tokens_of}
 
@@ -41,7 +41,7 @@ bare_function name line scope =
     ∙ either (is_function_new name scope) (with_new_function name line scope) scope
 
 bare_name : (role : Role) (name : List ℕ) (line : ℕ) (scope : Scope) →
-    behind_name role name 0 (bare_scope scope) ≡ bare_scope (behind_name role name line scope)
+    scope_after_name role name 0 (bare_scope scope) ≡ bare_scope (scope_after_name role name line scope)
 bare_name Defined name line scope = rw (bare_function name line scope) refl
 bare_name External name line scope = either (is_external_new name scope) (with_external name scope) scope
 bare_name Parameter name line scope = either (is_local_new name scope) (with_parameter name scope) scope
@@ -51,28 +51,28 @@ bare_name Called name line scope = bare_function name line scope
 bare_name Mentioned name line scope = either (is_variable_new name scope) (with_variable name scope) scope
 
 bare_tree : (role : Role) (name : List ℕ) (scope : Scope) →
-    of_name role name (bare_scope scope) ≡ of_name role name scope
+    name_tree role name (bare_scope scope) ≡ name_tree role name scope
 bare_tree Called name scope = refl
 bare_tree Mentioned name scope = refl
 bare_tree role name scope = refl
 
 bare_rule : (rule : SemanticAction) (scope : Scope) →
-    behind_rule rule (bare_scope scope) ≡ bare_scope (behind_rule rule scope)
+    scope_after_action rule (bare_scope scope) ≡ bare_scope (scope_after_action rule scope)
 bare_rule Define scope = refl
 bare_rule rule scope = refl
 
 bare_defined : (rule : SemanticAction) (values : List Value) (scope : Scope) →
-    defined rule values (bare_scope scope) ≡ defined rule values scope
+    functions_defined rule values (bare_scope scope) ≡ functions_defined rule values scope
 bare_defined Define values scope = refl
 bare_defined rule values scope = refl
 
 -- steps
 
-bare_next : (rest : List LocatedToken) → next_of (bare_rest rest) ≡ next_of rest
+bare_next : (rest : List LocatedToken) → next_token (bare_rest rest) ≡ next_token rest
 bare_next [] = refl
 bare_next (l ∷ rest) = refl
 
-bare_after : (rest : List LocatedToken) → after_of (bare_rest rest) ≡ after_of rest
+bare_after : (rest : List LocatedToken) → token_after_next (bare_rest rest) ≡ token_after_next rest
 bare_after [] = refl
 bare_after (l ∷ rest) = bare_next rest
 
@@ -114,23 +114,23 @@ bare_replaced (Some items) stack rest values scope functions = refl
 
 bare_step_of : (stack : List Item) (rest : List LocatedToken) (values : List Value) (scope : Scope)
     (functions : List Definition) →
-    AreBare (step_of stack (bare_rest rest) values (bare_scope scope) functions)
-    (step_of stack rest values scope functions)
+    AreBare (item_step stack (bare_rest rest) values (bare_scope scope) functions)
+    (item_step stack rest values scope functions)
 bare_step_of [] rest values scope functions = refl
 bare_step_of (Exactly m ∷ stack) rest values scope functions =
-    rw (bare_next rest) (bare_matched (is_punctuator m (next_of rest)) stack rest values scope functions)
-bare_step_of (AWord w ∷ stack) rest values scope functions =
-    rw (bare_next rest) (bare_matched (is_word w (next_of rest)) stack rest values scope functions)
+    rw (bare_next rest) (bare_matched (is_punctuator m (next_token rest)) stack rest values scope functions)
+bare_step_of (AKeyword w ∷ stack) rest values scope functions =
+    rw (bare_next rest) (bare_matched (is_keyword w (next_token rest)) stack rest values scope functions)
 bare_step_of (AName role ∷ stack) [] values scope functions = refl
 bare_step_of (AName role ∷ stack) (l ∷ rest) values scope functions =
     bare_name_matched role (name_of_token l.token) stack l rest values scope functions
 bare_step_of (AConstant ∷ stack) rest values scope functions =
-    rw (bare_next rest) (bare_constant (constant_value (next_of rest)) stack rest values scope functions)
+    rw (bare_next rest) (bare_constant (constant_value (next_token rest)) stack rest values scope functions)
 bare_step_of (AnEnd ∷ stack) rest values scope functions =
-    rw (bare_next rest) (bare_matched (is_end (next_of rest)) stack rest values scope functions)
+    rw (bare_next rest) (bare_matched (is_end (next_token rest)) stack rest values scope functions)
 bare_step_of (Part symbol ∷ stack) rest values scope functions =
     rw (bare_next rest, bare_after rest)
-    (bare_replaced (choice symbol (next_of rest) (after_of rest)) stack rest values scope functions)
+    (bare_replaced (choice symbol (next_token rest) (token_after_next rest)) stack rest values scope functions)
 bare_step_of (Make rule ∷ stack) rest values scope functions =
     rw (bare_rule rule scope, bare_defined rule values scope) refl
 bare_step_of (Close ∷ stack) rest values scope functions = refl
@@ -143,7 +143,7 @@ unless false x y same = same
 bare_step : (s : State) → AreBare (step (bare s)) (step s)
 bare_step s =
     rw (bare_next s.rest)
-    (unless (is_fault (next_of s.rest)) _ _ (bare_step_of s.stack s.rest s.values s.scope s.functions))
+    (unless (is_fault (next_token s.rest)) _ _ (bare_step_of s.stack s.rest s.values s.scope s.functions))
 
 bare_or : (x : Option State) (s : State) → unwrap_or (option_map bare x) (bare s) ≡ bare (unwrap_or x s)
 bare_or None s = refl
@@ -152,6 +152,6 @@ bare_or (Some t) s = refl
 bare_stepped : (s : State) → stepped (bare s) ≡ bare (stepped s)
 bare_stepped s = ap (λ (x : Option State). unwrap_or x (bare s)) (bare_step s) ∙ bare_or (step s) s
 
-pub bare_run : (n : ℕ) (s : State) → run n (bare s) ≡ bare (run n s)
+pub bare_run : (n : ℕ) (s : State) → derived n (bare s) ≡ bare (derived n s)
 bare_run zero s = refl
-bare_run (suc n) s = ap (run n) (bare_stepped s) ∙ bare_run n (stepped s)
+bare_run (suc n) s = ap (derived n) (bare_stepped s) ∙ bare_run n (stepped s)

@@ -3,19 +3,19 @@
 -- The limits on names and nesting hold if `A` does: for a law without limits it is taken to be absurd.
 use Rattle.std.proofs.Common.{◌≡◌, ℕ, ◌+◌, ◌<◌, ◌≤◌, List, [], ◌∷◌, ◌++◌}
 use Rattle.std.specs.Prelude.{◌-◌, ◌*◌, pos}
-use Rattle.grammar.specs.declared.names.Callee.{Callee}
-use Rattle.grammar.specs.declared.names.Var.{Var}
+use Rattle.grammar.specs.declared.resolved_names.Callee.{Callee}
+use Rattle.grammar.specs.declared.resolved_names.Var.{Var}
 use Rattle.grammar.specs.declared.actions.Action.{Action}
 use Rattle.grammar.specs.declared.actions.Action.TheVariants.{PushConstant, BeginCall, IfTest, BeginFunction}
 use Rattle.grammar.specs.Actions.{expr_actions, args_actions, body_actions}
 use Rattle.grammar.specs.Beginning.{AreTellable}
-use Rattle.grammar.specs.Derivation.{Value, AnExpr, AVariable, ACall, ABody, Definition, last_body, made}
+use Rattle.grammar.specs.Derivation.{Value, AnExpr, AVariable, ACall, ABody, Definition, last_body, trees_after}
 use Rattle.grammar_laws.specs.Emission.{on_rule}
 use Rattle.grammar.specs.Faults.{definitions_actions, levels}
 use Rattle.grammar.specs.Grammar.{Symbol, Source, Types, Head, More, Parameters, ParameterTypes, FunctionBlock, Block}
 use Rattle.grammar.specs.Grammar.{Declarations, Statements, Statement, ElsePart, Back, Expression, Level, Tail, Unary}
 use Rattle.grammar.specs.Grammar.{Primary, Arguments, MoreArguments, Role, Defined, Parameter, Called, Mentioned, Item}
-use Rattle.grammar.specs.Grammar.{Exactly, AWord, AName, AConstant, AnEnd, Part, Make, Close, SemanticAction, Define}
+use Rattle.grammar.specs.Grammar.{Exactly, AKeyword, AName, AConstant, AnEnd, Part, Make, Close, SemanticAction, Define}
 use Rattle.grammar.specs.Nesting.{nesting, args_nesting, body_nesting}
 use Rattle.grammar.specs.Resolved.{IsVariable, IsCallable, InExpr, InArgs, InBody}
 use Rattle.grammar.specs.Tree as tree
@@ -183,11 +183,11 @@ Parted A MoreArguments room next values n k ds acts = Passed A (room + 2) next v
 
 abbrev pub Ruled : Type 0 → SemanticAction → List Item → Fact → Fact
 Ruled A Define stack next values n k ds acts = Defines A next values n k ds acts
-Ruled A rule stack next values n k ds acts = next (made rule values) n k ds (acts ++ on_rule rule stack values 0)
+Ruled A rule stack next values n k ds acts = next (trees_after rule values) n k ds (acts ++ on_rule rule stack values 0)
 
 abbrev pub ItemTells : Type 0 → Item → List Item → Fact → Fact
 ItemTells A (Exactly m) stack next values n k ds acts = next values n k ds acts
-ItemTells A (AWord w) stack next values n k ds acts = next values n k ds acts
+ItemTells A (AKeyword w) stack next values n k ds acts = next values n k ds acts
 ItemTells A (AName role) stack next values n k ds acts = Named A role next values n k ds acts
 ItemTells A AConstant stack next values n k ds acts = (value : ℕ) →
     next (AnExpr (tree.Constant (pos value)) ∷ values) n k ds (acts ++ PushConstant (pos value) ∷ [])

@@ -5,16 +5,16 @@ use Rattle.std.specs.Prelude.{Option, Some, nat_le, if◌then◌else◌}
 use Rattle.tokens.specs.declared.located_tokens.LocatedToken.{LocatedToken}
 use Rattle.grammar.specs.declared.diagnostics.Code.TheVariants as code
 use Rattle.grammar.specs.Compiled.{order_of}
-use Rattle.grammar.specs.Derivation.{State, state, Value, Definition, next_of, after_of, line_of, name_of_token}
-use Rattle.grammar.specs.Derivation.{step_of}
+use Rattle.grammar.specs.Derivation.{State, state, Value, Definition, next_token, token_after_next, line_at, name_of_token}
+use Rattle.grammar.specs.Derivation.{item_step}
 use Rattle.grammar.specs.Faults.{Fault, fault, faults_at, item_faults, levels, misfit, misfits}
 use Rattle.grammar.specs.Faults.{name_faults, only_if, role_faults}
 use Rattle.grammar.specs.Grammar.{Symbol, FunctionBlock, Item, AName, Part, Make, Define, Role, Called, Mentioned}
 use Rattle.grammar.specs.Grammar.{enters, is_fault}
-use Rattle.grammar.specs.Limits.{most_levels}
+use Rattle.grammar.specs.NameLimits.{most_levels}
 use Rattle.grammar.specs.Profile.{Profile}
 use Rattle.grammar.specs.Resolved.{IsAmong}
-use Rattle.grammar.specs.Scope.{Scope, behind_name, callee_of, variable_of}
+use Rattle.grammar.specs.Scope.{Scope, scope_after_name, callee_of, variable_of}
 use Rattle.grammar.proofs.Phases.{phase_of}
 use Rattle.grammar.proofs.ResolvedLaws.{Busy, Sound, among_last, ended}
 use Rattle.grammar.proofs.Runs.{append_empty}
@@ -44,17 +44,17 @@ known_wider scope ds k = record { externals = k.externals; locals = k.variables;
 call_allowed : (name : List ℕ) (scope : Scope) (ds : List Definition) (rest : List LocatedToken) → Known scope ds →
     Clean (role_faults Called name scope rest) → NameAllows (Unit {0}) Called (Some name) scope
 call_allowed name scope ds rest k clean =
-    let g : Grows scope (behind_name Called name (line_of rest) scope) ds =
-    role_grows Called name (line_of rest) scope ds rest tt k clean in
-    λ a. callable_wider _ _ _ 64 64 64 (known_wider (behind_name Called name (line_of rest) scope) ds g.known)
-    (callee_of name scope) (callee_in name (line_of rest) scope)
+    let g : Grows scope (scope_after_name Called name (line_at rest) scope) ds =
+    role_grows Called name (line_at rest) scope ds rest tt k clean in
+    λ a. callable_wider _ _ _ 64 64 64 (known_wider (scope_after_name Called name (line_at rest) scope) ds g.known)
+    (callee_of name scope) (callee_in name (line_at rest) scope)
 
 mention_allowed : (name : List ℕ) (scope : Scope) (ds : List Definition) (rest : List LocatedToken) → Known scope ds →
     Clean (role_faults Mentioned name scope rest) → NameAllows (Unit {0}) Mentioned (Some name) scope
 mention_allowed name scope ds rest k clean =
-    let g : Grows scope (behind_name Mentioned name (line_of rest) scope) ds =
-    role_grows Mentioned name (line_of rest) scope ds rest tt k clean in
-    λ a. variable_wider _ _ _ 64 64 64 (known_wider (behind_name Mentioned name (line_of rest) scope) ds g.known)
+    let g : Grows scope (scope_after_name Mentioned name (line_at rest) scope) ds =
+    role_grows Mentioned name (line_at rest) scope ds rest tt k clean in
+    λ a. variable_wider _ _ _ 64 64 64 (known_wider (scope_after_name Mentioned name (line_at rest) scope) ds g.known)
     (variable_of name scope) (variable_in name scope)
 
 name_allowed : (role : Role) (name : Option (List ℕ)) (scope : Scope) (ds : List Definition)
@@ -84,12 +84,13 @@ item_allowed : (profile : Profile) (stack : List Item) (rest : List LocatedToken
     Sound (state stack rest values scope ds) → Allows (Unit {0}) stack rest scope
 item_allowed profile [] rest values scope ds clean s = tt
 item_allowed profile (Part symbol ∷ stack) rest values scope ds clean s = (
-  (λ a e. level_below (enters symbol (next_of rest) (after_of rest)) (levels stack) (fault rest code.NestedTooDeeply)
+  (λ a e. level_below (enters symbol (next_token rest) (token_after_next rest)) (levels stack)
+      (fault rest code.NestedTooDeeply)
       clean e),
   begins_allowed symbol stack rest values scope ds s,
 )
 item_allowed profile (AName role ∷ stack) rest values scope ds clean s =
-    name_allowed role (name_of_token (next_of rest)) scope ds rest s.known clean
+    name_allowed role (name_of_token (next_token rest)) scope ds rest s.known clean
 item_allowed profile (Make Define ∷ stack) rest values scope ds clean s = λ a. (s.known.parameters, s.known.variables)
 item_allowed profile (item ∷ stack) rest values scope ds clean s = tt
 
@@ -98,12 +99,14 @@ guarded_clean : (b : Bool) (rest : List LocatedToken) (xs ys : List Fault) →
 guarded_clean true rest xs ys e is = absurd (cc)
 guarded_clean false rest xs ys e is = (append_empty xs ys e).0
 
-pub allowed : (profile : Profile) (s : State) → faults_at profile s ≡ [] → Sound s → is_fault (next_of s.rest) ≡ false →
+pub allowed : (profile : Profile) (s : State) → faults_at profile s ≡ [] → Sound s →
+    is_fault (next_token s.rest) ≡ false →
     Allows (Unit {0}) s.stack s.rest s.scope
 allowed profile s clean h e =
     item_allowed profile s.stack s.rest s.values s.scope s.functions
-    (guarded_clean (is_fault (next_of s.rest)) s.rest (item_faults profile s.stack s.rest s.values s.scope s.functions)
-    (misfits s.stack s.rest (step_of s.stack s.rest s.values s.scope s.functions)) clean e)
+    (guarded_clean (is_fault (next_token s.rest)) s.rest
+    (item_faults profile s.stack s.rest s.values s.scope s.functions)
+    (misfits s.stack s.rest (item_step s.stack s.rest s.values s.scope s.functions)) clean e)
     (record { known = h.known; tied = h.tied })
 
 -- Without limits nothing is asked.
@@ -120,6 +123,6 @@ nothing_named role name scope = tt
 pub unlimited : (stack : List Item) (rest : List LocatedToken) (scope : Scope) → Allows ⊥ stack rest scope
 unlimited [] rest scope = tt
 unlimited (Part symbol ∷ stack) rest scope = ((λ a. absurd a), nothing_begins symbol scope)
-unlimited (AName role ∷ stack) rest scope = nothing_named role (name_of_token (next_of rest)) scope
+unlimited (AName role ∷ stack) rest scope = nothing_named role (name_of_token (next_token rest)) scope
 unlimited (Make Define ∷ stack) rest scope = λ a. absurd a
 unlimited (item ∷ stack) rest scope = tt

@@ -6,24 +6,24 @@ use Rattle.tokens.specs.declared.located_tokens.LocatedToken.{LocatedToken}
 use Rattle.tokens.specs.declared.located_tokens.Punctuator.TheVariants as punctuator
 use Rattle.tokens.specs.declared.located_tokens.Token.{Token}
 use Rattle.tokens.specs.declared.located_tokens.Token.TheVariants as token
-use Rattle.tokens.specs.declared.located_tokens.Word.TheVariants as word
+use Rattle.tokens.specs.declared.located_tokens.Keyword.TheVariants as word
 use Rattle.grammar.specs.declared.actions.Action.TheVariants as action
 use Rattle.grammar.specs.declared.actions.Action.{Action}
 use Rattle.grammar.specs.declared.actions.Action.TheVariants.{PushConstant, BeginFunction, EndFunction}
 use Rattle.grammar.specs.Actions.{body_actions}
-use Rattle.grammar.specs.Derivation.{State, Value, AnExpr, AVariable, ACall, Definition, definition_of, last_body, made}
-use Rattle.grammar.specs.Derivation.{of_name, next_of, after_of, line_of, name_of_token, constant_value, is_end}
-use Rattle.grammar.specs.Derivation.{matched, name_matched, constant_matched, replaced, step_of, stepped}
+use Rattle.grammar.specs.Derivation.{State, Value, AnExpr, AVariable, ACall, Definition, definition_of, last_body, trees_after}
+use Rattle.grammar.specs.Derivation.{name_tree, next_token, token_after_next, line_at, name_of_token, constant_value, is_end}
+use Rattle.grammar.specs.Derivation.{matched, name_matched, constant_matched, replaced, item_step, stepped}
 use Rattle.grammar.specs.declared.operators.StoreOp.{StoreOp}
 use Rattle.grammar_laws.specs.Emission.{on_choice, on_name, on_constant, on_rule, on_item, emitted}
 use Rattle.grammar.specs.Faults.{definitions_actions}
-use Rattle.grammar.specs.Grammar.{Symbol, FunctionBlock, Statement, Tail, Unary, Item, Exactly, AWord, AName, AConstant}
+use Rattle.grammar.specs.Grammar.{Symbol, FunctionBlock, Statement, Tail, Unary, Item, Exactly, AKeyword, AName, AConstant}
 use Rattle.grammar.specs.Grammar.{AnEnd, Part, Make, Close, SemanticAction, Operate, Negate, Not, Complement, Fetch}
-use Rattle.grammar.specs.Grammar.{Store, StepBefore, StepBehind, Pass, Invoke, Empty, Evaluate, Decide, DecideElse}
+use Rattle.grammar.specs.Grammar.{Store, PrefixIncrement, PostfixIncrement, Pass, Invoke, Empty, Evaluate, Decide, DecideElse}
 use Rattle.grammar.specs.Grammar.{Repeat, Zero, GiveBack, Define, Role, Defined, External, Parameter, Typed, Local}
-use Rattle.grammar.specs.Grammar.{Called, Mentioned, Production, choice, is_fault, is_punctuator, is_word}
+use Rattle.grammar.specs.Grammar.{Called, Mentioned, Production, choice, is_fault, is_punctuator, is_keyword}
 use Rattle.grammar.specs.Resolved.{IsVariable, IsCallable}
-use Rattle.grammar.specs.Scope.{Scope, behind_name, end_definition, variable_of, callee_of, is_external_new}
+use Rattle.grammar.specs.Scope.{Scope, scope_after_name, end_definition, variable_of, callee_of, is_external_new}
 use Rattle.grammar.specs.Scope.{is_local_new, is_variable_new, is_function_new, with_external, with_parameter}
 use Rattle.grammar.specs.Scope.{with_variable, with_new_function}
 use Rattle.grammar.proofs.Beginnings.{definitions_last, tellable_last}
@@ -53,8 +53,9 @@ RuleAllows A Define scope = A → (scope.current.parameters ≤ length scope.cur
 RuleAllows A rule scope = Unit {0}
 
 abbrev pub Allows : Type 0 → List Item → List LocatedToken → Scope → Type 0
-Allows A (Part symbol ∷ stack) rest scope = Enters A symbol (next_of rest) (after_of rest) stack × Begins A symbol scope
-Allows A (AName role ∷ stack) rest scope = NameAllows A role (name_of_token (next_of rest)) scope
+Allows A (Part symbol ∷ stack) rest scope =
+    Enters A symbol (next_token rest) (token_after_next rest) stack × Begins A symbol scope
+Allows A (AName role ∷ stack) rest scope = NameAllows A role (name_of_token (next_token rest)) scope
 Allows A (Make rule ∷ stack) rest scope = RuleAllows A rule scope
 Allows A stack rest scope = Unit {0}
 
@@ -85,9 +86,10 @@ AtScope A stack values ds acts scope = Tells A stack values scope.number scope.c
 name_tells : (A : Type 0) (role : Role) (name : List ℕ) (line : ℕ) (stack : List Item) (values : List Value)
     (scope : Scope) (ds : List Definition) (acts : List Action) → NameAllows A role (Some name) scope →
     Named A role (Tells A stack) values scope.number scope.current.parameters ds acts →
-    AtScope A stack (of_name role name scope ++ values) ds (and_then acts (on_name role (Some name)))
-    (behind_name role name line scope)
-name_tells A Defined name line stack values scope ds acts allows h = h (behind_name Defined name line scope).number 0
+    AtScope A stack (name_tree role name scope ++ values) ds (and_then acts (on_name role (Some name)))
+    (scope_after_name role name line scope)
+name_tells A Defined name line stack values scope ds acts allows h =
+    h (scope_after_name Defined name line scope).number 0
 name_tells A External name line stack values scope ds acts allows h =
     by_test (AtScope A stack values ds acts) (is_external_new name scope) (with_external name scope) scope h h
 name_tells A Parameter name line stack values scope ds acts allows h =
@@ -98,11 +100,11 @@ name_tells A Local name line stack values scope ds acts allows h =
     by_test (AtScope A stack values ds acts) (is_local_new name scope) (with_variable name scope) scope h h
 name_tells A Called name line stack values scope ds acts allows h =
     let now = h (callee_of name scope) allows in
-    by_test (AtScope A stack (of_name Called name scope ++ values) ds (and_then acts (on_name Called (Some name))))
+    by_test (AtScope A stack (name_tree Called name scope ++ values) ds (and_then acts (on_name Called (Some name))))
     (is_function_new name scope) (with_new_function name line scope) scope now now
 name_tells A Mentioned name line stack values scope ds acts allows h =
     let now = h (variable_of name scope) allows in
-    by_test (AtScope A stack (of_name Mentioned name scope ++ values) ds acts) (is_variable_new name scope)
+    by_test (AtScope A stack (name_tree Mentioned name scope ++ values) ds acts) (is_variable_new name scope)
     (with_variable name scope) scope now now
 
 -- a role without a name emits nothing
@@ -116,7 +118,7 @@ named_tells : (A : Type 0) (role : Role) (name : Option (List ℕ)) (stack : Lis
     After A (name_matched role name stack rest values scope ds) acts (on_name role name)
 named_tells A role None stack rest values scope ds acts allows h = nameless role
 named_tells A role (Some name) stack rest values scope ds acts allows h =
-    name_tells A role name (line_of rest) stack values scope ds acts allows h
+    name_tells A role name (line_at rest) stack values scope ds acts allows h
 
 -- Symbols.
 
@@ -125,7 +127,7 @@ silent : (symbol : Symbol) (next after : Token) (scope : Scope) → choice symbo
     on_choice symbol next scope ≡ []
 silent FunctionBlock (token.Punctuator punctuator.OpenCurly) after scope e = absurd (cc)
 silent FunctionBlock next after scope e = refl
-silent Statement (token.Word word.While) after scope e = absurd (cc)
+silent Statement (token.Keyword word.While) after scope e = absurd (cc)
 silent Statement next after scope e = refl
 silent (Tail n) (token.Punctuator p) after scope e = absurd (cc)
 silent (Tail n) next after scope e = refl
@@ -155,12 +157,12 @@ stored o stack (AnExpr e ∷ AVariable v ∷ values) variables = refl
 stored o stack values variables = refl
 
 stepped_before : (o : StoreOp) (stack : List Item) (values : List Value) (variables : ℕ) →
-    on_rule (StepBefore o) stack values 0 ≡ on_rule (StepBefore o) stack values variables
+    on_rule (PrefixIncrement o) stack values 0 ≡ on_rule (PrefixIncrement o) stack values variables
 stepped_before o stack (AVariable v ∷ values) variables = refl
 stepped_before o stack values variables = refl
 
 stepped_behind : (o : StoreOp) (stack : List Item) (values : List Value) (variables : ℕ) →
-    on_rule (StepBehind o) stack values 0 ≡ on_rule (StepBehind o) stack values variables
+    on_rule (PostfixIncrement o) stack values 0 ≡ on_rule (PostfixIncrement o) stack values variables
 stepped_behind o stack (AVariable v ∷ values) variables = refl
 stepped_behind o stack values variables = refl
 
@@ -218,61 +220,63 @@ define_tells A stack values scope ds acts allows h =
 pub step_tells : (A : Type 0) (stack : List Item) (rest : List LocatedToken) (values : List Value) (scope : Scope)
     (ds : List Definition) (acts : List Action) → Allows A stack rest scope →
     Tells A stack values scope.number scope.current.parameters ds acts →
-    After A (step_of stack rest values scope ds) acts (on_item stack (next_of rest) values scope)
+    After A (item_step stack rest values scope ds) acts (on_item stack (next_token rest) values scope)
 step_tells A [] rest values scope ds acts allows h = refl
 step_tells A (Exactly m ∷ stack) rest values scope ds acts allows h =
-    matched_tells A (is_punctuator m (next_of rest)) stack rest values scope ds acts h
-step_tells A (AWord w ∷ stack) rest values scope ds acts allows h =
-    matched_tells A (is_word w (next_of rest)) stack rest values scope ds acts h
+    matched_tells A (is_punctuator m (next_token rest)) stack rest values scope ds acts h
+step_tells A (AKeyword w ∷ stack) rest values scope ds acts allows h =
+    matched_tells A (is_keyword w (next_token rest)) stack rest values scope ds acts h
 step_tells A (AName role ∷ stack) rest values scope ds acts allows h =
-    named_tells A role (name_of_token (next_of rest)) stack rest values scope ds acts allows h
+    named_tells A role (name_of_token (next_token rest)) stack rest values scope ds acts allows h
 step_tells A (AConstant ∷ stack) rest values scope ds acts allows h =
-    constant_tells A (constant_value (next_of rest)) stack rest values scope ds acts h
+    constant_tells A (constant_value (next_token rest)) stack rest values scope ds acts h
 step_tells A (AnEnd ∷ stack) rest values scope ds acts allows h =
-    matched_tells A (is_end (next_of rest)) stack rest values scope ds acts h
+    matched_tells A (is_end (next_token rest)) stack rest values scope ds acts h
 step_tells A (Part symbol ∷ stack) rest values scope ds acts allows h =
-    replaced_tells A (choice symbol (next_of rest) (after_of rest)) stack rest values scope ds acts
-    (on_choice symbol (next_of rest) scope) (silent symbol (next_of rest) (after_of rest) scope)
-    (part_tells A symbol (next_of rest) (after_of rest) stack values scope ds acts allows.0 allows.1 h)
+    replaced_tells A (choice symbol (next_token rest) (token_after_next rest)) stack rest values scope ds acts
+    (on_choice symbol (next_token rest) scope) (silent symbol (next_token rest) (token_after_next rest) scope)
+    (part_tells A symbol (next_token rest) (token_after_next rest) stack values scope ds acts allows.0 allows.1 h)
 step_tells A (Make Define ∷ stack) rest values scope ds acts allows h =
     define_tells A stack values scope ds acts allows h
 step_tells A (Make (Operate o) ∷ stack) rest values scope ds acts allows h =
-    rule_tells A stack (made (Operate o) values) scope ds acts _ _ refl h
+    rule_tells A stack (trees_after (Operate o) values) scope ds acts _ _ refl h
 step_tells A (Make Negate ∷ stack) rest values scope ds acts allows h =
-    rule_tells A stack (made Negate values) scope ds acts _ _ refl h
+    rule_tells A stack (trees_after Negate values) scope ds acts _ _ refl h
 step_tells A (Make Not ∷ stack) rest values scope ds acts allows h =
-    rule_tells A stack (made Not values) scope ds acts _ _ refl h
+    rule_tells A stack (trees_after Not values) scope ds acts _ _ refl h
 step_tells A (Make Complement ∷ stack) rest values scope ds acts allows h =
-    rule_tells A stack (made Complement values) scope ds acts _ _ refl h
+    rule_tells A stack (trees_after Complement values) scope ds acts _ _ refl h
 step_tells A (Make Fetch ∷ stack) rest values scope ds acts allows h =
-    rule_tells A stack (made Fetch values) scope ds acts _ _ (fetched stack values (length scope.current.variables)) h
+    rule_tells A stack (trees_after Fetch values) scope ds acts _ _
+    (fetched stack values (length scope.current.variables)) h
 step_tells A (Make (Store o) ∷ stack) rest values scope ds acts allows h =
-    rule_tells A stack (made (Store o) values) scope ds acts _ _
+    rule_tells A stack (trees_after (Store o) values) scope ds acts _ _
     (stored o stack values (length scope.current.variables)) h
-step_tells A (Make (StepBefore o) ∷ stack) rest values scope ds acts allows h =
-    rule_tells A stack (made (StepBefore o) values) scope ds acts _ _
+step_tells A (Make (PrefixIncrement o) ∷ stack) rest values scope ds acts allows h =
+    rule_tells A stack (trees_after (PrefixIncrement o) values) scope ds acts _ _
     (stepped_before o stack values (length scope.current.variables)) h
-step_tells A (Make (StepBehind o) ∷ stack) rest values scope ds acts allows h =
-    rule_tells A stack (made (StepBehind o) values) scope ds acts _ _
+step_tells A (Make (PostfixIncrement o) ∷ stack) rest values scope ds acts allows h =
+    rule_tells A stack (trees_after (PostfixIncrement o) values) scope ds acts _ _
     (stepped_behind o stack values (length scope.current.variables)) h
 step_tells A (Make Pass ∷ stack) rest values scope ds acts allows h =
-    rule_tells A stack (made Pass values) scope ds acts _ _ refl h
+    rule_tells A stack (trees_after Pass values) scope ds acts _ _ refl h
 step_tells A (Make Invoke ∷ stack) rest values scope ds acts allows h =
-    rule_tells A stack (made Invoke values) scope ds acts _ _ (invoked stack values (length scope.current.variables)) h
+    rule_tells A stack (trees_after Invoke values) scope ds acts _ _
+    (invoked stack values (length scope.current.variables)) h
 step_tells A (Make Empty ∷ stack) rest values scope ds acts allows h =
-    rule_tells A stack (made Empty values) scope ds acts _ _ refl h
+    rule_tells A stack (trees_after Empty values) scope ds acts _ _ refl h
 step_tells A (Make Evaluate ∷ stack) rest values scope ds acts allows h =
-    rule_tells A stack (made Evaluate values) scope ds acts _ _ refl h
+    rule_tells A stack (trees_after Evaluate values) scope ds acts _ _ refl h
 step_tells A (Make Decide ∷ stack) rest values scope ds acts allows h =
-    rule_tells A stack (made Decide values) scope ds acts _ _ refl h
+    rule_tells A stack (trees_after Decide values) scope ds acts _ _ refl h
 step_tells A (Make DecideElse ∷ stack) rest values scope ds acts allows h =
-    rule_tells A stack (made DecideElse values) scope ds acts _ _ refl h
+    rule_tells A stack (trees_after DecideElse values) scope ds acts _ _ refl h
 step_tells A (Make Repeat ∷ stack) rest values scope ds acts allows h =
-    rule_tells A stack (made Repeat values) scope ds acts _ _ refl h
+    rule_tells A stack (trees_after Repeat values) scope ds acts _ _ refl h
 step_tells A (Make Zero ∷ stack) rest values scope ds acts allows h =
-    rule_tells A stack (made Zero values) scope ds acts _ _ refl h
+    rule_tells A stack (trees_after Zero values) scope ds acts _ _ refl h
 step_tells A (Make GiveBack ∷ stack) rest values scope ds acts allows h =
-    rule_tells A stack (made GiveBack values) scope ds acts _ _ refl h
+    rule_tells A stack (trees_after GiveBack values) scope ds acts _ _ refl h
 step_tells A (Close ∷ stack) rest values scope ds acts allows h = h
 
 kept_tells : (A : Type 0) (s : State) (o : Option State) (acts more : List Action) → StateTells A s acts →
@@ -288,9 +292,9 @@ guarded_tells A s true o acts more h k = kept_tells A s None acts [] h refl
 guarded_tells A s false o acts more h k = kept_tells A s o acts more h (k refl)
 
 pub stepped_tells : (A : Type 0) (s : State) (acts : List Action) →
-    (is_fault (next_of s.rest) ≡ false → Allows A s.stack s.rest s.scope) → StateTells A s acts →
+    (is_fault (next_token s.rest) ≡ false → Allows A s.stack s.rest s.scope) → StateTells A s acts →
     StateTells A (stepped s) (acts ++ emitted s)
 stepped_tells A s acts allows h =
-    guarded_tells A s (is_fault (next_of s.rest)) (step_of s.stack s.rest s.values s.scope s.functions) acts
-    (on_item s.stack (next_of s.rest) s.values s.scope) h
+    guarded_tells A s (is_fault (next_token s.rest)) (item_step s.stack s.rest s.values s.scope s.functions) acts
+    (on_item s.stack (next_token s.rest) s.values s.scope) h
     (λ e. step_tells A s.stack s.rest s.values s.scope s.functions acts (allows e) h)

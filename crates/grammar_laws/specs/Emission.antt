@@ -3,7 +3,7 @@ use Rattle.std.specs.Prelude.{ℕ, zero, suc, pos, negsuc, List, [], ◌∷◌, 
 use Rattle.tokens.specs.declared.located_tokens.Punctuator.TheVariants as punctuator
 use Rattle.tokens.specs.declared.located_tokens.Token.{Token}
 use Rattle.tokens.specs.declared.located_tokens.Token.TheVariants as token
-use Rattle.tokens.specs.declared.located_tokens.Word.TheVariants as word
+use Rattle.tokens.specs.declared.located_tokens.Keyword.TheVariants as word
 use Rattle.arith.specs.declared.operators.Op.{Op}
 use Rattle.arith.specs.declared.operators.Op.TheVariants as op
 use Rattle.grammar.specs.declared.actions.Action.TheVariants as action
@@ -12,11 +12,11 @@ use Rattle.grammar.specs.declared.actions.Action.TheVariants.{PushConstant, Fetc
 use Rattle.grammar.specs.declared.actions.Action.TheVariants.{BeginCall, EndCall, IfTest, EndIf, BeginWhile, WhileTest}
 use Rattle.grammar.specs.declared.actions.Action.TheVariants.{EndWhile, Chop, BeginFunction, EndFunction}
 use Rattle.grammar.specs.Actions.{middle}
-use Rattle.grammar.specs.Derivation.{Value, AnExpr, AVariable, ACall, State, next_of, name_of_token, constant_value}
+use Rattle.grammar.specs.Derivation.{Value, AnExpr, AVariable, ACall, State, next_token, name_of_token, constant_value}
 use Rattle.grammar.specs.Derivation.{stepped}
 use Rattle.grammar.specs.Grammar.{Role, Called, Symbol, FunctionBlock, Statement, ElsePart, Tail, Unary, is_fault}
-use Rattle.grammar.specs.Grammar.{SemanticAction, Operate, Negate, Not, Complement, Fetch, Store, StepBefore}
-use Rattle.grammar.specs.Grammar.{StepBehind, Invoke, Empty, Evaluate, Decide, DecideElse, Repeat, Zero, GiveBack}
+use Rattle.grammar.specs.Grammar.{SemanticAction, Operate, Negate, Not, Complement, Fetch, Store, PrefixIncrement}
+use Rattle.grammar.specs.Grammar.{PostfixIncrement, Invoke, Empty, Evaluate, Decide, DecideElse, Repeat, Zero, GiveBack}
 use Rattle.grammar.specs.Grammar.{Define, Item, AName, AConstant, Part, Make}
 use Rattle.grammar.specs.Operators.{operator_at}
 use Rattle.grammar.specs.Scope.{Scope}
@@ -30,7 +30,7 @@ on_operator (Some o) = middle o
 abbrev pub on_choice : Symbol → Token → Scope → List Action
 on_choice FunctionBlock (token.Punctuator punctuator.OpenCurly) scope = BeginFunction scope.number
     scope.current.parameters ∷ []
-on_choice Statement (token.Word word.While) scope = BeginWhile ∷ []
+on_choice Statement (token.Keyword word.While) scope = BeginWhile ∷ []
 on_choice (Tail n) next scope = on_operator (operator_at n next)
 on_choice Unary (token.Punctuator punctuator.Minus) scope = PushConstant (pos 0) ∷ []
 on_choice symbol next scope = []
@@ -60,8 +60,8 @@ on_rule Not stack values variables = PushConstant (pos 0) ∷ ApplyBinop op.Equa
 on_rule Complement stack values variables = PushConstant (negsuc 0) ∷ ApplyBinop op.BitXor ∷ []
 on_rule Fetch stack (AVariable v ∷ values) variables = FetchVariable v ∷ []
 on_rule (Store o) stack (AnExpr e ∷ AVariable v ∷ values) variables = StoreVariable v o ∷ []
-on_rule (StepBefore o) stack (AVariable v ∷ values) variables = PushConstant (pos 1) ∷ StoreVariable v o ∷ []
-on_rule (StepBehind o) stack (AVariable v ∷ values) variables =
+on_rule (PrefixIncrement o) stack (AVariable v ∷ values) variables = PushConstant (pos 1) ∷ StoreVariable v o ∷ []
+on_rule (PostfixIncrement o) stack (AVariable v ∷ values) variables =
     FetchVariable v ∷ PushConstant (pos 1) ∷ StoreVariable v o ∷ Chop ∷ []
 on_rule Invoke stack (ACall f args ∷ values) variables = EndCall f ∷ []
 on_rule Empty stack values variables = on_body stack
@@ -84,7 +84,7 @@ on_item stack next values scope = []
 
 -- what the step from a state emits; where there is no step, nothing is emitted
 abbrev pub emitted : State → List Action
-emitted s = if is_fault (next_of s.rest) then [] else on_item s.stack (next_of s.rest) s.values s.scope
+emitted s = if is_fault (next_token s.rest) then [] else on_item s.stack (next_token s.rest) s.values s.scope
 
 -- what the first n steps emit
 abbrev pub emissions : ℕ → State → List Action

@@ -6,25 +6,27 @@ use Rattle.grammar.specs.declared.actions.Action.TheVariants.{FetchVariable, Sto
 use Rattle.grammar.specs.declared.actions.Action.TheVariants.{EndFunction}
 use Rattle.grammar.specs.Actions.{actions}
 use Rattle.grammar.specs.Beginning.{IsBeginning}
-use Rattle.grammar.specs.Compiled.{compiled_tokens, enough}
-use Rattle.grammar.specs.Derivation.{Definition, start, run}
+use Rattle.grammar.specs.Compiled.{compiled_tokens, enough_steps}
+use Rattle.grammar.specs.Derivation.{Definition, initial_state, derived}
 use Rattle.grammar_laws.specs.Emission.{emitted, emissions}
 use Rattle.grammar.specs.Faults.{definitions_actions, faults_at, faults_in}
-use Rattle.grammar.specs.Limits.{most_names}
+use Rattle.grammar.specs.NameLimits.{most_names}
 use Rattle.grammar.specs.Profile.{Profile}
 use Rattle.grammar.specs.Resolved.{IsVariable, IsCallable}
 use Rattle.grammar.specs.Tree.{File}
 
 -- a derivation that is done has emitted the actions of the functions that it defined, whatever faults it has
 abbrev pub EmitsItsFunctions : Type 0
-EmitsItsFunctions = (n : ℕ) (located_tokens : List LocatedToken) → (run n (start located_tokens)).stack ≡ []
-    → emissions n (start located_tokens) ≡ definitions_actions (run n (start located_tokens)).functions
+EmitsItsFunctions = (n : ℕ) (located_tokens : List LocatedToken) → (derived n (initial_state located_tokens)).stack ≡ []
+    →
+    emissions n (initial_state located_tokens) ≡
+    definitions_actions (derived n (initial_state located_tokens)).functions
 
 -- that of a source that is a file has emitted the file's actions
 abbrev pub EmitsItsFile : Type 0
 EmitsItsFile = (profile : Profile) (located_tokens : List LocatedToken) (file : File)
     → compiled_tokens profile located_tokens ≡ Ok file
-    → emissions (enough located_tokens) (start located_tokens) ≡ actions file
+    → emissions (enough_steps located_tokens) (initial_state located_tokens) ≡ actions file
 
 -- these are the actions of the functions defined so far, and a part of those of one more at most
 pub record IsPart (acts : List Action) (functions : List Definition) : Type 0 where
@@ -38,19 +40,20 @@ pub record IsPart (acts : List Action) (functions : List Definition) : Type 0 wh
 -- so it is at each state
 abbrev pub EmitsAPart : Type 0
 EmitsAPart = (n : ℕ) (located_tokens : List LocatedToken)
-    → IsPart (emissions n (start located_tokens)) (run n (start located_tokens)).functions
+    → IsPart (emissions n (initial_state located_tokens)) (derived n (initial_state located_tokens)).functions
 
 -- what the steps from states without a fault emit may be reported to a builder
 abbrev pub EmitsABeginning : Type 0
 EmitsABeginning = (profile : Profile) (n : ℕ) (located_tokens : List LocatedToken)
-    → faults_in profile n (start located_tokens) ≡ [] → IsBeginning (emissions n (start located_tokens))
+    → faults_in profile n (initial_state located_tokens) ≡ [] → IsBeginning (emissions n (initial_state located_tokens))
 
 -- What a state emits may be reported after that, if it has no fault by another profile: what it emits doesn't depend on
 -- how much code there may be.
 abbrev pub NextMayFollow : Type 0
 NextMayFollow = (profile other : Profile) (n : ℕ) (located_tokens : List LocatedToken)
-    → faults_in profile n (start located_tokens) ≡ [] → faults_at other (run n (start located_tokens)) ≡ []
-    → IsBeginning (emissions n (start located_tokens) ++ emitted (run n (start located_tokens)))
+    → faults_in profile n (initial_state located_tokens) ≡ [] →
+    faults_at other (derived n (initial_state located_tokens)) ≡ []
+    → IsBeginning (emissions n (initial_state located_tokens) ++ emitted (derived n (initial_state located_tokens)))
 
 -- the numbers of the variables and functions in an action are below the limit
 abbrev pub IsNumbered : Action → Type 0

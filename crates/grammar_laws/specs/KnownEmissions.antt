@@ -4,8 +4,8 @@ use Rattle.tokens.specs.declared.located_tokens.LocatedToken.{LocatedToken}
 use Rattle.tokens.specs.declared.located_tokens.Punctuator.TheVariants as punctuator
 use Rattle.tokens.specs.declared.located_tokens.Token.{Token}
 use Rattle.tokens.specs.declared.located_tokens.Token.TheVariants as token
-use Rattle.tokens.specs.declared.located_tokens.Word.TheVariants as word
-use Rattle.grammar.specs.declared.names.Var.TheVariants as var
+use Rattle.tokens.specs.declared.located_tokens.Keyword.TheVariants as word
+use Rattle.grammar.specs.declared.resolved_names.Var.TheVariants as var
 use Rattle.arith.specs.declared.operators.Op.TheVariants as op
 use Rattle.grammar.specs.declared.operators.StoreOp.TheVariants as store
 use Rattle.grammar.specs.declared.actions.Action.{Action}
@@ -13,8 +13,8 @@ use Rattle.grammar.specs.declared.actions.Action.TheVariants.{PushConstant, Fetc
 use Rattle.grammar.specs.declared.actions.Action.TheVariants.{LogicMiddle, BeginWhile, WhileTest, EndWhile, GiveBack}
 use Rattle.grammar.specs.declared.actions.Action.TheVariants.{Chop, BeginFunction, EndFunction}
 use Rattle.grammar.specs.Actions.{actions}
-use Rattle.grammar.specs.Compiled.{enough}
-use Rattle.grammar.specs.Derivation.{start}
+use Rattle.grammar.specs.Compiled.{enough_steps}
+use Rattle.grammar.specs.Derivation.{initial_state}
 use Rattle.grammar_laws.specs.Emission.{emissions}
 use Rattle.grammar.specs.KnownSources as known
 use Rattle.grammar.specs.KnownSources.{a, f, x, ro, rc, co, cc, end, equals, number, in_main, on_lines, file_of_main}
@@ -22,7 +22,7 @@ use Rattle.grammar.specs.Tree.{File}
 
 -- the derivation of the source emits these actions, one after another
 abbrev pub Emits : List LocatedToken → List Action → Type 0
-Emits source acts = emissions (enough source) (start source) ≡ acts
+Emits source acts = emissions (enough_steps source) (initial_state source) ≡ acts
 
 -- it emits the actions of the file
 abbrev pub EmitsFile : List LocatedToken → File → Type 0
@@ -32,7 +32,7 @@ EmitsFile source file = Emits source (actions file)
 abbrev pub loop : List Token
 loop =
     f ∷ ro ∷ a ∷ rc ∷ co
-    ∷ token.Word word.While ∷ ro ∷ a ∷ token.Punctuator punctuator.AndAnd ∷ number 1 ∷ rc
+    ∷ token.Keyword word.While ∷ ro ∷ a ∷ token.Punctuator punctuator.AndAnd ∷ number 1 ∷ rc
     ∷ x ∷ equals ∷ token.Punctuator punctuator.Minus ∷ a ∷ end ∷ cc ∷ []
 
 abbrev pub loop_actions : List Action

@@ -3,10 +3,10 @@ use Rattle.std.specs.Prelude.{◌≡◌, ℕ, pos, List, [], ◌∷◌, codes}
 use Rattle.tokens.specs.declared.located_tokens.Punctuator.TheVariants as punctuator
 use Rattle.tokens.specs.declared.located_tokens.Token.{Token}
 use Rattle.tokens.specs.declared.located_tokens.Token.TheVariants as token
-use Rattle.tokens.specs.declared.located_tokens.Word.TheVariants as word
-use Rattle.grammar.specs.declared.names.Callee.TheVariants as callee
-use Rattle.grammar.specs.declared.names.Intrinsic.TheVariants as intrinsic
-use Rattle.grammar.specs.declared.names.Var.TheVariants as var
+use Rattle.tokens.specs.declared.located_tokens.Keyword.TheVariants as word
+use Rattle.grammar.specs.declared.resolved_names.Callee.TheVariants as callee
+use Rattle.grammar.specs.declared.resolved_names.Intrinsic.TheVariants as intrinsic
+use Rattle.grammar.specs.declared.resolved_names.Var.TheVariants as var
 use Rattle.arith.specs.declared.operators.Op.TheVariants as op
 use Rattle.grammar.specs.declared.operators.StoreOp.TheVariants as store
 use Rattle.grammar.specs.KnownSources.{a, b, f, x, scan, number, return, ro, rc, co, cc, end, comma, equals}
@@ -67,9 +67,9 @@ decision =
 
 abbrev pub decision_tokens : List Token
 decision_tokens =
-    token.Word word.If ∷ ro ∷ a ∷ token.Punctuator punctuator.Less ∷ b ∷ rc
-    ∷ co ∷ token.Word word.While ∷ ro ∷ a ∷ rc ∷ co ∷ cc ∷ cc
-    ∷ token.Word word.Else ∷ co ∷ x ∷ end ∷ return ∷ end ∷ cc ∷ []
+    token.Keyword word.If ∷ ro ∷ a ∷ token.Punctuator punctuator.Less ∷ b ∷ rc
+    ∷ co ∷ token.Keyword word.While ∷ ro ∷ a ∷ rc ∷ co ∷ cc ∷ cc
+    ∷ token.Keyword word.Else ∷ co ∷ x ∷ end ∷ return ∷ end ∷ cc ∷ []
 
 abbrev pub decision_body : Body
 decision_body =

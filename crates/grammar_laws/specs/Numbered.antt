@@ -1,10 +1,10 @@
 -- The law on numbers: the variables and functions of a derivation have the numbers of the rules on names.
 use Rattle.std.specs.Prelude.{◌≡◌, ℕ, zero, suc, List, [], ◌∷◌, ◌++◌, false, Option, Some, None, Ok, map, if◌then◌else◌}
 use Rattle.tokens.specs.declared.located_tokens.LocatedToken.{LocatedToken}
-use Rattle.grammar.specs.declared.names.Callee.{Callee}
-use Rattle.grammar.specs.declared.names.Var.{Var}
-use Rattle.grammar.specs.Compiled.{compiled_tokens, enough}
-use Rattle.grammar.specs.Derivation.{State, AVariable, ACall, Definition, start, stepped, run, next_of, name_of_token}
+use Rattle.grammar.specs.declared.resolved_names.Callee.{Callee}
+use Rattle.grammar.specs.declared.resolved_names.Var.{Var}
+use Rattle.grammar.specs.Compiled.{compiled_tokens, enough_steps}
+use Rattle.grammar.specs.Derivation.{State, AVariable, ACall, Definition, initial_state, stepped, derived, next_token, name_of_token}
 use Rattle.grammar.specs.Faults.{faults_in}
 use Rattle.grammar.specs.Grammar.{Item, AName, Make, Define, Role, Called, Mentioned, is_fault}
 use Rattle.grammar.specs.Profile.{Profile}
@@ -20,13 +20,13 @@ says role None = []
 says role (Some name) = Says role name ∷ []
 
 abbrev pub said_of : List Item → List LocatedToken → History
-said_of (AName role ∷ stack) rest = says role (name_of_token (next_of rest))
+said_of (AName role ∷ stack) rest = says role (name_of_token (next_token rest))
 said_of (Make Define ∷ stack) rest = Ends ∷ []
 said_of stack rest = []
 
 -- in one step: none is taken if a fault is next
 abbrev pub said : State → History
-said s = if is_fault (next_of s.rest) then [] else said_of s.stack s.rest
+said s = if is_fault (next_token s.rest) then [] else said_of s.stack s.rest
 
 -- in n steps, the last first
 abbrev pub said_in : ℕ → State → History
@@ -34,10 +34,10 @@ said_in zero s = []
 said_in (suc n) s = said_in n (stepped s) ++ said s
 
 abbrev pub state_at : ℕ → List LocatedToken → State
-state_at n located_tokens = run n (start located_tokens)
+state_at n located_tokens = derived n (initial_state located_tokens)
 
 abbrev pub said_at : ℕ → List LocatedToken → History
-said_at n located_tokens = said_in n (start located_tokens)
+said_at n located_tokens = said_in n (initial_state located_tokens)
 
 -- The numbers that it gives.
 
@@ -45,7 +45,7 @@ said_at n located_tokens = said_in n (start located_tokens)
 pub record IsNamed (s : State) (role : Role) (name : List ℕ) : Type 0 where
   pub stack : List Item
   pub role_next : s.stack ≡ AName role ∷ stack
-  pub name_next : name_of_token (next_of s.rest) ≡ Some name
+  pub name_next : name_of_token (next_token s.rest) ≡ Some name
 
 -- a mention makes the variable of its name
 pub record MakesVariable (history : History) (name : List ℕ) (s : State) : Type 0 where
@@ -67,14 +67,14 @@ pub record MakesCall (history : History) (name : List ℕ) (s : State) : Type 0 
 -- if the steps before have no fault
 abbrev pub CallsAreNumbered : Type 0
 CallsAreNumbered = (profile : Profile) (located_tokens : List LocatedToken) (n : ℕ) (name : List ℕ)
-    → faults_in profile n (start located_tokens) ≡ [] → IsNamed (state_at n located_tokens) Called name →
+    → faults_in profile n (initial_state located_tokens) ≡ [] → IsNamed (state_at n located_tokens) Called name →
     MakesCall (Says Called name ∷ said_at n located_tokens) name (state_at n located_tokens)
 
 -- the definition of a function is about to end
 pub record IsEnding (s : State) : Type 0 where
   pub stack : List Item
   pub define_next : s.stack ≡ Make Define ∷ stack
-  pub sound : is_fault (next_of s.rest) ≡ false
+  pub sound : is_fault (next_token s.rest) ≡ false
 
 -- the function that is added has the name that was defined, and the number of that name
 pub record AddsFunction (history : History) (s : State) : Type 0 where
@@ -87,7 +87,7 @@ pub record AddsFunction (history : History) (s : State) : Type 0 where
 
 abbrev pub DefinitionsAreNumbered : Type 0
 DefinitionsAreNumbered = (profile : Profile) (located_tokens : List LocatedToken) (n : ℕ)
-    → faults_in profile n (start located_tokens) ≡ [] → IsEnding (state_at n located_tokens) →
+    → faults_in profile n (initial_state located_tokens) ≡ [] → IsEnding (state_at n located_tokens) →
     AddsFunction (said_at n located_tokens) (state_at n located_tokens)
 
 -- a file has the names that were said, each by its number
@@ -97,4 +97,5 @@ pub record IsNamedBy (history : History) (file : File) : Type 0 where
 
 abbrev pub FilesAreNumbered : Type 0
 FilesAreNumbered = (profile : Profile) (located_tokens : List LocatedToken) (file : File)
-    → compiled_tokens profile located_tokens ≡ Ok file → IsNamedBy (said_at (enough located_tokens) located_tokens) file
+    → compiled_tokens profile located_tokens ≡ Ok file →
+    IsNamedBy (said_at (enough_steps located_tokens) located_tokens) file

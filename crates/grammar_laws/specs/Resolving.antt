@@ -4,7 +4,7 @@ use Rattle.arith.specs.declared.operators.Op.TheVariants as op
 use Rattle.grammar.specs.declared.operators.StoreOp.{StoreOp}
 use Rattle.grammar.specs.declared.operators.StoreOp.TheVariants as store
 use Rattle.grammar.specs.Grammar.{Called, Mentioned}
-use Rattle.grammar.specs.Scope.{Scope, behind_name, variable_of, callee_of}
+use Rattle.grammar.specs.Scope.{Scope, scope_after_name, variable_of, callee_of}
 use Rattle.grammar.specs.Tree as tree
 use Rattle.grammar.specs.Tree.{Expr, Args, Body, join}
 use Rattle.grammar_laws.specs.Written.{Sign, Minus, Not, Tilde, Step, Up, Down, Expression, Constant, Variable, Binary}
@@ -14,11 +14,11 @@ use Rattle.grammar_laws.specs.Written.{Statements, Done, Next}
 
 -- what is known after a variable's name
 abbrev pub mentioned : List ℕ → Scope → Scope
-mentioned name scope = behind_name Mentioned name 0 scope
+mentioned name scope = scope_after_name Mentioned name 0 scope
 
 -- what is known after the name of a call; lines are left aside, so it is mentioned on line 0
 abbrev pub called : List ℕ → Scope → Scope
-called name scope = behind_name Called name 0 scope
+called name scope = scope_after_name Called name 0 scope
 
 -- what is known after an expression
 abbrev mutual

@@ -6,8 +6,8 @@ use Rattle.std.specs.Fmt.{decimal}
 use Rattle.std.specs.Str.{bytes_eq}
 use Rattle.tokens.specs.Punctuators.{spelling}
 use Rattle.tokens.specs.declared.located_tokens.Punctuator.TheVariants as punctuator
-use Rattle.tokens.specs.declared.located_tokens.Word.{Word}
-use Rattle.tokens.specs.declared.located_tokens.Word.TheVariants as word
+use Rattle.tokens.specs.declared.located_tokens.Keyword.{Keyword}
+use Rattle.tokens.specs.declared.located_tokens.Keyword.TheVariants as word
 use Rattle.tokens.specs.declared.located_tokens.Token.{Token}
 use Rattle.tokens.specs.declared.located_tokens.Token.TheVariants as token
 use Rattle.arith.specs.declared.operators.Op.TheVariants as op
@@ -15,9 +15,9 @@ use Rattle.grammar.specs.declared.operators.StoreOp.TheVariants as store
 use Rattle.grammar.specs.Grammar.{Role, Defined, External, Parameter, Typed, Local, Called, Mentioned, Symbol, Source}
 use Rattle.grammar.specs.Grammar.{Types, Head, More, Parameters, ParameterTypes, FunctionBlock, Block, Declarations}
 use Rattle.grammar.specs.Grammar.{Statements, Statement, ElsePart, Back, Expression, Level, Tail, Unary, Primary}
-use Rattle.grammar.specs.Grammar.{Arguments, MoreArguments, Operate, Negate, Not, Complement, Fetch, Store, StepBefore}
-use Rattle.grammar.specs.Grammar.{StepBehind, Pass, Invoke, Empty, Evaluate, Decide, DecideElse, Repeat, Zero, GiveBack}
-use Rattle.grammar.specs.Grammar.{Define, Item, Exactly, AWord, AName, AConstant, AnEnd, Part, Make, Close, Production}
+use Rattle.grammar.specs.Grammar.{Arguments, MoreArguments, Operate, Negate, Not, Complement, Fetch, Store, PrefixIncrement}
+use Rattle.grammar.specs.Grammar.{PostfixIncrement, Pass, Invoke, Empty, Evaluate, Decide, DecideElse, Repeat, Zero, GiveBack}
+use Rattle.grammar.specs.Grammar.{Define, Item, Exactly, AKeyword, AName, AConstant, AnEnd, Part, Make, Close, Production}
 use Rattle.grammar.specs.Grammar.{choice}
 use Rattle.grammar_laws.specs.Productions.{Row, rows}
 
@@ -69,11 +69,11 @@ action_rows =
     ∷ ("unary", "- unary", (2, Make Negate) ∷ (2, Close) ∷ [])
     ∷ ("unary", "! unary", (2, Make Not) ∷ (2, Close) ∷ [])
     ∷ ("unary", "~ unary", (2, Make Complement) ∷ (2, Close) ∷ [])
-    ∷ ("unary", "++ name", (2, Make (StepBefore store.Add)) ∷ [])
-    ∷ ("unary", "-- name", (2, Make (StepBefore store.Subtract)) ∷ [])
+    ∷ ("unary", "++ name", (2, Make (PrefixIncrement store.Add)) ∷ [])
+    ∷ ("unary", "-- name", (2, Make (PrefixIncrement store.Subtract)) ∷ [])
     ∷ ("primary", "name ( args )", (4, Make Invoke) ∷ (4, Close) ∷ [])
-    ∷ ("primary", "name ++", (2, Make (StepBehind store.Add)) ∷ [])
-    ∷ ("primary", "name --", (2, Make (StepBehind store.Subtract)) ∷ [])
+    ∷ ("primary", "name ++", (2, Make (PostfixIncrement store.Add)) ∷ [])
+    ∷ ("primary", "name --", (2, Make (PostfixIncrement store.Subtract)) ∷ [])
     ∷ ("primary", "name", (1, Make Fetch) ∷ [])
     ∷ ("primary", "( expr )", (3, Close) ∷ [])
     ∷ ("args", "expr moreargs", (1, Make Pass) ∷ [])
@@ -93,7 +93,7 @@ role_of Primary (token.Punctuator punctuator.OpenRound) = Called
 role_of symbol after = Mentioned
 
 -- how the rows name keywords, symbols and tokens
-abbrev pub keyword : Word → List ℕ
+abbrev pub keyword : Keyword → List ℕ
 keyword word.If = codes "if"
 keyword word.Else = codes "else"
 keyword word.While = codes "while"
@@ -125,7 +125,7 @@ of_symbol MoreArguments = codes "moreargs"
 
 abbrev pub of_token : Token → List ℕ
 of_token (token.Name name) = codes "name"
-of_token (token.Word w) = keyword w
+of_token (token.Keyword w) = keyword w
 of_token (token.Constant value) = codes "constant"
 of_token (token.Punctuator m) = spelling m
 of_token token.End = codes "end"
@@ -139,7 +139,7 @@ and_space rest = codes " " ++ rest
 abbrev pub in_words : List Item → List ℕ
 in_words [] = []
 in_words (Exactly m ∷ items) = spelling m ++ and_space (in_words items)
-in_words (AWord w ∷ items) = keyword w ++ and_space (in_words items)
+in_words (AKeyword w ∷ items) = keyword w ++ and_space (in_words items)
 in_words (AName role ∷ items) = codes "name" ++ and_space (in_words items)
 in_words (AConstant ∷ items) = codes "constant" ++ and_space (in_words items)
 in_words (AnEnd ∷ items) = codes "end" ++ and_space (in_words items)

@@ -1,11 +1,11 @@
 -- The listing of a file: lines, each of which ends with an LF.
 use Rattle.std.specs.Prelude.{ℕ, ◌+◌, List, [], ◌∷◌, ◌++◌, codes, length, get_or}
 use Rattle.std.specs.Fmt.{decimal}
-use Rattle.grammar.specs.Pools.{FunctionNames, Names, names_of}
+use Rattle.grammar.specs.Pools.{FunctionNames, Pools, pools_of}
 use Rattle.grammar.specs.Profile.{Profile}
 use Rattle.grammar.specs.Tree.{File}
 use Rattle.code.specs.declared.instr.Instr.{Instr}
-use Rattle.code.specs.Generation.{ObjectCode, code_of}
+use Rattle.code.specs.Generation.{Program, code_of}
 use Rattle.sinks.specs.Texts.{column}
 use Rattle.listings.specs.Spelling.{instr_text}
 
@@ -34,10 +34,10 @@ unfoldable pub code_lines : List Instr → List ℕ
 code_lines instrs = codes "Code " ++ decimal (length instrs) ++ codes "\n" ++ numbered instr_line 0 instrs
 
 -- the listing of a program and its names, the name of the file in front
-abbrev pub listing_of : List ℕ → Names → ObjectCode → List ℕ
+abbrev pub listing_of : List ℕ → Pools → Program → List ℕ
 listing_of name names code =
     codes "File " ++ name ++ codes "\n" ++ externals_lines names.externals
     ++ numbered (function_lines code.addresses) 0 names.functions ++ code_lines code.instructions
 
 abbrev pub listing : Profile → List ℕ → File → List ℕ
-listing p name file = listing_of name (names_of file) (code_of p file)
+listing p name file = listing_of name (pools_of file) (code_of p file)

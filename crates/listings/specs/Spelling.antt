@@ -2,12 +2,12 @@
 use Rattle.std.specs.Prelude.{ℕ, List, ◌++◌, codes}
 use Rattle.std.specs.Fmt.{decimal, signed_decimal}
 use Rattle.tokens.specs.Punctuators.{spelling}
-use Rattle.grammar.specs.Intrinsics.{name_of}
+use Rattle.grammar.specs.Intrinsics.{intrinsic_name}
 use Rattle.grammar.specs.Operators.{binary_punctuator, store_punctuator}
-use Rattle.grammar.specs.declared.names.Callee.{Callee}
-use Rattle.grammar.specs.declared.names.Callee.TheVariants as callee
-use Rattle.grammar.specs.declared.names.Var.{Var}
-use Rattle.grammar.specs.declared.names.Var.TheVariants.{External, Local}
+use Rattle.grammar.specs.declared.resolved_names.Callee.{Callee}
+use Rattle.grammar.specs.declared.resolved_names.Callee.TheVariants as callee
+use Rattle.grammar.specs.declared.resolved_names.Var.{Var}
+use Rattle.grammar.specs.declared.resolved_names.Var.TheVariants.{External, Local}
 use Rattle.code.specs.declared.instr.Instr.{Instr}
 use Rattle.code.specs.declared.instr.Instr.TheVariants.{Fetch, Store, Const, Binop, Fcall, Retsub, Branch, Chop, Truth, Nop}
 use Rattle.code.specs.declared.instr.Instr.TheVariants as instr
@@ -20,7 +20,7 @@ variable_text (Local j) = codes "L" ++ decimal j
 -- a function's number, or an intrinsic's name
 unfoldable pub callee_text : Callee → List ℕ
 callee_text (callee.Function k) = decimal k
-callee_text (callee.Intrinsic i) = name_of i
+callee_text (callee.Intrinsic i) = intrinsic_name i
 
 -- an instruction's word, and its operand where it has one
 unfoldable pub instr_text : Instr → List ℕ

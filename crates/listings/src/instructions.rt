@@ -2,22 +2,22 @@
 
 ghost use Rattle.std.specs.Prelude.{◌≡◌, ◌+◌, ◌-◌, ◌^◌, ◌<◌, ◌≤◌, [], ◌++◌, IfOk, length};
 ghost use Rattle.std.specs.Fmt.{signed_decimal};
-ghost use Rattle.sinks.specs.Draft.{Adds, MayFail};
+ghost use Rattle.sinks.specs.Pens.{Adds, MayFail};
 ghost use Rattle.listings.specs.Spelling.{callee_text, instr_text, variable_text};
 
 use code::Instr;
 use grammar::{Callee, Var, operator_punctuator, store_punctuator};
-use sinks::{DeviceFault, Pen, Recorder, Sink};
+use sinks::{DeviceFault, MemorySink, Pen, Sink};
 use std::alloc::{AllocError, Global};
 
 /// Returns an instruction as a listing has it, without its address.
 pub fn instruction_text(alloc: Global, instr: Instr) -> Result<Vec<u8>, AllocError>
     ensures { IfOk result (λ text. text.items ≡ instr_text instr) }
 {
-    let mut sink = Recorder::new(alloc);
+    let mut sink = MemorySink::new(alloc);
     let mut pen = Pen::new();
     add_instruction(&mut pen, &mut sink, instr);
-    match pen.done(&mut sink) {
+    match pen.finish(&mut sink) {
         Ok(()) => sink.joined(),
         Err(DeviceFault) => Err(AllocError),
     }
@@ -37,7 +37,7 @@ pub(crate) fn add_instruction<S: Sink>(pen: &mut Pen, sink: &mut S, instr: Instr
         Instr::Store(variable, op) => {
             pen.add(sink, b"STORE ");
             add_variable(pen, sink, variable);
-            pen.push(sink, b' ');
+            pen.add_byte(sink, b' ');
             pen.add(sink, store_punctuator(op).as_bytes());
         }
         Instr::Const(value) => {
@@ -55,7 +55,7 @@ pub(crate) fn add_instruction<S: Sink>(pen: &mut Pen, sink: &mut S, instr: Instr
         Instr::Retsub => pen.add(sink, b"RETSUB"),
         Instr::Branch(to) => {
             pen.add(sink, b"BRANCH ");
-            pen.number(sink, u32::from(to));
+            pen.add_number(sink, u32::from(to));
         }
         Instr::Chop => pen.add(sink, b"CHOP"),
         Instr::Frame => pen.add(sink, b"FRAME"),
@@ -74,8 +74,8 @@ fn add_variable<S: Sink>(pen: &mut Pen, sink: &mut S, variable: Var)
         Var::External(number) => (b'E', number),
         Var::Local(number) => (b'L', number),
     };
-    pen.push(sink, letter);
-    pen.number(sink, u32::from(number));
+    pen.add_byte(sink, letter);
+    pen.add_number(sink, u32::from(number));
 }
 
 /// Adds a constant.
@@ -85,9 +85,9 @@ fn add_value<S: Sink>(pen: &mut Pen, sink: &mut S, value: i32)
     ensures text { Adds (S.written sink.old) pen.old (S.written sink.new) pen.new (signed_decimal value) }
 {
     if value < 0 {
-        pen.push(sink, b'-');
+        pen.add_byte(sink, b'-');
     }
-    pen.number(sink, value.unsigned_abs());
+    pen.add_number(sink, value.unsigned_abs());
 }
 
 /// Adds a function's number, or an intrinsic's name.
@@ -97,7 +97,7 @@ fn add_callee<S: Sink>(pen: &mut Pen, sink: &mut S, callee: Callee)
     ensures text { Adds (S.written sink.old) pen.old (S.written sink.new) pen.new (callee_text callee) }
 {
     match callee {
-        Callee::Function(number) => pen.number(sink, u32::from(number)),
+        Callee::Function(number) => pen.add_number(sink, u32::from(number)),
         Callee::Intrinsic(intrinsic) => pen.add(sink, intrinsic.name().as_bytes()),
     }
 }

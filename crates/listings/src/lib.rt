@@ -2,9 +2,9 @@
 #![tactic(auto)]
 
 mod instructions;
-mod known;
 mod listing;
+mod worked_listings;
 
 pub use instructions::instruction_text;
-pub use known::known_listings;
 pub use listing::put_listing;
+pub use worked_listings::known_listings;

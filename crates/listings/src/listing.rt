@@ -1,13 +1,13 @@
 //! The listing of a program, line by line.
 
 ghost use Rattle.std.specs.Prelude.{◌≡◌, ◌+◌, ◌-◌, ◌^◌, ◌<◌, ◌≤◌, [], ◌++◌, get_or, length};
-ghost use Rattle.sinks.specs.Draft.{Adds, MayFail};
+ghost use Rattle.sinks.specs.Pens.{Adds, MayFail};
 ghost use Rattle.sinks.specs.Puts.{CanFail, Puts};
 ghost use Rattle.listings.specs.Listing.{code_lines, externals_lines, function_lines, instr_line, listing_of, name_line, numbered};
 
 use crate::instructions::add_instruction;
 use code::{Instr, MOST_INSTRUCTIONS, Program};
-use grammar::{Function, MOST_NAMES, Name, Pools};
+use grammar::{FunctionNames, MOST_NAMES, Name, Pools};
 use sinks::{DeviceFault, Pen, Sink};
 
 /// Puts the listing of a program whose file has this name, and these names of functions and variables.
@@ -24,11 +24,11 @@ pub fn put_listing<S: Sink>(
     let mut pen = Pen::new();
     pen.add(sink, b"File ");
     pen.add(sink, name);
-    pen.push(sink, b'\n');
+    pen.add_byte(sink, b'\n');
     add_externals(&mut pen, sink, names.externals());
     add_functions(&mut pen, sink, names.functions(), program.addresses());
     add_code(&mut pen, sink, program.instructions());
-    pen.done(sink)
+    pen.finish(sink)
 }
 
 /// Adds how many externals there are, and their names.
@@ -39,13 +39,18 @@ fn add_externals<S: Sink>(pen: &mut Pen, sink: &mut S, externals: &[Name])
     ensures text { Adds (S.written sink.old) pen.old (S.written sink.new) pen.new (externals_lines externals.now) }
 {
     pen.add(sink, b"Externals ");
-    pen.number(sink, externals.len() as u32);
-    pen.push(sink, b'\n');
+    pen.add_number(sink, externals.len() as u32);
+    pen.add_byte(sink, b'\n');
     add_names(pen, sink, externals);
 }
 
 /// Adds each function.
-fn add_functions<S: Sink>(pen: &mut Pen, sink: &mut S, functions: &[Function], addresses: &[u16])
+fn add_functions<S: Sink>(
+    pen: &mut Pen,
+    sink: &mut S,
+    functions: &[FunctionNames],
+    addresses: &[u16],
+)
     requires few { length functions.now ≤ MOST_NAMES }
     requires countable { MayFail pen.old (S.written sink.old) }
     ensures countable { MayFail pen.new (S.written sink.new) }
@@ -62,7 +67,7 @@ fn add_function<S: Sink>(
     pen: &mut Pen,
     sink: &mut S,
     number: usize,
-    function: &Function,
+    function: &FunctionNames,
     addresses: &[u16],
 )
     requires few { number < MOST_NAMES }
@@ -72,14 +77,14 @@ fn add_function<S: Sink>(
         (function_lines addresses.now number function.now) }
 {
     pen.add(sink, b"Function ");
-    pen.number(sink, number as u32);
-    pen.push(sink, b' ');
+    pen.add_number(sink, number as u32);
+    pen.add_byte(sink, b' ');
     pen.add(sink, function.name().as_bytes());
     pen.add(sink, b" vars ");
-    pen.number(sink, function.variables().len() as u32);
+    pen.add_number(sink, function.variables().len() as u32);
     pen.add(sink, b" at ");
-    pen.number(sink, address_at(addresses, number));
-    pen.push(sink, b'\n');
+    pen.add_number(sink, address_at(addresses, number));
+    pen.add_byte(sink, b'\n');
     add_names(pen, sink, function.variables());
 }
 
@@ -109,10 +114,10 @@ fn add_name<S: Sink>(pen: &mut Pen, sink: &mut S, number: u32, name: &Name)
     ensures text { Adds (S.written sink.old) pen.old (S.written sink.new) pen.new (name_line number name.now) }
 {
     pen.add(sink, b"  ");
-    pen.number(sink, number);
-    pen.push(sink, b' ');
+    pen.add_number(sink, number);
+    pen.add_byte(sink, b' ');
     pen.add(sink, name.as_bytes());
-    pen.push(sink, b'\n');
+    pen.add_byte(sink, b'\n');
 }
 
 /// Adds how many instructions there are, and a line for each.
@@ -124,8 +129,8 @@ fn add_code<S: Sink>(pen: &mut Pen, sink: &mut S, instrs: &[Instr])
         (code_lines instrs.now) }
 {
     pen.add(sink, b"Code ");
-    pen.number(sink, instrs.len() as u32);
-    pen.push(sink, b'\n');
+    pen.add_number(sink, instrs.len() as u32);
+    pen.add_byte(sink, b'\n');
     add_lines(pen, sink, instrs);
 }
 
@@ -148,8 +153,8 @@ fn add_line<S: Sink>(pen: &mut Pen, sink: &mut S, at: u32, instr: Instr)
     ensures countable { MayFail pen.new (S.written sink.new) }
     ensures text { Adds (S.written sink.old) pen.old (S.written sink.new) pen.new (instr_line at instr) }
 {
-    pen.column(sink, 5, at);
-    pen.push(sink, b' ');
+    pen.add_column(sink, 5, at);
+    pen.add_byte(sink, b' ');
     add_instruction(pen, sink, instr);
-    pen.push(sink, b'\n');
+    pen.add_byte(sink, b'\n');
 }

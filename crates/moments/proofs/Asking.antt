@@ -4,21 +4,21 @@ use Rattle.std.specs.Prelude.{if◌then◌else◌}
 use Rattle.std.proofs.lemmas.Bool.{cases_Bool}
 use Rattle.std.proofs.lemmas.List.{length-append}
 use Rattle.arena.specs.Field.{is_live}
-use Rattle.arena.specs.Ground.{Ground, lives}
-use Rattle.grammar.specs.declared.names.Callee.TheVariants as callee
-use Rattle.grammar.specs.declared.names.Intrinsic.{Intrinsic}
+use Rattle.arena.specs.Arena.{Arena, lives}
+use Rattle.grammar.specs.declared.resolved_names.Callee.TheVariants as callee
+use Rattle.grammar.specs.declared.resolved_names.Intrinsic.{Intrinsic}
 use Rattle.code.specs.declared.instr.Instr.{Instr}
 use Rattle.code.specs.declared.instr.Instr.TheVariants.{Fcall}
 use Rattle.code.specs.declared.want.Want.{Want}
 use Rattle.code.specs.declared.want.Want.TheVariants.{Ask, Quiet, Restart}
-use Rattle.code.specs.Generation.{ObjectCode}
-use Rattle.code.specs.Machine.{State, after, done_with, event_of, frame_of, instr_at, is_fitting, reached, start_state, want_code, want_next}
-use Rattle.code.specs.Standing.{IsReached}
+use Rattle.code.specs.Generation.{Program}
+use Rattle.code.specs.Machine.{Machine, machine_after, done_with, event_of, frame_of, instr_at, is_fitting, reached, started_machine, want_code, want_next}
+use Rattle.code.specs.ReachedMachines.{IsReached}
 use Rattle.code.proofs.Machines.{reached-last}
-use Rattle.battles.specs.Battle.{Behaviour, Stage, robot_of, stage_after}
+use Rattle.battles.specs.Battle.{Behaviour, Stage, behaviour_at, stage_after}
 use Rattle.battles.specs.Carrying.{AreRobotsOf}
 use Rattle.playing.specs.Games.{Game, HasCome}
-use Rattle.playing.specs.Pilot.{Seat}
+use Rattle.playing.specs.Pilot.{Pilot}
 use Rattle.playing.specs.Played.{codes_of, exes_of}
 use Rattle.playing.proofs.Playing.{code_same, lives_are, robot_wants, robots_as_seats, seat_reached, traces_as_seats}
 use Rattle.moments.specs.Moments.{asked_in, last_of, question_in, replies_of, wanted}
@@ -41,14 +41,14 @@ asks_if true w k a asks = (refl, asks)
 asks_if false w k a asks = absurd (cc)
 
 -- after it the reply is on top
-reply_done : (code : ObjectCode) (reply : ℤ) (s : State) (o : Option Instr) (k : Intrinsic) (a : List ℤ)
+reply_done : (code : Program) (reply : ℤ) (s : Machine) (o : Option Instr) (k : Intrinsic) (a : List ℤ)
     → event_of s o ≡ Ask k a → last_of (done_with code reply s o).words ≡ reply
 reply_done code reply s (Some (Fcall (callee.Intrinsic i))) k a asks =
     last_one (take (frame_of s.frames).base s.words) reply
 reply_done code reply s _ k a asks = absurd (cc)
 
-reply_on_top : (code : ObjectCode) (reply : ℤ) (s : State) (k : Intrinsic) (a : List ℤ)
-    → want_next code s ≡ Ask k a → last_of (after code reply s).words ≡ reply
+reply_on_top : (code : Program) (reply : ℤ) (s : Machine) (k : Intrinsic) (a : List ℤ)
+    → want_next code s ≡ Ask k a → last_of (machine_after code reply s).words ≡ reply
 reply_on_top code reply s k a asks =
     let o = instr_at code s.at in
     let asked = asks_if (is_fitting code s o) (event_of s o) k a asks in
@@ -63,8 +63,8 @@ asked_alike Quiet cycle one other same = refl
 asked_alike Restart cycle one other same = refl
 
 -- what a robot wants of the next cycle, by its machine
-pub wanted_is : (codes : List ObjectCode) (robots : List Behaviour) (seats : List Seat) (arena : Ground) (s : Stage)
-    (i : ℕ) (none : Seat) (w : Want) → AreRobotsOf (exes_of codes) robots → codes_of seats ≡ codes → i < length seats
+pub wanted_is : (codes : List Program) (robots : List Behaviour) (seats : List Pilot) (arena : Arena) (s : Stage)
+    (i : ℕ) (none : Pilot) (w : Want) → AreRobotsOf (exes_of codes) robots → codes_of seats ≡ codes → i < length seats
     → (game : Game) → HasCome codes robots s seats game → game.arena ≡ arena
     → ((trace : List ℤ) → IsReached (get_or seats i none).state (get_or seats i none).code trace
     → w ≡ (if lives arena i then want_code (get_or seats i none).code trace else Quiet))
@@ -74,7 +74,7 @@ wanted_is codes robots seats arena s i none w are same inside game come is by =
     let now = stage_after robots s game.ending.cycles in
     let at = seat_reached codes seats game.arena now i none same inside come.played in
     let live : lives arena i ≡ is_live now.field i =
-    ap (λ (g : Ground). lives g i) (sym is) ∙ lives_are game.arena now.field i come.played.field in
+    ap (λ (g : Arena). lives g i) (sym is) ∙ lives_are game.arena now.field i come.played.field in
     by (replies_of now i) at
     ∙ ap (λ (b : Bool). if b then want_code (get_or seats i none).code (replies_of now i) else Quiet) live
     ∙ ap (λ (v : Want). if is_live now.field i then v else Quiet)
@@ -82,7 +82,7 @@ wanted_is codes robots seats arena s i none w are same inside game come is by =
 
 -- a robot that is found to ask lives, and asks by its replies
 asks_live : (robots : List Behaviour) (i : ℕ) (s : Stage) (k : Intrinsic) (a : List ℤ) → wanted robots i s ≡ Ask k a
-    → (is_live s.field i ≡ true) × (robot_of robots i (replies_of s i) ≡ Ask k a)
+    → (is_live s.field i ≡ true) × (behaviour_at robots i (replies_of s i) ≡ Ask k a)
 unfolding wanted
 asks_live robots i s k a asks = elim (cases_Bool (is_live s.field i)) [
   | inl live ↦ (live, rw live at asks)
@@ -90,8 +90,8 @@ asks_live robots i s k a asks = elim (cases_Bool (is_live s.field i)) [
 ]
 
 -- After a question of the next cycle the machine has the robot's last reply on top.
-pub reply_is : (codes : List ObjectCode) (robots : List Behaviour) (s : Stage) (seats others : List Seat) (i : ℕ)
-    (none new : Seat) (game next : Game) (k : Intrinsic) (a : List ℤ) → AreRobotsOf (exes_of codes) robots
+pub reply_is : (codes : List Program) (robots : List Behaviour) (s : Stage) (seats others : List Pilot) (i : ℕ)
+    (none new : Pilot) (game next : Game) (k : Intrinsic) (a : List ℤ) → AreRobotsOf (exes_of codes) robots
     → codes_of seats ≡ codes → codes_of others ≡ codes → i < length seats → HasCome codes robots s seats game
     → HasCome codes robots s others next → next.ending.cycles ≡ game.ending.cycles + 1
     → wanted robots i (stage_after robots s game.ending.cycles) ≡ Ask k a
@@ -118,19 +118,19 @@ reply_is codes robots s seats others i none new game next k a are same still ins
     let wants : want_next old.code old.state ≡ Ask k a =
     ap (want_next old.code) old_at
     ∙ sym (robot_wants codes robots seats i none (replies_of now i) are same inside) ∙ asked.1 in
-    let stands : seat.state ≡ after old.code comes.0 old.state =
-    new_at ∙ ap (λ (c : ObjectCode). reached c (start_state c) (replies_of later i)) kept
-    ∙ ap (reached old.code (start_state old.code)) comes.1
-    ∙ reached-last old.code (start_state old.code) (replies_of now i) comes.0
-    ∙ ap (after old.code comes.0) (sym old_at) in
-    ap (λ (t : State). last_of t.words) stands
+    let stands : seat.state ≡ machine_after old.code comes.0 old.state =
+    new_at ∙ ap (λ (c : Program). reached c (started_machine c) (replies_of later i)) kept
+    ∙ ap (reached old.code (started_machine old.code)) comes.1
+    ∙ reached-last old.code (started_machine old.code) (replies_of now i) comes.0
+    ∙ ap (machine_after old.code comes.0) (sym old_at) in
+    ap (λ (t : Machine). last_of t.words) stands
     ∙ reply_on_top old.code comes.0 old.state k a wants
     ∙ sym (last_one (replies_of now i) comes.0)
     ∙ ap last_of (sym comes.1)
 
 -- The question of the next cycle, from its want before and the machine after it.
-pub question_is : (codes : List ObjectCode) (robots : List Behaviour) (s : Stage) (seats others : List Seat) (i : ℕ)
-    (none new : Seat) (w : Want) (game next : Game) → AreRobotsOf (exes_of codes) robots → codes_of seats ≡ codes
+pub question_is : (codes : List Program) (robots : List Behaviour) (s : Stage) (seats others : List Pilot) (i : ℕ)
+    (none new : Pilot) (w : Want) (game next : Game) → AreRobotsOf (exes_of codes) robots → codes_of seats ≡ codes
     → codes_of others ≡ codes → i < length seats → HasCome codes robots s seats game
     → HasCome codes robots s others next → next.ending.cycles ≡ game.ending.cycles + 1
     → w ≡ wanted robots i (stage_after robots s game.ending.cycles)

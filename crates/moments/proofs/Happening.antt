@@ -3,14 +3,14 @@ use Rattle.std.proofs.Common.{◌≡◌, ℕ, ◌+◌, ◌<◌, true, false, ℤ
 use Rattle.std.specs.Prelude.{option_map, slice_get}
 use Rattle.std.proofs.lemmas.Option.{slice_get-get_or, slice_get-map}
 use Rattle.arena.specs.Field.{damage_of, robot_at}
-use Rattle.grammar.specs.declared.names.Intrinsic.{Intrinsic}
+use Rattle.grammar.specs.declared.resolved_names.Intrinsic.{Intrinsic}
 use Rattle.battles.specs.Battle.{Behaviour, Stage, stage_after}
 use Rattle.battles.specs.Carrying.{AreRobotsOf}
 use Rattle.code.specs.declared.want.Want.TheVariants.{Ask}
-use Rattle.code.specs.Generation.{ObjectCode}
-use Rattle.code.specs.Machine.{State}
+use Rattle.code.specs.Generation.{Program}
+use Rattle.code.specs.Machine.{Machine}
 use Rattle.playing.specs.Games.{Game, HasCome}
-use Rattle.playing.specs.Pilot.{Seat}
+use Rattle.playing.specs.Pilot.{Pilot}
 use Rattle.playing.specs.Played.{codes_of, exes_of}
 use Rattle.playing.proofs.Playing.{code_same, lives_are, robots_as_seats, seat_reached, some_same}
 use Rattle.moments.specs.declared.sought.Glance.{Glance}
@@ -21,7 +21,7 @@ use Rattle.moments.specs.Searches.{Happens, IsGlanced, Seems, Shows, state_at, v
 use Rattle.moments.proofs.Asking.{reply_is, wanted_is}
 
 -- two glances see a robot at two stages
-pub record See (robots : List Behaviour) (code : ObjectCode) (i : ℕ) (sought : Sought) (now later : Stage)
+pub record See (robots : List Behaviour) (code : Program) (i : ℕ) (sought : Sought) (now later : Stage)
     (before after : Glance) : Type 0 where
   pub want : before.wanted ≡ wanted robots i now
   pub damage : before.damage ≡ damage_of (robot_at now.field i)
@@ -32,7 +32,7 @@ pub record See (robots : List Behaviour) (code : ObjectCode) (i : ℕ) (sought :
   pub frames : after.frames ≡ length (state_at code i later).frames
   pub word : (k : Intrinsic) (a : List ℤ) → wanted robots i now ≡ Ask k a → after.word ≡ last_of (replies_of later i)
 
-pub shows_so : (sought : Sought) (robots : List Behaviour) (code : ObjectCode) (i : ℕ) (now later : Stage)
+pub shows_so : (sought : Sought) (robots : List Behaviour) (code : Program) (i : ℕ) (now later : Stage)
     (before after : Glance) → See robots code i sought now later before after → Seems sought before after
     → Shows sought robots code i now later
 shows_so (Place marks most) robots code i now later before after see (here, few) =
@@ -46,7 +46,7 @@ shows_so (Change variable) robots code i now later before after see differs =
     λ same. differs (see.value_then ∙ same ∙ sym see.value)
 shows_so (Value variable value) robots code i now later before after see is = sym see.value_then ∙ is
 
-pub seems_so : (sought : Sought) (robots : List Behaviour) (code : ObjectCode) (i : ℕ) (now later : Stage)
+pub seems_so : (sought : Sought) (robots : List Behaviour) (code : Program) (i : ℕ) (now later : Stage)
     (before after : Glance) → See robots code i sought now later before after → Shows sought robots code i now later
     → Seems sought before after
 seems_so (Place marks most) robots code i now later before after see (here, few) =
@@ -60,8 +60,8 @@ seems_so (Change variable) robots code i now later before after see differs =
 seems_so (Value variable value) robots code i now later before after see is = see.value_then ∙ is
 
 -- glances before and after a cycle do so
-pub glances_see : (codes : List ObjectCode) (robots : List Behaviour) (s : Stage) (seats others : List Seat) (i : ℕ)
-    (none new : Seat) (game next : Game) (code : ObjectCode) (sought : Sought) (before after : Glance)
+pub glances_see : (codes : List Program) (robots : List Behaviour) (s : Stage) (seats others : List Pilot) (i : ℕ)
+    (none new : Pilot) (game next : Game) (code : Program) (sought : Sought) (before after : Glance)
     → AreRobotsOf (exes_of codes) robots → codes_of seats ≡ codes → codes_of others ≡ codes → i < length seats
     → HasCome codes robots s seats game → HasCome codes robots s others next
     → next.ending.cycles ≡ game.ending.cycles + 1 → (get_or seats i none).code ≡ code
@@ -88,23 +88,23 @@ glances_see codes robots s seats others i none new game next code sought before 
       damage_then = rw one at (second.damage (stage_after robots s next.ending.cycles).field came.played.field);
       value = first.value ∙ ap (value_of sought) old_at;
       value_then = second.value ∙ ap (value_of sought) new_at;
-      address = second.address ∙ ap (λ (t : State). t.at) new_at;
-      frames = second.frames ∙ ap (λ (t : State). length t.frames) new_at;
+      address = second.address ∙ ap (λ (t : Machine). t.at) new_at;
+      frames = second.frames ∙ ap (λ (t : Machine). length t.frames) new_at;
       word = λ k a asks.
           second.word
           ∙ reply_is codes robots s seats others i none new game next k a are same still inside come came one asks;
     }
 
 -- the program of the robot of a number
-pub code_is : (seats : List Seat) (i : ℕ) (none : Seat) (code : ObjectCode) → i < length seats
+pub code_is : (seats : List Pilot) (i : ℕ) (none : Pilot) (code : Program) → i < length seats
     → slice_get (codes_of seats) i ≡ Some code → (get_or seats i none).code ≡ code
 code_is seats i none code inside here =
-    some_same (sym (slice_get-map (λ (seat : Seat). seat.code) seats i
-    ∙ ap (option_map (λ (seat : Seat). seat.code)) (slice_get-get_or seats i none inside)) ∙ here)
+    some_same (sym (slice_get-map (λ (seat : Pilot). seat.code) seats i
+    ∙ ap (option_map (λ (seat : Pilot). seat.code)) (slice_get-get_or seats i none inside)) ∙ here)
 
 -- So what seems to happen happens, and nothing else does.
-pub happens_so : (codes : List ObjectCode) (robots : List Behaviour) (s : Stage) (seats others : List Seat) (i : ℕ)
-    (none new : Seat) (game next : Game) (code : ObjectCode) (sought : Sought) (before after : Glance)
+pub happens_so : (codes : List Program) (robots : List Behaviour) (s : Stage) (seats others : List Pilot) (i : ℕ)
+    (none new : Pilot) (game next : Game) (code : Program) (sought : Sought) (before after : Glance)
     → AreRobotsOf (exes_of codes) robots → codes_of seats ≡ codes → codes_of others ≡ codes → i < length seats
     → HasCome codes robots s seats game → HasCome codes robots s others next
     → next.ending.cycles ≡ game.ending.cycles + 1 → slice_get codes i ≡ Some code

@@ -4,9 +4,9 @@ use Rattle.std.proofs.lemmas.Option.{slice_get-get_or}
 use Rattle.std.specs.Option.{option_or}
 use Rattle.battles.specs.Battle.{Behaviour, Stage, stage_after}
 use Rattle.battles.specs.Carrying.{AreRobotsOf}
-use Rattle.code.specs.Generation.{ObjectCode}
+use Rattle.code.specs.Generation.{Program}
 use Rattle.playing.specs.Games.{Game}
-use Rattle.playing.specs.Pilot.{Seat}
+use Rattle.playing.specs.Pilot.{Pilot}
 use Rattle.playing.specs.Played.{codes_of, exes_of}
 use Rattle.playing.proofs.Playing.{lives_are, some_same}
 use Rattle.moments.specs.declared.asked.Asked.{Asked}
@@ -26,8 +26,8 @@ unfolding last_question
 one_asked robots i n s = rw add-one refl
 
 -- What is seen of a robot of a match that was played so far is its moment.
-pub moment_is : (codes : List ObjectCode) (robots : List Behaviour) (s : Stage) (limit i cycle : ℕ) (seats : List Seat)
-    (none : Seat) (game : Game) (last : Option Asked) (moment : Moment) → AreRobotsOf (exes_of codes) robots
+pub moment_is : (codes : List Program) (robots : List Behaviour) (s : Stage) (limit i cycle : ℕ) (seats : List Pilot)
+    (none : Pilot) (game : Game) (last : Option Asked) (moment : Moment) → AreRobotsOf (exes_of codes) robots
     → codes_of seats ≡ codes → i < length seats → HasPlayedTo robots s limit i cycle codes seats game last
     → IsSeen game (get_or seats i none) i last moment → IsMoment robots s limit i cycle seats moment
 moment_is codes robots s limit i cycle seats none game last moment are same inside played seen = record {

@@ -6,11 +6,11 @@ use Rattle.std.proofs.lemmas.List.{get_or-set_same, get_or-set_other, length-set
 use Rattle.arena.specs.Answer.{answer, directed, fired}
 use Rattle.arena.specs.Field.{Field, is_alive, is_live, no_robot, robot_at}
 use Rattle.arena.specs.Shots.{in_air}
-use Rattle.grammar.specs.declared.names.Intrinsic.{Intrinsic}
-use Rattle.grammar.specs.declared.names.Intrinsic.TheVariants.{Cannon, Drive}
+use Rattle.grammar.specs.declared.resolved_names.Intrinsic.{Intrinsic}
+use Rattle.grammar.specs.declared.resolved_names.Intrinsic.TheVariants.{Cannon, Drive}
 use Rattle.code.specs.declared.want.Want.{Want}
 use Rattle.code.specs.declared.want.Want.TheVariants.{Ask}
-use Rattle.battles.specs.Battle.{Behaviour, Stage, cycle, granted, is_due, robot_of, stage_after, step, turn, turns, updated}
+use Rattle.battles.specs.Battle.{Behaviour, Stage, cycle, granted, is_due, behaviour_at, stage_after, robot_turn, turn, turns, updated}
 use Rattle.battles.proofs.Asking.{step_asks}
 use Rattle.battles.proofs.Cycles.{stage_more}
 use Rattle.moments.specs.Moments.{replies_of}
@@ -37,15 +37,15 @@ granted_stays (Ask intrinsic a) i j f trace distinct = others_stay f i j intrins
 granted_stays _ i j f trace distinct = refl
 
 step_stays : (robot : Behaviour) (i j : ℕ) (f : Field) (trace : List ℤ) → i ≢ j
-    → robot_at (step robot j f trace).0 i ≡ robot_at f i
-unfolding step
+    → robot_at (robot_turn robot j f trace).0 i ≡ robot_at f i
+unfolding robot_turn
 step_stays robot i j f trace distinct = elim (cases_Bool (is_live f j)) [
   | inl live ↦ rw live (granted_stays (robot trace) i j f trace distinct)
   | inr dead ↦ rw dead refl
 ]
 
 live_stays : (robot : Behaviour) (i j : ℕ) (f : Field) (trace : List ℤ) → i ≢ j
-    → is_live (step robot j f trace).0 i ≡ is_live f i
+    → is_live (robot_turn robot j f trace).0 i ≡ is_live f i
 unfolding is_live
 live_stays robot i j f trace distinct = ap is_alive (step_stays robot i j f trace distinct)
 
@@ -55,7 +55,8 @@ lives_before : (robots : List Behaviour) (i k : ℕ) (s : Stage) → k ≤ i
 unfolding turns turn
 lives_before robots i zero s within = refl
 lives_before robots i (suc k) s within =
-    live_stays (robot_of robots k) i k (turns robots k s).field (get_or (turns robots k s).traces k []) (omega arith)
+    live_stays (behaviour_at robots k) i k (turns robots k s).field (get_or (turns robots k s).traces k [])
+    (omega arith)
     ∙ lives_before robots i k s (omega arith)
 
 replies_before : (robots : List Behaviour) (i k : ℕ) (s : Stage) → k ≤ i
@@ -73,7 +74,7 @@ traces_length robots (suc k) s = length-set (turns robots k s).traces k _ ∙ tr
 -- in it the robot takes its step, and later turns leave its replies
 replies_own : (robots : List Behaviour) (i : ℕ) (s : Stage) → i < length s.traces
     → replies_of (turns robots (suc i) s) i
-    ≡ (step (robot_of robots i) i (turns robots i s).field (replies_of (turns robots i s) i)).1
+    ≡ (robot_turn (behaviour_at robots i) i (turns robots i s).field (replies_of (turns robots i s) i)).1
 unfolding turns turn
 replies_own robots i s inside =
     get_or-set_same (turns robots i s).traces i _ [] (omega (arith, inside, traces_length robots i s))
@@ -100,7 +101,7 @@ replies_updated number i s = elim (cases_Bool (is_due number)) [
 -- So a live robot that asks has one reply more after the cycle.
 pub reply_comes : (robots : List Behaviour) (i n : ℕ) (s : Stage) (k : Intrinsic) (a : List ℤ) → i < length robots
     → i < length (stage_after robots s n).traces → is_live (stage_after robots s n).field i ≡ true
-    → robot_of robots i (replies_of (stage_after robots s n) i) ≡ Ask k a
+    → behaviour_at robots i (replies_of (stage_after robots s n) i) ≡ Ask k a
     → (reply : ℤ) × (replies_of (stage_after robots s (n + 1)) i ≡ replies_of (stage_after robots s n) i ++ reply ∷ [])
 unfolding cycle
 reply_comes robots i n s k a one inside live asks =
@@ -108,8 +109,8 @@ reply_comes robots i n s k a one inside live asks =
     let before = turns robots i now in
     let same = replies_before robots i i now (omega arith) in
     let lives : is_live before.field i ≡ true = lives_before robots i i now (omega arith) ∙ live in
-    let asked : robot_of robots i (replies_of before i) ≡ Ask k a = ap (robot_of robots i) same ∙ asks in
-    let stepped = step_asks (robot_of robots i) i before.field (replies_of before i) k a lives asked in
+    let asked : behaviour_at robots i (replies_of before i) ≡ Ask k a = ap (behaviour_at robots i) same ∙ asks in
+    let stepped = step_asks (behaviour_at robots i) i before.field (replies_of before i) k a lives asked in
     let reply = (answer before.field i k a).0 in (
       reply,
       ap (λ (t : Stage). replies_of t i) (stage_more robots s n)

@@ -5,7 +5,7 @@ use Rattle.std.specs.Option.{option_or}
 use Rattle.std.proofs.lemmas.Bool.{cases_Bool, cases_eq, false≢true}
 use Rattle.std.proofs.lemmas.Bool.Decides.{nat_tests}
 use Rattle.playing.specs.Played.{EndsAt}
-use Rattle.playing.specs.declared.games.Ending.{Ending}
+use Rattle.playing.specs.declared.games.PlayEnd.{PlayEnd}
 use Rattle.moments.specs.Searches.{IsFound, IsLast, IsNext}
 
 -- nothing was found in so many cycles behind one
@@ -53,7 +53,7 @@ found_so H n cycle after true is so only = elim (cases_Bool (nat_lt after cycle)
 found_so H n cycle after false is so only = λ within happens. false≢true (only happens)
 
 -- no more cycles are played than a match has
-pub ends_most : (last : ℕ) (ending : Ending) → EndsAt last ending → ending.cycles ≤ last
+pub ends_most : (last : ℕ) (ending : PlayEnd) → EndsAt last ending → ending.cycles ≤ last
 ends_most last ending ends = elim (cases_Bool ending.is_over) [
   | inl over ↦ let there = ends.0 over in omega (arith, there)
   | inr on ↦ let before = ends.1 on in omega (arith, before)

@@ -2,17 +2,17 @@
 use Rattle.std.specs.Prelude.{◌≡◌, ℕ, ℤ, pos, zero, suc, ◌+◌, ◌-◌, min, Bool, if◌then◌else◌, List, [], length, slice_get, slice_index_or, Option, Some, None}
 use Rattle.std.specs.Option.{option_or}
 use Rattle.arena.specs.Field.{is_live}
-use Rattle.arena.specs.Ground.{lives}
-use Rattle.battles.specs.Battle.{Behaviour, Stage, last_cycle, robot_of, stage_after}
+use Rattle.arena.specs.Arena.{lives}
+use Rattle.battles.specs.Battle.{Behaviour, Stage, last_cycle, behaviour_at, stage_after}
 use Rattle.code.specs.declared.cause.Cause.{Cause}
 use Rattle.code.specs.declared.want.Want.{Want}
 use Rattle.code.specs.declared.want.Want.TheVariants.{Ask, Quiet}
 use Rattle.code.specs.Causes.{cause_next}
-use Rattle.code.specs.Generation.{ObjectCode}
+use Rattle.code.specs.Generation.{Program}
 use Rattle.code.specs.Machine.{want_code}
-use Rattle.code.specs.Standing.{IsReached}
+use Rattle.code.specs.ReachedMachines.{IsReached}
 use Rattle.playing.specs.Games.{Game, HasCome}
-use Rattle.playing.specs.Pilot.{Seat}
+use Rattle.playing.specs.Pilot.{Pilot}
 use Rattle.playing.specs.Played.{codes_of}
 use Rattle.moments.specs.declared.asked.Asked.{Asked}
 use Rattle.moments.specs.declared.moment.Moment.{Moment}
@@ -23,7 +23,7 @@ replies_of stage i = slice_index_or stage.traces i []
 
 -- what a robot wants of the cycle after a stage: a dead one wants nothing
 unfoldable pub wanted : List Behaviour → ℕ → Stage → Want
-wanted robots i stage = if is_live stage.field i then robot_of robots i (replies_of stage i) else Quiet
+wanted robots i stage = if is_live stage.field i then behaviour_at robots i (replies_of stage i) else Quiet
 
 -- the last of some numbers, 0 if there is none
 abbrev pub last_of : List ℤ → ℤ
@@ -50,18 +50,18 @@ last_question robots i opening (suc n) =
     option_or (question_in robots i opening n) (last_question robots i opening n)
 
 -- why a live robot wants a restart, if it wants one
-abbrev pub cause_of : Bool → Seat → Option Cause
+abbrev pub cause_of : Bool → Pilot → Option Cause
 cause_of alive seat = if alive then cause_next seat.code seat.state else None
 
 -- A match was played on to the moment after a cycle, or to its end; this was the last question of a robot.
-pub record HasPlayedTo (robots : List Behaviour) (opening : Stage) (limit i cycle : ℕ) (codes : List ObjectCode)
-    (seats : List Seat) (game : Game) (last : Option Asked) : Type 0 where
+pub record HasPlayedTo (robots : List Behaviour) (opening : Stage) (limit i cycle : ℕ) (codes : List Program)
+    (seats : List Pilot) (game : Game) (last : Option Asked) : Type 0 where
   pub come : HasCome codes robots opening seats game
   pub cycles : game.ending.cycles ≡ min cycle (last_cycle robots opening limit)
   pub asked : last ≡ last_question robots i opening game.ending.cycles
 
 -- what is seen of a robot
-pub record IsSeen (game : Game) (seat : Seat) (i : ℕ) (last : Option Asked) (moment : Moment) : Type 0 where
+pub record IsSeen (game : Game) (seat : Pilot) (i : ℕ) (last : Option Asked) (moment : Moment) : Type 0 where
   pub now : moment.game ≡ game
   pub alive : moment.is_alive ≡ lives game.arena i
   pub next : (trace : List ℤ) → IsReached seat.state seat.code trace
@@ -71,11 +71,11 @@ pub record IsSeen (game : Game) (seat : Seat) (i : ℕ) (last : Option Asked) (m
 
 -- The moment of a robot after a cycle, or after the last one of the match. Each pilot's machine is where the replies of
 -- its robot lead, the field is the battle's, and the robot wants what its source wants.
-pub record IsMoment (robots : List Behaviour) (opening : Stage) (limit i cycle : ℕ) (seats : List Seat)
+pub record IsMoment (robots : List Behaviour) (opening : Stage) (limit i cycle : ℕ) (seats : List Pilot)
     (moment : Moment) : Type 0 where
   pub come : HasCome (codes_of seats) robots opening seats moment.game
   pub cycles : moment.game.ending.cycles ≡ min cycle (last_cycle robots opening limit)
   pub alive : moment.is_alive ≡ is_live (stage_after robots opening moment.game.ending.cycles).field i
   pub next : moment.next ≡ wanted robots i (stage_after robots opening moment.game.ending.cycles)
-  pub cause : (seat : Seat) → slice_get seats i ≡ Some seat → moment.cause ≡ cause_of moment.is_alive seat
+  pub cause : (seat : Pilot) → slice_get seats i ≡ Some seat → moment.cause ≡ cause_of moment.is_alive seat
   pub asked : moment.last ≡ last_question robots i opening moment.game.ending.cycles

@@ -1,27 +1,27 @@
 -- In which cycle of a match something happens to a robot.
 use Rattle.std.specs.Prelude.{◌≡◌, ◌≢◌, ◌<◌, ◌≤◌, ◌+◌, ◌≤ℤ◌, ℕ, ℤ, pos, true, false, if◌then◌else◌, List, get_or, length, Option, Some, None}
 use Rattle.arena.specs.Field.{Field, damage_of, is_live, robot_at}
-use Rattle.arena.specs.Ground.{lives}
-use Rattle.arena.specs.Standing.{StandsFor}
+use Rattle.arena.specs.Arena.{lives}
+use Rattle.arena.specs.Representing.{RepresentsField}
 use Rattle.battles.specs.Battle.{Behaviour, Stage, stage_after}
 use Rattle.code.specs.declared.want.Want.TheVariants.{Ask, Quiet}
 use Rattle.code.specs.declared.want.Want.TheVariants as want
-use Rattle.code.specs.Generation.{ObjectCode}
-use Rattle.code.specs.Machine.{State, reached, read_variable, start_state, want_code}
-use Rattle.code.specs.Standing.{IsReached}
+use Rattle.code.specs.Generation.{Program}
+use Rattle.code.specs.Machine.{Machine, reached, read_variable, started_machine, want_code}
+use Rattle.code.specs.ReachedMachines.{IsReached}
 use Rattle.playing.specs.Games.{Game}
-use Rattle.playing.specs.Pilot.{Seat}
+use Rattle.playing.specs.Pilot.{Pilot}
 use Rattle.moments.specs.declared.sought.Glance.{Glance}
 use Rattle.moments.specs.declared.sought.Sought.{Sought}
 use Rattle.moments.specs.declared.sought.Sought.TheVariants.{Place, Question, Restart, Hurt, Change, Value}
 use Rattle.moments.specs.Moments.{last_of, replies_of, wanted}
 
 -- where a robot's code stands at a stage
-abbrev pub state_at : ObjectCode → ℕ → Stage → State
-state_at code i stage = reached code (start_state code) (replies_of stage i)
+abbrev pub state_at : Program → ℕ → Stage → Machine
+state_at code i stage = reached code (started_machine code) (replies_of stage i)
 
 -- what is sought shows between the stages before and after a cycle
-abbrev pub Shows : Sought → List Behaviour → ObjectCode → ℕ → (before after : Stage) → Type 0
+abbrev pub Shows : Sought → List Behaviour → Program → ℕ → (before after : Stage) → Type 0
 Shows (Place marks most) robots code i before after =
     (get_or marks.now (state_at code i after).at false ≡ true) × (length (state_at code i after).frames ≤ most)
 Shows (Question function least most) robots code i before after =
@@ -34,7 +34,7 @@ Shows (Change variable) robots code i before after =
 Shows (Value variable value) robots code i before after = read_variable (state_at code i after) variable ≡ value
 
 -- it happens to a robot in the cycle after so many: the robot lives to begin it, and it shows
-pub record Happens (robots : List Behaviour) (code : ObjectCode) (opening : Stage) (i : ℕ) (sought : Sought) (n : ℕ) :
+pub record Happens (robots : List Behaviour) (code : Program) (opening : Stage) (i : ℕ) (sought : Sought) (n : ℕ) :
     Type 0 where
   pub lives : is_live (stage_after robots opening n).field i ≡ true
   pub shows : Shows sought robots code i (stage_after robots opening n) (stage_after robots opening (n + 1))
@@ -57,18 +57,18 @@ IsFound H n after None = after ≤ n → H n → ⊥
 IsFound H n after (Some cycle) = (cycle ≡ n + 1) × (after < cycle) × H n
 
 -- the value of the variable that is sought, 0 if none is
-abbrev pub value_of : Sought → State → ℤ
+abbrev pub value_of : Sought → Machine → ℤ
 value_of (Change variable) state = read_variable state variable
 value_of (Value variable value) state = read_variable state variable
 value_of _ state = pos 0
 
 -- what a glance at a robot sees
-pub record IsGlanced (game : Game) (seat : Seat) (i : ℕ) (sought : Sought) (glance : Glance) : Type 0 where
+pub record IsGlanced (game : Game) (seat : Pilot) (i : ℕ) (sought : Sought) (glance : Glance) : Type 0 where
   pub alive : glance.is_alive ≡ lives game.arena i
   pub wanted : (trace : List ℤ) → IsReached seat.state seat.code trace
       → glance.wanted ≡ (if lives game.arena i then want_code seat.code trace else Quiet)
   pub word : glance.word ≡ last_of seat.state.words
-  pub damage : (f : Field) → StandsFor game.arena f → glance.damage ≡ damage_of (robot_at f i)
+  pub damage : (f : Field) → RepresentsField game.arena f → glance.damage ≡ damage_of (robot_at f i)
   pub value : glance.value ≡ value_of sought seat.state
   pub address : glance.address ≡ seat.state.at
   pub frames : glance.frames ≡ length seat.state.frames

@@ -1,17 +1,17 @@
 //! What a robot wants of a cycle, and the question that it asks in it.
 
 ghost use Rattle.std.specs.Prelude.{◌≡◌, ◌<◌, ℤ, false, List, length, if◌then◌else◌};
-ghost use Rattle.arena.specs.Ground.{lives};
+ghost use Rattle.arena.specs.Arena.{lives};
 ghost use Rattle.battles.specs.Battle.{Behaviour, Stage};
 ghost use Rattle.battles.specs.Carrying.{AreRobotsOf};
 ghost use Rattle.code.specs.Machine.{want_code};
-ghost use Rattle.code.specs.Standing.{IsReached};
+ghost use Rattle.code.specs.ReachedMachines.{IsReached};
 ghost use Rattle.playing.specs.Games.{GoesOn, HasCome};
 ghost use Rattle.playing.specs.Played.{codes_of, exes_of};
 ghost use Rattle.moments.specs.Moments.{asked_in, last_of, question_in};
 
 use code::{Machine, Want};
-use playing::{Game, Pilot, Question, Watcher};
+use playing::{Exchange, Game, Pilot, Watcher};
 
 /// A question, with the cycle in which it was asked, and its reply.
 #[derive(Clone, Copy)]
@@ -19,7 +19,7 @@ pub struct Asked {
     /// The number of the cycle, from 1.
     pub cycle: u32,
     /// What was asked, and what the field answered.
-    pub question: Question,
+    pub question: Exchange,
 }
 
 /// A watcher that does nothing.
@@ -71,7 +71,7 @@ fn asked_in(wanted: Want, cycle: u32, reply: i32) -> Option<Asked>
     match wanted {
         Want::Ask(intrinsic, arguments) => Some(Asked {
             cycle,
-            question: Question {
+            question: Exchange {
                 intrinsic,
                 arguments,
                 reply,

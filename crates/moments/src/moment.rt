@@ -11,7 +11,7 @@ use crate::asked::{Asked, go_on, wanted};
 use arena::MOST_ROBOTS;
 use code::{Cause, Want};
 use playing::{Game, Pilot};
-use settings::CYCLES_MAX;
+use settings::MOST_CYCLES;
 
 /// Where a robot is after a cycle of a match. The words, the frames, the externals and the address are those of its
 /// pilot's machine.
@@ -41,7 +41,7 @@ pub fn moment_at(
 ) -> Moment
     requires some { 2 ≤ length pilots.old }
     requires most { length pilots.old ≤ MOST_ROBOTS }
-    requires limit { limit ≤ CYCLES_MAX }
+    requires limit { limit ≤ MOST_CYCLES }
     requires inside { robot < length pilots.old }
     ensures moment { (robots : List Behaviour) → AreRobotsOf (exes_of (codes_of pilots.old)) robots
         → IsMoment robots (opening (length robots) seed number) limit robot cycle pilots.new result }

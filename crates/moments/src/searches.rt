@@ -3,7 +3,7 @@
 ghost use Rattle.std.specs.Prelude.{◌≡◌, ◌<◌, ◌≤◌, ◌&&◌, false, if◌then◌else◌, List, None, Some, length, nat_lt, slice_get};
 ghost use Rattle.battles.specs.Battle.{Behaviour, Stage, last_cycle, opening};
 ghost use Rattle.battles.specs.Carrying.{AreRobotsOf};
-ghost use Rattle.code.specs.Generation.{ObjectCode};
+ghost use Rattle.code.specs.Generation.{Program};
 ghost use Rattle.playing.specs.Games.{GoesOn, HasCome};
 ghost use Rattle.playing.specs.Played.{codes_of, exes_of};
 ghost use Rattle.moments.specs.Searches.{Happens, IsFound, IsLast, IsNext};
@@ -11,7 +11,7 @@ ghost use Rattle.moments.specs.Searches.{Happens, IsFound, IsLast, IsNext};
 use crate::sought::{Sought, happens};
 use arena::MOST_ROBOTS;
 use playing::{Game, Pilot};
-use settings::CYCLES_MAX;
+use settings::MOST_CYCLES;
 
 /// Returns the first cycle behind `after` in which what is sought happens to a robot, in the match of this number and seed
 /// of at most `limit` cycles. `None` if it happens in none.
@@ -26,9 +26,9 @@ pub fn next_cycle(
 ) -> Option<u32>
     requires some { 2 ≤ length pilots.old }
     requires most { length pilots.old ≤ MOST_ROBOTS }
-    requires limit { limit ≤ CYCLES_MAX }
+    requires limit { limit ≤ MOST_CYCLES }
     requires inside { robot < length pilots.old }
-    ensures next { (robots : List Behaviour) (code : ObjectCode) → AreRobotsOf (exes_of (codes_of pilots.old)) robots
+    ensures next { (robots : List Behaviour) (code : Program) → AreRobotsOf (exes_of (codes_of pilots.old)) robots
         → slice_get (codes_of pilots.old) robot ≡ Some code → IsNext (Happens robots code
         (opening (length robots) seed number) robot sought.now) after
         (last_cycle robots (opening (length robots) seed number) limit) result }
@@ -50,9 +50,9 @@ pub fn previous_cycle(
 ) -> Option<u32>
     requires some { 2 ≤ length pilots.old }
     requires most { length pilots.old ≤ MOST_ROBOTS }
-    requires limit { limit ≤ CYCLES_MAX }
+    requires limit { limit ≤ MOST_CYCLES }
     requires inside { robot < length pilots.old }
-    ensures last { (robots : List Behaviour) (code : ObjectCode) → AreRobotsOf (exes_of (codes_of pilots.old)) robots
+    ensures last { (robots : List Behaviour) (code : Program) → AreRobotsOf (exes_of (codes_of pilots.old)) robots
         → slice_get (codes_of pilots.old) robot ≡ Some code → IsLast (Happens robots code
         (opening (length robots) seed number) robot sought.now) before
         (last_cycle robots (opening (length robots) seed number) limit) result }
@@ -74,7 +74,7 @@ fn next_in(
     requires begins { game.old.ending.cycles ≡ 0 }
     requires limit { game.old.limit ≡ limit }
     requires inside { robot < length pilots.old }
-    ensures { (robots : List Behaviour) (s : Stage) (code : ObjectCode)
+    ensures { (robots : List Behaviour) (s : Stage) (code : Program)
         → AreRobotsOf (exes_of (codes_of pilots.old)) robots → slice_get (codes_of pilots.old) robot ≡ Some code
         → HasCome (codes_of pilots.old) robots s pilots.old game.old
         → IsNext (Happens robots code s robot sought.now) after (last_cycle robots s limit) result }
@@ -103,7 +103,7 @@ fn last_in(
     requires manned { length game.old.arena.robots ≡ length pilots.old }
     requires begins { game.old.ending.cycles ≡ 0 }
     requires inside { robot < length pilots.old }
-    ensures { (robots : List Behaviour) (s : Stage) (code : ObjectCode)
+    ensures { (robots : List Behaviour) (s : Stage) (code : Program)
         → AreRobotsOf (exes_of (codes_of pilots.old)) robots → slice_get (codes_of pilots.old) robot ≡ Some code
         → HasCome (codes_of pilots.old) robots s pilots.old game.old
         → IsLast (Happens robots code s robot sought.now) before (last_cycle robots s game.old.limit) result }
@@ -133,7 +133,7 @@ fn step(
     ensures battle { (robots : List Behaviour) (s : Stage) → AreRobotsOf (exes_of (codes_of pilots.old)) robots
         → HasCome (codes_of pilots.old) robots s pilots.old game.old
         → HasCome (codes_of pilots.old) robots s pilots.new game.new }
-    ensures found { (robots : List Behaviour) (s : Stage) (code : ObjectCode)
+    ensures found { (robots : List Behaviour) (s : Stage) (code : Program)
         → AreRobotsOf (exes_of (codes_of pilots.old)) robots → slice_get (codes_of pilots.old) robot ≡ Some code
         → HasCome (codes_of pilots.old) robots s pilots.old game.old
         → IsFound (Happens robots code s robot sought.now) game.old.ending.cycles after result }

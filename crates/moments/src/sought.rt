@@ -3,7 +3,7 @@
 ghost use Rattle.std.specs.Prelude.{◌≡◌, ◌<◌, true, false, List, get_or, length, slice_get, ℤ, Some};
 ghost use Rattle.battles.specs.Battle.{Behaviour, Stage};
 ghost use Rattle.battles.specs.Carrying.{AreRobotsOf};
-ghost use Rattle.code.specs.Generation.{ObjectCode};
+ghost use Rattle.code.specs.Generation.{Program};
 ghost use Rattle.code.specs.declared.want.Want.TheVariants.{Ask};
 ghost use Rattle.playing.specs.Games.{GoesOn, HasCome};
 ghost use Rattle.playing.specs.Played.{codes_of, exes_of};
@@ -59,11 +59,11 @@ pub(crate) fn happens(
     ensures battle { (robots : List Behaviour) (s : Stage) → AreRobotsOf (exes_of (codes_of pilots.old)) robots
         → HasCome (codes_of pilots.old) robots s pilots.old game.old
         → HasCome (codes_of pilots.old) robots s pilots.new game.new }
-    ensures yes { (robots : List Behaviour) (s : Stage) (code : ObjectCode) → AreRobotsOf (exes_of (codes_of pilots.old)) robots
+    ensures yes { (robots : List Behaviour) (s : Stage) (code : Program) → AreRobotsOf (exes_of (codes_of pilots.old)) robots
         → slice_get (codes_of pilots.old) robot ≡ Some code
         → HasCome (codes_of pilots.old) robots s pilots.old game.old → result ≡ true
         → Happens robots code s robot sought.now game.old.ending.cycles }
-    ensures no { (robots : List Behaviour) (s : Stage) (code : ObjectCode) → AreRobotsOf (exes_of (codes_of pilots.old)) robots
+    ensures no { (robots : List Behaviour) (s : Stage) (code : Program) → AreRobotsOf (exes_of (codes_of pilots.old)) robots
         → slice_get (codes_of pilots.old) robot ≡ Some code
         → HasCome (codes_of pilots.old) robots s pilots.old game.old
         → Happens robots code s robot sought.now game.old.ending.cycles → result ≡ true }

@@ -8,7 +8,7 @@ use crate::depths::Depths;
 use lang::{Diagnostic, Name, ParseFault, Profile, TreeMaker, Watched, parse};
 use std::io::ErrorKind;
 use std::{env, fs, io, str};
-use tokens::Pieces;
+use tokens::MemoryFeed;
 
 /// Prints the outline of the file that the first word names.
 fn main(rt: HostRuntime) -> io::Result<()> {
@@ -25,7 +25,7 @@ fn outline(rt: &HostRuntime, source: &[u8]) -> io::Result<()> {
         watcher: Depths::new(),
         builder: TreeMaker::new(rt.alloc(), Profile::first()),
     };
-    let pools = match parse(&mut Pieces::new(source, 4096), &mut watched) {
+    let pools = match parse(&mut MemoryFeed::new(source, 4096), &mut watched) {
         Ok(pools) => pools,
         Err(ParseFault::Source(Diagnostic { line, code })) => {
             return println!(rt; "line {line}: {}", code.text());
@@ -37,7 +37,7 @@ fn outline(rt: &HostRuntime, source: &[u8]) -> io::Result<()> {
         println!(rt; "function {}", text_of(function.name()))?;
         let (parameters, others) = function
             .variables()
-            .split_at(usize::from(function.parameters()));
+            .split_at(usize::from(function.parameter_count()));
         print_names(rt, "  parameters", parameters)?;
         print_names(rt, "  variables", others)?;
         println!(rt; "  nesting {}", watched.watcher.deepest(number as u8))?;

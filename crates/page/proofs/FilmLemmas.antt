@@ -4,15 +4,15 @@ use Rattle.std.specs.Prelude.{option_map}
 use Rattle.grammar.specs.Laws.{CompiledIsResolved}
 use Rattle.grammar.specs.Profile.{Profile}
 use Rattle.grammar.specs.Tree.{File}
-use Rattle.code.specs.Codes.{AreCodesOf}
-use Rattle.code.specs.Generation.{ObjectCode, code_of}
+use Rattle.code.specs.Codes.{AreProgramsOf}
+use Rattle.code.specs.Generation.{Program, code_of}
 use Rattle.series.proofs.OutputLemmas.{kept_codes}
-use Rattle.series.specs.Compiling.{files_of, status_of}
+use Rattle.series.specs.Compiling.{files_of, compile_status}
 use Rattle.series.specs.Pieces.{on_both}
 use Rattle.series.specs.Runs.{Compiles}
-use Rattle.series.specs.declared.endings.RunFault.{RunFault}
-use Rattle.series.specs.declared.endings.RunFault.TheVariants as fault
-use Rattle.series.specs.declared.endings.Status.TheVariants as status
+use Rattle.series.specs.declared.run_results.RunFault.{RunFault}
+use Rattle.series.specs.declared.run_results.RunFault.TheVariants as fault
+use Rattle.series.specs.declared.run_results.Status.TheVariants as status
 use Rattle.page.specs.declared.films.Shown.{Shown}
 use Rattle.page.specs.declared.films.Shown.TheVariants.{Over, GoesOn, Faulty}
 use Rattle.page.specs.declared.orders.Order.{Order}
@@ -30,18 +30,18 @@ use Rattle.grammar.specs.Profile.{profile_numbered}
 
 -- no codes: a source is faulty
 no_codes : (profile : Profile) (files : Option (List File))
-    → None ≡ option_map (λ files. map (code_of profile) files) files → status.Faulty ≡ status_of files
+    → None ≡ option_map (λ files. map (code_of profile) files) files → status.Faulty ≡ compile_status files
 no_codes profile None is = refl
 no_codes profile (Some files) is = absurd (cc is)
 
 -- codes: no source is
-some_codes : (profile : Profile) (codes : List ObjectCode) (files : Option (List File))
-    → Some codes ≡ option_map (λ files. map (code_of profile) files) files → status.Done ≡ status_of files
+some_codes : (profile : Profile) (codes : List Program) (files : Option (List File))
+    → Some codes ≡ option_map (λ files. map (code_of profile) files) files → status.Done ≡ compile_status files
 some_codes profile codes None is = absurd (cc is)
 some_codes profile codes (Some files) is = refl
 
 -- the robots of an order were compiled on blank sheets
-abbrev pub CompilesRobots : Order → List RobotFile → Result (Option (List ObjectCode)) RunFault → Sheet → Sheet →
+abbrev pub CompilesRobots : Order → List RobotFile → Result (Option (List Program)) RunFault → Sheet → Sheet →
     Type 0
 CompilesRobots order robots result film faults =
     Compiles (setup_of order (map name_bytes robots)) (map source_of robots)
@@ -54,7 +54,7 @@ no_files profile None some is same = absurd (cc same)
 no_files profile (Some files) some is same = absurd (cc is)
 
 pub films_faulty : (order : Order) (robots : List RobotFile) (stretch : Option Stretch)
-    (result : Result (Option (List ObjectCode)) RunFault)
+    (result : Result (Option (List Program)) RunFault)
     (film faults : Sheet) → result ≡ Ok None → CompilesRobots order robots result film faults
     → FilmsRobots order robots stretch (Ok Faulty) film faults
 films_faulty order robots stretch (Err stopped) film faults is compiles = absurd (cc is)
@@ -76,8 +76,8 @@ shown_good GoesOn some = refl
 shown_good Faulty some = absurd (some refl)
 
 pub films_good : (order : Order) (robots : List RobotFile) (stretch : Option Stretch)
-    (result : Result (Option (List ObjectCode)) RunFault)
-    (codes : List ObjectCode) (compiled film faults : Sheet) (shown : Shown) → shown ≢ Faulty → result ≡ Ok (Some codes)
+    (result : Result (Option (List Program)) RunFault)
+    (codes : List Program) (compiled film faults : Sheet) (shown : Shown) → shown ≢ Faulty → result ≡ Ok (Some codes)
     → CompilesRobots order robots result compiled faults → film.failures ≡ 0
     → OfMatch order robots (λ cycles. Shows stretch cycles shown)
     → FilmsRobots order robots stretch (Ok shown) film faults
@@ -96,10 +96,10 @@ films_good order robots stretch (Ok (Some codes)) kept compiled film faults show
 
 -- the programs of good sources are the codes of their files
 pub codes_good : CompiledIsResolved → (order : Order) (robots : List RobotFile)
-    (result : Result (Option (List ObjectCode)) RunFault) (codes : List ObjectCode) (compiled faults : Sheet)
+    (result : Result (Option (List Program)) RunFault) (codes : List Program) (compiled faults : Sheet)
     (files : List File) → result ≡ Ok (Some codes) → CompilesRobots order robots result compiled faults
     → files_of (profile_numbered order.profile) (map source_of robots) ≡ Some files
-    → AreCodesOf codes (profile_numbered order.profile) files
+    → AreProgramsOf codes (profile_numbered order.profile) files
 codes_good law order robots (Err stopped) codes compiled faults files is compiles good = absurd (cc is)
 codes_good law order robots (Ok None) codes compiled faults files is compiles good = absurd (cc is)
 codes_good law order robots (Ok (Some kept)) codes compiled faults files is (writes, given) good =

@@ -4,17 +4,17 @@ use Rattle.std.specs.List.{concat}
 use Rattle.std.proofs.lemmas.List.{append-nil, get_or-set_same}
 use Rattle.std.proofs.lemmas.List.Folds.{concat-append}
 use Rattle.std.proofs.lemmas.Simd.{map-map}
-use Rattle.settings.specs.Setup.{Setup}
+use Rattle.settings.specs.Settings.{Settings}
 use Rattle.series.specs.Compiling.{Source}
 use Rattle.series.specs.Output.{Output}
 use Rattle.series.specs.Runs.{AreSources}
-use Rattle.series.specs.Failures.{Accounts, Failures, SinkFailed, failing, no_device}
+use Rattle.series.specs.Failures.{FailsAsAnswered, Failures, SinkFailed, failing, no_device}
 use Rattle.tokens.specs.Feed.{Account, failed_again}
 use Rattle.series.specs.Pieces.{Channel, Piece, Taken, Text, Faults, Writes, TakesOn, on_both}
-use Rattle.series.specs.declared.endings.RunFault.{RunFault}
-use Rattle.series.specs.declared.endings.RunFault.TheVariants as fault
-use Rattle.series.specs.declared.endings.Status.{Status}
-use Rattle.series.specs.declared.endings.Status.TheVariants.{Done, Faulty}
+use Rattle.series.specs.declared.run_results.RunFault.{RunFault}
+use Rattle.series.specs.declared.run_results.RunFault.TheVariants as fault
+use Rattle.series.specs.declared.run_results.Status.{Status}
+use Rattle.series.specs.declared.run_results.Status.TheVariants.{Done, Faulty}
 use Rattle.sinks.specs.Portions.{Contents, Portions, Takes}
 use Rattle.page.specs.declared.orders.Order.{Order}
 use Rattle.page.specs.declared.robots.RobotFile.{RobotFile}
@@ -130,22 +130,23 @@ is_output order robots (Some (Err fault.Write)) text faults runs = λ small. abs
 is_output order robots (Some (Err fault.Memory)) text faults runs = λ small. absurd (omega arith)
 
 -- what is true of all sources with the robots' names and bytes, on blank sheets, is true of those of the robots
-pub by_robots : (R : Setup → List Source → Taken → Type 0) (order : Order) (robots : List RobotFile) (setup : Setup)
+pub by_robots : (R : Settings → List Source → Taken → Type 0) (order : Order) (robots : List RobotFile)
+    (setup : Settings)
     (words : List (List ℕ)) (known : List (Option (List ℕ))) (text faults : Sheet) → setup ≡ setup_of order words
     → words ≡ map name_bytes robots → known ≡ map (λ robot. Some (source_bytes robot)) robots → told text ≡ [] →
     told faults ≡ []
-    → ((sources : List Source) → AreSources sources setup.words known
+    → ((sources : List Source) → AreSources sources setup.file_words known
     → R setup sources (on_both (contents_of text) (contents_of faults)))
     → R (setup_of order (map name_bytes robots)) (map source_of robots) blank
 by_robots R order robots setup words known text faults is names bytes no_text no_faults runs =
     let whole : setup ≡ setup_of order (map name_bytes robots) = is ∙ ap (setup_of order) names in
-    let named : map (λ (s : Source). s.word) (map source_of robots) ≡ setup.words =
-    map-map (λ (s : Source). s.word) source_of robots ∙ sym (ap (λ (s : Setup). s.words) whole) in
+    let named : map (λ (s : Source). s.word) (map source_of robots) ≡ setup.file_words =
+    map-map (λ (s : Source). s.word) source_of robots ∙ sym (ap (λ (s : Settings). s.file_words) whole) in
     let told_bytes : map (λ (s : Source). Some s.bytes) (map source_of robots) ≡ known =
     map-map (λ (s : Source). Some s.bytes) source_of robots ∙ sym bytes in
     let before : on_both (contents_of text) (contents_of faults) ≡ blank = rw (no_text, no_faults) refl in
     let all = runs (map source_of robots) (record { named = named; bytes = told_bytes }) in
-    let P : Setup → Type 0 = λ s. R s (map source_of robots) (on_both (contents_of text) (contents_of faults)) in
+    let P : Settings → Type 0 = λ s. R s (map source_of robots) (on_both (contents_of text) (contents_of faults)) in
     subst (R (setup_of order (map name_bytes robots)) (map source_of robots)) before (subst P whole all)
 
 -- a device that never failed, at any place
@@ -167,7 +168,7 @@ sink_failed before after (inr is) =
 pub only_writes : {X A : Type 0} →
     (olds news : List X) (ran : Result A RunFault) (text faults later_text later_faults : ℕ)
     →
-    Accounts ran (failing (map (λ _. no_device) olds) text faults)
+    FailsAsAnswered ran (failing (map (λ _. no_device) olds) text faults)
     (failing (map (λ _. no_device) news) later_text later_faults)
     → IfErr ran (λ stopped. (stopped ≡ fault.Write) × ((0 < later_text) ⊎ (0 < later_faults)))
 only_writes olds news (Ok answer) text faults later_text later_faults accounts = tt

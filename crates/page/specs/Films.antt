@@ -6,10 +6,10 @@ use Rattle.battles.specs.Pairing.{robots_of}
 use Rattle.grammar.specs.Tree.{File}
 use Rattle.series.specs.Compiling.{compiling, files_of}
 use Rattle.series.specs.Pieces.{Faults}
-use Rattle.series.specs.declared.endings.RunFault.{RunFault}
-use Rattle.series.specs.declared.endings.RunFault.TheVariants as fault
-use Rattle.series.specs.declared.endings.Status.{Status}
-use Rattle.series.specs.declared.endings.Status.TheVariants as status
+use Rattle.series.specs.declared.run_results.RunFault.{RunFault}
+use Rattle.series.specs.declared.run_results.RunFault.TheVariants as fault
+use Rattle.series.specs.declared.run_results.Status.{Status}
+use Rattle.series.specs.declared.run_results.Status.TheVariants as status
 use Rattle.grammar.specs.Profile.{profile_numbered}
 use Rattle.settings.specs.declared.settings.Mode.TheVariants.{Matches}
 use Rattle.page.specs.declared.films.Shown.{Shown}

@@ -4,9 +4,9 @@ use Rattle.settings.specs.declared.settings.Mode.{Mode}
 use Rattle.settings.specs.declared.settings.Mode.TheVariants.{Listing, Matches}
 use Rattle.settings.specs.declared.settings.Numbers.{Numbers}
 use Rattle.grammar.specs.Profile.{most_profile, profile_numbered}
-use Rattle.settings.specs.Limits.{matches_max, cycles_max, first_max}
-use Rattle.settings.specs.Setup.{Setup}
-use Rattle.settings.specs.Setup as setup
+use Rattle.settings.specs.SettingsLimits.{most_matches, most_cycles, most_first_match}
+use Rattle.settings.specs.Settings.{Settings}
+use Rattle.settings.specs.Settings as setup
 use Rattle.page.specs.declared.orders.Order.{Order}
 use Rattle.page.specs.declared.stretches.Stretch.{Stretch}
 
@@ -14,13 +14,13 @@ use Rattle.page.specs.declared.stretches.Stretch.{Stretch}
 pub record AreWithin (order : Order) : Type 0 where
   pub mode : order.mode ≤ 1
   pub some_match : 1 ≤ order.matches
-  pub most_matches : order.matches ≤ matches_max
+  pub most_matches : order.matches ≤ most_matches
   pub some_cycle : 1 ≤ order.limit
-  pub most_cycles : order.limit ≤ cycles_max
+  pub most_cycles : order.limit ≤ most_cycles
   pub least_profile : 1 ≤ order.profile
   pub greatest_profile : order.profile ≤ most_profile
   pub least_first : 1 ≤ order.first
-  pub most_first : order.first ≤ first_max
+  pub most_first : order.first ≤ most_first_match
 
 abbrev pub mode_by : ℕ → Mode
 mode_by n = if n == 0 then Listing else Matches
@@ -39,5 +39,5 @@ numbers_of order = record {
 }
 
 -- what an order asks for of the files that these words name
-abbrev pub setup_of : Order → List (List ℕ) → Setup
-setup_of order words = setup.setup_of (numbers_of order) (mode_by order.mode) words
+abbrev pub setup_of : Order → List (List ℕ) → Settings
+setup_of order words = setup.settings_of (numbers_of order) (mode_by order.mode) words

@@ -3,16 +3,16 @@ use Rattle.std.specs.Prelude.{◌≡◌, ◌⊎◌, ◌<◌, ◌≤◌, ℕ, All
 use Rattle.std.specs.List.{concat, flat_map}
 use Rattle.series.specs.Output.{Output, Runs, output}
 use Rattle.series.specs.Pieces.{Channel, Piece, Taken, Text, Faults, on_both}
-use Rattle.series.specs.declared.endings.RunFault.{RunFault}
-use Rattle.series.specs.declared.endings.RunFault.TheVariants as fault
-use Rattle.series.specs.declared.endings.Status.{Status}
-use Rattle.series.specs.declared.endings.Status.TheVariants.{Done, Faulty}
+use Rattle.series.specs.declared.run_results.RunFault.{RunFault}
+use Rattle.series.specs.declared.run_results.RunFault.TheVariants as fault
+use Rattle.series.specs.declared.run_results.Status.{Status}
+use Rattle.series.specs.declared.run_results.Status.TheVariants.{Done, Faulty}
 use Rattle.sinks.specs.Portions.{Portions}
 use Rattle.page.specs.declared.orders.Order.{Order}
 use Rattle.page.specs.declared.robots.RobotFile.{RobotFile}
 use Rattle.page.specs.declared.sheets.Sheet.{Sheet}
 use Rattle.page.specs.declared.sources.SourceFeed.{SourceFeed}
-use Rattle.settings.specs.Limits.{files_max}
+use Rattle.settings.specs.SettingsLimits.{most_files}
 use Rattle.page.specs.Orders.{AreWithin, setup_of}
 use Rattle.page.specs.Robots.{name_bytes, source_of}
 use Rattle.page.specs.Sheets.{contents_of, told}
@@ -28,7 +28,7 @@ blank = record { text = nothing; faults = nothing }
 -- one to four robots, whose names are texts
 pub record AreNamed (robots : List RobotFile) : Type 0 where
   pub some : 1 ≤ length robots
-  pub most : length robots ≤ files_max
+  pub most : length robots ≤ most_files
   pub names : All (λ robot. IsUtf8 (name_bytes robot)) robots
 
 -- such robots, and an order whose numbers are within their limits

@@ -1,11 +1,11 @@
 -- The text of a sheet.
 use Rattle.std.specs.Prelude.{ℕ, List, Some, false, map, take}
 use Rattle.sinks.specs.Portions.{Portions, Written}
-use Rattle.page.specs.declared.sheets.Frame.{Frame}
+use Rattle.page.specs.declared.sheets.SheetBlock.{SheetBlock}
 use Rattle.page.specs.declared.sheets.Sheet.{Sheet}
 
 -- the bytes of a frame
-abbrev pub bytes_of : Frame → List ℕ
+abbrev pub bytes_of : SheetBlock → List ℕ
 bytes_of frame = take frame.size frame.bytes
 
 -- the text, frame by frame

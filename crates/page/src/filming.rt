@@ -2,7 +2,7 @@
 
 ghost use Rattle.std.specs.Prelude.{◌≡◌, ◌≢◌, ℕ, ◌<◌, ◌≤◌, All, IfErr, IfOk, IfSome, IsSome, List, None, Some, false, length, map, slice_get};
 ghost use Rattle.grammar.specs.Tree.{File};
-ghost use Rattle.code.specs.Codes.{AreCodesOf};
+ghost use Rattle.code.specs.Codes.{AreProgramsOf};
 ghost use Rattle.battles.specs.Battle.{battle};
 ghost use Rattle.battles.specs.Pairing.{robots_of};
 ghost use Rattle.playing.specs.Played.{EndsAt, IsPlayed};
@@ -23,12 +23,12 @@ use crate::sources::SourceFeed;
 use crate::stretches::Stretch;
 use arrayvec::ArrayVec;
 use code::Maker;
-use derivations::Places;
+use derivations::SourcePositions;
 use grammar::Profile;
 use grammar::laws::resolved_files;
 use parser::parse;
-use playing::{Ending, Pilot, UPDATE_CYCLES, play};
-use series::{FILES_MAX, Mode, Programs, RunFault, Settings, compile_files};
+use playing::{Pilot, PlayEnd, UPDATE_CYCLES, play};
+use series::{MOST_FILES, Mode, Programs, RunFault, Settings, compile_files};
 
 /// Plays the first match that the order asks for of one to four robots, and writes on a sheet the film of a stretch of it,
 /// or of all of it; if it asks for listings, writes where their instructions come from. The other sheet takes the
@@ -94,20 +94,20 @@ fn compile_feeds(
     text: &mut Sheet,
     faults: &mut Sheet,
 ) -> Result<Option<Programs>, RunFault>
-    requires fresh { AreFresh (length settings.now.words) feeds.old text.old faults.old }
+    requires fresh { AreFresh (length settings.now.file_words) feeds.old text.old faults.old }
     ensures output { (sources : List Source)
-        → AreSources sources settings.now.words (map (λ feed. Some feed.rest.now) feeds.old)
+        → AreSources sources settings.now.file_words (map (λ feed. Some feed.rest.now) feeds.old)
         → Compiles settings.now sources result (on_both (contents_of text.old) (contents_of faults.old))
         (on_both (contents_of text.new) (contents_of faults.new)) }
     ensures manned { IfOk result (λ programs. IfSome programs
-        (λ programs. length programs ≡ length settings.now.words)) }
+        (λ programs. length programs ≡ length settings.now.file_words)) }
     ensures stopped { IfErr result (λ fault. (fault ≡ RunFault.Write) × IsFull text.new faults.new) }
 {
     compile_files(settings, feeds, text, faults)
 }
 
 /// Writes the places of the instructions of each file on a blank sheet.
-fn list_places(files: &[Option<Places>], sheet: &mut Sheet) -> Shown
+fn list_places(files: &[Option<SourcePositions>], sheet: &mut Sheet) -> Shown
     ensures { result ≡ Shown.Over }
 {
     tell_places(files, sheet);
@@ -115,8 +115,8 @@ fn list_places(files: &[Option<Places>], sheet: &mut Sheet) -> Shown
 }
 
 /// Returns the names of the functions of at most four robots.
-fn functions_of(profile: Profile, robots: &[RobotFile]) -> Option<ArrayVec<Functions, FILES_MAX>>
-    ensures { length robots.now ≤ FILES_MAX → IsSome result }
+fn functions_of(profile: Profile, robots: &[RobotFile]) -> Option<ArrayVec<Functions, MOST_FILES>>
+    ensures { length robots.now ≤ MOST_FILES → IsSome result }
 {
     let mut files = ArrayVec::new();
     for robot in robots {
@@ -148,7 +148,7 @@ fn film_match(
     requires { 0 < length programs.now }
     ensures made { IfSome result (λ shown. shown ≢ Shown.Faulty) }
     ensures whole { stretch ≡ None → IfSome result (λ shown. shown ≢ Shown.GoesOn) }
-    ensures shows { (files : List File) → AreCodesOf programs.now settings.now.profile files
+    ensures shows { (files : List File) → AreProgramsOf programs.now settings.now.profile files
         → IfSome result (Shows stretch (battle (robots_of settings.now.profile files) settings.now.seed settings.now.first
         settings.now.limit).cycles) }
 {
@@ -162,7 +162,7 @@ fn film_match(
 
 /// Returns what is shown of a stretch of a match that was played so far, or of all of it: over, or going on. `None` if it
 /// was stopped before there was all of that.
-fn shown_by(stretch: Option<Stretch>, ending: Ending) -> Option<Shown>
+fn shown_by(stretch: Option<Stretch>, ending: PlayEnd) -> Option<Shown>
     ensures made { IfSome result (λ shown. shown ≢ Shown.Faulty) }
     ensures whole { stretch ≡ None → IfSome result (λ shown. shown ≢ Shown.GoesOn) }
     ensures shows { (last : ℕ) → EndsAt last ending → IfSome result (Shows stretch last) }
@@ -178,9 +178,9 @@ fn shown_by(stretch: Option<Stretch>, ending: Ending) -> Option<Shown>
 }
 
 /// Plays the first match of these programs before a film: one plays against itself. Returns where that ended.
-fn play_programs(settings: &Settings<'_>, programs: &Programs, film: &mut Film<'_>) -> Ending
+fn play_programs(settings: &Settings<'_>, programs: &Programs, film: &mut Film<'_>) -> PlayEnd
     requires { 0 < length programs.now }
-    ensures { (files : List File) → AreCodesOf programs.now settings.now.profile files
+    ensures { (files : List File) → AreProgramsOf programs.now settings.now.profile files
         → IsPlayed (robots_of settings.now.profile files) settings.now.seed settings.now.first settings.now.limit result }
 {
     let (seed, number, limit) = (settings.seed(), settings.first(), settings.limit());

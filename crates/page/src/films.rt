@@ -2,17 +2,17 @@
 
 ghost use Rattle.std.specs.Prelude.{◌≡◌};
 
-use crate::missiles::Missile;
+use crate::missiles::FiredMissile;
 use crate::rows::Row;
 use crate::sheets::Sheet;
 use crate::stretches::Stretch;
 use arena::{Arena, MOST_BURSTS, MOST_ROBOTS};
 use arrayvec::ArrayVec;
 use code::Cause;
-use derivations::Places;
+use derivations::SourcePositions;
 use findings::{Event, Field, Listener, Seen, Stance, function_at};
 use grammar::MOST_NAMES;
-use playing::{Pilot, Question, Turn, UPDATE_CYCLES, Watcher, word_of};
+use playing::{Exchange, Pilot, Turn, UPDATE_CYCLES, Watcher, word_of};
 use std::str;
 use tokens::Name;
 use trails::Place;
@@ -39,11 +39,11 @@ pub enum Shown {
 pub(crate) struct Film<'a> {
     sheet: &'a mut Sheet,
     functions: &'a [Functions],
-    places: &'a [Option<Places>],
+    places: &'a [Option<SourcePositions>],
     stretch: Option<Stretch>,
     skipped: u32,
     seen: [Seen; MOST_ROBOTS],
-    missiles: [Missile; MOST_BURSTS],
+    missiles: [FiredMissile; MOST_BURSTS],
     robots: usize,
     updates: u32,
 }
@@ -54,7 +54,7 @@ impl<'a> Film<'a> {
     pub(crate) fn new(
         sheet: &'a mut Sheet,
         functions: &'a [Functions],
-        places: &'a [Option<Places>],
+        places: &'a [Option<SourcePositions>],
         stretch: Option<Stretch>,
         skipped: u32,
     ) -> Film<'a>
@@ -68,7 +68,7 @@ impl<'a> Film<'a> {
             stretch,
             skipped,
             seen: [Seen::default(); MOST_ROBOTS],
-            missiles: [Missile::default(); MOST_BURSTS],
+            missiles: [FiredMissile::default(); MOST_BURSTS],
             robots: 0,
             updates: 0,
         }
@@ -151,7 +151,7 @@ impl<'a> Film<'a> {
     }
 
     /// Keeps a missile that is fired, in the place of one that has burst: of each robot two are in the air at most.
-    fn keep(&mut self, missile: Missile) {
+    fn keep(&mut self, missile: FiredMissile) {
         for slot in 0..MOST_BURSTS {
             if !self.missiles[slot].flies(self.updates) {
                 self.missiles[slot] = missile;
@@ -204,18 +204,18 @@ impl Watcher for Film<'_> {
     }
 
     /// Keeps and writes a missile that a robot fires: refused shots are left out.
-    fn shot(&mut self, turn: Turn, question: Question, arena: &Arena) {
+    fn shot(&mut self, turn: Turn, question: Exchange, arena: &Arena) {
         if question.reply == 0 {
             return;
         }
         let Turn { cycle, robot } = turn;
-        let missile = Missile::new(robot, cycle, Place::of(arena, robot), question.arguments);
+        let missile = FiredMissile::new(robot, cycle, Place::of(arena, robot), question.arguments);
         self.tell(cycle, robot, &missile_event("shot", &missile));
         self.keep(missile);
     }
 
     /// Writes the first scan of a robot since the last update.
-    fn scanned(&mut self, turn: Turn, question: Question) {
+    fn scanned(&mut self, turn: Turn, question: Exchange) {
         let Some(seen) = self.seen.get_mut(turn.robot) else {
             return;
         };
@@ -272,7 +272,7 @@ fn function_name(files: &[Functions], robot: usize, number: usize) -> &str {
 }
 
 /// Returns the event of a missile: what it was fired with, and where.
-fn missile_event(kind: &'static str, missile: &Missile) -> Event<'static> {
+fn missile_event(kind: &'static str, missile: &FiredMissile) -> Event<'static> {
     let (x, y) = (i32::from(missile.x), i32::from(missile.y));
     Event::of_numbers(kind, &[missile.degree, missile.range, x, y])
 }

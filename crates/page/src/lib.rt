@@ -22,5 +22,5 @@ pub use films::Shown;
 pub use orders::Order;
 pub use robots::{NAME_MAX, RobotFile, SOURCE_MAX};
 pub use running::run_robots;
-pub use sheets::{FRAME_BYTES, FRAMES, Frame, Sheet};
+pub use sheets::{FRAME_BYTES, FRAMES, Sheet, SheetBlock};
 pub use stretches::Stretch;

@@ -3,12 +3,12 @@
 ghost use Rattle.std.specs.Prelude.{◌≤◌};
 
 use playing::UPDATE_CYCLES;
-use series::CYCLES_MAX;
+use series::MOST_CYCLES;
 use trails::{Place, Shot};
 
 /// A missile: who fired it, in which cycle, by which degree and range, where, and the update in which it bursts.
 #[derive(Clone, Copy, Default, Drop)]
-pub(crate) struct Missile {
+pub(crate) struct FiredMissile {
     /// The robot's number, from 0.
     pub(crate) robot: usize,
     /// The cycle in which it was fired.
@@ -25,14 +25,14 @@ pub(crate) struct Missile {
     pub(crate) burst: u32,
 }
 
-impl Missile {
+impl FiredMissile {
     /// Makes the missile that a robot fires from a place in a cycle, by these arguments of `cannon`.
-    pub(crate) fn new(robot: usize, cycle: u32, place: Place, arguments: [i32; 2]) -> Missile
-        requires { cycle ≤ CYCLES_MAX }
+    pub(crate) fn new(robot: usize, cycle: u32, place: Place, arguments: [i32; 2]) -> FiredMissile
+        requires { cycle ≤ MOST_CYCLES }
     {
         let [degree, range] = arguments;
         let updates = cycle.saturating_sub(1) / UPDATE_CYCLES;
-        Missile {
+        FiredMissile {
             robot,
             cycle,
             degree,

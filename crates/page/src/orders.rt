@@ -6,7 +6,7 @@ ghost use Rattle.page.specs.Orders.{AreWithin, mode_by, numbers_of, setup_of, st
 use crate::stretches::Stretch;
 use arrayvec::ArrayVec;
 use grammar::{MOST_PROFILE, Profile};
-use series::{CYCLES_MAX, FILES_MAX, FIRST_MAX, MATCHES_MAX, Mode, Numbers, Settings};
+use series::{MOST_CYCLES, MOST_FILES, MOST_FIRST_MATCH, MOST_MATCHES, Mode, Numbers, Settings};
 
 /// What a run is asked to do.
 #[repr(C)]
@@ -38,7 +38,7 @@ impl Order {
     pub fn settings<'a>(&self, words: &[&'a str]) -> Option<Settings<'a>>
         requires some { 0 < length words.now }
         ensures value { IfSome result (λ settings. settings ≡ setup_of self.now (map (λ word. word.now) words.now)) }
-        ensures accepted { AreWithin self.now → length words.now ≤ FILES_MAX → IsSome result }
+        ensures accepted { AreWithin self.now → length words.now ≤ MOST_FILES → IsSome result }
         ensures within { IsSome result → AreWithin self.now }
     {
         if !self.is_within() {
@@ -63,10 +63,10 @@ impl Order {
         ensures within { result ≡ true → AreWithin self.now }
         ensures accepted { AreWithin self.now → result ≡ true }
     {
-        let matches = 1 <= self.matches && self.matches <= MATCHES_MAX;
-        let cycles = 1 <= self.limit && self.limit <= CYCLES_MAX;
+        let matches = 1 <= self.matches && self.matches <= MOST_MATCHES;
+        let cycles = 1 <= self.limit && self.limit <= MOST_CYCLES;
         let profile = 1 <= self.profile && self.profile <= MOST_PROFILE;
-        let first = 1 <= self.first && self.first <= FIRST_MAX;
+        let first = 1 <= self.first && self.first <= MOST_FIRST_MATCH;
         self.mode <= 1 && matches && cycles && profile && first
     }
 

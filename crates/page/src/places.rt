@@ -7,9 +7,9 @@ use crate::rows::Row;
 use crate::sheets::Sheet;
 use arrayvec::ArrayVec;
 use code::Program;
-use derivations::{Places, lines};
+use derivations::{SourcePositions, lines};
 use findings::{Event, Field};
-use series::{FILES_MAX, Programs};
+use series::{MOST_FILES, Programs};
 
 /// The first line of a list of places: the names of its columns.
 const COLUMNS: &[u8] = b"address\trobot\tkind\tline\tcolumn\n";
@@ -18,7 +18,7 @@ const COLUMNS: &[u8] = b"address\trobot\tkind\tline\tcolumn\n";
 pub(crate) fn places_of(
     programs: &Programs,
     robots: &[RobotFile],
-) -> ArrayVec<Option<Places>, FILES_MAX> {
+) -> ArrayVec<Option<SourcePositions>, MOST_FILES> {
     let mut found = ArrayVec::new();
     for (file, robot) in robots.iter().enumerate() {
         if file < programs.len() {
@@ -30,7 +30,7 @@ pub(crate) fn places_of(
 
 /// Finds the place of each instruction of a program in the source that it was made of. `None` if these are not as many as
 /// the program has.
-fn places_in(program: &Program, source: &[u8]) -> Option<Places>
+fn places_in(program: &Program, source: &[u8]) -> Option<SourcePositions>
     ensures each { IfSome result (λ places. length places ≡ length program.now.instructions) }
 {
     let places = lines(source, program.profile())?;
@@ -42,7 +42,7 @@ fn places_in(program: &Program, source: &[u8]) -> Option<Places>
 }
 
 /// Writes the places of the instructions of each file on a blank sheet, a row each.
-pub(crate) fn tell_places(files: &[Option<Places>], sheet: &mut Sheet) {
+pub(crate) fn tell_places(files: &[Option<SourcePositions>], sheet: &mut Sheet) {
     sheet.add(COLUMNS);
     for (robot, file) in files.iter().enumerate() {
         if let Some(places) = file {
@@ -52,7 +52,7 @@ pub(crate) fn tell_places(files: &[Option<Places>], sheet: &mut Sheet) {
 }
 
 /// Writes the places of a file's instructions.
-fn tell_file(robot: usize, places: &Places, sheet: &mut Sheet) {
+fn tell_file(robot: usize, places: &SourcePositions, sheet: &mut Sheet) {
     for (address, place) in places.places().iter().enumerate() {
         let fields = [
             Field::Number(i64::from(place.line)),

@@ -14,7 +14,7 @@ use crate::robots::RobotFile;
 use crate::sheets::Sheet;
 use crate::sources::SourceFeed;
 use arrayvec::ArrayVec;
-use series::{FILES_MAX, RunFault, Settings, Status, run};
+use series::{MOST_FILES, RunFault, Settings, Status, run};
 
 /// Runs what the order asks for over one to four robots, and writes on two sheets, which are blank before: `text` takes
 /// listings, or the reports of matches and their totals, and `faults` the diagnostics of faulty sources.
@@ -40,7 +40,7 @@ pub fn run_robots(
 }
 
 /// Returns the names of one to four robots, if they are texts.
-pub(crate) fn words_of(robots: &[RobotFile]) -> Option<ArrayVec<&str, FILES_MAX>>
+pub(crate) fn words_of(robots: &[RobotFile]) -> Option<ArrayVec<&str, MOST_FILES>>
     ensures names { IfSome result (λ words. map (λ word. word.now) words.items ≡ map name_bytes robots.now) }
     ensures some { IfSome result (λ words. 1 ≤ length words.items) }
     ensures accepted { AreNamed robots.now → IsSome result }
@@ -57,11 +57,11 @@ pub(crate) fn words_of(robots: &[RobotFile]) -> Option<ArrayVec<&str, FILES_MAX>
 }
 
 /// Returns the sources of at most four robots.
-pub(crate) fn feeds_of(robots: &[RobotFile]) -> Option<ArrayVec<SourceFeed<'_>, FILES_MAX>>
+pub(crate) fn feeds_of(robots: &[RobotFile]) -> Option<ArrayVec<SourceFeed<'_>, MOST_FILES>>
     ensures bytes { IfSome result (λ feeds. map (λ feed. Some feed.rest.now) feeds.items
         ≡ map (λ robot. Some (source_bytes robot)) robots.now) }
     ensures not_ended { IfSome result (λ feeds. All (λ feed. feed.ended ≡ false) feeds.items) }
-    ensures accepted { length robots.now ≤ FILES_MAX → IsSome result }
+    ensures accepted { length robots.now ≤ MOST_FILES → IsSome result }
 {
     let mut feeds = ArrayVec::new();
     for robot in robots {
@@ -77,10 +77,10 @@ fn run_feeds(
     text: &mut Sheet,
     faults: &mut Sheet,
 ) -> Result<Status, RunFault>
-    requires fresh { AreFresh (length settings.now.words) feeds.old text.old faults.old }
+    requires fresh { AreFresh (length settings.now.file_words) feeds.old text.old faults.old }
     ensures stopped { IfErr result (λ fault. (fault ≡ RunFault.Write) × IsFull text.new faults.new) }
     ensures output { (sources : List Source)
-        → AreSources sources settings.now.words (map (λ feed. Some feed.rest.now) feeds.old)
+        → AreSources sources settings.now.file_words (map (λ feed. Some feed.rest.now) feeds.old)
         → Runs settings.now sources result (on_both (contents_of text.old) (contents_of faults.old))
         (on_both (contents_of text.new) (contents_of faults.new)) }
 {

@@ -15,7 +15,7 @@ pub const FRAMES: usize = 32_768;
 /// A piece of text of at most 255 bytes: the first `size` of `bytes`.
 #[repr(C)]
 #[derive(Clone, Copy)]
-pub struct Frame {
+pub struct SheetBlock {
     /// How many bytes it has.
     pub size: u8,
     /// The bytes, and what lies behind them.
@@ -30,7 +30,7 @@ pub struct Sheet {
     /// How many writes failed since the sheet was blank, for want of room.
     pub failures: u64,
     /// The frames of the text, and those that are free.
-    pub frames: [Frame; FRAMES],
+    pub frames: [SheetBlock; FRAMES],
 }
 
 impl Sheet {

@@ -6,20 +6,20 @@ use Rattle.grammar.specs.declared.diagnostics.ParseFault.{ParseFault}
 use Rattle.grammar.specs.declared.diagnostics.ParseFault.TheVariants as refusal
 use Rattle.grammar.specs.declared.actions.Action.{Action}
 use Rattle.grammar.specs.Actions.{function_actions}
-use Rattle.grammar.specs.Building.{Meaning}
+use Rattle.grammar.specs.Building.{Representation}
 use Rattle.grammar.specs.Derivation.{Definition, State, state}
 use Rattle.grammar.specs.Faults.{definitions_actions, levels}
 use Rattle.grammar.specs.Grammar.{Item}
 use Rattle.grammar.specs.Laws.Parsing.{Passes, Fails}
 use Rattle.grammar.proofs.Runs.{here, then}
-use Rattle.parser.specs.Position.{GoesOn, Place, scope_at, next_at}
+use Rattle.parser.specs.ScopedCursors.{MayContinue, Position, scope_at, next_at}
 use Rattle.parser.specs.Growing.{HasGrown}
 use Rattle.parser.specs.Stopping.{Stop, StopsInside, stop_with}
 use Rattle.grammar.specs.Profile.{Profile}
 use Rattle.parser.specs.Segment.{Derives, FailsAt, Refused, TakesTokens}
 use Rattle.parser.proofs.Segments.{refused_map, told_goes, Begins, functions_back, near_told, stops_back, stops_here, told_begins}
-use Rattle.parser.specs.Progress.{IsTold, ReadsOn, StopsReading, StopsTelling}
-use Rattle.tokens.specs.Reading.{IsNearTo}
+use Rattle.parser.specs.Progress.{HasTold, ReadsOn, StopsPart, StopsTelling}
+use Rattle.tokens.specs.Cursors.{IsNearTo}
 
 pub definitions_actions-append : (ds es : List Definition) →
     definitions_actions (ds ++ es) ≡ definitions_actions ds ++ definitions_actions es
@@ -29,7 +29,8 @@ definitions_actions-append (d ∷ ds) es =
     ∙ sym (append_assoc (function_actions d.number d.function) (definitions_actions ds) (definitions_actions es))
 
 -- nothing is read
-pub advances_stay : (before : Meaning) (front : List Item) (at : Place) → ReadsOn before before front front at at
+pub advances_stay : (before : Representation) (front : List Item) (at : Position) →
+    ReadsOn before before front front at at
 advances_stay before front at = record {
   consumed = [];
   more = [];
@@ -43,7 +44,7 @@ advances_stay before front at = record {
 }
 
 -- two readings one behind another
-pub advances_then : (before mid after : Meaning) (front between pending : List Item) (at now there : Place) →
+pub advances_then : (before mid after : Representation) (front between pending : List Item) (at now there : Position) →
     ReadsOn before mid front between at now → ReadsOn mid after between pending now there →
     ReadsOn before after front pending at there
 advances_then before mid after front between pending at now there a b = record {
@@ -59,7 +60,7 @@ advances_then before mid after front between pending at now there a b = record {
         shows = u.shows;
       };
   follows =
-      λ rest g. subst (λ (ls : List LocatedToken). GoesOn at ls) (sym (append_assoc a.consumed b.consumed rest))
+      λ rest g. subst (λ (ls : List LocatedToken). MayContinue at ls) (sym (append_assoc a.consumed b.consumed rest))
       (a.follows _ (b.follows rest g));
   added = λ profile acts h.
       subst (λ (xs : List Action). after profile xs)
@@ -78,41 +79,43 @@ advances_then before mid after front between pending at now there a b = record {
 -- Where a reading stops.
 
 -- where it stops goes back along a segment without faults
-pub telling_back : (after : Meaning) (profile : Profile) (s t : State) (stop : Stop) (consumed : List LocatedToken) →
+pub telling_back : (after : Representation) (profile : Profile) (s t : State) (stop : Stop)
+    (consumed : List LocatedToken) →
     s.rest ≡ consumed ++ t.rest → Passes profile s t →
     StopsTelling after profile t stop → StopsTelling after profile s stop
 telling_back after profile s t stop consumed is p h = record {
   stops = stops_back profile s t stop consumed is p h.stops;
   told =
-      λ device. subst (λ (fs : List Definition). IsTold after profile fs)
+      λ device. subst (λ (fs : List Definition). HasTold after profile fs)
       (sym (functions_back profile s t stop consumed is p h.stops)) (h.told device);
 }
 
 -- before a further function is defined
-pub telling_inside : (after : Meaning) (profile : Profile) (s : State) (stop : Stop) →
-    (refusal.Device ≡ stop.fault → IsTold after profile s.functions) → StopsInside profile s stop →
+pub telling_inside : (after : Representation) (profile : Profile) (s : State) (stop : Stop) →
+    (refusal.Device ≡ stop.fault → HasTold after profile s.functions) → StopsInside profile s stop →
     StopsTelling after profile s stop
 telling_inside after profile s stop told h = record {
   stops = h.stops;
-  told = λ device. subst (λ (fs : List Definition). IsTold after profile fs) (sym h.functions) (told device);
+  told = λ device. subst (λ (fs : List Definition). HasTold after profile fs) (sym h.functions) (told device);
 }
 
-pub told_alone : (after : Meaning) (profile : Profile) (functions : List Definition) →
-    after profile (definitions_actions functions) → IsTold after profile functions
+pub told_alone : (after : Representation) (profile : Profile) (functions : List Definition) →
+    after profile (definitions_actions functions) → HasTold after profile functions
 told_alone after profile functions h =
     record {
       more = [];
       stands = subst (λ (xs : List Action). after profile xs) (sym (append-nil (definitions_actions functions))) h;
     }
 
-pub told_grown : (before after : Meaning) (profile : Profile) (functions : List Definition) → HasGrown before after →
-    before profile (definitions_actions functions) → IsTold after profile functions
+pub told_grown : (before after : Representation) (profile : Profile) (functions : List Definition) →
+    HasGrown before after →
+    before profile (definitions_actions functions) → HasTold after profile functions
 told_grown before after profile functions grown h = record { more = grown.more; stands = grown.added profile _ h }
 
 -- a fault behind a reading
-pub stops_then : (before mid after : Meaning) (front between : List Item) (at now : Place) (d : Stop) →
-    ReadsOn before mid front between at now → StopsReading mid after between now d →
-    StopsReading before after front at d
+pub stops_then : (before mid after : Representation) (front between : List Item) (at now : Position) (d : Stop) →
+    ReadsOn before mid front between at now → StopsPart mid after between now d →
+    StopsPart before after front at d
 stops_then before mid after front between at now d a stops located_tokens is profile functions h =
     let t : TakesTokens a.consumed located_tokens now = a.told located_tokens is in
     let told : mid profile (definitions_actions (functions ++ a.more)) =
@@ -124,7 +127,8 @@ stops_then before mid after front between at now d a stops located_tokens is pro
     (stops t.rest t.shows profile (functions ++ a.more) told))
 
 -- a segment between functions
-pub segment_advances : (before : Meaning) (front pending stack : List Item) (at there : Place) → levels stack ≡ 0 →
+pub segment_advances : (before : Representation) (front pending stack : List Item) (at there : Position) →
+    levels stack ≡ 0 →
     Derives 0 front pending [] [] at there →
     ReadsOn before before (front ++ stack) (pending ++ stack) at there
 segment_advances before front pending stack at there depths a = record {
@@ -142,28 +146,30 @@ segment_advances before front pending stack at there depths a = record {
 }
 
 -- a fault within one
-pub segment_stops : (before : Meaning) (front stack : List Item) (at : Place) (d : Stop) → levels stack ≡ 0 →
-    FailsAt 0 front [] at d → StopsReading before before (front ++ stack) at d
+pub segment_stops : (before : Representation) (front stack : List Item) (at : Position) (d : Stop) → levels stack ≡ 0 →
+    FailsAt 0 front [] at d → StopsPart before before (front ++ stack) at d
 segment_stops before front stack at d depths fails located_tokens is profile functions h =
     telling_inside before profile _ d (λ device. told_alone before profile functions h)
     (fails located_tokens is profile stack [] functions depths)
 
 -- a refusal behind a reading
-pub leave : (used : ℕ) (before mid after : Meaning) (front between : List Item) (at now : Place) (denied more : Type 0)
+pub leave : (used : ℕ) (before mid after : Representation) (front between : List Item) (at now : Position)
+    (denied more : Type 0)
     (f : ParseFault) → ReadsOn before mid front between at now →
-    (denied → more) → Refused (StopsReading mid after between now) denied used f →
-    Refused (StopsReading before after front at) more used f
+    (denied → more) → Refused (StopsPart mid after between now) denied used f →
+    Refused (StopsPart before after front at) more used f
 leave used before mid after front between at now denied more f a memory =
     refused_map used _ _ denied more f (λ d. stops_then before mid after front between at now d a) memory
 
 -- the first fault stands at the next token
-pub reading_fails_at_next : (before after : Meaning) (front : List Item) (at : Place) (d : Diagnostic) (used : ℕ) →
-    IsNearTo at.position.reading used →
+pub reading_fails_at_next : (before after : Representation) (front : List Item) (at : Position) (d : Diagnostic)
+    (used : ℕ) →
+    IsNearTo at.lookahead.cursor used →
     ((tail : List LocatedToken) (profile : Profile) (functions : List Definition) →
     Fails profile (state front (next_at at ∷ tail) [] (scope_at at) functions) d) →
-    StopsReading before after front at (stop_with (refusal.Source d) used)
+    StopsPart before after front at (stop_with (refusal.Source d) used)
 reading_fails_at_next before after front at d used near fails located_tokens is profile functions h =
-    let b : Begins at.position.reading located_tokens = told_begins at located_tokens is in
+    let b : Begins at.lookahead.cursor located_tokens = told_begins at located_tokens is in
     let here : Fails profile (state front located_tokens [] (scope_at at) functions) d =
     rw b.is (fails b.tail profile functions) in
     record {

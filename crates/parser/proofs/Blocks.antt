@@ -13,7 +13,7 @@ use Rattle.grammar.specs.declared.diagnostics.ParseFault.TheVariants as refusal
 use Rattle.grammar.specs.declared.actions.Action.{Action}
 use Rattle.grammar.specs.declared.actions.Action.TheVariants.{BeginFunction, EndFunction}
 use Rattle.grammar.specs.Actions.{body_actions, code_length, function_actions, last_return}
-use Rattle.grammar.specs.Building.{Meaning, AppendsAll}
+use Rattle.grammar.specs.Building.{Representation, AppendsAll}
 use Rattle.grammar.specs.Derivation.{ABody, Definition, Value, definition_of, state}
 use Rattle.grammar.specs.Faults.{definitions_actions, is_too_long}
 use Rattle.grammar.specs.Grammar.{Item, AName, Define, Defined, Exactly, FunctionBlock, Make, ParameterTypes, Parameters, Part, Close, is_fault, is_punctuator}
@@ -25,18 +25,18 @@ use Rattle.grammar.proofs.Firsts.{too_long}
 use Rattle.grammar.proofs.Lengths.{code_length-append}
 use Rattle.grammar.proofs.Runs.{then}
 use Rattle.grammar.proofs.Steps.{make, close}
-use Rattle.parser.specs.Advancing.{IsReady, StayedOrWentOn, Stopped}
+use Rattle.parser.specs.Advancing.{IsReady, HasStayedOrAdvanced, Stopped}
 use Rattle.parser.specs.Growing.{HasGrown}
-use Rattle.parser.specs.Position.{GoesOn, Place, Standing, next_at, scope_at, scope_of, tokens_at, with_scope}
+use Rattle.parser.specs.ScopedCursors.{MayContinue, Position, ScopedCursor, next_at, scope_at, scope_of, tokens_at, with_scope}
 use Rattle.parser.specs.Stopping.{Stop, Stops, stop_with}
 use Rattle.grammar.specs.Compiled.{diagnostic}
 use Rattle.parser.specs.Segment.{Derives, DerivesItem, FailsAt, FailsItem, Refused, TakesTokens}
-use Rattle.parser.specs.Declarations.{heading_items}
+use Rattle.parser.specs.Declarations.{header_items}
 use Rattle.parser.proofs.Growing.{grown_behind}
 use Rattle.parser.proofs.Segments.{Begins, fails_then, goes_begins, halts, joined, refused_map, stay, told_begins, told_goes, near_told, stops_here}
-use Rattle.parser.specs.Progress.{AddsBlock, ReadsOn, ClosesFunction, IsTooMuch, RefusesEnd, StopsReading, at_brace, at_definition, at_source}
+use Rattle.parser.specs.Progress.{AddsBlock, ReadsOn, ClosesFunction, IsTooMuch, RefusesEnd, StopsPart, at_brace, at_definition, at_source}
 use Rattle.parser.proofs.Advancing.{definitions_actions-append, telling_back, telling_inside, told_alone, told_grown}
-use Rattle.tokens.specs.Reading.{IsNearTo}
+use Rattle.tokens.specs.Cursors.{IsNearTo}
 
 abbrev pub definition_items : List Item
 definition_items =
@@ -44,14 +44,14 @@ definition_items =
     Part ParameterTypes ∷ Part FunctionBlock ∷ []
 
 -- up to the block
-pub headed : (at now : Place) → Derives 0 heading_items [] [] [] at now →
+pub headed : (at now : Position) → Derives 0 header_items [] [] [] at now →
     Derives 0 definition_items (Part FunctionBlock ∷ []) [] [] at now
 headed at now h =
-    joined 0 0 definition_items heading_items [] (Part FunctionBlock ∷ []) [] [] [] [] at at now
+    joined 0 0 definition_items header_items [] (Part FunctionBlock ∷ []) [] [] [] [] at at now
     (stay at 0 definition_items []) h (λ stack same. same)
 
 -- up to the closing brace
-pub braced : (before after : Meaning) (at now there : Place) → Derives 0 heading_items [] [] [] at now →
+pub braced : (before after : Representation) (at now there : Position) → Derives 0 header_items [] [] [] at now →
     (b : AddsBlock before after now there) →
     Derives 0 definition_items at_brace [] (ABody b.tree ∷ []) at there
 braced before after at now there h b =
@@ -93,7 +93,7 @@ past_limit profile n m e h = grind (arith, nat_tests)
 -- A function that was read.
 
 -- what the builder was told of it
-pub told_function : (first second third fourth : Meaning) (number parameters variables : ℕ) (body : Body) →
+pub told_function : (first second third fourth : Representation) (number parameters variables : ℕ) (body : Body) →
     AppendsAll first second (BeginFunction number parameters ∷ []) → AppendsAll second third (body_actions body) →
     AppendsAll third fourth (last_return ++ EndFunction variables ∷ []) →
     AppendsAll first fourth
@@ -118,7 +118,7 @@ function_told : (number parameters variables : ℕ) (scope : Scope) (body : Body
     BeginFunction number parameters ∷ (body_actions body ++ (last_return ++ EndFunction variables ∷ []))
 function_told number parameters variables scope body s = rw (append-nil, s.number, s.parameters, s.variables) refl
 
-short_enough : (profile : Profile) (second third fourth : Meaning) (functions : List Definition) (scope : Scope)
+short_enough : (profile : Profile) (second third fourth : Representation) (functions : List Definition) (scope : Scope)
     (body : Body) (number parameters variables : ℕ) → AppendsAll second third (body_actions body) →
     ClosesFunction third fourth variables →
     second profile (definitions_actions functions ++ BeginFunction number parameters ∷ []) →
@@ -145,17 +145,18 @@ close_step profile located_tokens scope functions stack next tail e sound =
     rw e (close profile stack (next ∷ tail) [] scope functions sound)
 
 -- the place at the closing brace, and the same behind the function's end
-pub record IsEnded (brace ended : Place) : Type 0 where
-  pub reading : ended.position.reading ≡ brace.position.reading
+pub record IsEnded (brace ended : Position) : Type 0 where
+  pub cursor : ended.lookahead.cursor ≡ brace.lookahead.cursor
   pub to_come : ended.to_come ≡ brace.to_come
   pub scope : scope_at ended ≡ end_definition (scope_at brace)
 
 -- a function's end changes the names alone
-pub ended : (at new : Standing) → new ≡ with_scope (end_definition (scope_of at)) at → IsEnded at.place new.place
-ended at new is = rw is (record { reading = refl; to_come = refl; scope = refl })
+pub ended : (at new : ScopedCursor) → new ≡ with_scope (end_definition (scope_of at)) at →
+    IsEnded at.position new.position
+ended at new is = rw is (record { cursor = refl; to_come = refl; scope = refl })
 
-pub renamed : (at new : Standing) → IsReady at → new ≡ with_scope (end_definition (scope_of at)) at →
-    StayedOrWentOn at new
+pub renamed : (at new : ScopedCursor) → IsReady at → new ≡ with_scope (end_definition (scope_of at)) at →
+    HasStayedOrAdvanced at new
 renamed at new ready is = rw is (record {
   borrows = refl;
   account = refl;
@@ -165,7 +166,7 @@ renamed at new ready is = rw is (record {
 })
 
 -- a refusal that is not the device's, at a parser that did nothing
-pub short : (f : ParseFault) (at : Standing) (before : Meaning) (line : ℕ) (denied : Type 0) →
+pub short : (f : ParseFault) (at : ScopedCursor) (before : Representation) (line : ℕ) (denied : Type 0) →
     RefusesEnd before line denied f → Stopped f at at
 short (refusal.Source d) at before line denied ends =
     record { borrows = refl; account = refl; took = record { rest = λ total h. h } }
@@ -173,17 +174,17 @@ short refusal.Device at before line denied ends = absurd ends
 short refusal.Memory at before line denied ends =
     record { borrows = refl; account = refl; took = record { rest = λ total h. h } }
 
-goes_ended : (brace ended : Place) (rest : List LocatedToken) → IsEnded brace ended → GoesOn ended rest →
-    GoesOn brace rest
-goes_ended brace ended rest s g = record { behind = g.behind; is = g.is ∙ rw s.reading refl }
+goes_ended : (brace ended : Position) (rest : List LocatedToken) → IsEnded brace ended → MayContinue ended rest →
+    MayContinue brace rest
+goes_ended brace ended rest s g = record { window = g.window; is = g.is ∙ rw s.cursor refl }
 
-tokens_ended : (brace ended : Place) → IsEnded brace ended → tokens_at ended ≡ tokens_at brace
-tokens_ended brace ended s = rw (s.reading, s.to_come) refl
+tokens_ended : (brace ended : Position) → IsEnded brace ended → tokens_at ended ≡ tokens_at brace
+tokens_ended brace ended s = rw (s.cursor, s.to_come) refl
 
 -- a function was read, whose closing brace ends it
-pub function_advances : (first second third fourth : Meaning) (at now brace ended there : Place)
+pub function_advances : (first second third fourth : Representation) (at now brace ended there : Position)
     (number parameters variables : ℕ) →
-    Derives 0 heading_items [] [] [] at now → (b : AddsBlock second third now brace) →
+    Derives 0 header_items [] [] [] at now → (b : AddsBlock second third now brace) →
     IsSame number parameters variables (scope_at brace) → IsEnded brace ended →
     AppendsAll first second (BeginFunction number parameters ∷ []) → ClosesFunction third fourth variables →
     DerivesItem (Exactly punctuator.CloseCurly) [] [] ended there → is_fault (next_at brace).token ≡ false →
@@ -207,7 +208,8 @@ function_advances first second third fourth at now brace ended there number para
             shows = u.shows;
           };
       follows =
-          λ rest g. subst (λ (ls : List LocatedToken). GoesOn at ls) (sym (append_assoc d.consumed (e 1).consumed rest))
+          λ rest g. subst (λ (ls : List LocatedToken). MayContinue at ls)
+          (sym (append_assoc d.consumed (e 1).consumed rest))
           (d.follows _ (goes_ended brace ended _ s ((e 1).follows rest g)));
       added =
           λ profile acts k. subst (λ (xs : List Action). fourth profile (acts ++ xs))
@@ -216,9 +218,9 @@ function_advances first second third fourth at now brace ended there number para
           acts k);
       passes = λ rest g profile functions k.
           let between : List LocatedToken = (e 1).consumed ++ rest in
-          let goes : GoesOn brace between = goes_ended brace ended between s ((e 1).follows rest g) in
-          let x : Begins brace.position.reading between = goes_begins brace between goes in
-          let y : Begins there.position.reading rest = goes_begins there rest g in
+          let goes : MayContinue brace between = goes_ended brace ended between s ((e 1).follows rest g) in
+          let x : Begins brace.lookahead.cursor between = goes_begins brace between goes in
+          let y : Begins there.lookahead.cursor rest = goes_begins there rest g in
           let short : is_too_long profile (functions ++ f ∷ []) ≡ false =
           short_enough profile second third fourth functions (scope_at brace) b.tree number parameters variables
           b.added c (told profile _ k) in
@@ -234,35 +236,36 @@ function_advances first second third fourth at now brace ended there number para
 
 -- Where the reading of a function stops.
 
-heading_stops : (before : Meaning) (at : Place) (d : Stop) → FailsAt 0 heading_items [] at d →
-    StopsReading before before at_definition at d
+heading_stops : (before : Representation) (at : Position) (d : Stop) → FailsAt 0 header_items [] at d →
+    StopsPart before before at_definition at d
 heading_stops before at d fails located_tokens is profile functions h =
     telling_inside before profile _ d (λ device. told_alone before profile functions h)
     (fails located_tokens is profile (Part FunctionBlock ∷ at_source) [] functions refl)
 
-pub heading_refused : (used : ℕ) (before : Meaning) (at : Place) (f : ParseFault) (more : Type 0) →
-    Refused (FailsAt 0 heading_items [] at) ⊥ used f → Refused (StopsReading before before at_definition at) more used f
+pub heading_refused : (used : ℕ) (before : Representation) (at : Position) (f : ParseFault) (more : Type 0) →
+    Refused (FailsAt 0 header_items [] at) ⊥ used f → Refused (StopsPart before before at_definition at) more used f
 heading_refused used before at f more =
     refused_map used _ _ ⊥ more f (λ d. heading_stops before at d) (λ never. absurd never)
 
-block_stops : (before after : Meaning) (at now : Place) (d : Stop) → Derives 0 heading_items [] [] [] at now →
+block_stops : (before after : Representation) (at now : Position) (d : Stop) → Derives 0 header_items [] [] [] at now →
     (refusal.Device ≡ d.fault → HasGrown before after) → FailsAt 0 (Part FunctionBlock ∷ []) [] now d →
-    StopsReading before after at_definition at d
+    StopsPart before after at_definition at d
 block_stops before after at now d h grown fails located_tokens is profile functions k =
     telling_inside after profile _ d (λ device. told_grown before after profile functions (grown device) k)
     (fails_then 0 definition_items (Part FunctionBlock ∷ []) [] [] at now d (headed at now h) fails located_tokens is
     profile at_source [] functions refl)
 
-pub block_refused : (used : ℕ) (before second after : Meaning) (at now : Place) (number parameters : ℕ) (f : ParseFault)
-    (denied : Type 0) → Derives 0 heading_items [] [] [] at now →
+pub block_refused : (used : ℕ) (before second after : Representation) (at now : Position) (number parameters : ℕ)
+    (f : ParseFault)
+    (denied : Type 0) → Derives 0 header_items [] [] [] at now →
     AppendsAll before second (BeginFunction number parameters ∷ []) → (refusal.Device ≡ f → HasGrown second after) →
     Refused (FailsAt 0 (Part FunctionBlock ∷ []) [] now) denied used f →
-    Refused (StopsReading before after at_definition at) denied used f
+    Refused (StopsPart before after at_definition at) denied used f
 block_refused used before second after at now number parameters f denied h told = by_fault f
   where
     by_fault : (f : ParseFault) → (refusal.Device ≡ f → HasGrown second after) →
         Refused (FailsAt 0 (Part FunctionBlock ∷ []) [] now) denied used f →
-        Refused (StopsReading before after at_definition at) denied used f
+        Refused (StopsPart before after at_definition at) denied used f
     by_fault (refusal.Source d) grown fails =
         block_stops before after at now (stop_with (refusal.Source d) used) h (λ device. absurd (cc)) fails
     by_fault refusal.Device grown fails =
@@ -272,26 +275,28 @@ block_refused used before second after at now number parameters f denied h told 
         (fails.0, block_stops before after at now (stop_with refusal.Memory used) h (λ device. absurd (cc)) fails.1)
 
 -- the builder was refused memory
-pub definition_halts : (before after : Meaning) (pending : List Item) (left : List Value) (at now : Place) (used : ℕ) →
-    Derives 0 definition_items pending [] left at now → IsNearTo now.position.reading used →
-    StopsReading before after at_definition at (stop_with refusal.Memory used)
+pub definition_halts : (before after : Representation) (pending : List Item) (left : List Value) (at now : Position)
+    (used : ℕ) →
+    Derives 0 definition_items pending [] left at now → IsNearTo now.lookahead.cursor used →
+    StopsPart before after at_definition at (stop_with refusal.Memory used)
 definition_halts before after pending left at now used d near located_tokens is profile functions k =
     telling_inside after profile _ (stop_with refusal.Memory used) (λ device. absurd (cc))
     (halts 0 definition_items pending [] left at now used d near located_tokens is profile at_source [] functions
     refl)
 
-too_much_stops : (first second third after : Meaning) (at now brace : Place) (number parameters : ℕ) (d : Diagnostic)
-    (used : ℕ) → IsNearTo brace.position.reading used → Derives 0 heading_items [] [] [] at now →
+too_much_stops : (first second third after : Representation) (at now brace : Position) (number parameters : ℕ)
+    (d : Diagnostic)
+    (used : ℕ) → IsNearTo brace.lookahead.cursor used → Derives 0 header_items [] [] [] at now →
     (b : AddsBlock second third now brace) →
     AppendsAll first second (BeginFunction number parameters ∷ []) → is_fault (next_at brace).token ≡ false →
     is_punctuator punctuator.CloseCurly (next_at brace).token ≡ true → IsTooMuch third (next_at brace).line d →
-    StopsReading first after at_definition at (stop_with (refusal.Source d) used)
+    StopsPart first after at_definition at (stop_with (refusal.Source d) used)
 too_much_stops first second third after at now brace number parameters d used near h b told sound closed much
     located_tokens is profile functions k =
     let s : Derives 0 definition_items at_brace [] (ABody b.tree ∷ []) at brace =
     braced second third at now brace h b in
     let t : TakesTokens s.consumed located_tokens brace = s.told located_tokens is in
-    let x : Begins brace.position.reading t.rest = told_begins brace t.rest t.shows in
+    let x : Begins brace.lookahead.cursor t.rest = told_begins brace t.rest t.shows in
     let long : is_too_long profile (functions ++ definition_of (scope_at brace) b.tree ∷ []) ≡ true =
     past_limit profile _ _ (code_with profile functions (scope_at brace) b.tree parameters number)
     (much.over profile _ (b.added profile _ (told profile _ k))) in
@@ -309,18 +314,19 @@ too_much_stops first second third after at now brace number parameters d used ne
     (s.passes t.rest (told_goes brace t.rest t.shows) profile at_source [] functions refl)
     (record { stops = stop; told = λ device. absurd (cc) }))
 
-pub too_much_refused : (used : ℕ) (first second third after : Meaning) (at now brace : Place) (number parameters : ℕ)
-    (f : ParseFault) (denied : Type 0) → IsNearTo brace.position.reading used →
-    Derives 0 heading_items [] [] [] at now → AddsBlock second third now brace →
+pub too_much_refused : (used : ℕ) (first second third after : Representation) (at now brace : Position)
+    (number parameters : ℕ)
+    (f : ParseFault) (denied : Type 0) → IsNearTo brace.lookahead.cursor used →
+    Derives 0 header_items [] [] [] at now → AddsBlock second third now brace →
     AppendsAll first second (BeginFunction number parameters ∷ []) → is_fault (next_at brace).token ≡ false →
     is_punctuator punctuator.CloseCurly (next_at brace).token ≡ true →
     RefusesEnd third (next_at brace).line denied f →
-    Refused (StopsReading first after at_definition at) denied used f
+    Refused (StopsPart first after at_definition at) denied used f
 too_much_refused used first second third after at now brace number parameters f denied near h b told sound closed =
     by_fault f
   where
     by_fault : (f : ParseFault) → RefusesEnd third (next_at brace).line denied f →
-        Refused (StopsReading first after at_definition at) denied used f
+        Refused (StopsPart first after at_definition at) denied used f
     by_fault (refusal.Source d) much =
         too_much_stops first second third after at now brace number parameters d used near h b told sound closed much
     by_fault refusal.Device never = absurd never
@@ -331,19 +337,20 @@ too_much_refused used first second third after at now brace number parameters f 
     )
 
 -- the closing brace itself is always there, but the token behind it may be a fault; the builder was told the function
-brace_stops : (first second third fourth : Meaning) (at now brace ended : Place) (number parameters variables : ℕ)
+brace_stops : (first second third fourth : Representation) (at now brace ended : Position)
+    (number parameters variables : ℕ)
     (d : Stop) →
-    Derives 0 heading_items [] [] [] at now → AddsBlock second third now brace →
+    Derives 0 header_items [] [] [] at now → AddsBlock second third now brace →
     IsSame number parameters variables (scope_at brace) → IsEnded brace ended →
     AppendsAll first second (BeginFunction number parameters ∷ []) → ClosesFunction third fourth variables →
     is_fault (next_at brace).token ≡ false →
-    FailsItem (Exactly punctuator.CloseCurly) ended d → StopsReading first fourth at_definition at d
+    FailsItem (Exactly punctuator.CloseCurly) ended d → StopsPart first fourth at_definition at d
 brace_stops first second third fourth at now brace ended number parameters variables d h b same s told c sound fails
     located_tokens is profile functions k =
     let x : Derives 0 definition_items at_brace [] (ABody b.tree ∷ []) at brace =
     braced second third at now brace h b in
     let t : TakesTokens x.consumed located_tokens brace = x.told located_tokens is in
-    let y : Begins brace.position.reading t.rest = told_begins brace t.rest t.shows in
+    let y : Begins brace.lookahead.cursor t.rest = told_begins brace t.rest t.shows in
     let f : Definition = definition_of (scope_at brace) b.tree in
     let short : is_too_long profile (functions ++ f ∷ []) ≡ false =
     short_enough profile second third fourth functions (scope_at brace) b.tree number parameters variables b.added c
@@ -363,14 +370,14 @@ brace_stops first second third fourth at now brace ended number parameters varia
     (telling_inside fourth profile _ d (λ device. told_alone fourth profile (functions ++ f ∷ []) all)
     (fails 1 t.rest (tokens_ended brace ended s ∙ t.shows) profile (Close ∷ at_source) [] (functions ++ f ∷ []) refl))))
 
-pub brace_refused : (used : ℕ) (first second third fourth : Meaning) (at now brace ended : Place)
+pub brace_refused : (used : ℕ) (first second third fourth : Representation) (at now brace ended : Position)
     (number parameters variables : ℕ) (f : ParseFault) (more : Type 0) →
-    Derives 0 heading_items [] [] [] at now → AddsBlock second third now brace →
+    Derives 0 header_items [] [] [] at now → AddsBlock second third now brace →
     IsSame number parameters variables (scope_at brace) → IsEnded brace ended →
     AppendsAll first second (BeginFunction number parameters ∷ []) → ClosesFunction third fourth variables →
     is_fault (next_at brace).token ≡ false →
     Refused (FailsItem (Exactly punctuator.CloseCurly) ended) ⊥ used f →
-    Refused (StopsReading first fourth at_definition at) more used f
+    Refused (StopsPart first fourth at_definition at) more used f
 brace_refused used first second third fourth at now brace ended number parameters variables f more h b same s told c
     sound =
     refused_map used _ _ ⊥ more f
@@ -381,7 +388,7 @@ brace_refused used first second third fourth at now brace ended number parameter
 pub closing_sound : (t : Token) → is_punctuator punctuator.CloseCurly t ≡ true → is_fault t ≡ false
 closing_sound (token.Punctuator m) is = refl
 closing_sound (token.Name name) is = refl
-closing_sound (token.Word word) is = refl
+closing_sound (token.Keyword word) is = refl
 closing_sound (token.Constant value) is = refl
 closing_sound token.End is = refl
 closing_sound (token.Fault lexical_error) is = absurd (cc)

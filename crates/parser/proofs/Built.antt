@@ -2,17 +2,17 @@
 use Rattle.std.proofs.Common.{◌≡◌, ℕ, zero, suc, ◌+◌, ◌<◌, ◌≤◌, Bool, true, false, List, [], ◌∷◌, ◌++◌, refl, sym, ap, ◌∙◌, subst, arith, append_assoc, append-nil, inl, inr}
 use Rattle.std.proofs.lemmas.Bool.Decides.{nat_tests}
 use Rattle.std.specs.Prelude.{◌⊎◌, ◌&&◌, Option, Some, None, not, nat_le, unwrap_or, if◌then◌else◌}
-use Rattle.tokens.specs.Reading.{reach_of}
+use Rattle.tokens.specs.Cursors.{reach_of}
 use Rattle.tokens.specs.Tokens.{is_last, tokens}
 use Rattle.tokens.specs.declared.located_tokens.LocatedToken.{LocatedToken}
 use Rattle.tokens.specs.declared.located_tokens.Token.{Token}
 use Rattle.tokens.specs.declared.located_tokens.Token.TheVariants as token
 use Rattle.grammar.specs.declared.actions.Action.{Action}
 use Rattle.grammar.specs.Actions.{function_actions}
-use Rattle.grammar.specs.Compiled.{enough}
-use Rattle.grammar.specs.Derivation.{Definition, State, Value, constant_matched, constant_value, definition_of, is_end, last_body, matched, name_matched, name_of_token, next_of, replaced, run, start, state, step_of, stepped}
+use Rattle.grammar.specs.Compiled.{enough_steps}
+use Rattle.grammar.specs.Derivation.{Definition, State, Value, constant_matched, constant_value, definition_of, is_end, last_body, matched, name_matched, name_of_token, next_token, replaced, derived, initial_state, state, item_step, stepped}
 use Rattle.grammar.specs.Faults.{definitions_actions}
-use Rattle.grammar.specs.Grammar.{AConstant, AName, AWord, AnEnd, Close, Define, Exactly, Item, Make, Part, Production, Role, is_fault}
+use Rattle.grammar.specs.Grammar.{AConstant, AName, AKeyword, AnEnd, Close, Define, Exactly, Item, Make, Part, Production, Role, is_fault}
 use Rattle.grammar.specs.Need.{built, built_in, built_of, ends_by, has_ahead, is_behind_brace}
 use Rattle.grammar.specs.Scope.{Scope}
 use Rattle.grammar.proofs.Verdicts.{IsRest, run_rests}
@@ -27,7 +27,7 @@ both_true false b e = absurd (cc)
 
 not_end : (t : Token) → is_last t ≡ false → is_end t ≡ false
 not_end (token.Name name) e = refl
-not_end (token.Word w) e = refl
+not_end (token.Keyword w) e = refl
 not_end (token.Constant value) e = refl
 not_end (token.Punctuator m) e = refl
 not_end (token.Fault lexical_error) e = refl
@@ -35,7 +35,7 @@ not_end token.End e = absurd (cc)
 
 fault_is_last : (t : Token) → is_fault t ≡ true → is_last t ≡ true
 fault_is_last (token.Name name) e = absurd (cc)
-fault_is_last (token.Word w) e = absurd (cc)
+fault_is_last (token.Keyword w) e = absurd (cc)
 fault_is_last (token.Constant value) e = absurd (cc)
 fault_is_last (token.Punctuator m) e = absurd (cc)
 fault_is_last (token.Fault lexical_error) e = refl
@@ -124,7 +124,7 @@ none_of count [] rest values scope h = refl
 none_of count (Make Define ∷ stack) rest values scope h = rw h refl
 none_of count (Make rule ∷ stack) rest values scope h = refl
 none_of count (Exactly m ∷ stack) rest values scope h = refl
-none_of count (AWord w ∷ stack) rest values scope h = refl
+none_of count (AKeyword w ∷ stack) rest values scope h = refl
 none_of count (AName role ∷ stack) rest values scope h = refl
 none_of count (AConstant ∷ stack) rest values scope h = refl
 none_of count (AnEnd ∷ stack) rest values scope h = refl
@@ -133,17 +133,17 @@ none_of count (Close ∷ stack) rest values scope h = refl
 
 -- the tokens left behind a step
 pub record IsStepped (count : ℕ) (s : State) : Type 0 where
-  pub place : ℕ
-  pub cut : IsCut place (stepped s).rest
+  pub position : ℕ
+  pub cut : IsCut position (stepped s).rest
   pub later : is_behind_brace count s.rest ≡ false → is_behind_brace count (stepped s).rest ≡ false
 
 steps_on : (count place : ℕ) (s : State) → IsCut place s.rest → IsStepped count s
 steps_on count place s cut =
-    let r : IsRest (run 1 s).rest s.rest = run_rests 1 s in
+    let r : IsRest (derived 1 s).rest s.rest = run_rests 1 s in
     let c : IsCut place (r.before ++ (stepped s).rest) = subst (IsCut place) r.is cut in
     let b : IsCutBehind (stepped s).rest = cut_behind place r.before (stepped s).rest c in
     record {
-      place = b.place;
+      position = b.position;
       cut = b.is;
       later =
           λ h. later_braces count place r.before (stepped s).rest c
@@ -155,7 +155,7 @@ none_in : (count n place : ℕ) (s : State) → IsCut place s.rest → is_behind
 none_in count zero place s cut h = refl
 none_in count (suc n) place s cut h =
     let t : IsStepped count s = steps_on count place s cut in
-    rw (none_of count s.stack s.rest s.values s.scope h, none_in count n t.place (stepped s) t.cut (t.later h)) refl
+    rw (none_of count s.stack s.rest s.values s.scope h, none_in count n t.position (stepped s) t.cut (t.later h)) refl
 
 -- What a step defines.
 
@@ -199,12 +199,12 @@ kept false (Some t) s h = h
 
 -- no function ends
 plain : (count : ℕ) (s : State) → built_of count s.stack s.rest s.values s.scope ≡ [] →
-    Keeps s.functions (step_of s.stack s.rest s.values s.scope s.functions) → Defines count s
+    Keeps s.functions (item_step s.stack s.rest s.values s.scope s.functions) → Defines count s
 plain count s none keeps =
-    record { more = []; functions = kept (is_fault (next_of s.rest)) _ s keeps; built = inl none }
+    record { more = []; functions = kept (is_fault (next_token s.rest)) _ s keeps; built = inl none }
 
 -- a fault has nothing behind it
-behind_fault : (count place : ℕ) (rest : List LocatedToken) → IsCut place rest → is_fault (next_of rest) ≡ true →
+behind_fault : (count place : ℕ) (rest : List LocatedToken) → IsCut place rest → is_fault (next_token rest) ≡ true →
     is_behind_brace count rest ≡ false
 behind_fault count place [] cut e = refl
 behind_fault count place (x ∷ rest) cut e =
@@ -214,7 +214,7 @@ behind_fault count place (x ∷ rest) cut e =
 -- one does
 defined_there : (count place : ℕ) (stack : List Item) (rest : List LocatedToken) (values : List Value) (scope : Scope)
     (functions : List Definition) → IsCut place rest →
-    (fault behind : Bool) → is_fault (next_of rest) ≡ fault → is_behind_brace count rest ≡ behind →
+    (fault behind : Bool) → is_fault (next_token rest) ≡ fault → is_behind_brace count rest ≡ behind →
     Defines count (state (Make Define ∷ stack) rest values scope functions)
 defined_there count place stack rest values scope functions cut true behind e f =
     let none : is_behind_brace count rest ≡ false = behind_fault count place rest cut e in
@@ -233,22 +233,22 @@ defines : (count place : ℕ) (stack : List Item) (rest : List LocatedToken) (va
     (functions : List Definition) → IsCut place rest → Defines count (state stack rest values scope functions)
 defines count place [] rest values scope functions cut = plain count (state [] rest values scope functions) refl tt
 defines count place (Make Define ∷ stack) rest values scope functions cut =
-    defined_there count place stack rest values scope functions cut (is_fault (next_of rest))
+    defined_there count place stack rest values scope functions cut (is_fault (next_token rest))
     (is_behind_brace count rest) refl refl
 defines count place (Make rule ∷ stack) rest values scope functions cut =
     plain count (state (Make rule ∷ stack) rest values scope functions) refl refl
 defines count place (Exactly m ∷ stack) rest values scope functions cut =
     plain count (state (Exactly m ∷ stack) rest values scope functions) refl
     (matched_keeps _ stack rest values scope functions)
-defines count place (AWord w ∷ stack) rest values scope functions cut =
-    plain count (state (AWord w ∷ stack) rest values scope functions) refl
+defines count place (AKeyword w ∷ stack) rest values scope functions cut =
+    plain count (state (AKeyword w ∷ stack) rest values scope functions) refl
     (matched_keeps _ stack rest values scope functions)
 defines count place (AName role ∷ stack) rest values scope functions cut =
     plain count (state (AName role ∷ stack) rest values scope functions) refl
-    (name_keeps role (name_of_token (next_of rest)) stack rest values scope functions)
+    (name_keeps role (name_of_token (next_token rest)) stack rest values scope functions)
 defines count place (AConstant ∷ stack) rest values scope functions cut =
     plain count (state (AConstant ∷ stack) rest values scope functions) refl
-    (constant_keeps (constant_value (next_of rest)) stack rest values scope functions)
+    (constant_keeps (constant_value (next_token rest)) stack rest values scope functions)
 defines count place (AnEnd ∷ stack) rest values scope functions cut =
     plain count (state (AnEnd ∷ stack) rest values scope functions) refl
     (matched_keeps _ stack rest values scope functions)
@@ -262,7 +262,7 @@ defines count place (Close ∷ stack) rest values scope functions cut =
 
 pub record IsFront (count n : ℕ) (s : State) : Type 0 where
   pub more : List Action
-  pub is : definitions_actions (run n s).functions ≡ definitions_actions s.functions ++ (built_in count n s ++ more)
+  pub is : definitions_actions (derived n s).functions ≡ definitions_actions s.functions ++ (built_in count n s ++ more)
 
 four : (a b c d : List Action) → (a ++ b) ++ (c ++ d) ≡ a ++ ((b ++ c) ++ d)
 four a b c d = append_assoc a b (c ++ d) ∙ ap (λ (xs : List Action). a ++ xs) (sym (append_assoc b c d))
@@ -271,7 +271,7 @@ front_step : (count n place : ℕ) (s : State) → IsCut place s.rest → IsFron
     IsFront count (suc n) s
 front_step count n place s cut further =
     let d : Defines count s = defines count place s.stack s.rest s.values s.scope s.functions cut in
-    let told : definitions_actions (run n (stepped s)).functions ≡
+    let told : definitions_actions (derived n (stepped s)).functions ≡
     (definitions_actions s.functions ++ definitions_actions d.more) ++
     (built_in count n (stepped s) ++ further.more) =
     further.is ∙
@@ -280,7 +280,7 @@ front_step count n place s cut further =
     by d.more told d.built
   where
     by : (more : List Definition) →
-        definitions_actions (run n (stepped s)).functions ≡
+        definitions_actions (derived n (stepped s)).functions ≡
         (definitions_actions s.functions ++ definitions_actions more) ++
         (built_in count n (stepped s) ++ further.more) →
         (built_of count s.stack s.rest s.values s.scope ≡ definitions_actions more) ⊎
@@ -299,7 +299,7 @@ front_step count n place s cut further =
     }
     by more told (inr none) =
         let t : IsStepped count s = steps_on count place s cut in
-        let later : built_in count n (stepped s) ≡ [] = none_in count n t.place (stepped s) t.cut (t.later none.1) in
+        let later : built_in count n (stepped s) ≡ [] = none_in count n t.position (stepped s) t.cut (t.later none.1) in
         let nothing : built_of count s.stack s.rest s.values s.scope ++ built_in count n (stepped s) ≡ [] =
         rw (none.0, later) refl in
         record {
@@ -320,11 +320,12 @@ front_built : (count n place : ℕ) (s : State) → IsCut place s.rest → IsFro
 front_built count zero place s cut = record { more = []; is = sym (append-nil (definitions_actions s.functions)) }
 front_built count (suc n) place s cut =
     let t : IsStepped count s = steps_on count place s cut in
-    front_step count n place s cut (front_built count n t.place (stepped s) t.cut)
+    front_step count n place s cut (front_built count n t.position (stepped s) t.cut)
 
 -- Up to a stop.
 
-built_in-add : (count m n : ℕ) (s : State) → built_in count (m + n) s ≡ built_in count m s ++ built_in count n (run m s)
+built_in-add : (count m n : ℕ) (s : State) →
+    built_in count (m + n) s ≡ built_in count m s ++ built_in count n (derived m s)
 built_in-add count zero n s = ap (λ (k : ℕ). built_in count k s) (omega arith)
 built_in-add count (suc m) n s =
     let same : suc m + n ≡ suc (m + n) = omega arith in
@@ -334,31 +335,32 @@ built_in-add count (suc m) n s =
     ∙
     sym
     (append_assoc (built_of count s.stack s.rest s.values s.scope) (built_in count m (stepped s))
-    (built_in count n (run m (stepped s))))
+    (built_in count n (derived m (stepped s))))
 
 -- the functions defined by then are those built, and others behind them
 pub record IsAmongDefined (bytes : List ℕ) (count steps : ℕ) : Type 0 where
   pub more : List Action
-  pub is : definitions_actions (run steps (start (tokens bytes))).functions ≡ built bytes count ++ more
+  pub is : definitions_actions (derived steps (initial_state (tokens bytes))).functions ≡ built bytes count ++ more
 
-pub built_by_stop : (bytes : List ℕ) (count steps : ℕ) → count ≤ reach_of (run steps (start (tokens bytes))).rest →
+pub built_by_stop : (bytes : List ℕ) (count steps : ℕ) →
+    count ≤ reach_of (derived steps (initial_state (tokens bytes))).rest →
     IsAmongDefined bytes count steps
 unfolding built
 built_by_stop bytes count steps h =
-    let s : State = start (tokens bytes) in
-    let t : State = run steps s in
-    let n : ℕ = enough (tokens bytes) in
+    let s : State = initial_state (tokens bytes) in
+    let t : State = derived steps s in
+    let n : ℕ = enough_steps (tokens bytes) in
     let cut : IsCut 0 (tokens bytes) = tokens_cut bytes in
     let r : IsRest t.rest (tokens bytes) = run_rests steps s in
     let b : IsCutBehind t.rest = cut_behind 0 r.before t.rest (subst (IsCut 0) r.is cut) in
-    let none : built_in count n t ≡ [] = none_in count n b.place t b.is (at_stop count b.place t.rest b.is h) in
+    let none : built_in count n t ≡ [] = none_in count n b.position t b.is (at_stop count b.position t.rest b.is h) in
     let front : IsFront count steps s = front_built count steps 0 s cut in
     let swap : steps + n ≡ n + steps = omega arith in
-    let whole : built_in count steps s ≡ built_in count n s ++ built_in count steps (run n s) =
+    let whole : built_in count steps s ≡ built_in count n s ++ built_in count steps (derived n s) =
     sym (append-nil (built_in count steps s)) ∙ ap (λ (xs : List Action). built_in count steps s ++ xs) (sym none)
     ∙ sym (built_in-add count steps n s) ∙ ap (λ (k : ℕ). built_in count k s) swap ∙ built_in-add count n steps s in
     record {
-      more = built_in count steps (run n s) ++ front.more;
+      more = built_in count steps (derived n s) ++ front.more;
       is = front.is ∙ ap (λ (xs : List Action). xs ++ front.more) whole ∙
-          append_assoc (built_in count n s) (built_in count steps (run n s)) front.more;
+          append_assoc (built_in count n s) (built_in count steps (derived n s)) front.more;
     }

@@ -6,12 +6,12 @@ use Rattle.tokens.specs.declared.located_tokens.Token.{Token}
 use Rattle.tokens.specs.declared.located_tokens.Token.TheVariants as token
 use Rattle.grammar.specs.declared.diagnostics.Code.TheVariants as code
 use Rattle.grammar.specs.declared.diagnostics.ParseFault.{ParseFault}
-use Rattle.grammar.specs.declared.names.Callee.{Callee}
+use Rattle.grammar.specs.declared.resolved_names.Callee.{Callee}
 use Rattle.grammar.specs.declared.diagnostics.ParseFault.TheVariants as refusal
 use Rattle.grammar.specs.declared.actions.Action.{Action}
 use Rattle.grammar.specs.declared.actions.Action.TheVariants.{BeginCall, EndCall}
 use Rattle.grammar.specs.Actions.{args_actions, expr_actions}
-use Rattle.grammar.specs.Building.{Meaning, AppendsAll, MayFollow}
+use Rattle.grammar.specs.Building.{Representation, AppendsAll, MayFollow}
 use Rattle.grammar.specs.Compiled.{diagnostic}
 use Rattle.grammar.specs.Derivation.{ACall, AnExpr}
 use Rattle.grammar.specs.Following.{InCall, open_count}
@@ -21,7 +21,7 @@ use Rattle.grammar.specs.Resolved.{InArgs, InExpr, IsCallable}
 use Rattle.grammar.specs.Tree.{Args, Argument, Call, Expr, NoMore, add_argument}
 use Rattle.grammar.proofs.FollowingLaws.{act, args_lead, pushed}
 use Rattle.grammar.proofs.StandingLaws.{stands_then, appends_both, may_first}
-use Rattle.parser.specs.Position.{Place, after_at, next_at}
+use Rattle.parser.specs.ScopedCursors.{Position, after_at, next_at}
 use Rattle.parser.specs.Room.{HasRoom, room}
 use Rattle.parser.specs.Stopping.{stop_with}
 use Rattle.parser.specs.Segment.{Derives, DerivesItem, FailsAt, FailsItem, Refused}
@@ -31,7 +31,7 @@ use Rattle.parser.proofs.Parts.{MakesOnly, make_stands, punctuator_is}
 use Rattle.parser.proofs.Productions.{Chooses, EntersLevel, chosen, chosen_within, item_done, makes_and_closes, punctuator_sound, name_too_deep}
 use Rattle.parser.proofs.TellingLaws.{all_follow, next_follows, room_behind, room_behind_args}
 use Rattle.parser.proofs.OperandLaws.{IsNamed, after_name, named_sound, tree_follows}
-use Rattle.tokens.specs.Reading.{IsNearTo}
+use Rattle.tokens.specs.Cursors.{IsNearTo}
 
 -- Arguments.
 
@@ -64,7 +64,7 @@ pass_makes callee args e =
       defines = λ values scope. refl;
     }
 
-none_stand : (at : Place) (depth : ℕ) (callee : Callee) →
+none_stand : (at : Position) (depth : ℕ) (callee : Callee) →
     is_punctuator punctuator.CloseRound (next_at at).token ≡ true →
     Derives depth (Part Arguments ∷ []) [] (ACall callee NoMore ∷ []) (ACall callee NoMore ∷ []) at at
 none_stand at depth callee fits =
@@ -76,7 +76,7 @@ none_stand at depth callee fits =
     (λ after more. refl)
 
 -- there are none
-pub no_arguments : (before : Meaning) (at : Place) (depth : ℕ) →
+pub no_arguments : (before : Representation) (at : Position) (depth : ℕ) →
     is_punctuator punctuator.CloseRound (next_at at).token ≡ true →
     AddsArgs before before depth (Part Arguments ∷ []) [] at at
 no_arguments before at depth fits = record {
@@ -92,7 +92,7 @@ first_choice : (t after : Token) → is_punctuator punctuator.CloseRound t ≡ f
 first_choice (token.Punctuator punctuator.CloseRound) after other = absurd (cc)
 first_choice t after other = refl
 
-first_stands : (at : Place) (depth : ℕ) (callee : Callee) → is_fault (next_at at).token ≡ false →
+first_stands : (at : Position) (depth : ℕ) (callee : Callee) → is_fault (next_at at).token ≡ false →
     is_punctuator punctuator.CloseRound (next_at at).token ≡ false →
     Derives depth (Part Arguments ∷ []) (Part Expression ∷ Make Pass ∷ Part MoreArguments ∷ [])
     (ACall callee NoMore ∷ []) (ACall callee NoMore ∷ []) at at
@@ -100,7 +100,7 @@ first_stands at depth callee sound other =
     chosen at depth Arguments (Part Expression ∷ Make Pass ∷ Part MoreArguments ∷ []) (ACall callee NoMore ∷ [])
     (record { sound = sound; is = λ after more. first_choice (next_at at).token after other }) (λ after more. refl)
 
-pub first_refused : (used : ℕ) (at : Place) (depth : ℕ) (denied : Type 0) (f : ParseFault) →
+pub first_refused : (used : ℕ) (at : Position) (depth : ℕ) (denied : Type 0) (f : ParseFault) →
     is_fault (next_at at).token ≡ false → is_punctuator punctuator.CloseRound (next_at at).token ≡ false →
     Refused (FailsAt depth (Part Expression ∷ []) [] at) denied used f → Refused (FailsArgs depth at) denied used f
 first_refused used at depth denied f sound other =
@@ -110,7 +110,7 @@ first_refused used at depth denied f sound other =
     (first_stands at depth callee sound other) (λ stack same. same) h) (λ same. same)
 
 -- an argument stands behind those so far
-passed : (at now there : Place) (depth : ℕ) (callee : Callee) (args : Args) (front : List Item) (e : Expr) →
+passed : (at now there : Position) (depth : ℕ) (callee : Callee) (args : Args) (front : List Item) (e : Expr) →
     Derives depth front (Part Expression ∷ Make Pass ∷ Part MoreArguments ∷ []) (ACall callee NoMore ∷ [])
     (ACall callee args ∷ []) at now →
     Derives depth (Part Expression ∷ []) [] [] (AnExpr e ∷ []) now there → is_fault (next_at there).token ≡ false →
@@ -124,7 +124,8 @@ passed at now there depth callee args front e a b sound =
     (make_stands there depth Pass (AnExpr e ∷ ACall callee args ∷ []) (ACall callee (add_argument args e) ∷ []) sound
     (pass_makes callee args e)) (λ stack same. same)
 
-pub first_adds : (before after : Meaning) (at there : Place) (depth : ℕ) → is_fault (next_at at).token ≡ false →
+pub first_adds : (before after : Representation) (at there : Position) (depth : ℕ) →
+    is_fault (next_at at).token ≡ false →
     is_punctuator punctuator.CloseRound (next_at at).token ≡ false →
     AddsExpr before after depth 1 (Part Expression ∷ []) [] at there → is_fault (next_at there).token ≡ false →
     AddsArgs before after depth (Part Arguments ∷ []) (Part MoreArguments ∷ []) at there
@@ -143,7 +144,7 @@ comma_choice : (t after : Token) → is_punctuator punctuator.Comma t ≡ true �
     Some (Exactly punctuator.Comma ∷ Part Expression ∷ Make Pass ∷ Part MoreArguments ∷ [])
 comma_choice t after fits = rw (punctuator_is punctuator.Comma t fits) refl
 
-comma_stands : (before mid : Meaning) (at now : Place) (depth : ℕ)
+comma_stands : (before mid : Representation) (at now : Position) (depth : ℕ)
     (h : AddsArgs before mid depth (Part Arguments ∷ []) (Part MoreArguments ∷ []) at now) (callee : Callee) →
     is_punctuator punctuator.Comma (next_at now).token ≡ true →
     Derives depth (Part Arguments ∷ [])
@@ -161,7 +162,8 @@ comma_stands before mid at now depth h callee fits =
       is = λ after more. comma_choice (next_at now).token after fits;
     }) (λ after more. refl)) (λ stack same. same)
 
-pub comma_refused : (used : ℕ) (before mid : Meaning) (at now : Place) (depth : ℕ) (more : Type 0) (f : ParseFault) →
+pub comma_refused : (used : ℕ) (before mid : Representation) (at now : Position) (depth : ℕ) (more : Type 0)
+    (f : ParseFault) →
     AddsArgs before mid depth (Part Arguments ∷ []) (Part MoreArguments ∷ []) at now →
     is_punctuator punctuator.Comma (next_at now).token ≡ true →
     Refused (FailsItem (Exactly punctuator.Comma) now) ⊥ used f → Refused (FailsArgs depth at) more used f
@@ -172,7 +174,7 @@ comma_refused used before mid at now depth more f h fits =
     now d
     (comma_stands before mid at now depth h callee fits) (λ stack same. same) (k depth)) (λ never. absurd never)
 
-comma_past : (before mid : Meaning) (at now next : Place) (depth : ℕ)
+comma_past : (before mid : Representation) (at now next : Position) (depth : ℕ)
     (h : AddsArgs before mid depth (Part Arguments ∷ []) (Part MoreArguments ∷ []) at now) (callee : Callee) →
     is_punctuator punctuator.Comma (next_at now).token ≡ true → DerivesItem (Exactly punctuator.Comma) [] [] now next →
     Derives depth (Part Arguments ∷ []) (Part Expression ∷ Make Pass ∷ Part MoreArguments ∷ [])
@@ -183,7 +185,7 @@ comma_past before mid at now next depth h callee fits sign =
     now next
     (comma_stands before mid at now depth h callee fits) (sign depth) (λ stack same. same)
 
-pub argument_refused : (used : ℕ) (before mid : Meaning) (at now next : Place) (depth : ℕ) (denied : Type 0)
+pub argument_refused : (used : ℕ) (before mid : Representation) (at now next : Position) (depth : ℕ) (denied : Type 0)
     (f : ParseFault) → AddsArgs before mid depth (Part Arguments ∷ []) (Part MoreArguments ∷ []) at now →
     is_punctuator punctuator.Comma (next_at now).token ≡ true → DerivesItem (Exactly punctuator.Comma) [] [] now next →
     Refused (FailsAt depth (Part Expression ∷ []) [] next) denied used f →
@@ -194,7 +196,7 @@ argument_refused used before mid at now next depth denied f h fits sign =
     (Make Pass ∷ Part MoreArguments ∷ []) (ACall callee NoMore ∷ []) [] (ACall callee h.tree ∷ []) at next d
     (comma_past before mid at now next depth h callee fits sign) (λ stack same. same) k) (λ same. same)
 
-pub argument_adds : (before mid after : Meaning) (at now next there : Place) (depth : ℕ) →
+pub argument_adds : (before mid after : Representation) (at now next there : Position) (depth : ℕ) →
     AddsArgs before mid depth (Part Arguments ∷ []) (Part MoreArguments ∷ []) at now →
     is_punctuator punctuator.Comma (next_at now).token ≡ true → DerivesItem (Exactly punctuator.Comma) [] [] now next →
     AddsExpr mid after depth 1 (Part Expression ∷ []) [] next there → is_fault (next_at there).token ≡ false →
@@ -214,7 +216,7 @@ end_choice : (t after : Token) → is_punctuator punctuator.Comma t ≡ false �
 end_choice (token.Punctuator punctuator.Comma) after other = absurd (cc)
 end_choice t after other = refl
 
-pub arguments_end : (before after : Meaning) (at there : Place) (depth : ℕ) →
+pub arguments_end : (before after : Representation) (at there : Position) (depth : ℕ) →
     AddsArgs before after depth (Part Arguments ∷ []) (Part MoreArguments ∷ []) at there →
     is_fault (next_at there).token ≡ false → is_punctuator punctuator.Comma (next_at there).token ≡ false →
     AddsArgs before after depth (Part Arguments ∷ []) [] at there
@@ -231,7 +233,7 @@ arguments_end before after at there depth h sound other = record {
       (λ behind more. refl)) (λ stack same. same);
 }
 
-pub next_argument_room : (before now : Meaning) (at there : Place) (depth : ℕ) (front pending : List Item) →
+pub next_argument_room : (before now : Representation) (at there : Position) (depth : ℕ) (front pending : List Item) →
     HasRoom before (room depth 1) → AddsArgs before now depth front pending at there → HasRoom now (room depth 1)
 next_argument_room before now at there depth front pending h a =
     let few : open_count (h.outer ∷ h.opened) + room depth 1 ≤ 200 = h.few in
@@ -242,7 +244,7 @@ next_argument_room before now at there depth front pending h a =
 
 -- Calls.
 
-call_chooses : (at : Place) → IsNamed (next_at at).token → is_punctuator punctuator.OpenRound (after_at at) ≡ true →
+call_chooses : (at : Position) → IsNamed (next_at at).token → is_punctuator punctuator.OpenRound (after_at at) ≡ true →
     Chooses at Primary
     (AName Called ∷ Exactly punctuator.OpenRound ∷ Part Arguments ∷ Exactly punctuator.CloseRound ∷ Make Invoke ∷
     Close ∷ [])
@@ -254,14 +256,14 @@ call_chooses at n fits = record {
       (n.is, after_name at after n more, t) refl;
 }
 
-call_enters : (at : Place) → IsNamed (next_at at).token → is_punctuator punctuator.OpenRound (after_at at) ≡ true →
+call_enters : (at : Position) → IsNamed (next_at at).token → is_punctuator punctuator.OpenRound (after_at at) ≡ true →
     EntersLevel at Primary
 call_enters at n fits after more =
     let t : after_at at ≡ token.Punctuator punctuator.OpenRound =
     punctuator_is punctuator.OpenRound (after_at at) fits in
     rw (n.is, after_name at after n more, t) refl
 
-pub call_too_deep : (at : Place) (used : ℕ) (near : IsNearTo at.position.reading used) (depth : ℕ) →
+pub call_too_deep : (at : Position) (used : ℕ) (near : IsNearTo at.lookahead.cursor used) (depth : ℕ) →
     IsNamed (next_at at).token → is_punctuator punctuator.OpenRound (after_at at) ≡ true → 64 ≤ depth →
     FailsAt depth (Part Primary ∷ []) [] at
     (stop_with (refusal.Source (diagnostic (next_at at).line code.NestedTooDeeply)) used)
@@ -271,12 +273,12 @@ call_too_deep at used near depth n fits deep =
     (call_chooses at n fits) (call_enters at n fits) (rw n.is refl) deep
 
 -- what a call was found to be, and up to where
-pub record IsCall (at : Place) (depth : ℕ) : Type 0 where
+pub record IsCall (at : Position) (depth : ℕ) : Type 0 where
   pub named : IsNamed (next_at at).token
   pub fits : is_punctuator punctuator.OpenRound (after_at at) ≡ true
   pub shallow : depth < 64
 
-call_stands : (at : Place) (depth : ℕ) → IsCall at depth →
+call_stands : (at : Position) (depth : ℕ) → IsCall at depth →
     Derives depth (Part Primary ∷ [])
     (AName Called ∷ Exactly punctuator.OpenRound ∷ Part Arguments ∷ Exactly punctuator.CloseRound ∷ Make Invoke ∷
     Close ∷ []) [] [] at at
@@ -285,7 +287,7 @@ call_stands at depth c =
     (AName Called ∷ Exactly punctuator.OpenRound ∷ Part Arguments ∷ Exactly punctuator.CloseRound ∷ Make Invoke ∷
     Close ∷ []) (call_chooses at c.named c.fits) c.shallow
 
-pub callee_refused : (used : ℕ) (at : Place) (depth : ℕ) (more : Type 0) (f : ParseFault) → IsCall at depth →
+pub callee_refused : (used : ℕ) (at : Position) (depth : ℕ) (more : Type 0) (f : ParseFault) → IsCall at depth →
     Refused (FailsItem (AName Called) at) ⊥ used f → Refused (FailsAt depth (Part Primary ∷ []) [] at) more used f
 callee_refused used at depth more f c =
     exit_item used depth (depth + 1) (Part Primary ∷ []) (AName Called)
@@ -293,7 +295,7 @@ callee_refused used at depth more f c =
     at more f
     (call_stands at depth c) (λ stack same. ap (λ n. n + 1) same)
 
-callee_past : (at now : Place) (depth : ℕ) (callee : Callee) → IsCall at depth →
+callee_past : (at now : Position) (depth : ℕ) (callee : Callee) → IsCall at depth →
     DerivesItem (AName Called) [] (ACall callee NoMore ∷ []) at now →
     Derives depth (Part Primary ∷ [])
     (Exactly punctuator.OpenRound ∷ Part Arguments ∷ Exactly punctuator.CloseRound ∷ Make Invoke ∷ Close ∷ []) []
@@ -305,8 +307,8 @@ callee_past at now depth callee c item =
     (call_stands at depth c) (item (depth + 1)) (λ stack same. ap (λ n. n + 1) same)
 
 -- the builder was refused memory behind the name
-pub callee_halts : (used : ℕ) (at now : Place) (depth : ℕ) (callee : Callee) → IsCall at depth →
-    DerivesItem (AName Called) [] (ACall callee NoMore ∷ []) at now → IsNearTo now.position.reading used →
+pub callee_halts : (used : ℕ) (at now : Position) (depth : ℕ) (callee : Callee) → IsCall at depth →
+    DerivesItem (AName Called) [] (ACall callee NoMore ∷ []) at now → IsNearTo now.lookahead.cursor used →
     FailsAt depth (Part Primary ∷ []) [] at (stop_with refusal.Memory used)
 callee_halts used at now depth callee c item near =
     halts depth (Part Primary ∷ [])
@@ -314,7 +316,7 @@ callee_halts used at now depth callee c item near =
     (ACall callee NoMore ∷ []) at now used
     (callee_past at now depth callee c item) near
 
-pub call_open_refused : (used : ℕ) (at now : Place) (depth : ℕ) (callee : Callee) (more : Type 0) (f : ParseFault) →
+pub call_open_refused : (used : ℕ) (at now : Position) (depth : ℕ) (callee : Callee) (more : Type 0) (f : ParseFault) →
     IsCall at depth → DerivesItem (AName Called) [] (ACall callee NoMore ∷ []) at now →
     Refused (FailsItem (Exactly punctuator.OpenRound) now) ⊥ used f →
     Refused (FailsAt depth (Part Primary ∷ []) [] at) more used f
@@ -324,7 +326,7 @@ call_open_refused used at now depth callee more f c item =
     more f
     (callee_past at now depth callee c item) (λ stack same. ap (λ n. n + 1) same)
 
-call_open_past : (at now inner : Place) (depth : ℕ) (callee : Callee) → IsCall at depth →
+call_open_past : (at now inner : Position) (depth : ℕ) (callee : Callee) → IsCall at depth →
     DerivesItem (AName Called) [] (ACall callee NoMore ∷ []) at now →
     DerivesItem (Exactly punctuator.OpenRound) [] [] now inner →
     Derives depth (Part Primary ∷ []) (Part Arguments ∷ Exactly punctuator.CloseRound ∷ Make Invoke ∷ Close ∷ []) []
@@ -335,7 +337,7 @@ call_open_past at now inner depth callee c item bracket =
     inner
     (callee_past at now depth callee c item) (bracket (depth + 1)) (λ stack same. ap (λ n. n + 1) same)
 
-pub arguments_refused : (used : ℕ) (at now inner : Place) (depth : ℕ) (callee : Callee) (denied : Type 0)
+pub arguments_refused : (used : ℕ) (at now inner : Position) (depth : ℕ) (callee : Callee) (denied : Type 0)
     (f : ParseFault) → IsCall at depth → DerivesItem (AName Called) [] (ACall callee NoMore ∷ []) at now →
     DerivesItem (Exactly punctuator.OpenRound) [] [] now inner → Refused (FailsArgs (depth + 1) inner) denied used f →
     Refused (FailsAt depth (Part Primary ∷ []) [] at) denied used f
@@ -346,7 +348,7 @@ arguments_refused used at now inner depth callee denied f c item bracket =
     (call_open_past at now inner depth callee c item bracket) (λ stack same. ap (λ n. n + 1) same) (h callee))
     (λ same. same)
 
-arguments_past : (before after : Meaning) (at now inner behind : Place) (depth : ℕ) (callee : Callee) →
+arguments_past : (before after : Representation) (at now inner behind : Position) (depth : ℕ) (callee : Callee) →
     IsCall at depth → DerivesItem (AName Called) [] (ACall callee NoMore ∷ []) at now →
     DerivesItem (Exactly punctuator.OpenRound) [] [] now inner →
     (h : AddsArgs before after (depth + 1) (Part Arguments ∷ []) [] inner behind) →
@@ -358,7 +360,8 @@ arguments_past before after at now inner behind depth callee c item bracket h =
     [] at inner behind
     (call_open_past at now inner depth callee c item bracket) (h.derives callee) (λ stack same. ap (λ n. n + 1) same)
 
-pub call_close_refused : (used : ℕ) (before after : Meaning) (at now inner behind : Place) (depth : ℕ) (callee : Callee)
+pub call_close_refused : (used : ℕ) (before after : Representation) (at now inner behind : Position) (depth : ℕ)
+    (callee : Callee)
     (more : Type 0) (f : ParseFault) → IsCall at depth →
     DerivesItem (AName Called) [] (ACall callee NoMore ∷ []) at now →
     DerivesItem (Exactly punctuator.OpenRound) [] [] now inner →
@@ -380,7 +383,8 @@ invoke_makes callee args =
       defines = λ values scope. refl;
     }
 
-pub call_adds : (before begun mid after : Meaning) (at now inner behind there : Place) (depth : ℕ) (callee : Callee) →
+pub call_adds : (before begun mid after : Representation) (at now inner behind there : Position) (depth : ℕ)
+    (callee : Callee) →
     IsCall at depth → DerivesItem (AName Called) [] (ACall callee NoMore ∷ []) at now →
     DerivesItem (Exactly punctuator.OpenRound) [] [] now inner →
     AddsArgs begun mid (depth + 1) (Part Arguments ∷ []) [] inner behind →
@@ -409,7 +413,7 @@ call_adds before begun mid after at now inner behind there depth callee c item b
           (invoke_makes callee h.tree)) (λ stack same. same);
     }
 
-pub begin_follows : (before : Meaning) (depth : ℕ) → depth < 64 → HasRoom before (room depth 11) →
+pub begin_follows : (before : Representation) (depth : ℕ) → depth < 64 → HasRoom before (room depth 11) →
     MayFollow before BeginCall
 begin_follows before depth shallow h =
     let few : open_count (h.outer ∷ h.opened) + room depth 11 ≤ 200 = h.few in
@@ -417,7 +421,7 @@ begin_follows before depth shallow h =
     h.stands
     (act BeginCall (h.outer ∷ h.opened) (InCall ∷ h.outer ∷ h.opened) refl (omega arith)))
 
-pub arguments_room : (before begun : Meaning) (depth : ℕ) → depth < 64 → HasRoom before (room depth 11) →
+pub arguments_room : (before begun : Representation) (depth : ℕ) → depth < 64 → HasRoom before (room depth 11) →
     AppendsAll before begun (BeginCall ∷ []) → HasRoom begun (room (depth + 1) 1)
 arguments_room before begun depth shallow h told =
     let few : open_count (h.outer ∷ h.opened) + room depth 11 ≤ 200 = h.few in
@@ -425,7 +429,7 @@ arguments_room before begun depth shallow h told =
     h.stands told
     (act BeginCall (h.outer ∷ h.opened) (InCall ∷ h.outer ∷ h.opened) refl (omega arith)) (omega arith)
 
-pub end_follows : (before begun now : Meaning) (depth : ℕ) (callee : Callee) (args : Args) → depth < 64 →
+pub end_follows : (before begun now : Representation) (depth : ℕ) (callee : Callee) (args : Args) → depth < 64 →
     HasRoom before (room depth 11) → AppendsAll before begun (BeginCall ∷ []) →
     IsCallable 64 callee → InArgs 64 64 64 args → args_nesting args ≤ room (depth + 1) 1 →
     AppendsAll begun now (args_actions args) → MayFollow now (EndCall callee)

@@ -8,12 +8,12 @@ use Rattle.tokens.specs.declared.located_tokens.Punctuator.TheVariants as punctu
 use Rattle.tokens.specs.declared.located_tokens.Token.{Token}
 use Rattle.tokens.specs.declared.located_tokens.Token.TheVariants as token
 use Rattle.grammar.specs.declared.diagnostics.ParseFault.{ParseFault}
-use Rattle.grammar.specs.declared.operators.Binary.{Binary as AnOperator}
+use Rattle.grammar.specs.declared.operators.BinaryOperator.{BinaryOperator as AnOperator}
 use Rattle.arith.specs.declared.operators.Op.{Op}
 use Rattle.arith.specs.declared.operators.Op.TheVariants as op
 use Rattle.grammar.specs.declared.actions.Action.TheVariants.{ApplyBinop}
 use Rattle.grammar.specs.Actions.{expr_actions, middle}
-use Rattle.grammar.specs.Building.{Meaning}
+use Rattle.grammar.specs.Building.{Representation}
 use Rattle.grammar.specs.Derivation.{AnExpr, Value}
 use Rattle.grammar.specs.Faults.{levels}
 use Rattle.grammar.specs.Following.{AValue, open_count}
@@ -24,8 +24,8 @@ use Rattle.grammar.specs.Laws.Climbing.{if_from, operator_from}
 use Rattle.grammar.specs.Tree.{Binary}
 use Rattle.grammar.proofs.FollowingLaws.{expr_leads, origin_of}
 use Rattle.grammar.proofs.StandingLaws.{stands_then, appends_both}
-use Rattle.parser.specs.Position.{Place, next_at}
-use Rattle.parser.specs.Room.{HasLeft, HasRoom, room}
+use Rattle.parser.specs.ScopedCursors.{Position, next_at}
+use Rattle.parser.specs.Room.{HasLeftSide, HasRoom, room}
 use Rattle.parser.specs.Segment.{Derives, FailsAt, Refused}
 use Rattle.parser.proofs.Segments.{exit, fails_behind, joined, refused_map, stay}
 use Rattle.parser.specs.Expressions.{AddsExpr, AddsOperand, FailsOperand}
@@ -61,7 +61,7 @@ ten_levels (token.Punctuator m) b is = by_punctuator m is
     by_punctuator punctuator.Percent is = at_most 10 op.Remainder b (omega arith) is
     by_punctuator m is = absurd (cc)
 ten_levels (token.Name name) b is = absurd (cc)
-ten_levels (token.Word word) b is = absurd (cc)
+ten_levels (token.Keyword word) b is = absurd (cc)
 ten_levels (token.Constant value) b is = absurd (cc)
 ten_levels token.End b is = absurd (cc)
 ten_levels (token.Fault lexical_error) b is = absurd (cc)
@@ -86,7 +86,7 @@ pub at_its_own : (t : Token) (b : AnOperator) → operator_of t ≡ Some b → o
 at_its_own (token.Punctuator m) b is =
     let spelled : binary_of m ≡ Some b = is in rw spelled (rw (same_level b.level) refl)
 at_its_own (token.Name name) b is = absurd (cc)
-at_its_own (token.Word word) b is = absurd (cc)
+at_its_own (token.Keyword word) b is = absurd (cc)
 at_its_own (token.Constant value) b is = absurd (cc)
 at_its_own token.End b is = absurd (cc)
 at_its_own (token.Fault lexical_error) b is = absurd (cc)
@@ -141,7 +141,7 @@ none_at n l (token.Punctuator m) none tighter = by (binary_of m) (λ b is. all_l
         let less : b.level < n = looser_ b refl in
         let far : b.level < l = omega arith in rw (other_level b.level l far) refl
 none_at n l (token.Name name) none tighter = refl
-none_at n l (token.Word word) none tighter = refl
+none_at n l (token.Keyword word) none tighter = refl
 none_at n l (token.Constant value) none tighter = refl
 none_at n l token.End none tighter = refl
 none_at n l (token.Fault lexical_error) none tighter = refl
@@ -149,7 +149,7 @@ none_at n l (token.Fault lexical_error) none tighter = refl
 -- Going down to the operand.
 
 -- one segment after another
-one_then : (depth : ℕ) (front mid pending : List Item) (taken between left : List Value) (at now there : Place) →
+one_then : (depth : ℕ) (front mid pending : List Item) (taken between left : List Value) (at now there : Position) →
     Derives depth front mid taken between at now → Derives depth mid pending between left now there →
     Derives depth front pending taken left at there
 one_then depth front mid pending taken between left at now there a b =
@@ -182,19 +182,19 @@ last_choice n t after last = let test : nat_lt n 11 ≡ false = above n last in 
     above : (n : ℕ) → 10 < n → nat_lt n 11 ≡ false
     above n last = grind (arith, nat_tests)
 
-level_stands : (at : Place) (depth n : ℕ) → n ≤ 10 → is_fault (next_at at).token ≡ false →
+level_stands : (at : Position) (depth n : ℕ) → n ≤ 10 → is_fault (next_at at).token ≡ false →
     Derives depth (Part (Level n) ∷ []) (Part (Level (n + 1)) ∷ Part (Tail n) ∷ []) [] [] at at
 level_stands at depth n small sound =
     chosen at depth (Level n) (Part (Level (n + 1)) ∷ Part (Tail n) ∷ []) []
     (record { sound = sound; is = λ after more. level_choice n (next_at at).token after small }) (λ after more. refl)
 
-last_stands : (at : Place) (depth n : ℕ) → 10 < n → is_fault (next_at at).token ≡ false →
+last_stands : (at : Position) (depth n : ℕ) → 10 < n → is_fault (next_at at).token ≡ false →
     Derives depth (Part (Level n) ∷ []) (Part Unary ∷ []) [] [] at at
 last_stands at depth n last sound =
     chosen at depth (Level n) (Part Unary ∷ []) []
     (record { sound = sound; is = λ after more. last_choice n (next_at at).token after last }) (λ after more. refl)
 
-descends : (at : Place) (depth n count : ℕ) → n + count ≤ 11 → is_fault (next_at at).token ≡ false →
+descends : (at : Position) (depth n count : ℕ) → n + count ≤ 11 → is_fault (next_at at).token ≡ false →
     Derives depth (Part (Level n) ∷ []) (Part (Level (n + count)) ∷ tails count n) [] [] at at
 descends at depth n zero small sound =
     let same : n ≡ n + 0 = omega arith in
@@ -211,7 +211,7 @@ descends at depth n (suc count) small sound =
     further
 
 -- a level goes down to an operand, with the tails of all levels from it on below
-reaches : (at : Place) (depth n : ℕ) → is_fault (next_at at).token ≡ false →
+reaches : (at : Position) (depth n : ℕ) → is_fault (next_at at).token ≡ false →
     Derives depth (Part (Level n) ∷ []) (Part Unary ∷ tails (11 - n) n) [] [] at at
 reaches at depth n sound = by (nat_le n 11) refl
   where
@@ -237,12 +237,12 @@ reaches at depth n sound = by (nat_le n 11) refl
 no_operator : (n : ℕ) (t after : Token) → operator_at n t ≡ None → choice (Tail n) t after ≡ Some []
 no_operator n (token.Punctuator m) after none = rw none refl
 no_operator n (token.Name name) after none = refl
-no_operator n (token.Word word) after none = refl
+no_operator n (token.Keyword word) after none = refl
 no_operator n (token.Constant value) after none = refl
 no_operator n token.End after none = refl
 no_operator n (token.Fault lexical_error) after none = refl
 
-tail_ends : (at : Place) (depth n : ℕ) (trees : List Value) → operator_at n (next_at at).token ≡ None →
+tail_ends : (at : Position) (depth n : ℕ) (trees : List Value) → operator_at n (next_at at).token ≡ None →
     is_fault (next_at at).token ≡ false →
     Derives depth (Part (Tail n) ∷ []) [] trees trees at at
 tail_ends at depth n trees none sound =
@@ -250,7 +250,7 @@ tail_ends at depth n trees none sound =
     (record { sound = sound; is = λ after more. no_operator n (next_at at).token after none }) (λ after more. refl)
 
 -- the tails of the levels at which no operator follows end
-drops : (at : Place) (depth n kept count : ℕ) (trees : List Value) → kept ≤ count →
+drops : (at : Position) (depth n kept count : ℕ) (trees : List Value) → kept ≤ count →
     operator_from (n + kept) (next_at at).token ≡ None → is_fault (next_at at).token ≡ false →
     Derives depth (tails count n) (tails kept n) trees trees at at
 drops at depth n kept zero trees less none sound =
@@ -283,13 +283,14 @@ drops at depth n kept (suc count) trees less none sound =
 -- An expression of the operators from level n on was read so far. The tails of some levels wait, and no operator that
 -- is tighter than
 -- these follows.
-pub record Climbs (before after : Meaning) (depth n : ℕ) (here there : Place) : Type 0 where
+pub record Climbs (before after : Representation) (depth n : ℕ) (here there : Position) : Type 0 where
   pub count : ℕ
   pub none : operator_from (n + count) (next_at there).token ≡ None
   pub adds : AddsExpr before after depth n (Part (Level n) ∷ []) (tails count n) here there
 
 -- an operand was read
-pub climbs_first : (before after : Meaning) (at there : Place) (depth n : ℕ) → is_fault (next_at at).token ≡ false →
+pub climbs_first : (before after : Representation) (at there : Position) (depth n : ℕ) →
+    is_fault (next_at at).token ≡ false →
     AddsExpr before after depth 11 (Part Unary ∷ []) [] at there → Climbs before after depth n at there
 climbs_first before after at there depth n sound h = record {
   count = 11 - n;
@@ -306,7 +307,7 @@ climbs_first before after at there depth n sound h = record {
   };
 }
 
-pub first_stops : (used : ℕ) (at : Place) (depth n : ℕ) (denied : Type 0) (f : ParseFault) →
+pub first_stops : (used : ℕ) (at : Position) (depth n : ℕ) (denied : Type 0) (f : ParseFault) →
     is_fault (next_at at).token ≡ false →
     Refused (FailsAt depth (Part Unary ∷ []) [] at) denied used f →
     Refused (FailsAt depth (Part (Level n) ∷ []) [] at) denied used f
@@ -317,13 +318,13 @@ first_stops used at depth n denied f sound =
 operator_sound : (t : Token) (b : AnOperator) → operator_of t ≡ Some b → is_fault t ≡ false
 operator_sound (token.Punctuator m) b is = refl
 operator_sound (token.Name name) b is = refl
-operator_sound (token.Word word) b is = refl
+operator_sound (token.Keyword word) b is = refl
 operator_sound (token.Constant value) b is = refl
 operator_sound token.End b is = refl
 operator_sound (token.Fault lexical_error) b is = absurd (cc)
 
 -- the tails of the levels tighter than an operator that follows end
-drops_to : (at : Place) (depth n count : ℕ) (b : AnOperator) (trees : List Value) →
+drops_to : (at : Position) (depth n count : ℕ) (b : AnOperator) (trees : List Value) →
     operator_of (next_at at).token ≡ Some b → n ≤ b.level → operator_from (n + count) (next_at at).token ≡ None →
     Derives depth (tails count n) (Part (Tail b.level) ∷ tails (b.level - n) n) trees trees at at
 drops_to at depth n count b trees is from none =
@@ -337,7 +338,8 @@ drops_to at depth n count b trees is from none =
     none_behind : (t : Token) (b : AnOperator) (n : ℕ) → operator_of t ≡ Some b → b.level < n → operator_from n t ≡ None
     none_behind t b n is past = rw is (rw (looser n b.level past) refl)
 
-climbed : (before mid : Meaning) (at now : Place) (depth n : ℕ) (b : AnOperator) (h : Climbs before mid depth n at now)
+climbed : (before mid : Representation) (at now : Position) (depth n : ℕ) (b : AnOperator)
+    (h : Climbs before mid depth n at now)
     → operator_from n (next_at now).token ≡ Some b →
     Derives depth (Part (Level n) ∷ []) (Part (Tail b.level) ∷ tails (b.level - n) n) [] (AnExpr h.adds.tree ∷ []) at
     now
@@ -348,7 +350,7 @@ climbed before mid at now depth n b h is =
     h.adds.derives (drops_to now depth n h.count b (AnExpr h.adds.tree ∷ []) f.0 f.1 h.none)
 
 -- an operator and its right side were read
-pub climbs_on : (before mid after : Meaning) (at now there : Place) (depth n : ℕ) (b : AnOperator) →
+pub climbs_on : (before mid after : Representation) (at now there : Position) (depth n : ℕ) (b : AnOperator) →
     Climbs before mid depth n at now → operator_from n (next_at now).token ≡ Some b →
     AddsOperand mid after depth b.level b.op now there → operator_from (b.level + 1) (next_at there).token ≡ None →
     Climbs before after depth n at there
@@ -390,7 +392,8 @@ climbs_on before mid after at now there depth n b h is r none = record {
         max left right ≤ room depth n
     wide_enough n l left right from small less = omega arith
 
-pub climb_refused : (used : ℕ) (before mid : Meaning) (at now : Place) (depth n : ℕ) (b : AnOperator) (denied : Type 0)
+pub climb_refused : (used : ℕ) (before mid : Representation) (at now : Position) (depth n : ℕ) (b : AnOperator)
+    (denied : Type 0)
     (f : ParseFault) → Climbs before mid depth n at now →
     operator_from n (next_at now).token ≡ Some b → Refused (FailsOperand depth b.level now) denied used f →
     Refused (FailsAt depth (Part (Level n) ∷ []) [] at) denied used f
@@ -402,7 +405,7 @@ climb_refused used before mid at now depth n b denied f h is =
     (fails h.adds.tree)) (λ same. same)
 
 -- no further operator follows, and all tails end
-pub climbs_end : (before after : Meaning) (at there : Place) (depth n : ℕ) →
+pub climbs_end : (before after : Representation) (at there : Position) (depth n : ℕ) →
     operator_from n (next_at there).token ≡ None → is_fault (next_at there).token ≡ false →
     Climbs before after depth n at there → AddsExpr before after depth n (Part (Level n) ∷ []) [] at there
 climbs_end before after at there depth n none sound h = record {
@@ -420,9 +423,9 @@ climbs_end before after at there depth n none sound h = record {
 }
 
 -- the left side of a further operator
-pub left_open : (before now : Meaning) (at there : Place) (depth n : ℕ) (b : AnOperator) →
+pub left_open : (before now : Representation) (at there : Position) (depth n : ℕ) (b : AnOperator) →
     HasRoom before (room depth n) → Climbs before now depth n at there →
-    operator_from n (next_at there).token ≡ Some b → HasLeft now (room depth b.level)
+    operator_from n (next_at there).token ≡ Some b → HasLeftSide now (room depth b.level)
 left_open before now at there depth n b h c is = record {
   origin = origin_of c.adds.tree;
   outer = h.outer;

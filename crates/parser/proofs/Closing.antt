@@ -3,7 +3,7 @@ use Rattle.std.proofs.Common.{◌≡◌, ℕ, pos, ◌+◌, ◌<◌, ◌≤◌, 
 use Rattle.grammar.specs.declared.actions.Action.{Action}
 use Rattle.grammar.specs.declared.actions.Action.TheVariants.{BeginFunction, EndFunction, GiveBack, PushConstant}
 use Rattle.grammar.specs.Actions.{body_actions, code_length, last_return}
-use Rattle.grammar.specs.Building.{Meaning, Appends, AppendsAll, MayFollow, StandsOpen}
+use Rattle.grammar.specs.Building.{Representation, Appends, AppendsAll, MayFollow, LeavesOpen}
 use Rattle.grammar.specs.Following.{AValue, InFunction, Number}
 use Rattle.grammar.specs.Nesting.{body_nesting}
 use Rattle.grammar.specs.Profile.{Profile}
@@ -11,32 +11,34 @@ use Rattle.grammar.specs.Resolved.{InBody}
 use Rattle.grammar.specs.Tree.{Body}
 use Rattle.grammar.proofs.FollowingLaws.{KeepsFunction, body_leads, definition_leads, follow_one, function_begins, function_finishes, keeps_function, leads_to}
 use Rattle.grammar.proofs.StandingLaws.{may_follow, stands_then}
-use Rattle.parser.specs.Room.{HasPlace, room}
+use Rattle.parser.specs.Room.{HasStatementRoom, room}
 use Rattle.parser.specs.Progress.{ClosesFunction, MayEnd}
 
 -- A function begins.
 
-pub may_begin : (before : Meaning) (number parameters : ℕ) → StandsOpen before [] → number < 64 → parameters ≤ 64 →
+pub may_begin : (before : Representation) (number parameters : ℕ) → LeavesOpen before [] → number < 64 →
+    parameters ≤ 64 →
     MayFollow before (BeginFunction number parameters)
 may_begin before number parameters s known few =
     may_follow before [] (InFunction parameters false ∷ []) (BeginFunction number parameters) s
     (function_begins number parameters known few) (omega arith)
 
-pub begun : (before behind : Meaning) (number parameters : ℕ) → StandsOpen before [] → number < 64 → parameters ≤ 64 →
-    Appends before behind (BeginFunction number parameters) → StandsOpen behind (InFunction parameters false ∷ [])
+pub begun : (before behind : Representation) (number parameters : ℕ) → LeavesOpen before [] → number < 64 →
+    parameters ≤ 64 →
+    Appends before behind (BeginFunction number parameters) → LeavesOpen behind (InFunction parameters false ∷ [])
 begun before behind number parameters s known few told =
     stands_then before behind (BeginFunction number parameters ∷ []) [] (InFunction parameters false ∷ []) told s
     (follow_one (BeginFunction number parameters) [] (InFunction parameters false ∷ [])
     (function_begins number parameters known few) (omega arith))
 
-pub has_place : (before : Meaning) (parameters : ℕ) → StandsOpen before (InFunction parameters false ∷ []) →
-    HasPlace before (room 1 1)
+pub has_place : (before : Representation) (parameters : ℕ) → LeavesOpen before (InFunction parameters false ∷ []) →
+    HasStatementRoom before (room 1 1)
 has_place before parameters s =
-    record { opened = InFunction parameters false ∷ []; place = refl; stands = s; few = omega arith }
+    record { opened = InFunction parameters false ∷ []; position = refl; stands = s; few = omega arith }
 
 -- Its statements leave it open.
-pub may_end : (before behind : Meaning) (parameters variables : ℕ) (body : Body) →
-    StandsOpen before (InFunction parameters false ∷ []) → AppendsAll before behind (body_actions body) →
+pub may_end : (before behind : Representation) (parameters variables : ℕ) (body : Body) →
+    LeavesOpen before (InFunction parameters false ∷ []) → AppendsAll before behind (body_actions body) →
     InBody 64 64 64 body → body_nesting body ≤ 200 → parameters ≤ variables → variables ≤ 64 → MayEnd behind variables
 may_end before behind parameters variables body s told numbered narrow within few =
     let k : KeepsFunction body parameters false = keeps_function body parameters false in
@@ -55,31 +57,32 @@ may_end before behind parameters variables body s told numbered narrow within fe
 
 -- The return at its end.
 
-pub may_push : (before : Meaning) (variables : ℕ) → MayEnd before variables → MayFollow before (PushConstant (pos 0))
+pub may_push : (before : Representation) (variables : ℕ) → MayEnd before variables →
+    MayFollow before (PushConstant (pos 0))
 may_push before variables m =
     may_follow before (InFunction m.parameters m.returned ∷ [])
     (AValue (Number (pos 0)) ∷ InFunction m.parameters m.returned ∷ []) (PushConstant (pos 0)) m.stands refl
     (omega arith)
 
-pushed : (before behind : Meaning) (variables : ℕ) (m : MayEnd before variables) →
+pushed : (before behind : Representation) (variables : ℕ) (m : MayEnd before variables) →
     Appends before behind (PushConstant (pos 0)) →
-    StandsOpen behind (AValue (Number (pos 0)) ∷ InFunction m.parameters m.returned ∷ [])
+    LeavesOpen behind (AValue (Number (pos 0)) ∷ InFunction m.parameters m.returned ∷ [])
 pushed before behind variables m told =
     stands_then before behind (PushConstant (pos 0) ∷ []) (InFunction m.parameters m.returned ∷ [])
     (AValue (Number (pos 0)) ∷ InFunction m.parameters m.returned ∷ []) told m.stands
     (follow_one (PushConstant (pos 0)) (InFunction m.parameters m.returned ∷ [])
     (AValue (Number (pos 0)) ∷ InFunction m.parameters m.returned ∷ []) refl (omega arith))
 
-pub may_give : (before behind : Meaning) (variables : ℕ) → MayEnd before variables →
+pub may_give : (before behind : Representation) (variables : ℕ) → MayEnd before variables →
     Appends before behind (PushConstant (pos 0)) → MayFollow behind GiveBack
 may_give before behind variables m told =
     may_follow behind (AValue (Number (pos 0)) ∷ InFunction m.parameters m.returned ∷ [])
     (InFunction m.parameters true ∷ []) GiveBack (pushed before behind variables m told) refl (omega arith)
 
-pub may_finish : (before mid behind : Meaning) (variables : ℕ) → MayEnd before variables →
+pub may_finish : (before mid behind : Representation) (variables : ℕ) → MayEnd before variables →
     Appends before mid (PushConstant (pos 0)) → Appends mid behind GiveBack → MayFollow behind (EndFunction variables)
 may_finish before mid behind variables m told given =
-    let s : StandsOpen behind (InFunction m.parameters true ∷ []) =
+    let s : LeavesOpen behind (InFunction m.parameters true ∷ []) =
     stands_then mid behind (GiveBack ∷ []) (AValue (Number (pos 0)) ∷ InFunction m.parameters m.returned ∷ [])
     (InFunction m.parameters true ∷ []) given (pushed before mid variables m told)
     (follow_one GiveBack (AValue (Number (pos 0)) ∷ InFunction m.parameters m.returned ∷ [])
@@ -88,7 +91,7 @@ may_finish before mid behind variables m told given =
     (function_finishes m.parameters variables m.within m.few) (omega arith)
 
 -- what was told of its end
-pub closes : (before mid between after : Meaning) (variables : ℕ) → Appends before mid (PushConstant (pos 0)) →
+pub closes : (before mid between after : Representation) (variables : ℕ) → Appends before mid (PushConstant (pos 0)) →
     Appends mid between GiveBack → Appends between after (EndFunction variables) →
     ((profile : Profile) (acts : List Action) → between profile acts →
     code_length profile acts + 1 ≤ profile.instructions) → ClosesFunction before after variables
@@ -110,11 +113,11 @@ closes before mid between after variables a b c fits = record {
         append_assoc acts (PushConstant (pos 0) ∷ []) (GiveBack ∷ EndFunction variables ∷ [])
 
 -- Behind it nothing is open.
-pub closed : (before after : Meaning) (number parameters variables : ℕ) (body : Body) → StandsOpen before [] →
+pub closed : (before after : Representation) (number parameters variables : ℕ) (body : Body) → LeavesOpen before [] →
     number < 64 → parameters ≤ variables → variables ≤ 64 → InBody 64 64 64 body → body_nesting body ≤ 200 →
     AppendsAll before after
     (BeginFunction number parameters ∷ (body_actions body ++ (last_return ++ EndFunction variables ∷ []))) →
-    StandsOpen after []
+    LeavesOpen after []
 closed before after number parameters variables body s known within few numbered narrow told =
     stands_then before after _ [] [] told s
     (definition_leads number parameters variables body known within few numbered narrow).is

@@ -3,8 +3,8 @@ use Rattle.std.proofs.Common.{◌≡◌, [], ◌∷◌, refl, true, false}
 use Rattle.tokens.specs.declared.located_tokens.Punctuator.TheVariants as punctuator
 use Rattle.tokens.specs.declared.located_tokens.Token.{Token}
 use Rattle.tokens.specs.declared.located_tokens.Token.TheVariants as token
-use Rattle.tokens.specs.declared.located_tokens.Word.TheVariants as word
-use Rattle.grammar.specs.Grammar.{AWord, Back, Block, Decide, DecideElse, Declarations, ElsePart, Empty, Evaluate, Exactly, Expression, GiveBack, Item, Make, Part, Repeat, Close, Statement, Statements, Zero, is_punctuator, is_word, enters}
+use Rattle.tokens.specs.declared.located_tokens.Keyword.TheVariants as word
+use Rattle.grammar.specs.Grammar.{AKeyword, Back, Block, Decide, DecideElse, Declarations, ElsePart, Empty, Evaluate, Exactly, Expression, GiveBack, Item, Make, Part, Repeat, Close, Statement, Statements, Zero, is_punctuator, is_keyword, enters}
 use Rattle.std.specs.Prelude.{List}
 use Rattle.parser.specs.Forms.{begins_statement}
 use Rattle.parser.proofs.Parts.{Chooses, punctuator_is, word_is}
@@ -20,10 +20,10 @@ pub evaluates : (t : Token) → begins_statement t ≡ false → Evaluates t
 evaluates (token.Punctuator punctuator.Semicolon) plain = absurd (cc)
 evaluates (token.Punctuator punctuator.OpenCurly) plain = absurd (cc)
 evaluates (token.Punctuator m) plain = record { chosen = λ after. refl; shallow = λ after. refl }
-evaluates (token.Word word.If) plain = absurd (cc)
-evaluates (token.Word word.While) plain = absurd (cc)
-evaluates (token.Word word.Return) plain = absurd (cc)
-evaluates (token.Word w) plain = record { chosen = λ after. refl; shallow = λ after. refl }
+evaluates (token.Keyword word.If) plain = absurd (cc)
+evaluates (token.Keyword word.While) plain = absurd (cc)
+evaluates (token.Keyword word.Return) plain = absurd (cc)
+evaluates (token.Keyword w) plain = record { chosen = λ after. refl; shallow = λ after. refl }
 evaluates (token.Name name) plain = record { chosen = λ after. refl; shallow = λ after. refl }
 evaluates (token.Constant value) plain = record { chosen = λ after. refl; shallow = λ after. refl }
 evaluates token.End plain = record { chosen = λ after. refl; shallow = λ after. refl }
@@ -36,7 +36,7 @@ pub more_chosen : (t : Token) → is_punctuator punctuator.CloseCurly t ≡ fals
 more_chosen (token.Punctuator punctuator.CloseCurly) other = absurd (cc)
 more_chosen (token.Punctuator m) other = λ after. refl
 more_chosen (token.Name name) other = λ after. refl
-more_chosen (token.Word word) other = λ after. refl
+more_chosen (token.Keyword word) other = λ after. refl
 more_chosen (token.Constant value) other = λ after. refl
 more_chosen token.End other = λ after. refl
 more_chosen (token.Fault lexical_error) other = λ after. refl
@@ -47,13 +47,13 @@ end_chosen t is after =
 
 -- Second branches.
 
-pub else_chosen : (t : Token) → is_word word.Else t ≡ true →
-    Chooses ElsePart t (AWord word.Else ∷ Make Empty ∷ Part Statement ∷ Make DecideElse ∷ [])
-else_chosen t is after = let at : t ≡ token.Word word.Else = word_is word.Else t is in rw at refl
+pub else_chosen : (t : Token) → is_keyword word.Else t ≡ true →
+    Chooses ElsePart t (AKeyword word.Else ∷ Make Empty ∷ Part Statement ∷ Make DecideElse ∷ [])
+else_chosen t is after = let at : t ≡ token.Keyword word.Else = word_is word.Else t is in rw at refl
 
-pub no_else_chosen : (t : Token) → is_word word.Else t ≡ false → Chooses ElsePart t (Make Decide ∷ [])
-no_else_chosen (token.Word word.Else) other = absurd (cc)
-no_else_chosen (token.Word w) other = λ after. refl
+pub no_else_chosen : (t : Token) → is_keyword word.Else t ≡ false → Chooses ElsePart t (Make Decide ∷ [])
+no_else_chosen (token.Keyword word.Else) other = absurd (cc)
+no_else_chosen (token.Keyword w) other = λ after. refl
 no_else_chosen (token.Punctuator m) other = λ after. refl
 no_else_chosen (token.Name name) other = λ after. refl
 no_else_chosen (token.Constant value) other = λ after. refl
@@ -70,7 +70,7 @@ pub value_chosen : (t : Token) → is_punctuator punctuator.Semicolon t ≡ fals
 value_chosen (token.Punctuator punctuator.Semicolon) other = absurd (cc)
 value_chosen (token.Punctuator m) other = λ after. refl
 value_chosen (token.Name name) other = λ after. refl
-value_chosen (token.Word word) other = λ after. refl
+value_chosen (token.Keyword word) other = λ after. refl
 value_chosen (token.Constant value) other = λ after. refl
 value_chosen token.End other = λ after. refl
 value_chosen (token.Fault lexical_error) other = λ after. refl
@@ -118,22 +118,23 @@ behind_while = Make Empty ∷ Part Statement ∷ Make Repeat ∷ Close ∷ []
 abbrev pub conditioned : List Item → List Item
 conditioned items = Exactly punctuator.OpenRound ∷ Part Expression ∷ Exactly punctuator.CloseRound ∷ items
 
-pub if_chosen : (t : Token) → is_word word.If t ≡ true → Chooses Statement t (AWord word.If ∷ conditioned behind_if)
-if_chosen t is after = let at : t ≡ token.Word word.If = word_is word.If t is in rw at refl
+pub if_chosen : (t : Token) → is_keyword word.If t ≡ true →
+    Chooses Statement t (AKeyword word.If ∷ conditioned behind_if)
+if_chosen t is after = let at : t ≡ token.Keyword word.If = word_is word.If t is in rw at refl
 
-pub if_enters : (t : Token) → is_word word.If t ≡ true → (after : Token) → enters Statement t after ≡ true
-if_enters t is after = let at : t ≡ token.Word word.If = word_is word.If t is in rw at refl
+pub if_enters : (t : Token) → is_keyword word.If t ≡ true → (after : Token) → enters Statement t after ≡ true
+if_enters t is after = let at : t ≡ token.Keyword word.If = word_is word.If t is in rw at refl
 
-pub while_chosen : (t : Token) → is_word word.While t ≡ true →
-    Chooses Statement t (AWord word.While ∷ conditioned behind_while)
-while_chosen t is after = let at : t ≡ token.Word word.While = word_is word.While t is in rw at refl
+pub while_chosen : (t : Token) → is_keyword word.While t ≡ true →
+    Chooses Statement t (AKeyword word.While ∷ conditioned behind_while)
+while_chosen t is after = let at : t ≡ token.Keyword word.While = word_is word.While t is in rw at refl
 
-pub while_enters : (t : Token) → is_word word.While t ≡ true → (after : Token) → enters Statement t after ≡ true
-while_enters t is after = let at : t ≡ token.Word word.While = word_is word.While t is in rw at refl
+pub while_enters : (t : Token) → is_keyword word.While t ≡ true → (after : Token) → enters Statement t after ≡ true
+while_enters t is after = let at : t ≡ token.Keyword word.While = word_is word.While t is in rw at refl
 
-pub return_chosen : (t : Token) → is_word word.Return t ≡ true →
-    Chooses Statement t (AWord word.Return ∷ Part Back ∷ Exactly punctuator.Semicolon ∷ Make GiveBack ∷ [])
-return_chosen t is after = let at : t ≡ token.Word word.Return = word_is word.Return t is in rw at refl
+pub return_chosen : (t : Token) → is_keyword word.Return t ≡ true →
+    Chooses Statement t (AKeyword word.Return ∷ Part Back ∷ Exactly punctuator.Semicolon ∷ Make GiveBack ∷ [])
+return_chosen t is after = let at : t ≡ token.Keyword word.Return = word_is word.Return t is in rw at refl
 
-pub return_shallow : (t : Token) → is_word word.Return t ≡ true → (after : Token) → enters Statement t after ≡ false
-return_shallow t is after = let at : t ≡ token.Word word.Return = word_is word.Return t is in rw at refl
+pub return_shallow : (t : Token) → is_keyword word.Return t ≡ true → (after : Token) → enters Statement t after ≡ false
+return_shallow t is after = let at : t ≡ token.Keyword word.Return = word_is word.Return t is in rw at refl

@@ -6,22 +6,22 @@ use Rattle.grammar.specs.declared.build.BuildFault.TheVariants as fault
 use Rattle.grammar.specs.declared.diagnostics.Diagnostic.{Diagnostic}
 use Rattle.grammar.specs.declared.diagnostics.ParseFault.TheVariants as refusal
 use Rattle.grammar.specs.declared.actions.Action.{Action}
-use Rattle.grammar.specs.Building.{Meaning, AppendsAll, Refuses}
+use Rattle.grammar.specs.Building.{Representation, AppendsAll, Refuses}
 use Rattle.parser.specs.Growing.{HasGrown}
 
 -- a builder that was told nothing
-pub grown_nothing : (before : Meaning) → HasGrown before before
+pub grown_nothing : (before : Representation) → HasGrown before before
 grown_nothing before = record {
   more = [];
   added = λ profile acts h. subst (λ (xs : List Action). before profile xs) (sym (append-nil acts)) h;
 }
 
 -- these actions
-pub grown : (before after : Meaning) (more : List Action) → AppendsAll before after more → HasGrown before after
+pub grown : (before after : Representation) (more : List Action) → AppendsAll before after more → HasGrown before after
 grown before after more told = record { more = more; added = told }
 
 -- and further ones behind them
-pub grown_then : (before mid after : Meaning) → HasGrown before mid → HasGrown mid after → HasGrown before after
+pub grown_then : (before mid after : Representation) → HasGrown before mid → HasGrown mid after → HasGrown before after
 grown_then before mid after a b = record {
   more = a.more ++ b.more;
   added =
@@ -30,13 +30,14 @@ grown_then before mid after a b = record {
 }
 
 -- behind these actions further ones
-pub grown_behind : (before mid after : Meaning) (more : List Action) → AppendsAll before mid more → HasGrown mid after →
+pub grown_behind : (before mid after : Representation) (more : List Action) → AppendsAll before mid more →
+    HasGrown mid after →
     HasGrown before after
 grown_behind before mid after more told h = grown_then before mid after (grown before mid more told) h
 
 -- A builder that was refused memory: of what it stands for nothing is known.
 
-abbrev pub unknown : Meaning
+abbrev pub unknown : Representation
 unknown profile acts = Unit {0}
 
 -- it asks for memory
@@ -46,9 +47,9 @@ refuses fault.Full denied h = absurd h
 
 -- It is asked how a builder has grown only where the device failed.
 
-pub source_grown : (before after : Meaning) (d : Diagnostic) → refusal.Device ≡ refusal.Source d →
+pub source_grown : (before after : Representation) (d : Diagnostic) → refusal.Device ≡ refusal.Source d →
     HasGrown before after
 source_grown before after d other = absurd (cc)
 
-pub memory_grown : (before after : Meaning) → refusal.Device ≡ refusal.Memory → HasGrown before after
+pub memory_grown : (before after : Representation) → refusal.Device ≡ refusal.Memory → HasGrown before after
 memory_grown before after other = absurd (cc)

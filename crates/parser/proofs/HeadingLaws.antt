@@ -4,8 +4,8 @@ use Rattle.tokens.specs.declared.located_tokens.Punctuator.TheVariants as punctu
 use Rattle.tokens.specs.declared.located_tokens.Token.{Token}
 use Rattle.tokens.specs.declared.located_tokens.Token.TheVariants as token
 use Rattle.grammar.specs.Grammar.{AName, Defined, Exactly, More, Parameter, ParameterTypes, Parameters, Part, is_fault}
-use Rattle.parser.specs.Declarations.{heading_items}
-use Rattle.parser.specs.Position.{Place, next_at}
+use Rattle.parser.specs.Declarations.{header_items}
+use Rattle.parser.specs.ScopedCursors.{Position, next_at}
 use Rattle.parser.specs.Segment.{DerivesItem}
 use Rattle.parser.proofs.ListLaws.{Gives, Goes, item_on, replaces, starts}
 
@@ -18,14 +18,14 @@ parameters_end (token.Name bytes) other = absurd (other bytes refl)
 parameters_end t other = record { chosen = λ after. refl; plain = λ after. refl }
 
 -- parameters, where a name is next
-pub parameters_open : (at : Place) (bytes : List ℕ) → is_fault (next_at at).token ≡ false →
+pub parameters_open : (at : Position) (bytes : List ℕ) → is_fault (next_at at).token ≡ false →
     (next_at at).token ≡ token.Name bytes →
     Goes (Part Parameters ∷ []) (AName Parameter ∷ Part (More Parameter) ∷ []) at at
 parameters_open at bytes sound is depth =
     replaces at depth Parameters (AName Parameter ∷ Part (More Parameter) ∷ []) sound
     (parameters_more bytes (next_at at).token is)
 
-pub parameter_first : (at there : Place) (bytes : List ℕ) → is_fault (next_at at).token ≡ false →
+pub parameter_first : (at there : Position) (bytes : List ℕ) → is_fault (next_at at).token ≡ false →
     (next_at at).token ≡ token.Name bytes → DerivesItem (AName Parameter) [] [] at there →
     Goes (Part Parameters ∷ []) (Part (More Parameter) ∷ []) at there
 parameter_first at there bytes sound is b =
@@ -33,12 +33,12 @@ parameter_first at there bytes sound is b =
     (parameters_open at bytes sound is) b
 
 -- and where none is
-pub no_parameters : (at : Place) → is_fault (next_at at).token ≡ false →
+pub no_parameters : (at : Position) → is_fault (next_at at).token ≡ false →
     ((bytes : List ℕ) → (next_at at).token ≡ token.Name bytes → ⊥) → Goes (Part Parameters ∷ []) [] at at
 no_parameters at sound other depth = replaces at depth Parameters [] sound (parameters_end (next_at at).token other)
 
-pub heading_named : (at there : Place) → DerivesItem (AName Defined) [] [] at there →
-    Goes heading_items
+pub heading_named : (at there : Position) → DerivesItem (AName Defined) [] [] at there →
+    Goes header_items
     (Exactly punctuator.OpenRound ∷ Part Parameters ∷ Exactly punctuator.CloseRound ∷ Part ParameterTypes ∷ []) at
     there
 heading_named at there b =
@@ -46,24 +46,24 @@ heading_named at there b =
     (Exactly punctuator.OpenRound ∷ Part Parameters ∷ Exactly punctuator.CloseRound ∷ Part ParameterTypes ∷ []) at
     there (λ stack. refl) b
 
-pub heading_open : (at p q : Place) → DerivesItem (AName Defined) [] [] at p →
+pub heading_open : (at p q : Position) → DerivesItem (AName Defined) [] [] at p →
     DerivesItem (Exactly punctuator.OpenRound) [] [] p q →
-    Goes heading_items (Part Parameters ∷ Exactly punctuator.CloseRound ∷ Part ParameterTypes ∷ []) at q
+    Goes header_items (Part Parameters ∷ Exactly punctuator.CloseRound ∷ Part ParameterTypes ∷ []) at q
 heading_open at p q a b =
-    item_on heading_items (Exactly punctuator.OpenRound)
+    item_on header_items (Exactly punctuator.OpenRound)
     (Part Parameters ∷ Exactly punctuator.CloseRound ∷ Part ParameterTypes ∷ []) at p q (λ stack. refl)
     (heading_named at p a) b
 
-pub heading_listed : (at p q r : Place) → DerivesItem (AName Defined) [] [] at p →
+pub heading_listed : (at p q r : Position) → DerivesItem (AName Defined) [] [] at p →
     DerivesItem (Exactly punctuator.OpenRound) [] [] p q → DerivesItem (Part Parameters) [] [] q r →
-    Goes heading_items (Exactly punctuator.CloseRound ∷ Part ParameterTypes ∷ []) at r
+    Goes header_items (Exactly punctuator.CloseRound ∷ Part ParameterTypes ∷ []) at r
 heading_listed at p q r a b d =
-    item_on heading_items (Part Parameters) (Exactly punctuator.CloseRound ∷ Part ParameterTypes ∷ []) at q r
+    item_on header_items (Part Parameters) (Exactly punctuator.CloseRound ∷ Part ParameterTypes ∷ []) at q r
     (λ stack. refl) (heading_open at p q a b) d
 
-pub heading_closed : (at p q r s : Place) → DerivesItem (AName Defined) [] [] at p →
+pub heading_closed : (at p q r s : Position) → DerivesItem (AName Defined) [] [] at p →
     DerivesItem (Exactly punctuator.OpenRound) [] [] p q → DerivesItem (Part Parameters) [] [] q r →
-    DerivesItem (Exactly punctuator.CloseRound) [] [] r s → Goes heading_items (Part ParameterTypes ∷ []) at s
+    DerivesItem (Exactly punctuator.CloseRound) [] [] r s → Goes header_items (Part ParameterTypes ∷ []) at s
 heading_closed at p q r s a b d e =
-    item_on heading_items (Exactly punctuator.CloseRound) (Part ParameterTypes ∷ []) at r s (λ stack. refl)
+    item_on header_items (Exactly punctuator.CloseRound) (Part ParameterTypes ∷ []) at r s (λ stack. refl)
     (heading_listed at p q r a b d) e

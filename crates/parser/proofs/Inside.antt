@@ -1,7 +1,7 @@
 -- What the reading of a function's block derives, up to its closing brace.
 use Rattle.std.proofs.Common.{◌≡◌, ℕ, ◌+◌, List, [], ◌∷◌, ◌++◌, refl, ap, subst, Bool, true, false, arith, append-nil}
 use Rattle.std.specs.Prelude.{Option, None, nat_le}
-use Rattle.tokens.specs.Reading.{Reading, IsNearTo}
+use Rattle.tokens.specs.Cursors.{Cursor, IsNearTo}
 use Rattle.tokens.specs.declared.located_tokens.LocatedToken.{LocatedToken}
 use Rattle.tokens.specs.declared.located_tokens.Punctuator.TheVariants as punctuator
 use Rattle.tokens.specs.declared.located_tokens.Token.{Token}
@@ -9,14 +9,14 @@ use Rattle.tokens.specs.declared.located_tokens.Token.TheVariants as token
 use Rattle.tokens.specs.Tokens.{followed_by}
 use Rattle.grammar.specs.declared.diagnostics.Code.TheVariants as code
 use Rattle.grammar.specs.declared.diagnostics.ParseFault.TheVariants as refusal
-use Rattle.grammar.specs.Building.{Meaning}
+use Rattle.grammar.specs.Building.{Representation}
 use Rattle.grammar.specs.Compiled.{diagnostic}
 use Rattle.grammar.specs.Derivation.{ABody, Definition, state}
 use Rattle.grammar.specs.Faults.{fault, levels, misfit_code, only_if}
 use Rattle.grammar.specs.Grammar.{Item, Declarations, Define, Empty, Exactly, FunctionBlock, Make, Part, Close, Statements, choice, is_fault, is_punctuator}
 use Rattle.grammar.specs.Laws.{KeepsFunction}
 use Rattle.grammar.specs.Laws.Parsing.{Passes}
-use Rattle.grammar.specs.Limits.{most_levels}
+use Rattle.grammar.specs.NameLimits.{most_levels}
 use Rattle.grammar.specs.Profile.{first_profile}
 use Rattle.grammar.specs.Scope.{Scope}
 use Rattle.grammar.specs.Tree.{Done}
@@ -24,7 +24,7 @@ use Rattle.grammar.proofs.Firsts.{no_part}
 use Rattle.grammar.proofs.Keeping.{inner_keeps}
 use Rattle.grammar.proofs.Runs.{then}
 use Rattle.grammar.proofs.Steps.{make, punctuator as punctuator_step, part}
-use Rattle.parser.specs.Position.{GoesOn, Place, next_at, place, scope_at}
+use Rattle.parser.specs.ScopedCursors.{MayContinue, Position, next_at, position_of, scope_at}
 use Rattle.parser.specs.Stopping.{Stop, stop_with}
 use Rattle.parser.specs.Segment.{Derives, FailsAt, GoesPast, StopsAt}
 use Rattle.parser.proofs.Parts.{punctuator_is}
@@ -39,7 +39,7 @@ not_open : (t after : Token) → is_punctuator punctuator.OpenCurly t ≡ false 
 not_open (token.Punctuator punctuator.OpenCurly) after other = absurd (cc)
 not_open (token.Punctuator m) after other = refl
 not_open (token.Name name) after other = refl
-not_open (token.Word word) after other = refl
+not_open (token.Keyword word) after other = refl
 not_open (token.Constant value) after other = refl
 not_open token.End after other = refl
 not_open (token.Fault lexical_error) after other = refl
@@ -79,7 +79,7 @@ empty_leads located_token sound known rest = record {
       (make profile Empty (inside_items ++ stack) (located_token ∷ rest) values known functions sound refl);
 }
 
-pub brace_misfits : (at : Place) (used : ℕ) (near : IsNearTo at.position.reading used) →
+pub brace_misfits : (at : Position) (used : ℕ) (near : IsNearTo at.lookahead.cursor used) →
     is_fault (next_at at).token ≡ false → is_punctuator punctuator.OpenCurly (next_at at).token ≡ false →
     FailsAt 0 (Part FunctionBlock ∷ []) [] at
     (stop_with (refusal.Source (diagnostic (next_at at).line (misfit_code (next_at at).token))) used)
@@ -88,30 +88,30 @@ brace_misfits at used near sound other =
     no_part profile FunctionBlock stack (next_at at ∷ tail) values (scope_at at) functions sound
     (not_open (next_at at).token _ other) (first_level _ (levels stack) (next_at at ∷ tail) depths))
 
-pub brace_stops : (reading : Reading) (known : Scope) (more : Option (List ℕ)) →
-    is_punctuator punctuator.OpenCurly reading.next.token ≡ true → (d : Stop) →
-    StopsAt (place (record { reading = reading; scope = known }) more) d →
-    FailsAt 0 (Part FunctionBlock ∷ []) [] (place (record { reading = reading; scope = known }) more) d
-brace_stops reading known more is d stop =
-    stops reading known known more d 0 (Part FunctionBlock ∷ []) (Make Empty ∷ inside_items) [] []
-    (λ rest b. brace_leads reading.next is known rest) stop
+pub brace_stops : (cursor : Cursor) (known : Scope) (more : Option (List ℕ)) →
+    is_punctuator punctuator.OpenCurly cursor.next.token ≡ true → (d : Stop) →
+    StopsAt (position_of (record { cursor = cursor; scope = known }) more) d →
+    FailsAt 0 (Part FunctionBlock ∷ []) [] (position_of (record { cursor = cursor; scope = known }) more) d
+brace_stops cursor known more is d stop =
+    stops cursor known known more d 0 (Part FunctionBlock ∷ []) (Make Empty ∷ inside_items) [] []
+    (λ rest b. brace_leads cursor.next is known rest) stop
 
 -- behind the opening brace
-pub block_opened : (reading : Reading) (known : Scope) (more : Option (List ℕ)) (now : Place) →
-    is_punctuator punctuator.OpenCurly reading.next.token ≡ true → is_fault (next_at now).token ≡ false →
-    GoesPast (place (record { reading = reading; scope = known }) more) now →
+pub block_opened : (cursor : Cursor) (known : Scope) (more : Option (List ℕ)) (now : Position) →
+    is_punctuator punctuator.OpenCurly cursor.next.token ≡ true → is_fault (next_at now).token ≡ false →
+    GoesPast (position_of (record { cursor = cursor; scope = known }) more) now →
     Derives 0 (Part FunctionBlock ∷ []) inside_items [] (ABody Done ∷ [])
-    (place (record { reading = reading; scope = known }) more) now
-block_opened reading known more now is sound goes =
+    (position_of (record { cursor = cursor; scope = known }) more) now
+block_opened cursor known more now is sound goes =
     joined 0 0 (Part FunctionBlock ∷ []) (Make Empty ∷ inside_items) inside_items [] [] [] (ABody Done ∷ []) [] _ now
     now
-    (past reading known known more now 0 (Part FunctionBlock ∷ []) (Make Empty ∷ inside_items) [] [] goes
-    (λ rest b. brace_leads reading.next is known rest))
+    (past cursor known known more now 0 (Part FunctionBlock ∷ []) (Make Empty ∷ inside_items) [] [] goes
+    (λ rest b. brace_leads cursor.next is known rest))
     (stand now 0 (Make Empty ∷ inside_items) inside_items [] (ABody Done ∷ [])
     (λ tail b. empty_leads (next_at now) sound (scope_at now) tail)) (λ stack same. same)
 
 -- behind the declarations
-pub block_declared : (at now then : Place) →
+pub block_declared : (at now then : Position) →
     Derives 0 (Part FunctionBlock ∷ []) inside_items [] (ABody Done ∷ []) at now →
     Derives 1 (Part Declarations ∷ []) [] [] [] now then →
     Derives 0 (Part FunctionBlock ∷ []) (Part Statements ∷ at_brace) [] (ABody Done ∷ []) at then
@@ -120,18 +120,19 @@ block_declared at now then a b =
     (ABody Done ∷ []) at now then a b (λ stack same. ap (λ n. n + 1) same)
 
 -- the tokens that a place may have: the two that were read, and no more
-abbrev some_tokens : Place → List LocatedToken
-some_tokens at = followed_by at.position.reading.next (followed_by at.position.reading.after [])
+abbrev some_tokens : Position → List LocatedToken
+some_tokens at = followed_by at.lookahead.cursor.next (followed_by at.lookahead.cursor.after [])
 
-some_goes : (at : Place) → GoesOn at (some_tokens at)
-some_goes at = record { behind = []; is = refl }
+some_goes : (at : Position) → MayContinue at (some_tokens at)
+some_goes at = record { window = []; is = refl }
 
 -- declarations and statements keep the function that is being defined
-kept_between : (before after : Meaning) (now mid there : Place) → Derives 1 (Part Declarations ∷ []) [] [] [] now mid →
+kept_between : (before after : Representation) (now mid there : Position) →
+    Derives 1 (Part Declarations ∷ []) [] [] [] now mid →
     AddsBody before after 1 (Part Statements ∷ []) [] mid there → KeepsFunction (scope_at now) (scope_at there)
 kept_between before after now mid there d s =
     let rest : List LocatedToken = some_tokens there in
-    let goes : GoesOn there rest = some_goes there in
+    let goes : MayContinue there rest = some_goes there in
     let end : List Item = Exactly punctuator.CloseCurly ∷ Close ∷ [] in
     let first : Passes first_profile
     (state (Part Declarations ∷ Part Statements ∷ Make Define ∷ end)
@@ -153,7 +154,7 @@ kept_between before after now mid there d s =
     (ABody s.tree ∷ []) (scope_at now) (scope_at there) [] refl whole.leads
 
 -- the block was read up to its closing brace
-pub block_adds : (before after : Meaning) (at now mid there : Place) → scope_at now ≡ scope_at at →
+pub block_adds : (before after : Representation) (at now mid there : Position) → scope_at now ≡ scope_at at →
     Derives 0 (Part FunctionBlock ∷ []) inside_items [] (ABody Done ∷ []) at now →
     Derives 1 (Part Declarations ∷ []) [] [] [] now mid → AddsBody before after 1 (Part Statements ∷ []) [] mid there →
     is_punctuator punctuator.CloseCurly (next_at there).token ≡ true → AddsBlock before after at there

@@ -1,25 +1,25 @@
 -- What it takes to match one item, and what happens where the next token doesn't fit.
 use Rattle.std.proofs.Common.{◌≡◌, ℕ, List, [], ◌∷◌, refl, true, false}
 use Rattle.std.specs.Prelude.{Option, Some}
-use Rattle.tokens.specs.Reading.{Reading, IsNearTo}
+use Rattle.tokens.specs.Cursors.{Cursor, IsNearTo}
 use Rattle.tokens.specs.declared.located_tokens.LocatedToken.{LocatedToken}
 use Rattle.tokens.specs.declared.located_tokens.Punctuator.{Punctuator}
 use Rattle.tokens.specs.declared.located_tokens.Token.TheVariants as token
-use Rattle.tokens.specs.declared.located_tokens.Word.{Word}
+use Rattle.tokens.specs.declared.located_tokens.Keyword.{Keyword}
 use Rattle.grammar.specs.declared.diagnostics.Code.{Code}
 use Rattle.grammar.specs.declared.diagnostics.ParseFault.{ParseFault}
 use Rattle.grammar.specs.declared.diagnostics.ParseFault.TheVariants as refusal
 use Rattle.grammar.specs.Compiled.{diagnostic}
-use Rattle.grammar.specs.Derivation.{Value, name_of_token, of_name}
+use Rattle.grammar.specs.Derivation.{Value, name_of_token, name_tree}
 use Rattle.grammar.specs.Faults.{misfit_code}
-use Rattle.grammar.specs.Grammar.{Exactly, AWord, AName, Role, is_punctuator, is_word, is_fault}
-use Rattle.grammar.specs.Laws.Naming.{Knows, RefusesName}
+use Rattle.grammar.specs.Grammar.{Exactly, AKeyword, AName, Role, is_punctuator, is_keyword, is_fault}
+use Rattle.grammar.specs.Laws.Naming.{LearnsName, RefusesName}
 use Rattle.grammar.specs.Scope.{Scope}
 use Rattle.grammar.proofs.Firsts.{name_fails, no_punctuator, no_name, no_word}
 use Rattle.grammar.proofs.Steps.{punctuator, name, word}
 use Rattle.parser.specs.declared.roles.Declared.{Declared}
 use Rattle.parser.specs.declared.roles.Declared.TheVariants as kind
-use Rattle.parser.specs.Position.{Place, place, next_at, scope_at}
+use Rattle.parser.specs.ScopedCursors.{Position, position_of, next_at, scope_at}
 use Rattle.parser.specs.Roles.{role_of}
 use Rattle.parser.specs.Stopping.{Stop, stop_with}
 use Rattle.parser.specs.Segment.{DerivesItem, FailsItem, GoesPast, IsNoName, Refused, StopsAt}
@@ -35,23 +35,24 @@ punctuator_leads located_token m depth known rest sound fits =
           functions sound fits;
     }
 
-pub punctuator_derives : (reading : Reading) (known : Scope) (more : Option (List ℕ)) (there : Place) (m : Punctuator) →
-    is_fault reading.next.token ≡ false → is_punctuator m reading.next.token ≡ true →
-    GoesPast (place (record { reading = reading; scope = known }) more) there →
-    DerivesItem (Exactly m) [] [] (place (record { reading = reading; scope = known }) more) there
-punctuator_derives reading known more there m sound fits goes depth =
-    past reading known known more there depth (Exactly m ∷ []) [] [] [] goes
-    (λ rest b. punctuator_leads reading.next m depth known rest sound fits)
+pub punctuator_derives : (cursor : Cursor) (known : Scope) (more : Option (List ℕ)) (there : Position) (m : Punctuator)
+    →
+    is_fault cursor.next.token ≡ false → is_punctuator m cursor.next.token ≡ true →
+    GoesPast (position_of (record { cursor = cursor; scope = known }) more) there →
+    DerivesItem (Exactly m) [] [] (position_of (record { cursor = cursor; scope = known }) more) there
+punctuator_derives cursor known more there m sound fits goes depth =
+    past cursor known known more there depth (Exactly m ∷ []) [] [] [] goes
+    (λ rest b. punctuator_leads cursor.next m depth known rest sound fits)
 
-pub punctuator_stops : (reading : Reading) (known : Scope) (more : Option (List ℕ)) (m : Punctuator) →
-    is_fault reading.next.token ≡ false → is_punctuator m reading.next.token ≡ true → (d : Stop) →
-    StopsAt (place (record { reading = reading; scope = known }) more) d →
-    FailsItem (Exactly m) (place (record { reading = reading; scope = known }) more) d
-punctuator_stops reading known more m sound fits d stop depth =
-    stops reading known known more d depth (Exactly m ∷ []) [] [] []
-    (λ rest b. punctuator_leads reading.next m depth known rest sound fits) stop
+pub punctuator_stops : (cursor : Cursor) (known : Scope) (more : Option (List ℕ)) (m : Punctuator) →
+    is_fault cursor.next.token ≡ false → is_punctuator m cursor.next.token ≡ true → (d : Stop) →
+    StopsAt (position_of (record { cursor = cursor; scope = known }) more) d →
+    FailsItem (Exactly m) (position_of (record { cursor = cursor; scope = known }) more) d
+punctuator_stops cursor known more m sound fits d stop depth =
+    stops cursor known known more d depth (Exactly m ∷ []) [] [] []
+    (λ rest b. punctuator_leads cursor.next m depth known rest sound fits) stop
 
-pub punctuator_misfits : {n : ℕ} (at : Place) (m : Punctuator) → IsNearTo at.position.reading n →
+pub punctuator_misfits : {n : ℕ} (at : Position) (m : Punctuator) → IsNearTo at.lookahead.cursor n →
     is_fault (next_at at).token ≡ false → is_punctuator m (next_at at).token ≡ false →
     FailsItem (Exactly m) at
     (stop_with (refusal.Source (diagnostic (next_at at).line (misfit_code (next_at at).token))) n)
@@ -60,9 +61,9 @@ punctuator_misfits at m near sound misses depth =
     (λ tail b profile stack values functions depths. no_punctuator profile m stack (next_at at ∷ tail) values
     (scope_at at) functions sound misses)
 
-word_leads : (located_token : LocatedToken) (w : Word) (depth : ℕ) (known : Scope) (rest : List LocatedToken) →
-    is_fault located_token.token ≡ false → is_word w located_token.token ≡ true →
-    Leads depth (AWord w ∷ []) [] [] [] known known (located_token ∷ rest) rest
+word_leads : (located_token : LocatedToken) (w : Keyword) (depth : ℕ) (known : Scope) (rest : List LocatedToken) →
+    is_fault located_token.token ≡ false → is_keyword w located_token.token ≡ true →
+    Leads depth (AKeyword w ∷ []) [] [] [] known known (located_token ∷ rest) rest
 word_leads located_token w depth known rest sound fits =
     record {
       passes =
@@ -70,28 +71,28 @@ word_leads located_token w depth known rest sound fits =
           sound fits;
     }
 
-pub word_derives : (reading : Reading) (known : Scope) (more : Option (List ℕ)) (there : Place) (w : Word) →
-    is_fault reading.next.token ≡ false → is_word w reading.next.token ≡ true →
-    GoesPast (place (record { reading = reading; scope = known }) more) there →
-    DerivesItem (AWord w) [] [] (place (record { reading = reading; scope = known }) more) there
-word_derives reading known more there w sound fits goes depth =
-    past reading known known more there depth (AWord w ∷ []) [] [] [] goes
-    (λ rest b. word_leads reading.next w depth known rest sound fits)
+pub word_derives : (cursor : Cursor) (known : Scope) (more : Option (List ℕ)) (there : Position) (w : Keyword) →
+    is_fault cursor.next.token ≡ false → is_keyword w cursor.next.token ≡ true →
+    GoesPast (position_of (record { cursor = cursor; scope = known }) more) there →
+    DerivesItem (AKeyword w) [] [] (position_of (record { cursor = cursor; scope = known }) more) there
+word_derives cursor known more there w sound fits goes depth =
+    past cursor known known more there depth (AKeyword w ∷ []) [] [] [] goes
+    (λ rest b. word_leads cursor.next w depth known rest sound fits)
 
-pub word_stops : (reading : Reading) (known : Scope) (more : Option (List ℕ)) (w : Word) →
-    is_fault reading.next.token ≡ false → is_word w reading.next.token ≡ true → (d : Stop) →
-    StopsAt (place (record { reading = reading; scope = known }) more) d →
-    FailsItem (AWord w) (place (record { reading = reading; scope = known }) more) d
-word_stops reading known more w sound fits d stop depth =
-    stops reading known known more d depth (AWord w ∷ []) [] [] []
-    (λ rest b. word_leads reading.next w depth known rest sound fits) stop
+pub word_stops : (cursor : Cursor) (known : Scope) (more : Option (List ℕ)) (w : Keyword) →
+    is_fault cursor.next.token ≡ false → is_keyword w cursor.next.token ≡ true → (d : Stop) →
+    StopsAt (position_of (record { cursor = cursor; scope = known }) more) d →
+    FailsItem (AKeyword w) (position_of (record { cursor = cursor; scope = known }) more) d
+word_stops cursor known more w sound fits d stop depth =
+    stops cursor known known more d depth (AKeyword w ∷ []) [] [] []
+    (λ rest b. word_leads cursor.next w depth known rest sound fits) stop
 
-pub word_misfits : {n : ℕ} (at : Place) (w : Word) → IsNearTo at.position.reading n →
-    is_fault (next_at at).token ≡ false → is_word w (next_at at).token ≡ false →
-    FailsItem (AWord w) at
+pub word_misfits : {n : ℕ} (at : Position) (w : Keyword) → IsNearTo at.lookahead.cursor n →
+    is_fault (next_at at).token ≡ false → is_keyword w (next_at at).token ≡ false →
+    FailsItem (AKeyword w) at
     (stop_with (refusal.Source (diagnostic (next_at at).line (misfit_code (next_at at).token))) n)
 word_misfits at w near sound misses depth =
-    fails_at_next depth (AWord w ∷ []) [] at _ _ near
+    fails_at_next depth (AKeyword w ∷ []) [] at _ _ near
     (λ tail b profile stack values functions depths. no_word profile w stack (next_at at ∷ tail) values
     (scope_at at) functions sound misses)
 
@@ -99,39 +100,39 @@ word_misfits at w near sound misses depth =
 
 name_leads : (located_token : LocatedToken) (role : Role) (bytes : List ℕ) (depth : ℕ) (known learnt : Scope)
     (rest : List LocatedToken) → located_token.token ≡ token.Name bytes →
-    Knows role bytes located_token.line known learnt →
-    Leads depth (AName role ∷ []) [] [] (of_name role bytes known) known learnt (located_token ∷ rest) rest
+    LearnsName role bytes located_token.line known learnt →
+    Leads depth (AName role ∷ []) [] [] (name_tree role bytes known) known learnt (located_token ∷ rest) rest
 name_leads located_token role bytes depth known learnt rest is knows = record {
   passes = λ profile stack values functions depths.
       let found : name_of_token located_token.token ≡ Some bytes = rw is refl in
-      rw knows.behind
+      rw knows.window
       (name profile role bytes stack (located_token ∷ rest) values known functions (rw is refl) found
       (knows.clean (located_token ∷ rest)));
 }
 
 -- a name was matched in its role
-pub name_derives : (reading : Reading) (known learnt : Scope) (more : Option (List ℕ)) (there : Place) (role : Role)
-    (bytes : List ℕ) (left : List Value) → reading.next.token ≡ token.Name bytes →
-    Knows role bytes reading.next.line known learnt → left ≡ of_name role bytes known →
-    GoesPast (place (record { reading = reading; scope = learnt }) more) there →
-    DerivesItem (AName role) [] left (place (record { reading = reading; scope = known }) more) there
-name_derives reading known learnt more there role bytes left is knows same goes depth =
+pub name_derives : (cursor : Cursor) (known learnt : Scope) (more : Option (List ℕ)) (there : Position) (role : Role)
+    (bytes : List ℕ) (left : List Value) → cursor.next.token ≡ token.Name bytes →
+    LearnsName role bytes cursor.next.line known learnt → left ≡ name_tree role bytes known →
+    GoesPast (position_of (record { cursor = cursor; scope = learnt }) more) there →
+    DerivesItem (AName role) [] left (position_of (record { cursor = cursor; scope = known }) more) there
+name_derives cursor known learnt more there role bytes left is knows same goes depth =
     rw same
-    (past reading known learnt more there depth (AName role ∷ []) [] [] (of_name role bytes known) goes
-    (λ rest b. name_leads reading.next role bytes depth known learnt rest is knows))
+    (past cursor known learnt more there depth (AName role ∷ []) [] [] (name_tree role bytes known) goes
+    (λ rest b. name_leads cursor.next role bytes depth known learnt rest is knows))
 
 -- the token behind it is a fault
-pub name_stops : (reading : Reading) (known learnt : Scope) (more : Option (List ℕ)) (role : Role) (bytes : List ℕ) →
-    reading.next.token ≡ token.Name bytes →
-    Knows role bytes reading.next.line known learnt → (d : Stop) →
-    StopsAt (place (record { reading = reading; scope = learnt }) more) d →
-    FailsItem (AName role) (place (record { reading = reading; scope = known }) more) d
-name_stops reading known learnt more role bytes is knows d stop depth =
-    stops reading known learnt more d depth (AName role ∷ []) [] [] (of_name role bytes known)
-    (λ rest b. name_leads reading.next role bytes depth known learnt rest is knows) stop
+pub name_stops : (cursor : Cursor) (known learnt : Scope) (more : Option (List ℕ)) (role : Role) (bytes : List ℕ) →
+    cursor.next.token ≡ token.Name bytes →
+    LearnsName role bytes cursor.next.line known learnt → (d : Stop) →
+    StopsAt (position_of (record { cursor = cursor; scope = learnt }) more) d →
+    FailsItem (AName role) (position_of (record { cursor = cursor; scope = known }) more) d
+name_stops cursor known learnt more role bytes is knows d stop depth =
+    stops cursor known learnt more d depth (AName role ∷ []) [] [] (name_tree role bytes known)
+    (λ rest b. name_leads cursor.next role bytes depth known learnt rest is knows) stop
 
 -- the name has a fault in its role
-pub name_refused : {n : ℕ} (at : Place) (role : Role) (bytes : List ℕ) (c : Code) → IsNearTo at.position.reading n →
+pub name_refused : {n : ℕ} (at : Position) (role : Role) (bytes : List ℕ) (c : Code) → IsNearTo at.lookahead.cursor n →
     (next_at at).token ≡ token.Name bytes → RefusesName role bytes (scope_at at) c →
     FailsItem (AName role) at (stop_with (refusal.Source (diagnostic (next_at at).line c)) n)
 name_refused at role bytes c near is fails depth =
@@ -140,7 +141,7 @@ name_refused at role bytes c near is fails depth =
     (scope_at at) functions (rw is refl) (rw is refl) (fails (next_at at ∷ tail)))
 
 -- there is no name
-pub name_misfits : (n : ℕ) (at : Place) (role : Role) (f : ParseFault) → IsNearTo at.position.reading n →
+pub name_misfits : (n : ℕ) (at : Position) (role : Role) (f : ParseFault) → IsNearTo at.lookahead.cursor n →
     IsNoName (next_at at) f → Refused (FailsItem (AName role) at) ⊥ n f
 name_misfits n at role f near none = rw none.is (fails)
   where
@@ -152,7 +153,7 @@ name_misfits n at role f near none = rw none.is (fails)
         (scope_at at) functions none.sound none.other)
 
 -- a name that is declared makes no tree
-pub no_tree : (bytes : List ℕ) (known : Scope) (declared : Declared) → [] ≡ of_name (role_of declared) bytes known
+pub no_tree : (bytes : List ℕ) (known : Scope) (declared : Declared) → [] ≡ name_tree (role_of declared) bytes known
 no_tree bytes known kind.Externals = refl
 no_tree bytes known kind.Parameters = refl
 no_tree bytes known kind.TypedParameters = refl

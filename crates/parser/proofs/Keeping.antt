@@ -4,47 +4,51 @@ use Rattle.std.specs.Prelude.{Option}
 use Rattle.grammar.specs.declared.diagnostics.ParseFault.{ParseFault}
 use Rattle.grammar.specs.declared.diagnostics.ParseFault.TheVariants as refusal
 use Rattle.grammar.specs.declared.actions.Action.{Action}
-use Rattle.grammar.specs.Pools.{Names}
+use Rattle.grammar.specs.Pools.{Pools}
 use Rattle.grammar.specs.Profile.{Profile}
-use Rattle.grammar.specs.Building.{Meaning}
-use Rattle.parser.specs.declared.reader.Reader.{Reader}
-use Rattle.parser.specs.Advancing.{IsReady, StayedOrWentOn, WentOn}
-use Rattle.parser.specs.Files.{IsFile, IsRefused}
-use Rattle.parser.specs.Readers.{Kept}
+use Rattle.grammar.specs.Building.{Representation}
+use Rattle.parser.specs.declared.parser.Parser.{Parser}
+use Rattle.parser.specs.Advancing.{IsReady, HasStayedOrAdvanced, HasAdvanced}
+use Rattle.parser.specs.ParsedFiles.{IsFile, ParseIsRefused}
+use Rattle.parser.specs.Parsers.{ParserKept}
 use Rattle.parser.proofs.Advances.{kept_then, on, on_then, stays_ready}
 
 -- a reader that does nothing
-pub nothing_read : {F B : Type 0} → (at : Reader F B) → IsReady at.parser → Kept StayedOrWentOn at at
-nothing_read at ready = record { parser = stays_ready _ ready; depth = refl; builder = refl }
+pub nothing_read : {F B : Type 0} → (at : Parser F B) → IsReady at.tokens → ParserKept HasStayedOrAdvanced at at
+nothing_read at ready = record { tokens = stays_ready _ ready; depth = refl; builder = refl }
 
 -- a call that went on, where none was needed
-pub went : {F B : Type 0} → (a b : Reader F B) → Kept WentOn a b → Kept StayedOrWentOn a b
-went a b h = record { parser = on _ _ h.parser; depth = h.depth; builder = h.builder }
+pub went : {F B : Type 0} → (a b : Parser F B) → ParserKept HasAdvanced a b → ParserKept HasStayedOrAdvanced a b
+went a b h = record { tokens = on _ _ h.tokens; depth = h.depth; builder = h.builder }
 
-pub stays_then : {F B : Type 0} → (a b c : Reader F B) → Kept StayedOrWentOn a b → Kept StayedOrWentOn b c →
-    Kept StayedOrWentOn a c
+pub stays_then : {F B : Type 0} → (a b c : Parser F B) → ParserKept HasStayedOrAdvanced a b →
+    ParserKept HasStayedOrAdvanced b c →
+    ParserKept HasStayedOrAdvanced a c
 stays_then a b c h i = record {
-  parser = kept_then _ _ _ h.parser i.parser;
+  tokens = kept_then _ _ _ h.tokens i.tokens;
   depth = i.depth ∙ h.depth;
   builder = i.builder ∙ h.builder;
 }
 
-pub went_then : {F B : Type 0} → (a b c : Reader F B) → Kept WentOn a b → Kept StayedOrWentOn b c → Kept WentOn a c
+pub went_then : {F B : Type 0} → (a b c : Parser F B) → ParserKept HasAdvanced a b →
+    ParserKept HasStayedOrAdvanced b c → ParserKept HasAdvanced a c
 went_then a b c h i = record {
-  parser = on_then _ _ _ h.parser i.parser;
+  tokens = on_then _ _ _ h.tokens i.tokens;
   depth = i.depth ∙ h.depth;
   builder = i.builder ∙ h.builder;
 }
 
 -- What is said of a builder as a reader left it is true of it when the reader is gone.
-pub file_left : {B : Type 0} → (stands : B → Meaning) (before : Meaning) (last left : B) (told : Option (List ℕ))
-    (names : Names) → last ≡ left → IsFile before (stands left) told names → IsFile before (stands last) told names
+pub file_left : {B : Type 0} →
+    (stands : B → Representation) (before : Representation) (last left : B) (told : Option (List ℕ))
+    (names : Pools) → last ≡ left → IsFile before (stands left) told names → IsFile before (stands last) told names
 file_left stands before last left told names same h = rw same h
 
-pub refused_left : (before after left : Meaning) (denied : Type 0) (told to_come : Option (List ℕ)) (fault : ParseFault)
+pub refused_left : (before after left : Representation) (denied : Type 0) (told to_come : Option (List ℕ))
+    (fault : ParseFault)
     →
     ((profile : Profile) (acts : List Action) → left profile acts → after profile acts) →
-    IsRefused before left denied told to_come fault → IsRefused before after denied told to_come fault
+    ParseIsRefused before left denied told to_come fault → ParseIsRefused before after denied told to_come fault
 refused_left before after left denied told to_come (refusal.Source d) same h = h
 refused_left before after left denied told to_come refusal.Device same h = λ bytes e profile start.
     let built = h bytes e profile start in

@@ -4,14 +4,14 @@ use Rattle.std.specs.Prelude.{Result, Ok, Err}
 use Rattle.tokens.specs.declared.located_tokens.Punctuator.TheVariants as punctuator
 use Rattle.tokens.specs.declared.located_tokens.Token.{Token}
 use Rattle.tokens.specs.declared.located_tokens.Token.TheVariants as token
-use Rattle.tokens.specs.declared.located_tokens.Word.TheVariants as word
+use Rattle.tokens.specs.declared.located_tokens.Keyword.TheVariants as word
 use Rattle.grammar.specs.declared.diagnostics.ParseFault.{ParseFault}
 use Rattle.grammar.specs.Faults.{levels}
-use Rattle.grammar.specs.Grammar.{Item, AName, AWord, Exactly, More, Part, Role, Symbol, Types, is_fault, is_punctuator, is_word, enters}
+use Rattle.grammar.specs.Grammar.{Item, AName, AKeyword, Exactly, More, Part, Role, Symbol, Types, is_fault, is_punctuator, is_keyword, enters}
 use Rattle.parser.specs.declared.roles.Declared.{Declared}
 use Rattle.parser.specs.declared.roles.Declared.TheVariants as kind
 use Rattle.parser.specs.Matching.{Matches}
-use Rattle.parser.specs.Position.{Place, Standing, next_at}
+use Rattle.parser.specs.ScopedCursors.{Position, ScopedCursor, next_at}
 use Rattle.parser.specs.Roles.{role_of}
 use Rattle.parser.specs.Segment.{Derives, DerivesItem, FailsAt, Refused}
 use Rattle.parser.proofs.Parts.{Chooses, free_of, part_stands}
@@ -23,7 +23,7 @@ pub record Gives (symbol : Symbol) (next : Token) (items : List Item) : Type 0 w
   pub chosen : Chooses symbol next items
   pub plain : (after : Token) → enters symbol next after ≡ false
 
-pub replaces : (at : Place) (depth : ℕ) (symbol : Symbol) (items : List Item) → is_fault (next_at at).token ≡ false →
+pub replaces : (at : Position) (depth : ℕ) (symbol : Symbol) (items : List Item) → is_fault (next_at at).token ≡ false →
     Gives symbol (next_at at).token items →
     Derives depth (Part symbol ∷ []) items [] [] at at
 replaces at depth symbol items sound gives =
@@ -31,12 +31,12 @@ replaces at depth symbol items sound gives =
 
 -- The choices.
 
-pub types_more : (t : Token) → is_word word.Type t ≡ true → Gives Types t (AWord word.Type ∷ Part Types ∷ [])
-types_more (token.Word word.Type) is = record { chosen = λ after. refl; plain = λ after. refl }
+pub types_more : (t : Token) → is_keyword word.Type t ≡ true → Gives Types t (AKeyword word.Type ∷ Part Types ∷ [])
+types_more (token.Keyword word.Type) is = record { chosen = λ after. refl; plain = λ after. refl }
 types_more t is = absurd (cc)
 
-pub types_end : (t : Token) → is_word word.Type t ≡ false → Gives Types t []
-types_end (token.Word word.Type) other = absurd (cc)
+pub types_end : (t : Token) → is_keyword word.Type t ≡ false → Gives Types t []
+types_end (token.Keyword word.Type) other = absurd (cc)
 types_end t other = record { chosen = λ after. refl; plain = λ after. refl }
 
 pub names_more : (role : Role) (t : Token) → is_punctuator punctuator.Comma t ≡ true →
@@ -48,23 +48,23 @@ pub names_end : (role : Role) (t : Token) → is_punctuator punctuator.Comma t �
 names_end role (token.Punctuator punctuator.Comma) other = absurd (cc)
 names_end role t other = record { chosen = λ after. refl; plain = λ after. refl }
 
-pub declarations_more : (declared : Declared) (t : Token) → IsInFunction declared → is_word word.Type t ≡ true →
+pub declarations_more : (declared : Declared) (t : Token) → IsInFunction declared → is_keyword word.Type t ≡ true →
     Gives (declarations_of declared) t (declaration_items declared ++ Part (declarations_of declared) ∷ [])
 declarations_more kind.Externals t never is = absurd never
 declarations_more kind.Parameters t never is = absurd never
-declarations_more kind.TypedParameters (token.Word word.Type) h is =
+declarations_more kind.TypedParameters (token.Keyword word.Type) h is =
     record { chosen = λ after. refl; plain = λ after. refl }
 declarations_more kind.TypedParameters t h is = absurd (cc)
-declarations_more kind.Locals (token.Word word.Type) h is = record { chosen = λ after. refl; plain = λ after. refl }
+declarations_more kind.Locals (token.Keyword word.Type) h is = record { chosen = λ after. refl; plain = λ after. refl }
 declarations_more kind.Locals t h is = absurd (cc)
 
-pub declarations_end : (declared : Declared) (t : Token) → IsInFunction declared → is_word word.Type t ≡ false →
+pub declarations_end : (declared : Declared) (t : Token) → IsInFunction declared → is_keyword word.Type t ≡ false →
     Gives (declarations_of declared) t []
 declarations_end kind.Externals t never other = absurd never
 declarations_end kind.Parameters t never other = absurd never
-declarations_end kind.TypedParameters (token.Word word.Type) h other = absurd (cc)
+declarations_end kind.TypedParameters (token.Keyword word.Type) h other = absurd (cc)
 declarations_end kind.TypedParameters t h other = record { chosen = λ after. refl; plain = λ after. refl }
-declarations_end kind.Locals (token.Word word.Type) h other = absurd (cc)
+declarations_end kind.Locals (token.Keyword word.Type) h other = absurd (cc)
 declarations_end kind.Locals t h other = record { chosen = λ after. refl; plain = λ after. refl }
 
 -- Segments, over items that open no level.
@@ -73,14 +73,14 @@ abbrev pub AreLevel : List Item → Type 0
 AreLevel below = (stack : List Item) → levels (below ++ stack) ≡ levels stack
 
 -- one segment behind another, with items left below it
-pub goes_on : (depth : ℕ) (front mid pending below : List Item) (at now there : Place) → AreLevel below →
+pub goes_on : (depth : ℕ) (front mid pending below : List Item) (at now there : Position) → AreLevel below →
     Derives depth front (mid ++ below) [] [] at now → Derives depth mid pending [] [] now there →
     Derives depth front (pending ++ below) [] [] at there
 goes_on depth front mid pending below at now there level a b =
     joined depth depth front mid pending below [] [] [] [] at now there a b (λ stack same. level stack ∙ same)
 
 -- behind a segment the symbol in front is replaced
-pub opens_on : (depth : ℕ) (front : List Item) (symbol : Symbol) (items : List Item) (at now : Place) →
+pub opens_on : (depth : ℕ) (front : List Item) (symbol : Symbol) (items : List Item) (at now : Position) →
     is_fault (next_at now).token ≡ false → Gives symbol (next_at now).token items →
     Derives depth front (Part symbol ∷ []) [] [] at now → Derives depth front (items ++ []) [] [] at now
 opens_on depth front symbol items at now sound gives a =
@@ -88,7 +88,7 @@ opens_on depth front symbol items at now sound gives a =
     (replaces now depth symbol items sound gives)
 
 -- a refusal behind a segment
-pub leaves : (used : ℕ) (front mid below : List Item) (at now : Place) (f : ParseFault) → AreLevel below →
+pub leaves : (used : ℕ) (front mid below : List Item) (at now : Position) (f : ParseFault) → AreLevel below →
     ((depth : ℕ) → Derives depth front (mid ++ below) [] [] at now) →
     Refused (λ d. (depth : ℕ) → FailsAt depth mid [] now d) ⊥ used f →
     Refused (λ d. (depth : ℕ) → FailsAt depth front [] at d) ⊥ used f
@@ -99,7 +99,7 @@ leaves used front mid below at now f level a =
     (λ stack same. level stack ∙ same) (fails depth)) (λ same. same)
 
 -- behind a comma of a list
-pub more_behind : (depth : ℕ) (role : Role) (at now there : Place) → is_fault (next_at now).token ≡ false →
+pub more_behind : (depth : ℕ) (role : Role) (at now there : Position) → is_fault (next_at now).token ≡ false →
     is_punctuator punctuator.Comma (next_at now).token ≡ true →
     Derives depth (Part (More role) ∷ []) (Part (More role) ∷ []) [] [] at now →
     Derives depth (Exactly punctuator.Comma ∷ []) [] [] [] now there →
@@ -111,38 +111,40 @@ more_behind depth role at now there sound is a b =
     at now sound (names_more role (next_at now).token is) a) b
 
 -- from these items to those, however many levels are open
-abbrev pub Goes : List Item → List Item → Place → Place → Type 0
+abbrev pub Goes : List Item → List Item → Position → Position → Type 0
 Goes front pending at there = (depth : ℕ) → Derives depth front pending [] [] at there
 
 -- the first item
-pub starts : (item : Item) (below : List Item) (at there : Place) → AreLevel below → DerivesItem item [] [] at there →
+pub starts : (item : Item) (below : List Item) (at there : Position) → AreLevel below →
+    DerivesItem item [] [] at there →
     Goes (item ∷ below) below at there
 starts item below at there level b depth =
     goes_on depth (item ∷ below) (item ∷ []) [] below at at there level (stay at depth (item ∷ below) []) (b depth)
 
 -- the next item
-pub item_on : (front : List Item) (item : Item) (below : List Item) (at now there : Place) → AreLevel below →
+pub item_on : (front : List Item) (item : Item) (below : List Item) (at now there : Position) → AreLevel below →
     Goes front (item ∷ below) at now → DerivesItem item [] [] now there →
     Goes front below at there
 item_on front item below at now there level a b depth =
     goes_on depth front (item ∷ []) [] below at now there level (a depth) (b depth)
 
 -- The last call's answer, after a segment that left the items that it matches.
-pub handed_on : {A : Type 0} (r : Result A ParseFault) (front mid : List Item) (at now there : Standing) →
-    Goes front (mid ++ []) at.place now.place → Matches r mid (λ x. []) now there → Matches r front (λ x. []) at there
+pub handed_on : {A : Type 0} (r : Result A ParseFault) (front mid : List Item) (at now there : ScopedCursor) →
+    Goes front (mid ++ []) at.position now.position → Matches r mid (λ x. []) now there →
+    Matches r front (λ x. []) at there
 handed_on (Ok x) front mid at now there a b =
-    λ depth. goes_on depth front mid [] [] at.place now.place there.place (λ stack. refl) (a depth) (b depth)
-handed_on (Err e) front mid at now there a b = leaves _ front mid [] at.place now.place e (λ stack. refl) a b
+    λ depth. goes_on depth front mid [] [] at.position now.position there.position (λ stack. refl) (a depth) (b depth)
+handed_on (Err e) front mid at now there a b = leaves _ front mid [] at.position now.position e (λ stack. refl) a b
 
 -- Lists of names, and declarations.
 
-pub name_first : (declared : Declared) (at there : Place) → DerivesItem (AName (role_of declared)) [] [] at there →
+pub name_first : (declared : Declared) (at there : Position) → DerivesItem (AName (role_of declared)) [] [] at there →
     Goes (names_items declared) (Part (More (role_of declared)) ∷ Exactly punctuator.Semicolon ∷ []) at there
 name_first declared at there b =
     starts (AName (role_of declared)) (Part (More (role_of declared)) ∷ Exactly punctuator.Semicolon ∷ []) at there
     (λ stack. refl) b
 
-pub names_then : (declared : Declared) (at now there : Place) → DerivesItem (AName (role_of declared)) [] [] at now →
+pub names_then : (declared : Declared) (at now there : Position) → DerivesItem (AName (role_of declared)) [] [] at now →
     DerivesItem (Part (More (role_of declared))) [] [] now there →
     Goes (names_items declared) (Exactly punctuator.Semicolon ∷ []) at there
 names_then declared at now there a b =
@@ -150,11 +152,12 @@ names_then declared at now there a b =
     (λ stack. refl)
     (name_first declared at now a) b
 
-pub type_first : (declared : Declared) (at there : Place) → DerivesItem (AWord word.Type) [] [] at there →
+pub type_first : (declared : Declared) (at there : Position) → DerivesItem (AKeyword word.Type) [] [] at there →
     Goes (declaration_items declared) (Part Types ∷ names_items declared) at there
-type_first declared at there b = starts (AWord word.Type) (Part Types ∷ names_items declared) at there (λ stack. refl) b
+type_first declared at there b =
+    starts (AKeyword word.Type) (Part Types ∷ names_items declared) at there (λ stack. refl) b
 
-pub types_then : (declared : Declared) (at now there : Place) → DerivesItem (AWord word.Type) [] [] at now →
+pub types_then : (declared : Declared) (at now there : Position) → DerivesItem (AKeyword word.Type) [] [] at now →
     DerivesItem (Part Types) [] [] now there → Goes (declaration_items declared) (names_items declared) at there
 types_then declared at now there a b =
     item_on (declaration_items declared) (Part Types) (names_items declared) at now there (λ stack. refl)

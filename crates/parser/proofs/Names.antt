@@ -8,12 +8,12 @@ use Rattle.grammar.specs.declared.diagnostics.Code.TheVariants as code
 use Rattle.grammar.specs.Faults.{Fault, no_room}
 use Rattle.grammar.specs.Grammar.{Role, Defined, External, Parameter, Typed, Local, Called, Mentioned}
 use Rattle.grammar.specs.Intrinsics.{is_intrinsic}
-use Rattle.grammar.specs.Laws.Naming.{Knows}
-use Rattle.grammar.specs.Scope.{Scope, has_begun, is_external_new, is_function_new, is_local_new, is_variable_new, number_for, only_named, with_external, with_new_function, with_parameter, with_variable}
+use Rattle.grammar.specs.Laws.Naming.{LearnsName}
+use Rattle.grammar.specs.Scope.{Scope, has_begun, is_external_new, is_function_new, is_local_new, is_variable_new, number_or_next, only_named, with_external, with_new_function, with_parameter, with_variable}
 use Rattle.parser.specs.declared.roles.Declared.{Declared}
 use Rattle.parser.specs.declared.roles.Declared.TheVariants as kind
 use Rattle.parser.specs.Defining.{IsWithin, StaysAt, StaysIn, StaysInBody}
-use Rattle.parser.specs.Position.{Position}
+use Rattle.parser.specs.ScopedCursors.{Lookahead}
 use Rattle.parser.specs.Roles.{role_of}
 use Rattle.parser.specs.Segment.{BeginsDefinition}
 use Rattle.grammar.proofs.Soundness.{number_in, room}
@@ -83,19 +83,20 @@ begun_within own begun new name line scope c rest d e clean w =
     (functions_within new name line scope c rest (first own begun d e _ clean).clean w).functions
 
 -- behind a name without a fault the limits hold
-pub within : (role : Role) (name : List ℕ) (line : ℕ) (old new : Scope) → Knows role name line old new → IsWithin old →
+pub within : (role : Role) (name : List ℕ) (line : ℕ) (old new : Scope) → LearnsName role name line old new →
+    IsWithin old →
     IsWithin new
-within External name line old new k w = rw k.behind (with_external_within (is_external_new name old) name old w)
+within External name line old new k w = rw k.window (with_external_within (is_external_new name old) name old w)
 within Parameter name line old new k w =
-    rw k.behind (with_parameter_within (is_local_new name old) name old [] _ (k.clean []) w)
-within Typed name line old new k w = rw k.behind w
+    rw k.window (with_parameter_within (is_local_new name old) name old [] _ (k.clean []) w)
+within Typed name line old new k w = rw k.window w
 within Local name line old new k w =
-    rw k.behind (with_variable_within (is_local_new name old) name old code.TooManyVariables [] (k.clean []) w)
+    rw k.window (with_variable_within (is_local_new name old) name old code.TooManyVariables [] (k.clean []) w)
 within Mentioned name line old new k w =
-    rw k.behind (with_variable_within (is_variable_new name old) name old code.TooManyVariables [] (k.clean []) w)
+    rw k.window (with_variable_within (is_variable_new name old) name old code.TooManyVariables [] (k.clean []) w)
 within Called name line old new k w =
-    rw k.behind (functions_within (is_function_new name old) name line old code.TooManyFunctions [] (k.clean []) w)
-within Defined name line old new k w = rw k.behind (record {
+    rw k.window (functions_within (is_function_new name old) name line old code.TooManyFunctions [] (k.clean []) w)
+within Defined name line old new k w = rw k.window (record {
   functions = begun_within (is_intrinsic name) (has_begun name old) (is_function_new name old) name line old
       code.TooManyFunctions [] _ _ (k.clean []) w;
   parameters = omega arith;
@@ -118,14 +119,15 @@ as_many : (new : Bool) (old more : Scope) → more.current.parameters ≡ old.cu
 as_many true old more e = e
 as_many false old more e = refl
 
-stays : (role : Role) (name : List ℕ) (line : ℕ) (old new : Scope) → Knows role name line old new → AreOfOne old new →
+stays : (role : Role) (name : List ℕ) (line : ℕ) (old new : Scope) → LearnsName role name line old new →
+    AreOfOne old new →
     StaysIn old new
 stays role name line old new k h =
     record { number = h.number; functions = h.functions; within = within role name line old new k }
 
 local_stays : (role : Role) (new : Bool) (name : List ℕ) (line : ℕ) (old after : Scope) →
     after ≡ (if new then with_variable name old else old) →
-    Knows role name line old after → StaysInBody old after
+    LearnsName role name line old after → StaysInBody old after
 local_stays role new name line old after is k = record {
   function = stays role name line old after k
       (rw is
@@ -135,7 +137,7 @@ local_stays role new name line old after is k = record {
 
 external_stays : (new : Bool) (name : List ℕ) (line : ℕ) (old after : Scope) →
     after ≡ (if new then with_external name old else old) →
-    Knows External name line old after → StaysInBody old after
+    LearnsName External name line old after → StaysInBody old after
 external_stays new name line old after is k = record {
   function = stays External name line old after k
       (rw is
@@ -143,7 +145,7 @@ external_stays new name line old after is k = record {
   parameters = rw is (as_many new old (with_external name old) refl);
 }
 
-typed_stays : (name : List ℕ) (line : ℕ) (old after : Scope) → after ≡ old → Knows Typed name line old after →
+typed_stays : (name : List ℕ) (line : ℕ) (old after : Scope) → after ≡ old → LearnsName Typed name line old after →
     StaysInBody old after
 typed_stays name line old after is k = record {
   function = stays Typed name line old after k
@@ -153,7 +155,7 @@ typed_stays name line old after is k = record {
 
 parameter_stays : (new : Bool) (name : List ℕ) (line : ℕ) (old after : Scope) →
     after ≡ (if new then with_parameter name old else old) →
-    Knows Parameter name line old after → StaysIn old after
+    LearnsName Parameter name line old after → StaysIn old after
 parameter_stays new name line old after is k =
     stays Parameter name line old after k
     (rw is
@@ -162,7 +164,7 @@ parameter_stays new name line old after is k =
 
 function_stays : (new : Bool) (name : List ℕ) (line : ℕ) (old after : Scope) →
     after ≡ (if new then with_new_function name line old else old) →
-    Knows Called name line old after → StaysInBody old after
+    LearnsName Called name line old after → StaysInBody old after
 function_stays new name line old after is k =
     let more : length (old.functions ++ only_named name ∷ []) ≡ length old.functions + 1 =
     longer old.functions (only_named name) in
@@ -175,34 +177,35 @@ function_stays new name line old after is k =
 
 -- a name is declared
 pub declared_stays : (declared : Declared) (name : List ℕ) (line : ℕ) (old new : Scope) →
-    Knows (role_of declared) name line old new → StaysAt declared old new
+    LearnsName (role_of declared) name line old new → StaysAt declared old new
 declared_stays kind.Externals name line old new k =
-    external_stays (is_external_new name old) name line old new k.behind k
+    external_stays (is_external_new name old) name line old new k.window k
 declared_stays kind.Parameters name line old new k =
-    parameter_stays (is_local_new name old) name line old new k.behind k
-declared_stays kind.TypedParameters name line old new k = typed_stays name line old new k.behind k
-declared_stays kind.Locals name line old new k = local_stays Local (is_local_new name old) name line old new k.behind k
+    parameter_stays (is_local_new name old) name line old new k.window k
+declared_stays kind.TypedParameters name line old new k = typed_stays name line old new k.window k
+declared_stays kind.Locals name line old new k = local_stays Local (is_local_new name old) name line old new k.window k
 
 -- a variable is mentioned
-pub mentioned_stays : (name : List ℕ) (line : ℕ) (old new : Scope) → Knows Mentioned name line old new →
+pub mentioned_stays : (name : List ℕ) (line : ℕ) (old new : Scope) → LearnsName Mentioned name line old new →
     StaysInBody old new
-mentioned_stays name line old new k = local_stays Mentioned (is_variable_new name old) name line old new k.behind k
+mentioned_stays name line old new k = local_stays Mentioned (is_variable_new name old) name line old new k.window k
 
 -- a function is called
-pub called_stays : (name : List ℕ) (line : ℕ) (old new : Scope) → Knows Called name line old new → StaysInBody old new
-called_stays name line old new k = function_stays (is_function_new name old) name line old new k.behind k
+pub called_stays : (name : List ℕ) (line : ℕ) (old new : Scope) → LearnsName Called name line old new →
+    StaysInBody old new
+called_stays name line old new k = function_stays (is_function_new name old) name line old new k.window k
 
 -- another definition begins
-pub begins : (number : ℕ) (name : List ℕ) (line : ℕ) (old new : Position) (learnt : Scope) →
-    Knows Defined name line old.scope learnt → new.scope ≡ learnt →
-    number ≡ number_for name old.scope → number < 64 → BeginsDefinition number old new
+pub begins : (number : ℕ) (name : List ℕ) (line : ℕ) (old new : Lookahead) (learnt : Scope) →
+    LearnsName Defined name line old.scope learnt → new.scope ≡ learnt →
+    number ≡ number_or_next name old.scope → number < 64 → BeginsDefinition number old new
 begins number name line old new learnt k same is few =
     let own : is_intrinsic name ≡ false =
     (first (is_intrinsic name) (has_begun name old.scope) _ _ _ (k.clean [])).other in
     record {
-      is = rw (same, k.behind) (sym is);
+      is = rw (same, k.window) (sym is);
       few = few;
-      mentioned = rw (same, k.behind, is) (number_in name line old.scope own);
+      mentioned = rw (same, k.window, is) (number_in name line old.scope own);
       within = λ w. rw same (within Defined name line old.scope learnt k w);
     }
 
@@ -234,7 +237,7 @@ stays_at_then kind.TypedParameters a b c h i = stays_body_then a b c h i
 stays_at_then kind.Locals a b c h i = stays_body_then a b c h i
 
 -- a definition that began goes on
-pub begins_then : (number : ℕ) (a b c : Position) → BeginsDefinition number a b → StaysIn b.scope c.scope →
+pub begins_then : (number : ℕ) (a b c : Lookahead) → BeginsDefinition number a b → StaysIn b.scope c.scope →
     BeginsDefinition number a c
 begins_then number a b c h i = record {
   is = i.number ∙ h.is;

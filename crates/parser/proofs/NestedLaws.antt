@@ -8,31 +8,31 @@ use Rattle.tokens.specs.declared.located_tokens.Token.TheVariants as token
 use Rattle.grammar.specs.declared.diagnostics.Code.TheVariants as code
 use Rattle.grammar.specs.declared.diagnostics.ParseFault.{ParseFault}
 use Rattle.grammar.specs.declared.diagnostics.ParseFault.TheVariants as refusal
-use Rattle.grammar.specs.Building.{Meaning}
+use Rattle.grammar.specs.Building.{Representation}
 use Rattle.grammar.specs.Compiled.{diagnostic}
 use Rattle.grammar.specs.Derivation.{AnExpr}
 use Rattle.grammar.specs.Faults.{misfit_code}
 use Rattle.grammar.specs.Grammar.{Exactly, Expression, Part, Primary, Close, Unary, choice, is_fault, is_punctuator, enters}
 use Rattle.grammar.specs.Nesting.{nesting}
-use Rattle.parser.specs.Position.{Place, next_at}
+use Rattle.parser.specs.ScopedCursors.{Position, next_at}
 use Rattle.parser.specs.Room.{HasRoom, room}
 use Rattle.parser.specs.Stopping.{stop_with}
 use Rattle.parser.specs.Segment.{Derives, DerivesItem, FailsAt, FailsItem, GoesPast, Refused, StopsAt}
 use Rattle.parser.proofs.Segments.{exit, exit_item, joined}
-use Rattle.parser.specs.declared.signs.Sign.{Sign}
-use Rattle.parser.specs.declared.signs.Sign.TheVariants as sign
-use Rattle.parser.specs.declared.signs.Step.{Step}
-use Rattle.parser.specs.declared.signs.Step.TheVariants as step
+use Rattle.parser.specs.declared.unary_ops.UnaryOp.{UnaryOp}
+use Rattle.parser.specs.declared.unary_ops.UnaryOp.TheVariants as sign
+use Rattle.parser.specs.declared.unary_ops.IncrementOp.{IncrementOp}
+use Rattle.parser.specs.declared.unary_ops.IncrementOp.TheVariants as step
 use Rattle.parser.specs.Expressions.{AddsExpr}
-use Rattle.parser.specs.Signs.{sign_punctuator, step_punctuator}
+use Rattle.parser.specs.UnaryOps.{unary_punctuator, increment_punctuator}
 use Rattle.parser.proofs.Parts.{punctuator_is, close_stands}
 use Rattle.parser.proofs.Productions.{Chooses, EntersLevel, chosen, chosen_within, item_done, punctuator_ends, punctuator_past, punctuator_sound, punctuator_too_deep, none_chosen}
 use Rattle.parser.proofs.TellingLaws.{room_within}
-use Rattle.tokens.specs.Reading.{IsNearTo}
+use Rattle.tokens.specs.Cursors.{IsNearTo}
 
 -- Brackets.
 
-open_chooses : (at : Place) → is_punctuator punctuator.OpenRound (next_at at).token ≡ true →
+open_chooses : (at : Position) → is_punctuator punctuator.OpenRound (next_at at).token ≡ true →
     Chooses at Primary (Exactly punctuator.OpenRound ∷ Part Expression ∷ Exactly punctuator.CloseRound ∷ Close ∷ [])
 open_chooses at fits = record {
   sound = punctuator_sound punctuator.OpenRound (next_at at).token fits;
@@ -41,13 +41,13 @@ open_chooses at fits = record {
       token.Punctuator punctuator.OpenRound = punctuator_is punctuator.OpenRound (next_at at).token fits in rw t refl;
 }
 
-open_enters : (at : Place) → is_punctuator punctuator.OpenRound (next_at at).token ≡ true → EntersLevel at Primary
+open_enters : (at : Position) → is_punctuator punctuator.OpenRound (next_at at).token ≡ true → EntersLevel at Primary
 open_enters at fits after more =
     let t : (next_at at).token ≡ token.Punctuator punctuator.OpenRound =
     punctuator_is punctuator.OpenRound (next_at at).token fits in
     rw t refl
 
-pub bracket_too_deep : (at : Place) (used : ℕ) (near : IsNearTo at.position.reading used) (depth : ℕ) →
+pub bracket_too_deep : (at : Position) (used : ℕ) (near : IsNearTo at.lookahead.cursor used) (depth : ℕ) →
     is_punctuator punctuator.OpenRound (next_at at).token ≡ true → 64 ≤ depth →
     FailsAt depth (Part Primary ∷ []) [] at
     (stop_with (refusal.Source (diagnostic (next_at at).line code.NestedTooDeeply)) used)
@@ -56,7 +56,7 @@ bracket_too_deep at used near depth fits deep =
     (Part Expression ∷ Exactly punctuator.CloseRound ∷ Close ∷ []) (open_chooses at fits) (open_enters at fits) fits
     deep
 
-open_stands : (at : Place) (depth : ℕ) → is_punctuator punctuator.OpenRound (next_at at).token ≡ true → depth < 64 →
+open_stands : (at : Position) (depth : ℕ) → is_punctuator punctuator.OpenRound (next_at at).token ≡ true → depth < 64 →
     Derives depth (Part Primary ∷ [])
     (Exactly punctuator.OpenRound ∷ Part Expression ∷ Exactly punctuator.CloseRound ∷ Close ∷ []) [] [] at at
 open_stands at depth fits shallow =
@@ -64,7 +64,7 @@ open_stands at depth fits shallow =
     (Exactly punctuator.OpenRound ∷ Part Expression ∷ Exactly punctuator.CloseRound ∷ Close ∷ [])
     (open_chooses at fits) shallow
 
-pub open_ends : (used : ℕ) (at : Place) (depth : ℕ) (more : Type 0) (f : ParseFault) →
+pub open_ends : (used : ℕ) (at : Position) (depth : ℕ) (more : Type 0) (f : ParseFault) →
     is_punctuator punctuator.OpenRound (next_at at).token ≡ true → depth < 64 →
     Refused (StopsAt at) ⊥ used f → Refused (FailsAt depth (Part Primary ∷ []) [] at) more used f
 open_ends used at depth more f fits shallow stop =
@@ -73,7 +73,8 @@ open_ends used at depth more f fits shallow stop =
     (open_stands at depth fits shallow) (λ stack same. ap (λ n. n + 1) same)
     (punctuator_ends used at punctuator.OpenRound f fits stop)
 
-open_past : (at now : Place) (depth : ℕ) → is_punctuator punctuator.OpenRound (next_at at).token ≡ true → depth < 64 →
+open_past : (at now : Position) (depth : ℕ) → is_punctuator punctuator.OpenRound (next_at at).token ≡ true →
+    depth < 64 →
     GoesPast at now →
     Derives depth (Part Primary ∷ []) (Part Expression ∷ Exactly punctuator.CloseRound ∷ Close ∷ []) [] [] at now
 open_past at now depth fits shallow goes =
@@ -82,7 +83,7 @@ open_past at now depth fits shallow goes =
     (open_stands at depth fits shallow) (punctuator_past at now punctuator.OpenRound fits goes (depth + 1))
     (λ stack same. ap (λ n. n + 1) same)
 
-pub inside_refused : (used : ℕ) (at now : Place) (depth : ℕ) (denied : Type 0) (f : ParseFault) →
+pub inside_refused : (used : ℕ) (at now : Position) (depth : ℕ) (denied : Type 0) (f : ParseFault) →
     is_punctuator punctuator.OpenRound (next_at at).token ≡ true → depth < 64 → GoesPast at now →
     Refused (FailsAt (depth + 1) (Part Expression ∷ []) [] now) denied used f →
     Refused (FailsAt depth (Part Primary ∷ []) [] at) denied used f
@@ -91,7 +92,7 @@ inside_refused used at now depth denied f fits shallow goes =
     [] [] [] at now denied denied f
     (open_past at now depth fits shallow goes) (λ stack same. ap (λ n. n + 1) same) (λ same. same)
 
-inside_past : (before after : Meaning) (at now behind : Place) (depth : ℕ) →
+inside_past : (before after : Representation) (at now behind : Position) (depth : ℕ) →
     is_punctuator punctuator.OpenRound (next_at at).token ≡ true → depth < 64 → GoesPast at now →
     (h : AddsExpr before after (depth + 1) 1 (Part Expression ∷ []) [] now behind) →
     Derives depth (Part Primary ∷ []) (Exactly punctuator.CloseRound ∷ Close ∷ []) [] (AnExpr h.tree ∷ []) at behind
@@ -100,7 +101,7 @@ inside_past before after at now behind depth fits shallow goes h =
     [] [] (AnExpr h.tree ∷ []) [] at now behind
     (open_past at now depth fits shallow goes) h.derives (λ stack same. ap (λ n. n + 1) same)
 
-pub close_refused : (used : ℕ) (before after : Meaning) (at now behind : Place) (depth : ℕ) (more : Type 0)
+pub close_refused : (used : ℕ) (before after : Representation) (at now behind : Position) (depth : ℕ) (more : Type 0)
     (f : ParseFault) → is_punctuator punctuator.OpenRound (next_at at).token ≡ true → depth < 64 → GoesPast at now →
     AddsExpr before after (depth + 1) 1 (Part Expression ∷ []) [] now behind →
     Refused (FailsItem (Exactly punctuator.CloseRound) behind) ⊥ used f →
@@ -110,7 +111,7 @@ close_refused used before after at now behind depth more f fits shallow goes h =
     (AnExpr h.tree ∷ []) at behind more f
     (inside_past before after at now behind depth fits shallow goes h) (λ stack same. ap (λ n. n + 1) same)
 
-pub bracket_adds : (before after : Meaning) (at now behind there : Place) (depth : ℕ) →
+pub bracket_adds : (before after : Representation) (at now behind there : Position) (depth : ℕ) →
     is_punctuator punctuator.OpenRound (next_at at).token ≡ true → depth < 64 → GoesPast at now →
     AddsExpr before after (depth + 1) 1 (Part Expression ∷ []) [] now behind →
     DerivesItem (Exactly punctuator.CloseRound) [] [] behind there → is_fault (next_at there).token ≡ false →
@@ -130,45 +131,49 @@ bracket_adds before after at now behind there depth fits shallow goes h close so
       (close_stands there depth (AnExpr h.tree ∷ []) sound) (λ stack same. same);
 }
 
-pub inside_room : (before : Meaning) (depth : ℕ) → depth < 64 → HasRoom before (room depth 11) →
+pub inside_room : (before : Representation) (depth : ℕ) → depth < 64 → HasRoom before (room depth 11) →
     HasRoom before (room (depth + 1) 1)
 inside_room before depth shallow h = room_within before (room (depth + 1) 1) (room depth 11) h (omega arith)
 
 -- An operand without an operator before it is a primary.
 
-primary_choice : (t after : Token) → ((s : Sign) → is_punctuator (sign_punctuator s) t ≡ false) →
-    ((s : Step) → is_punctuator (step_punctuator s) t ≡ false) → choice Unary t after ≡ Some (Part Primary ∷ [])
+primary_choice : (t after : Token) → ((s : UnaryOp) → is_punctuator (unary_punctuator s) t ≡ false) →
+    ((s : IncrementOp) → is_punctuator (increment_punctuator s) t ≡ false) →
+    choice Unary t after ≡ Some (Part Primary ∷ [])
 primary_choice (token.Punctuator punctuator.Minus) after signs steps =
-    let e : is_punctuator (sign_punctuator sign.Negation) (token.Punctuator punctuator.Minus) ≡ false =
+    let e : is_punctuator (unary_punctuator sign.Negation) (token.Punctuator punctuator.Minus) ≡ false =
     signs sign.Negation in
     absurd (cc)
 primary_choice (token.Punctuator punctuator.Not) after signs steps =
-    let e : is_punctuator (sign_punctuator sign.Denial) (token.Punctuator punctuator.Not) ≡ false = signs sign.Denial in
+    let e : is_punctuator (unary_punctuator sign.Denial) (token.Punctuator punctuator.Not) ≡ false =
+    signs sign.Denial in
     absurd (cc)
 primary_choice (token.Punctuator punctuator.Tilde) after signs steps =
-    let e : is_punctuator (sign_punctuator sign.Complement) (token.Punctuator punctuator.Tilde) ≡ false =
+    let e : is_punctuator (unary_punctuator sign.Complement) (token.Punctuator punctuator.Tilde) ≡ false =
     signs sign.Complement in
     absurd (cc)
 primary_choice (token.Punctuator punctuator.PlusPlus) after signs steps =
-    let e : is_punctuator (step_punctuator step.Up) (token.Punctuator punctuator.PlusPlus) ≡ false = steps step.Up in
+    let e : is_punctuator (increment_punctuator step.Increment) (token.Punctuator punctuator.PlusPlus) ≡ false =
+    steps step.Increment in
     absurd (cc)
 primary_choice (token.Punctuator punctuator.MinusMinus) after signs steps =
-    let e : is_punctuator (step_punctuator step.Down) (token.Punctuator punctuator.MinusMinus) ≡ false =
-    steps step.Down in
+    let e : is_punctuator (increment_punctuator step.Decrement) (token.Punctuator punctuator.MinusMinus) ≡ false =
+    steps step.Decrement in
     absurd (cc)
 primary_choice t after signs steps = refl
 
-primary_enters : (t after : Token) → ((s : Sign) → is_punctuator (sign_punctuator s) t ≡ false) →
+primary_enters : (t after : Token) → ((s : UnaryOp) → is_punctuator (unary_punctuator s) t ≡ false) →
     enters Unary t after ≡ false
 primary_enters (token.Punctuator punctuator.Minus) after signs =
-    let e : is_punctuator (sign_punctuator sign.Negation) (token.Punctuator punctuator.Minus) ≡ false =
+    let e : is_punctuator (unary_punctuator sign.Negation) (token.Punctuator punctuator.Minus) ≡ false =
     signs sign.Negation in
     absurd (cc)
 primary_enters (token.Punctuator punctuator.Not) after signs =
-    let e : is_punctuator (sign_punctuator sign.Denial) (token.Punctuator punctuator.Not) ≡ false = signs sign.Denial in
+    let e : is_punctuator (unary_punctuator sign.Denial) (token.Punctuator punctuator.Not) ≡ false =
+    signs sign.Denial in
     absurd (cc)
 primary_enters (token.Punctuator punctuator.Tilde) after signs =
-    let e : is_punctuator (sign_punctuator sign.Complement) (token.Punctuator punctuator.Tilde) ≡ false =
+    let e : is_punctuator (unary_punctuator sign.Complement) (token.Punctuator punctuator.Tilde) ≡ false =
     signs sign.Complement in
     absurd (cc)
 primary_enters t after signs = refl
@@ -176,8 +181,8 @@ primary_enters t after signs = refl
 -- the next token is no operator before an operand
 pub record NoOperator (t : Token) : Type 0 where
   pub sound : is_fault t ≡ false
-  pub signs : (s : Sign) → is_punctuator (sign_punctuator s) t ≡ false
-  pub steps : (s : Step) → is_punctuator (step_punctuator s) t ≡ false
+  pub signs : (s : UnaryOp) → is_punctuator (unary_punctuator s) t ≡ false
+  pub steps : (s : IncrementOp) → is_punctuator (increment_punctuator s) t ≡ false
 
 no_punctuator : (m : Punctuator) (t : Token) → ((n : Punctuator) → t ≡ token.Punctuator n → ⊥) →
     is_punctuator m t ≡ false
@@ -188,18 +193,18 @@ no_punctuator m t none = refl
 pub plain_operand : (t : Token) → is_fault t ≡ false → ((n : Punctuator) → t ≡ token.Punctuator n → ⊥) → NoOperator t
 plain_operand t sound none = record {
   sound = sound;
-  signs = λ s. no_punctuator (sign_punctuator s) t none;
-  steps = λ s. no_punctuator (step_punctuator s) t none;
+  signs = λ s. no_punctuator (unary_punctuator s) t none;
+  steps = λ s. no_punctuator (increment_punctuator s) t none;
 }
 
-primary_stands : (at : Place) (depth : ℕ) → NoOperator (next_at at).token →
+primary_stands : (at : Position) (depth : ℕ) → NoOperator (next_at at).token →
     Derives depth (Part Unary ∷ []) (Part Primary ∷ []) [] [] at at
 primary_stands at depth n =
     chosen at depth Unary (Part Primary ∷ []) []
     (record { sound = n.sound; is = λ after more. primary_choice (next_at at).token after n.signs n.steps })
     (λ after more. primary_enters (next_at at).token after n.signs)
 
-pub primary_refused : (used : ℕ) (at : Place) (depth : ℕ) (denied : Type 0) (f : ParseFault) →
+pub primary_refused : (used : ℕ) (at : Position) (depth : ℕ) (denied : Type 0) (f : ParseFault) →
     NoOperator (next_at at).token →
     Refused (FailsAt depth (Part Primary ∷ []) [] at) denied used f →
     Refused (FailsAt depth (Part Unary ∷ []) [] at) denied used f
@@ -207,7 +212,7 @@ primary_refused used at depth denied f n =
     exit used depth depth (Part Unary ∷ []) (Part Primary ∷ []) [] [] [] [] at at denied denied f
     (primary_stands at depth n) (λ stack same. same) (λ same. same)
 
-pub primary_adds : (before after : Meaning) (at there : Place) (depth : ℕ) → NoOperator (next_at at).token →
+pub primary_adds : (before after : Representation) (at there : Position) (depth : ℕ) → NoOperator (next_at at).token →
     AddsExpr before after depth 11 (Part Primary ∷ []) [] at there →
     AddsExpr before after depth 11 (Part Unary ∷ []) [] at there
 primary_adds before after at there depth n h = record {
@@ -241,7 +246,7 @@ no_primary_enters (token.Punctuator punctuator.OpenRound) after n =
     absurd (cc)
 no_primary_enters t after n = refl
 
-pub primary_misfits : (at : Place) (used : ℕ) (near : IsNearTo at.position.reading used) (depth : ℕ) →
+pub primary_misfits : (at : Position) (used : ℕ) (near : IsNearTo at.lookahead.cursor used) (depth : ℕ) →
     is_fault (next_at at).token ≡ false → NoPrimary (next_at at).token →
     FailsAt depth (Part Primary ∷ []) [] at
     (stop_with (refusal.Source (diagnostic (next_at at).line (misfit_code (next_at at).token))) used)

@@ -7,35 +7,35 @@ use Rattle.tokens.specs.declared.located_tokens.Punctuator.TheVariants as punctu
 use Rattle.tokens.specs.declared.located_tokens.Token.{Token}
 use Rattle.tokens.specs.declared.located_tokens.Token.TheVariants as token
 use Rattle.grammar.specs.declared.diagnostics.ParseFault.{ParseFault}
-use Rattle.grammar.specs.declared.names.Var.{Var}
+use Rattle.grammar.specs.declared.resolved_names.Var.{Var}
 use Rattle.grammar.specs.declared.operators.StoreOp.{StoreOp}
 use Rattle.grammar.specs.declared.diagnostics.ParseFault.TheVariants as refusal
 use Rattle.grammar.specs.declared.actions.Action.TheVariants.{Chop, FetchVariable, PushConstant, StoreVariable}
 use Rattle.grammar.specs.Actions.{expr_actions}
-use Rattle.grammar.specs.Building.{Meaning, AppendsAll, MayFollow, MayFollowAll}
+use Rattle.grammar.specs.Building.{Representation, AppendsAll, MayFollow, MayFollowAll}
 use Rattle.grammar.specs.Derivation.{AnExpr, AVariable, constant_value, name_of_token}
 use Rattle.grammar.specs.Following.{AValue, Number, open_count}
-use Rattle.grammar.specs.Grammar.{AConstant, AName, Exactly, Fetch, Make, Mentioned, Part, Primary, StepBefore, StepBehind, Unary, choice, is_fault, is_punctuator, enters}
+use Rattle.grammar.specs.Grammar.{AConstant, AName, Exactly, Fetch, Make, Mentioned, Part, Primary, PrefixIncrement, PostfixIncrement, Unary, choice, is_fault, is_punctuator, enters}
 use Rattle.grammar.specs.Nesting.{nesting}
 use Rattle.grammar.specs.Resolved.{InExpr, IsVariable}
 use Rattle.grammar.specs.Scope.{Scope}
 use Rattle.grammar.specs.Tree.{Expr, Assign, Constant, Postfix, Variable}
 use Rattle.grammar.proofs.FollowingLaws.{act, expr_leads, origin_of}
 use Rattle.grammar.proofs.Steps.{constant}
-use Rattle.parser.specs.Position.{Place, after_at, next_at, scope_at}
+use Rattle.parser.specs.ScopedCursors.{Position, after_at, next_at, scope_at}
 use Rattle.parser.specs.Room.{HasRoom}
 use Rattle.parser.specs.Stopping.{stop_with}
 use Rattle.parser.specs.Segment.{Derives, DerivesItem, FailsItem, GoesPast, Refused, StopsAt}
 use Rattle.parser.proofs.Segments.{Leads, joined, past, refused_map, stops, halts}
-use Rattle.parser.specs.declared.signs.Step.{Step}
-use Rattle.parser.specs.declared.signs.Step.TheVariants as step
+use Rattle.parser.specs.declared.unary_ops.IncrementOp.{IncrementOp}
+use Rattle.parser.specs.declared.unary_ops.IncrementOp.TheVariants as step
 use Rattle.parser.specs.Expressions.{AddsExpr}
-use Rattle.parser.specs.Signs.{step_punctuator, step_store}
+use Rattle.parser.specs.UnaryOps.{increment_punctuator, increment_store_op}
 use Rattle.parser.proofs.Parts.{MakesOnly, make_stands, punctuator_is}
 use Rattle.parser.proofs.Productions.{Chooses, EntersNone, chosen, item_done, item_exit, punctuator_ends, punctuator_past, punctuator_sound}
 use Rattle.parser.proofs.TellingLaws.{all_follow}
 use Rattle.grammar.proofs.StandingLaws.{appends_both, may_first}
-use Rattle.tokens.specs.Reading.{IsNearTo}
+use Rattle.tokens.specs.Cursors.{IsNearTo}
 
 -- Names.
 
@@ -46,7 +46,7 @@ pub record IsNamed (t : Token) : Type 0 where
 pub is_named : (t : Token) → is_some (name_of_token t) ≡ true → IsNamed t
 is_named (token.Name name) h = record { name = name; is = refl }
 is_named (token.Punctuator m) h = absurd (cc)
-is_named (token.Word word) h = absurd (cc)
+is_named (token.Keyword word) h = absurd (cc)
 is_named (token.Constant value) h = absurd (cc)
 is_named token.End h = absurd (cc)
 is_named (token.Fault lexical_error) h = absurd (cc)
@@ -61,17 +61,17 @@ pub named_found : (t : Token) (n : IsNamed t) → name_of_token t ≡ Some n.nam
 named_found t n = rw n.is refl
 
 -- the token behind a name
-pub after_name : (at : Place) (after : Token) → IsNamed (next_at at).token →
+pub after_name : (at : Position) (after : Token) → IsNamed (next_at at).token →
     (is_last (next_at at).token ≡ false → after ≡ after_at at) → after ≡ after_at at
 after_name at after n more = more (named_goes_on (next_at at).token n)
 
 -- Constants.
 
-constant_chooses : (at : Place) (value : ℕ) → (next_at at).token ≡ token.Constant value →
+constant_chooses : (at : Position) (value : ℕ) → (next_at at).token ≡ token.Constant value →
     Chooses at Primary (AConstant ∷ [])
 constant_chooses at value is = record { sound = rw is refl; is = λ after more. rw is refl }
 
-constant_enters : (at : Place) (value : ℕ) → (next_at at).token ≡ token.Constant value → EntersNone at Primary
+constant_enters : (at : Position) (value : ℕ) → (next_at at).token ≡ token.Constant value → EntersNone at Primary
 constant_enters at value is after more = rw is refl
 
 constant_leads : (located_token : LocatedToken) (value : ℕ) → located_token.token ≡ token.Constant value →
@@ -84,29 +84,29 @@ constant_leads located_token value is depth known rest = record {
       constant profile value stack (located_token ∷ rest) values known functions sound found;
 }
 
-constant_past : (at there : Place) (value : ℕ) → (next_at at).token ≡ token.Constant value → GoesPast at there →
+constant_past : (at there : Position) (value : ℕ) → (next_at at).token ≡ token.Constant value → GoesPast at there →
     DerivesItem AConstant [] (AnExpr (Constant (pos value)) ∷ []) at there
 constant_past at there value is goes depth =
-    past at.position.reading (scope_at at) (scope_at at) at.to_come there depth (AConstant ∷ []) [] []
+    past at.lookahead.cursor (scope_at at) (scope_at at) at.to_come there depth (AConstant ∷ []) [] []
     (AnExpr (Constant (pos value)) ∷ []) goes
     (λ rest b. constant_leads (next_at at) value is depth (scope_at at) rest)
 
-constant_stands : (at : Place) (value : ℕ) → (next_at at).token ≡ token.Constant value → (depth : ℕ) →
+constant_stands : (at : Position) (value : ℕ) → (next_at at).token ≡ token.Constant value → (depth : ℕ) →
     Derives depth (Part Primary ∷ []) (AConstant ∷ []) [] [] at at
 constant_stands at value is depth =
     chosen at depth Primary (AConstant ∷ []) [] (constant_chooses at value is) (constant_enters at value is)
 
-pub constant_ends : (used : ℕ) (at : Place) (value : ℕ) (more : Type 0) (f : ParseFault) →
+pub constant_ends : (used : ℕ) (at : Position) (value : ℕ) (more : Type 0) (f : ParseFault) →
     (next_at at).token ≡ token.Constant value → Refused (StopsAt at) ⊥ used f →
     Refused (FailsItem (Part Primary) at) more used f
 constant_ends used at value more f is stop =
     item_exit used (Part Primary) AConstant [] [] at at more f (constant_stands at value is) (λ depth stack same. same)
     (refused_map used (StopsAt at) (FailsItem AConstant at) ⊥ ⊥ f
-    (λ d s depth. stops at.position.reading (scope_at at) (scope_at at) at.to_come d depth (AConstant ∷ []) [] []
+    (λ d s depth. stops at.lookahead.cursor (scope_at at) (scope_at at) at.to_come d depth (AConstant ∷ []) [] []
     (AnExpr (Constant (pos value)) ∷ []) (λ rest b. constant_leads (next_at at) value is depth (scope_at at) rest) s)
     (λ same. same) stop)
 
-pub constant_adds : (before after : Meaning) (at there : Place) (value : ℕ) →
+pub constant_adds : (before after : Representation) (at there : Position) (value : ℕ) →
     (next_at at).token ≡ token.Constant value → GoesPast at there →
     AppendsAll before after (PushConstant (pos value) ∷ []) → (depth : ℕ) →
     AddsExpr before after depth 11 (Part Primary ∷ []) [] at there
@@ -120,7 +120,8 @@ constant_adds before after at there value is goes told depth = record {
       (constant_stands at value is depth) (constant_past at there value is goes depth) (λ stack same. same);
 }
 
-pub constant_follows : (before : Meaning) (n : ℕ) (value : ℤ) → HasRoom before n → MayFollow before (PushConstant value)
+pub constant_follows : (before : Representation) (n : ℕ) (value : ℤ) → HasRoom before n →
+    MayFollow before (PushConstant value)
 constant_follows before n value h =
     let few : open_count (h.outer ∷ h.opened) + n ≤ 200 = h.few in
     may_first before (PushConstant value) [] (all_follow before (h.outer ∷ h.opened)
@@ -128,7 +129,7 @@ constant_follows before n value h =
     (act (PushConstant value) (h.outer ∷ h.opened) (AValue (Number value) ∷ h.outer ∷ h.opened) refl (omega arith)))
 
 -- the actions of a whole tree that opens nothing may follow
-pub tree_follows : (before : Meaning) (n : ℕ) (tree : Expr) → HasRoom before n → InExpr 64 64 64 tree →
+pub tree_follows : (before : Representation) (n : ℕ) (tree : Expr) → HasRoom before n → InExpr 64 64 64 tree →
     nesting tree ≤ n → MayFollowAll before (expr_actions tree)
 tree_follows before n tree h numbered narrow =
     let few : open_count (h.outer ∷ h.opened) + n ≤ 200 = h.few in
@@ -150,31 +151,32 @@ name_enters : (name : List ℕ) (after : Token) → is_punctuator punctuator.Ope
 name_enters name (token.Punctuator punctuator.OpenRound) call = absurd (cc)
 name_enters name after call = refl
 
-name_enters_none : (at : Place) → IsNamed (next_at at).token →
+name_enters_none : (at : Position) → IsNamed (next_at at).token →
     is_punctuator punctuator.OpenRound (after_at at) ≡ false → EntersNone at Primary
 name_enters_none at n call after more = rw (n.is, after_name at after n more) (name_enters n.name (after_at at) call)
 
 -- it isn't followed by ++ or --
-abbrev pub NoStep : Place → Type 0
-NoStep at = (s : Step) → is_punctuator (step_punctuator s) (after_at at) ≡ false
+abbrev pub NoStep : Position → Type 0
+NoStep at = (s : IncrementOp) → is_punctuator (increment_punctuator s) (after_at at) ≡ false
 
-fetch_chooses : (at : Place) → IsNamed (next_at at).token → is_punctuator punctuator.OpenRound (after_at at) ≡ false →
+fetch_chooses : (at : Position) → IsNamed (next_at at).token →
+    is_punctuator punctuator.OpenRound (after_at at) ≡ false →
     NoStep at → Chooses at Primary (AName Mentioned ∷ Make Fetch ∷ [])
 fetch_chooses at n call none = record {
   sound = named_sound (next_at at).token n;
   is =
       λ after more. rw (n.is, after_name at after n more)
-      (fetch_choice n.name (after_at at) call (none step.Up) (none step.Down));
+      (fetch_choice n.name (after_at at) call (none step.Increment) (none step.Decrement));
 }
 
-fetch_stands : (at : Place) → IsNamed (next_at at).token → is_punctuator punctuator.OpenRound (after_at at) ≡ false →
+fetch_stands : (at : Position) → IsNamed (next_at at).token → is_punctuator punctuator.OpenRound (after_at at) ≡ false →
     NoStep at → (depth : ℕ) →
     Derives depth (Part Primary ∷ []) (AName Mentioned ∷ Make Fetch ∷ []) [] [] at at
 fetch_stands at n call none depth =
     chosen at depth Primary (AName Mentioned ∷ Make Fetch ∷ []) [] (fetch_chooses at n call none)
     (name_enters_none at n call)
 
-pub fetch_ends : (used : ℕ) (at : Place) (more : Type 0) (f : ParseFault) → IsNamed (next_at at).token →
+pub fetch_ends : (used : ℕ) (at : Position) (more : Type 0) (f : ParseFault) → IsNamed (next_at at).token →
     is_punctuator punctuator.OpenRound (after_at at) ≡ false → NoStep at →
     Refused (FailsItem (AName Mentioned) at) ⊥ used f → Refused (FailsItem (Part Primary) at) more used f
 fetch_ends used at more f n call none =
@@ -190,7 +192,7 @@ fetch_makes v =
       defines = λ values scope. refl;
     }
 
-pub fetch_adds : (before after : Meaning) (at there : Place) (v : Var) → IsNamed (next_at at).token →
+pub fetch_adds : (before after : Representation) (at there : Position) (v : Var) → IsNamed (next_at at).token →
     is_punctuator punctuator.OpenRound (after_at at) ≡ false → NoStep at →
     DerivesItem (AName Mentioned) [] (AVariable v ∷ []) at there → IsVariable 64 64 v →
     is_fault (next_at there).token ≡ false → AppendsAll before after (FetchVariable v ∷ []) → (depth : ℕ) →
@@ -212,79 +214,88 @@ fetch_adds before after at there v n call none item numbered sound told depth = 
 
 -- ++ or -- behind a variable.
 
-behind_choice : (name : List ℕ) (s : Step) →
-    choice Primary (token.Name name) (token.Punctuator (step_punctuator s)) ≡
-    Some (AName Mentioned ∷ Exactly (step_punctuator s) ∷ Make (StepBehind (step_store s)) ∷ [])
-behind_choice name step.Up = refl
-behind_choice name step.Down = refl
+behind_choice : (name : List ℕ) (s : IncrementOp) →
+    choice Primary (token.Name name) (token.Punctuator (increment_punctuator s)) ≡
+    Some (AName Mentioned ∷ Exactly (increment_punctuator s) ∷ Make (PostfixIncrement (increment_store_op s)) ∷ [])
+behind_choice name step.Increment = refl
+behind_choice name step.Decrement = refl
 
-behind_enters : (name : List ℕ) (s : Step) →
-    enters Primary (token.Name name) (token.Punctuator (step_punctuator s)) ≡ false
-behind_enters name step.Up = refl
-behind_enters name step.Down = refl
+behind_enters : (name : List ℕ) (s : IncrementOp) →
+    enters Primary (token.Name name) (token.Punctuator (increment_punctuator s)) ≡ false
+behind_enters name step.Increment = refl
+behind_enters name step.Decrement = refl
 
-behind_chooses : (at : Place) (s : Step) → IsNamed (next_at at).token →
-    is_punctuator (step_punctuator s) (after_at at) ≡ true →
-    Chooses at Primary (AName Mentioned ∷ Exactly (step_punctuator s) ∷ Make (StepBehind (step_store s)) ∷ [])
+behind_chooses : (at : Position) (s : IncrementOp) → IsNamed (next_at at).token →
+    is_punctuator (increment_punctuator s) (after_at at) ≡ true →
+    Chooses at Primary
+    (AName Mentioned ∷ Exactly (increment_punctuator s) ∷ Make (PostfixIncrement (increment_store_op s)) ∷ [])
 behind_chooses at s n fits = record {
   sound = named_sound (next_at at).token n;
   is =
       λ after more. let t : after_at at ≡
-      token.Punctuator (step_punctuator s) = punctuator_is (step_punctuator s) (after_at at) fits in rw
+      token.Punctuator (increment_punctuator s) = punctuator_is (increment_punctuator s) (after_at at) fits in rw
       (n.is, after_name at after n more, t) (behind_choice n.name s);
 }
 
-behind_enters_none : (at : Place) (s : Step) → IsNamed (next_at at).token →
-    is_punctuator (step_punctuator s) (after_at at) ≡ true → EntersNone at Primary
+behind_enters_none : (at : Position) (s : IncrementOp) → IsNamed (next_at at).token →
+    is_punctuator (increment_punctuator s) (after_at at) ≡ true → EntersNone at Primary
 behind_enters_none at s n fits after more =
-    let t : after_at at ≡ token.Punctuator (step_punctuator s) = punctuator_is (step_punctuator s) (after_at at) fits in
+    let t : after_at at ≡ token.Punctuator (increment_punctuator s) =
+    punctuator_is (increment_punctuator s) (after_at at) fits in
     rw (n.is, after_name at after n more, t) (behind_enters n.name s)
 
-behind_stands : (at : Place) (s : Step) → IsNamed (next_at at).token →
-    is_punctuator (step_punctuator s) (after_at at) ≡ true → (depth : ℕ) →
+behind_stands : (at : Position) (s : IncrementOp) → IsNamed (next_at at).token →
+    is_punctuator (increment_punctuator s) (after_at at) ≡ true → (depth : ℕ) →
     Derives depth (Part Primary ∷ [])
-    (AName Mentioned ∷ Exactly (step_punctuator s) ∷ Make (StepBehind (step_store s)) ∷ []) [] [] at at
+    (AName Mentioned ∷ Exactly (increment_punctuator s) ∷ Make (PostfixIncrement (increment_store_op s)) ∷ []) [] [] at
+    at
 behind_stands at s n fits depth =
-    chosen at depth Primary (AName Mentioned ∷ Exactly (step_punctuator s) ∷ Make (StepBehind (step_store s)) ∷ []) []
+    chosen at depth Primary
+    (AName Mentioned ∷ Exactly (increment_punctuator s) ∷ Make (PostfixIncrement (increment_store_op s)) ∷ []) []
     (behind_chooses at s n fits) (behind_enters_none at s n fits)
 
-pub behind_name_ends : (used : ℕ) (at : Place) (s : Step) (more : Type 0) (f : ParseFault) →
-    IsNamed (next_at at).token → is_punctuator (step_punctuator s) (after_at at) ≡ true →
+pub behind_name_ends : (used : ℕ) (at : Position) (s : IncrementOp) (more : Type 0) (f : ParseFault) →
+    IsNamed (next_at at).token → is_punctuator (increment_punctuator s) (after_at at) ≡ true →
     Refused (FailsItem (AName Mentioned) at) ⊥ used f → Refused (FailsItem (Part Primary) at) more used f
 behind_name_ends used at s more f n fits =
     item_exit used (Part Primary) (AName Mentioned)
-    (Exactly (step_punctuator s) ∷ Make (StepBehind (step_store s)) ∷ []) [] at at more f
+    (Exactly (increment_punctuator s) ∷ Make (PostfixIncrement (increment_store_op s)) ∷ []) [] at at more f
     (behind_stands at s n fits) (λ depth stack same. same)
 
-behind_past_name : (at now : Place) (s : Step) (v : Var) → IsNamed (next_at at).token →
-    is_punctuator (step_punctuator s) (after_at at) ≡ true →
+behind_past_name : (at now : Position) (s : IncrementOp) (v : Var) → IsNamed (next_at at).token →
+    is_punctuator (increment_punctuator s) (after_at at) ≡ true →
     DerivesItem (AName Mentioned) [] (AVariable v ∷ []) at now → (depth : ℕ) →
-    Derives depth (Part Primary ∷ []) (Exactly (step_punctuator s) ∷ Make (StepBehind (step_store s)) ∷ []) []
+    Derives depth (Part Primary ∷ [])
+    (Exactly (increment_punctuator s) ∷ Make (PostfixIncrement (increment_store_op s)) ∷ []) []
     (AVariable v ∷ []) at now
 behind_past_name at now s v n fits item depth =
     item_done depth depth (Part Primary ∷ []) (AName Mentioned)
-    (Exactly (step_punctuator s) ∷ Make (StepBehind (step_store s)) ∷ []) [] (AVariable v ∷ []) [] at at now
+    (Exactly (increment_punctuator s) ∷ Make (PostfixIncrement (increment_store_op s)) ∷ []) [] (AVariable v ∷ []) [] at
+    at now
     (behind_stands at s n fits depth) (item depth) (λ stack same. same)
 
 -- the builder was refused memory behind the name
-pub behind_halts : (used : ℕ) (at now : Place) (s : Step) (v : Var) → IsNamed (next_at at).token →
-    is_punctuator (step_punctuator s) (after_at at) ≡ true →
+pub behind_halts : (used : ℕ) (at now : Position) (s : IncrementOp) (v : Var) → IsNamed (next_at at).token →
+    is_punctuator (increment_punctuator s) (after_at at) ≡ true →
     DerivesItem (AName Mentioned) [] (AVariable v ∷ []) at now →
-    IsNearTo now.position.reading used → FailsItem (Part Primary) at (stop_with refusal.Memory used)
+    IsNearTo now.lookahead.cursor used → FailsItem (Part Primary) at (stop_with refusal.Memory used)
 behind_halts used at now s v n fits item near depth =
-    halts depth (Part Primary ∷ []) (Exactly (step_punctuator s) ∷ Make (StepBehind (step_store s)) ∷ []) []
+    halts depth (Part Primary ∷ [])
+    (Exactly (increment_punctuator s) ∷ Make (PostfixIncrement (increment_store_op s)) ∷ []) []
     (AVariable v ∷ []) at now used (behind_past_name at now s v n fits item depth) near
 
-pub behind_punctuator_ends : (used : ℕ) (at now : Place) (s : Step) (v : Var) (more : Type 0) (f : ParseFault) →
-    IsNamed (next_at at).token → is_punctuator (step_punctuator s) (after_at at) ≡ true →
+pub behind_punctuator_ends : (used : ℕ) (at now : Position) (s : IncrementOp) (v : Var) (more : Type 0) (f : ParseFault)
+    →
+    IsNamed (next_at at).token → is_punctuator (increment_punctuator s) (after_at at) ≡ true →
     DerivesItem (AName Mentioned) [] (AVariable v ∷ []) at now →
-    Refused (FailsItem (Exactly (step_punctuator s)) now) ⊥ used f →
+    Refused (FailsItem (Exactly (increment_punctuator s)) now) ⊥ used f →
     Refused (FailsItem (Part Primary) at) more used f
 behind_punctuator_ends used at now s v more f n fits item =
-    item_exit used (Part Primary) (Exactly (step_punctuator s)) (Make (StepBehind (step_store s)) ∷ [])
+    item_exit used (Part Primary) (Exactly (increment_punctuator s))
+    (Make (PostfixIncrement (increment_store_op s)) ∷ [])
     (AVariable v ∷ []) at now more f (behind_past_name at now s v n fits item) (λ depth stack same. same)
 
-behind_makes : (o : StoreOp) (v : Var) → MakesOnly (StepBehind o) (AVariable v ∷ []) (AnExpr (Postfix o v) ∷ [])
+behind_makes : (o : StoreOp) (v : Var) → MakesOnly (PostfixIncrement o) (AVariable v ∷ []) (AnExpr (Postfix o v) ∷ [])
 behind_makes o v =
     record {
       makes = λ values. refl;
@@ -293,82 +304,92 @@ behind_makes o v =
       defines = λ values scope. refl;
     }
 
-pub behind_adds : (before a b c after : Meaning) (at now there : Place) (s : Step) (v : Var) →
-    IsNamed (next_at at).token → is_punctuator (step_punctuator s) (after_at at) ≡ true →
+pub behind_adds : (before a b c after : Representation) (at now there : Position) (s : IncrementOp) (v : Var) →
+    IsNamed (next_at at).token → is_punctuator (increment_punctuator s) (after_at at) ≡ true →
     DerivesItem (AName Mentioned) [] (AVariable v ∷ []) at now →
-    DerivesItem (Exactly (step_punctuator s)) [] [] now there → IsVariable 64 64 v →
+    DerivesItem (Exactly (increment_punctuator s)) [] [] now there → IsVariable 64 64 v →
     is_fault (next_at there).token ≡ false →
     AppendsAll before a (FetchVariable v ∷ []) → AppendsAll a b (PushConstant (pos 1) ∷ []) →
-    AppendsAll b c (StoreVariable v (step_store s) ∷ []) → AppendsAll c after (Chop ∷ []) → (depth : ℕ) →
+    AppendsAll b c (StoreVariable v (increment_store_op s) ∷ []) → AppendsAll c after (Chop ∷ []) → (depth : ℕ) →
     AddsExpr before after depth 11 (Part Primary ∷ []) [] at there
 behind_adds before a b c after at now there s v n fits item sign numbered sound first second third last depth = record {
-  tree = Postfix (step_store s) v;
+  tree = Postfix (increment_store_op s) v;
   numbered = numbered;
   narrow = omega arith;
   added =
       appends_both before a after (FetchVariable v ∷ [])
-      (PushConstant (pos 1) ∷ StoreVariable v (step_store s) ∷ Chop ∷ []) first
-      (appends_both a b after (PushConstant (pos 1) ∷ []) (StoreVariable v (step_store s) ∷ Chop ∷ []) second
-      (appends_both b c after (StoreVariable v (step_store s) ∷ []) (Chop ∷ []) third last));
+      (PushConstant (pos 1) ∷ StoreVariable v (increment_store_op s) ∷ Chop ∷ []) first
+      (appends_both a b after (PushConstant (pos 1) ∷ []) (StoreVariable v (increment_store_op s) ∷ Chop ∷ []) second
+      (appends_both b c after (StoreVariable v (increment_store_op s) ∷ []) (Chop ∷ []) third last));
   derives =
-      joined depth depth (Part Primary ∷ []) (Make (StepBehind (step_store s)) ∷ []) [] [] [] (AVariable v ∷ [])
-      (AnExpr (Postfix (step_store s) v) ∷ []) [] at there there
-      (item_done depth depth (Part Primary ∷ []) (Exactly (step_punctuator s)) (Make (StepBehind (step_store s)) ∷ [])
+      joined depth depth (Part Primary ∷ []) (Make (PostfixIncrement (increment_store_op s)) ∷ []) [] [] []
+      (AVariable v ∷ [])
+      (AnExpr (Postfix (increment_store_op s) v) ∷ []) [] at there there
+      (item_done depth depth (Part Primary ∷ []) (Exactly (increment_punctuator s))
+      (Make (PostfixIncrement (increment_store_op s)) ∷ [])
       [] [] (AVariable v ∷ []) at now there
       (behind_past_name at now s v n fits item depth) (sign depth) (λ stack same. same))
-      (make_stands there depth (StepBehind (step_store s)) (AVariable v ∷ []) (AnExpr (Postfix (step_store s) v) ∷ [])
-      sound (behind_makes (step_store s) v)) (λ stack same. same);
+      (make_stands there depth (PostfixIncrement (increment_store_op s)) (AVariable v ∷ [])
+      (AnExpr (Postfix (increment_store_op s) v) ∷ [])
+      sound (behind_makes (increment_store_op s) v)) (λ stack same. same);
 }
 
 -- ++ or -- before a variable.
 
-before_choice : (s : Step) (after : Token) →
-    choice Unary (token.Punctuator (step_punctuator s)) after ≡
-    Some (Exactly (step_punctuator s) ∷ AName Mentioned ∷ Make (StepBefore (step_store s)) ∷ [])
-before_choice step.Up after = refl
-before_choice step.Down after = refl
+before_choice : (s : IncrementOp) (after : Token) →
+    choice Unary (token.Punctuator (increment_punctuator s)) after ≡
+    Some (Exactly (increment_punctuator s) ∷ AName Mentioned ∷ Make (PrefixIncrement (increment_store_op s)) ∷ [])
+before_choice step.Increment after = refl
+before_choice step.Decrement after = refl
 
-before_enters : (s : Step) (after : Token) → enters Unary (token.Punctuator (step_punctuator s)) after ≡ false
-before_enters step.Up after = refl
-before_enters step.Down after = refl
+before_enters : (s : IncrementOp) (after : Token) →
+    enters Unary (token.Punctuator (increment_punctuator s)) after ≡ false
+before_enters step.Increment after = refl
+before_enters step.Decrement after = refl
 
-before_stands : (at : Place) (s : Step) → is_punctuator (step_punctuator s) (next_at at).token ≡ true → (depth : ℕ) →
+before_stands : (at : Position) (s : IncrementOp) → is_punctuator (increment_punctuator s) (next_at at).token ≡ true →
+    (depth : ℕ) →
     Derives depth (Part Unary ∷ [])
-    (Exactly (step_punctuator s) ∷ AName Mentioned ∷ Make (StepBefore (step_store s)) ∷ []) [] [] at at
+    (Exactly (increment_punctuator s) ∷ AName Mentioned ∷ Make (PrefixIncrement (increment_store_op s)) ∷ []) [] [] at
+    at
 before_stands at s fits depth =
-    let t : (next_at at).token ≡ token.Punctuator (step_punctuator s) =
-    punctuator_is (step_punctuator s) (next_at at).token fits in
-    chosen at depth Unary (Exactly (step_punctuator s) ∷ AName Mentioned ∷ Make (StepBefore (step_store s)) ∷ []) []
+    let t : (next_at at).token ≡ token.Punctuator (increment_punctuator s) =
+    punctuator_is (increment_punctuator s) (next_at at).token fits in
+    chosen at depth Unary
+    (Exactly (increment_punctuator s) ∷ AName Mentioned ∷ Make (PrefixIncrement (increment_store_op s)) ∷ []) []
     (record {
-      sound = punctuator_sound (step_punctuator s) (next_at at).token fits;
+      sound = punctuator_sound (increment_punctuator s) (next_at at).token fits;
       is = λ after more. rw t (before_choice s after);
     }) (λ after more. rw t (before_enters s after))
 
-pub before_punctuator_ends : (used : ℕ) (at : Place) (s : Step) (more : Type 0) (f : ParseFault) →
-    is_punctuator (step_punctuator s) (next_at at).token ≡ true → Refused (StopsAt at) ⊥ used f →
+pub before_punctuator_ends : (used : ℕ) (at : Position) (s : IncrementOp) (more : Type 0) (f : ParseFault) →
+    is_punctuator (increment_punctuator s) (next_at at).token ≡ true → Refused (StopsAt at) ⊥ used f →
     Refused (FailsItem (Part Unary) at) more used f
 before_punctuator_ends used at s more f fits stop =
-    item_exit used (Part Unary) (Exactly (step_punctuator s)) (AName Mentioned ∷ Make (StepBefore (step_store s)) ∷ [])
+    item_exit used (Part Unary) (Exactly (increment_punctuator s))
+    (AName Mentioned ∷ Make (PrefixIncrement (increment_store_op s)) ∷ [])
     [] at at more f (before_stands at s fits) (λ depth stack same. same)
-    (punctuator_ends used at (step_punctuator s) f fits stop)
+    (punctuator_ends used at (increment_punctuator s) f fits stop)
 
-before_past_punctuator : (at now : Place) (s : Step) → is_punctuator (step_punctuator s) (next_at at).token ≡ true →
+before_past_punctuator : (at now : Position) (s : IncrementOp) →
+    is_punctuator (increment_punctuator s) (next_at at).token ≡ true →
     GoesPast at now → (depth : ℕ) →
-    Derives depth (Part Unary ∷ []) (AName Mentioned ∷ Make (StepBefore (step_store s)) ∷ []) [] [] at now
+    Derives depth (Part Unary ∷ []) (AName Mentioned ∷ Make (PrefixIncrement (increment_store_op s)) ∷ []) [] [] at now
 before_past_punctuator at now s fits goes depth =
-    item_done depth depth (Part Unary ∷ []) (Exactly (step_punctuator s))
-    (AName Mentioned ∷ Make (StepBefore (step_store s)) ∷ []) [] [] [] at at now
-    (before_stands at s fits depth) (punctuator_past at now (step_punctuator s) fits goes depth) (λ stack same. same)
+    item_done depth depth (Part Unary ∷ []) (Exactly (increment_punctuator s))
+    (AName Mentioned ∷ Make (PrefixIncrement (increment_store_op s)) ∷ []) [] [] [] at at now
+    (before_stands at s fits depth) (punctuator_past at now (increment_punctuator s) fits goes depth)
+    (λ stack same. same)
 
-pub before_name_ends : (used : ℕ) (at now : Place) (s : Step) (more : Type 0) (f : ParseFault) →
-    is_punctuator (step_punctuator s) (next_at at).token ≡ true → GoesPast at now →
+pub before_name_ends : (used : ℕ) (at now : Position) (s : IncrementOp) (more : Type 0) (f : ParseFault) →
+    is_punctuator (increment_punctuator s) (next_at at).token ≡ true → GoesPast at now →
     Refused (FailsItem (AName Mentioned) now) ⊥ used f → Refused (FailsItem (Part Unary) at) more used f
 before_name_ends used at now s more f fits goes =
-    item_exit used (Part Unary) (AName Mentioned) (Make (StepBefore (step_store s)) ∷ []) [] at now more f
+    item_exit used (Part Unary) (AName Mentioned) (Make (PrefixIncrement (increment_store_op s)) ∷ []) [] at now more f
     (before_past_punctuator at now s fits goes) (λ depth stack same. same)
 
 before_makes : (o : StoreOp) (v : Var) →
-    MakesOnly (StepBefore o) (AVariable v ∷ []) (AnExpr (Assign o v (Constant (pos 1))) ∷ [])
+    MakesOnly (PrefixIncrement o) (AVariable v ∷ []) (AnExpr (Assign o v (Constant (pos 1))) ∷ [])
 before_makes o v =
     record {
       makes = λ values. refl;
@@ -377,24 +398,26 @@ before_makes o v =
       defines = λ values scope. refl;
     }
 
-pub before_adds : (before a after : Meaning) (at now there : Place) (s : Step) (v : Var) →
-    is_punctuator (step_punctuator s) (next_at at).token ≡ true → GoesPast at now →
+pub before_adds : (before a after : Representation) (at now there : Position) (s : IncrementOp) (v : Var) →
+    is_punctuator (increment_punctuator s) (next_at at).token ≡ true → GoesPast at now →
     DerivesItem (AName Mentioned) [] (AVariable v ∷ []) now there → IsVariable 64 64 v →
     is_fault (next_at there).token ≡ false →
-    AppendsAll before a (PushConstant (pos 1) ∷ []) → AppendsAll a after (StoreVariable v (step_store s) ∷ []) →
+    AppendsAll before a (PushConstant (pos 1) ∷ []) → AppendsAll a after (StoreVariable v (increment_store_op s) ∷ []) →
     (depth : ℕ) → AddsExpr before after depth 11 (Part Unary ∷ []) [] at there
 before_adds before a after at now there s v fits goes item numbered sound first last depth = record {
-  tree = Assign (step_store s) v (Constant (pos 1));
+  tree = Assign (increment_store_op s) v (Constant (pos 1));
   numbered = (numbered, tt);
   narrow = omega arith;
-  added = appends_both before a after (PushConstant (pos 1) ∷ []) (StoreVariable v (step_store s) ∷ []) first last;
+  added = appends_both before a after (PushConstant (pos 1) ∷ []) (StoreVariable v (increment_store_op s) ∷ []) first
+      last;
   derives =
-      joined depth depth (Part Unary ∷ []) (Make (StepBefore (step_store s)) ∷ []) [] [] [] (AVariable v ∷ [])
-      (AnExpr (Assign (step_store s) v (Constant (pos 1))) ∷ []) [] at there there
-      (item_done depth depth (Part Unary ∷ []) (AName Mentioned) (Make (StepBefore (step_store s)) ∷ []) []
+      joined depth depth (Part Unary ∷ []) (Make (PrefixIncrement (increment_store_op s)) ∷ []) [] [] []
+      (AVariable v ∷ [])
+      (AnExpr (Assign (increment_store_op s) v (Constant (pos 1))) ∷ []) [] at there there
+      (item_done depth depth (Part Unary ∷ []) (AName Mentioned) (Make (PrefixIncrement (increment_store_op s)) ∷ []) []
       (AVariable v ∷ []) [] at now there
       (before_past_punctuator at now s fits goes depth) (item depth) (λ stack same. same))
-      (make_stands there depth (StepBefore (step_store s)) (AVariable v ∷ [])
-      (AnExpr (Assign (step_store s) v (Constant (pos 1))) ∷ []) sound (before_makes (step_store s) v))
+      (make_stands there depth (PrefixIncrement (increment_store_op s)) (AVariable v ∷ [])
+      (AnExpr (Assign (increment_store_op s) v (Constant (pos 1))) ∷ []) sound (before_makes (increment_store_op s) v))
       (λ stack same. same);
 }

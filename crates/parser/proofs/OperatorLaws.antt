@@ -11,19 +11,19 @@ use Rattle.arith.specs.declared.operators.Op.{Op}
 use Rattle.arith.specs.declared.operators.Op.TheVariants as op
 use Rattle.grammar.specs.declared.actions.Action.TheVariants.{ApplyBinop, LogicMiddle}
 use Rattle.grammar.specs.Actions.{expr_actions, middle}
-use Rattle.grammar.specs.Building.{Meaning, AppendsAll, MayFollow, MayFollowAll}
+use Rattle.grammar.specs.Building.{Representation, AppendsAll, MayFollow, MayFollowAll}
 use Rattle.grammar.specs.Derivation.{AnExpr}
 use Rattle.grammar.specs.Following.{Open, AValue, BeforeRight, Computed, Opened, Origin, open_count}
 use Rattle.grammar.specs.Grammar.{Exactly, Level, Make, Operate, Part, Tail, choice, is_fault, is_punctuator}
 use Rattle.grammar.specs.Nesting.{nesting, right_side}
 use Rattle.arith.specs.Op.{is_logic}
 use Rattle.grammar.specs.Operators.{if_at, operator_at}
-use Rattle.grammar.specs.declared.operators.Binary.{Binary as AnOperator}
+use Rattle.grammar.specs.declared.operators.BinaryOperator.{BinaryOperator as AnOperator}
 use Rattle.grammar.specs.Resolved.{InExpr}
 use Rattle.grammar.specs.Tree.{Binary, Expr}
 use Rattle.grammar.proofs.FollowingLaws.{Leads, act, chain, expr_leads, logic_itself, origin_of}
-use Rattle.parser.specs.Position.{Place, next_at}
-use Rattle.parser.specs.Room.{HasLeft, HasRoom, room}
+use Rattle.parser.specs.ScopedCursors.{Position, next_at}
+use Rattle.parser.specs.Room.{HasLeftSide, HasRoom, room}
 use Rattle.parser.specs.Segment.{Derives, FailsAt, FailsItem, GoesPast, Refused, StopsAt}
 use Rattle.parser.proofs.Segments.{fails_behind, joined, refused_map}
 use Rattle.parser.specs.Expressions.{AddsExpr, AddsOperand, FailsOperand}
@@ -44,7 +44,7 @@ record SpellsOperator (n : ℕ) (o : Op) (t : Token) : Type 0 where
 spells : (n : ℕ) (o : Op) (t : Token) → operator_at n t ≡ Some o → SpellsOperator n o t
 spells n o (token.Punctuator m) is = record { m = m; is = refl; choice_is = λ after. rw is refl; fits = same_self m }
 spells n o (token.Name name) is = absurd (cc)
-spells n o (token.Word word) is = absurd (cc)
+spells n o (token.Keyword word) is = absurd (cc)
 spells n o (token.Constant value) is = absurd (cc)
 spells n o token.End is = absurd (cc)
 spells n o (token.Fault lexical_error) is = absurd (cc)
@@ -52,7 +52,7 @@ spells n o (token.Fault lexical_error) is = absurd (cc)
 pub operator_sound : (n : ℕ) (o : Op) (t : Token) → operator_at n t ≡ Some o → is_fault t ≡ false
 operator_sound n o t is = let s : SpellsOperator n o t = spells n o t is in rw s.is refl
 
-operator_stands : (at : Place) (depth n : ℕ) (o : Op) (left : Expr) (s : SpellsOperator n o (next_at at).token) →
+operator_stands : (at : Position) (depth n : ℕ) (o : Op) (left : Expr) (s : SpellsOperator n o (next_at at).token) →
     Derives depth (Part (Tail n) ∷ []) (Exactly s.m ∷ Part (Level (n + 1)) ∷ Make (Operate o) ∷ Part (Tail n) ∷ [])
     (AnExpr left ∷ []) (AnExpr left ∷ []) at at
 operator_stands at depth n o left s =
@@ -61,7 +61,7 @@ operator_stands at depth n o left s =
     (record { sound = punctuator_sound s.m (next_at at).token s.fits; is = λ after more. s.choice_is after })
     (λ after more. refl)
 
-pub operator_ends : (used : ℕ) (at : Place) (depth n : ℕ) (o : Op) (more : Type 0) (f : ParseFault) →
+pub operator_ends : (used : ℕ) (at : Position) (depth n : ℕ) (o : Op) (more : Type 0) (f : ParseFault) →
     operator_at n (next_at at).token ≡ Some o → Refused (StopsAt at) ⊥ used f →
     Refused (FailsOperand depth n at) more used f
 operator_ends used at depth n o more f is stop = ended (spells n o (next_at at).token is) f stop
@@ -75,7 +75,7 @@ operator_ends used at depth n o more f is stop = ended (spells n o (next_at at).
         (operator_stands at depth n o left s) (λ stack same. same) (h depth)) (λ never. absurd never)
         (punctuator_ends used at s.m f s.fits stop)
 
-operator_past : (at now : Place) (depth n : ℕ) (o : Op) (left : Expr) → operator_at n (next_at at).token ≡ Some o →
+operator_past : (at now : Position) (depth n : ℕ) (o : Op) (left : Expr) → operator_at n (next_at at).token ≡ Some o →
     GoesPast at now →
     Derives depth (Part (Tail n) ∷ []) (Part (Level (n + 1)) ∷ Make (Operate o) ∷ Part (Tail n) ∷ []) (AnExpr left ∷ [])
     (AnExpr left ∷ []) at now
@@ -85,7 +85,7 @@ operator_past at now depth n o left is goes =
     (Part (Level (n + 1)) ∷ Make (Operate o) ∷ Part (Tail n) ∷ []) (AnExpr left ∷ []) [] (AnExpr left ∷ []) at at now
     (operator_stands at depth n o left s) (punctuator_past at now s.m s.fits goes depth) (λ stack same. same)
 
-pub right_refused : (used : ℕ) (at now : Place) (depth n : ℕ) (o : Op) (denied : Type 0) (f : ParseFault) →
+pub right_refused : (used : ℕ) (at now : Position) (depth n : ℕ) (o : Op) (denied : Type 0) (f : ParseFault) →
     operator_at n (next_at at).token ≡ Some o → GoesPast at now →
     Refused (FailsAt depth (Part (Level (n + 1)) ∷ []) [] now) denied used f →
     Refused (FailsOperand depth n at) denied used f
@@ -154,7 +154,7 @@ logic_level n o (token.Punctuator m) is logic = by_punctuator m is
     by_punctuator punctuator.Percent is = never 10 op.Remainder refl is
     by_punctuator m is = absurd (cc)
 logic_level n o (token.Name name) is logic = absurd (cc)
-logic_level n o (token.Word word) is logic = absurd (cc)
+logic_level n o (token.Keyword word) is logic = absurd (cc)
 logic_level n o (token.Constant value) is logic = absurd (cc)
 logic_level n o token.End is logic = absurd (cc)
 logic_level n o (token.Fault lexical_error) is logic = absurd (cc)
@@ -203,16 +203,16 @@ apply_leads o true is origin right outer opened small =
 apply_leads o false is origin right outer opened small =
     act (ApplyBinop o) _ (AValue Computed ∷ outer ∷ opened) (rw is refl) (omega arith)
 
-pub middle_follows : (before : Meaning) (depth n : ℕ) (o : Op) (t : Token) → operator_at n t ≡ Some o →
-    HasLeft before (room depth n) → MayFollowAll before (middle o)
+pub middle_follows : (before : Representation) (depth n : ℕ) (o : Op) (t : Token) → operator_at n t ≡ Some o →
+    HasLeftSide before (room depth n) → MayFollowAll before (middle o)
 middle_follows before depth n o t is h =
     let few : open_count (h.outer ∷ h.opened) + room depth n ≤ 200 = h.few in
     let less : right_side o + room depth (n + 1) ≤ room depth n = right_room depth n o t is in
     all_follow before (AValue h.origin ∷ h.outer ∷ h.opened) _ (middle o) h.stands
     (middle_leads o (is_logic o) refl h.origin h.outer h.opened (omega arith))
 
-pub right_has_room : (before now : Meaning) (depth n : ℕ) (o : Op) (t : Token) → operator_at n t ≡ Some o →
-    HasLeft before (room depth n) → AppendsAll before now (middle o) → HasRoom now (room depth (n + 1))
+pub right_has_room : (before now : Representation) (depth n : ℕ) (o : Op) (t : Token) → operator_at n t ≡ Some o →
+    HasLeftSide before (room depth n) → AppendsAll before now (middle o) → HasRoom now (room depth (n + 1))
 right_has_room before now depth n o t is h told =
     let few : open_count (h.outer ∷ h.opened) + room depth n ≤ 200 = h.few in
     let less : right_side o + room depth (n + 1) ≤ room depth n = right_room depth n o t is in
@@ -223,8 +223,8 @@ right_has_room before now depth n o t is h told =
     (right_open o (is_logic o) h.origin) (right_below (is_logic o) h.origin (h.outer ∷ h.opened)) h.stands told
     (middle_leads o (is_logic o) refl h.origin h.outer h.opened (omega arith)) (omega arith)
 
-pub apply_follows : (before told now : Meaning) (depth n : ℕ) (o : Op) (t : Token) (e : Expr) →
-    operator_at n t ≡ Some o → HasLeft before (room depth n) → AppendsAll before told (middle o) →
+pub apply_follows : (before told now : Representation) (depth n : ℕ) (o : Op) (t : Token) (e : Expr) →
+    operator_at n t ≡ Some o → HasLeftSide before (room depth n) → AppendsAll before told (middle o) →
     InExpr 64 64 64 e → nesting e ≤ room depth (n + 1) → AppendsAll told now (expr_actions e) →
     MayFollow now (ApplyBinop o)
 apply_follows before told now depth n o t e is h first numbered narrow second =
@@ -247,7 +247,7 @@ apply_follows before told now depth n o t e is h first numbered narrow second =
     (all_follow before (AValue h.origin ∷ h.outer ∷ h.opened) (AValue Computed ∷ h.outer ∷ h.opened)
     (middle o ++ (expr_actions e ++ ApplyBinop o ∷ [])) h.stands leads)))
 
-pub operand_adds : (before told mid after : Meaning) (at now there : Place) (depth n : ℕ) (o : Op) →
+pub operand_adds : (before told mid after : Representation) (at now there : Position) (depth n : ℕ) (o : Op) →
     operator_at n (next_at at).token ≡ Some o → GoesPast at now →
     AppendsAll before told (middle o) → AddsExpr told mid depth (n + 1) (Part (Level (n + 1)) ∷ []) [] now there →
     AppendsAll mid after (ApplyBinop o ∷ []) → is_fault (next_at there).token ≡ false →

@@ -6,43 +6,43 @@ use Rattle.tokens.specs.declared.located_tokens.LocatedToken.{LocatedToken}
 use Rattle.tokens.specs.declared.located_tokens.Punctuator.{Punctuator}
 use Rattle.tokens.specs.declared.located_tokens.Token.{Token}
 use Rattle.tokens.specs.declared.located_tokens.Token.TheVariants as token
-use Rattle.tokens.specs.declared.located_tokens.Word.{Word}
+use Rattle.tokens.specs.declared.located_tokens.Keyword.{Keyword}
 use Rattle.tokens.specs.contracts.located_tokens.Punctuator as punctuators
 use Rattle.tokens.specs.contracts.located_tokens.Word as words
 use denote.Enum.Bare.{same_true}
 use Rattle.grammar.specs.declared.diagnostics.Code.TheVariants as code
 use Rattle.grammar.specs.declared.diagnostics.ParseFault.TheVariants as refusal
 use Rattle.grammar.specs.Compiled.{diagnostic}
-use Rattle.grammar.specs.Derivation.{State, Value, Definition, behind_rule, defined, made, next_of, state}
+use Rattle.grammar.specs.Derivation.{State, Value, Definition, scope_after_action, functions_defined, trees_after, next_token, state}
 use Rattle.grammar.specs.Faults.{fault, item_faults, level_faults, levels, only_if}
-use Rattle.grammar.specs.Grammar.{AWord, Exactly, Item, Make, Part, SemanticAction, Close, Symbol, choice, is_fault, is_punctuator, is_word, enters}
+use Rattle.grammar.specs.Grammar.{AKeyword, Exactly, Item, Make, Part, SemanticAction, Close, Symbol, choice, is_fault, is_punctuator, is_keyword, enters}
 use Rattle.grammar.specs.Laws.Parsing.{Passes}
-use Rattle.grammar.specs.Limits.{most_levels}
+use Rattle.grammar.specs.NameLimits.{most_levels}
 use Rattle.grammar.specs.Profile.{Profile}
 use Rattle.grammar.specs.Scope.{Scope}
 use Rattle.grammar.proofs.Firsts.{too_deep, too_deep_word}
 use Rattle.grammar.proofs.Runs.{then}
 use Rattle.grammar.proofs.Steps.{make, punctuator, part, close, word}
-use Rattle.parser.specs.Position.{Place, next_at, scope_at}
+use Rattle.parser.specs.ScopedCursors.{Position, next_at, scope_at}
 use Rattle.parser.specs.Stopping.{Stop, stop_with}
 use Rattle.parser.specs.Segment.{Derives, FailsAt, GoesPast, StopsAt}
 use Rattle.parser.proofs.Segments.{Leads, fails_at_next, past, stand, stops}
-use Rattle.tokens.specs.Reading.{IsNearTo}
+use Rattle.tokens.specs.Cursors.{IsNearTo}
 
 -- Which token it is.
 
 pub punctuator_is : (m : Punctuator) (t : Token) → is_punctuator m t ≡ true → t ≡ token.Punctuator m
 punctuator_is m (token.Punctuator n) is = ap token.Punctuator (sym (same_true punctuators.the_type tt m n is))
 punctuator_is m (token.Name name) is = absurd (cc)
-punctuator_is m (token.Word word) is = absurd (cc)
+punctuator_is m (token.Keyword word) is = absurd (cc)
 punctuator_is m (token.Constant value) is = absurd (cc)
 punctuator_is m token.End is = absurd (cc)
 punctuator_is m (token.Fault lexical_error) is = absurd (cc)
 
-pub word_is : (w : Word) (t : Token) → is_word w t ≡ true → t ≡ token.Word w
+pub word_is : (w : Keyword) (t : Token) → is_keyword w t ≡ true → t ≡ token.Keyword w
 word_is w (token.Punctuator m) is = absurd (cc)
 word_is w (token.Name name) is = absurd (cc)
-word_is w (token.Word v) is = ap token.Word (sym (same_true words.the_type tt w v is))
+word_is w (token.Keyword v) is = ap token.Keyword (sym (same_true words.the_type tt w v is))
 word_is w (token.Constant value) is = absurd (cc)
 word_is w token.End is = absurd (cc)
 word_is w (token.Fault lexical_error) is = absurd (cc)
@@ -78,11 +78,11 @@ beyond opened n rest is large = rw (is, above n large) refl
 pub free_below : (depth : ℕ) (symbol : Symbol) (located_token : LocatedToken) → depth < 64 →
     IsFree depth symbol located_token
 free_below depth symbol located_token small stack rest depths =
-    within (enters symbol located_token.token (next_of rest)) (levels stack) (located_token ∷ rest) (rw depths small)
+    within (enters symbol located_token.token (next_token rest)) (levels stack) (located_token ∷ rest) (rw depths small)
 
 pub free_of : (depth : ℕ) (symbol : Symbol) (located_token : LocatedToken) →
     ((after : Token) → enters symbol located_token.token after ≡ false) → IsFree depth symbol located_token
-free_of depth symbol located_token none stack rest depths = rw (none (next_of rest)) refl
+free_of depth symbol located_token none stack rest depths = rw (none (next_token rest)) refl
 
 -- Productions.
 
@@ -97,46 +97,47 @@ part_leads : (located_token : LocatedToken) (depth : ℕ) (symbol : Symbol) (ite
 part_leads located_token depth symbol items trees known rest sound chosen free = record {
   passes =
       λ profile stack values functions depths. part profile symbol items stack (located_token ∷ rest) _ known functions
-      sound (chosen (next_of rest)) (free stack rest depths);
+      sound (chosen (next_token rest)) (free stack rest depths);
 }
 
-pub part_stands : (at : Place) (depth : ℕ) (symbol : Symbol) (items : List Item) (trees : List Value) →
+pub part_stands : (at : Position) (depth : ℕ) (symbol : Symbol) (items : List Item) (trees : List Value) →
     is_fault (next_at at).token ≡ false → Chooses symbol (next_at at).token items →
     IsFree depth symbol (next_at at) → Derives depth (Part symbol ∷ []) items trees trees at at
 part_stands at depth symbol items trees sound chosen free =
     stand at depth (Part symbol ∷ []) items trees trees
     (λ tail b. part_leads (next_at at) depth symbol items trees (scope_at at) tail sound chosen free)
 
-word_leads : (located_token : LocatedToken) (depth : ℕ) (symbol : Symbol) (w : Word) (items : List Item)
+word_leads : (located_token : LocatedToken) (depth : ℕ) (symbol : Symbol) (w : Keyword) (items : List Item)
     (trees : List Value) (known : Scope) (rest : List LocatedToken) → is_fault located_token.token ≡ false →
-    Chooses symbol located_token.token (AWord w ∷ items) → is_word w located_token.token ≡ true →
+    Chooses symbol located_token.token (AKeyword w ∷ items) → is_keyword w located_token.token ≡ true →
     IsFree depth symbol located_token →
     Leads depth (Part symbol ∷ []) items trees trees known known (located_token ∷ rest) rest
 word_leads located_token depth symbol w items trees known rest sound chosen fits free = record {
   passes = λ profile stack values functions depths.
       then profile _ _ _
-      (part profile symbol (AWord w ∷ items) stack (located_token ∷ rest) _ known functions sound
-      (chosen (next_of rest)) (free stack rest depths))
+      (part profile symbol (AKeyword w ∷ items) stack (located_token ∷ rest) _ known functions sound
+      (chosen (next_token rest)) (free stack rest depths))
       (word profile w _ (located_token ∷ rest) _ known functions sound fits);
 }
 
-pub word_past : (at there : Place) (depth : ℕ) (symbol : Symbol) (w : Word) (items : List Item) (trees : List Value) →
+pub word_past : (at there : Position) (depth : ℕ) (symbol : Symbol) (w : Keyword) (items : List Item)
+    (trees : List Value) →
     is_fault (next_at at).token ≡ false →
-    Chooses symbol (next_at at).token (AWord w ∷ items) → is_word w (next_at at).token ≡ true →
+    Chooses symbol (next_at at).token (AKeyword w ∷ items) → is_keyword w (next_at at).token ≡ true →
     IsFree depth symbol (next_at at) → GoesPast at there →
     Derives depth (Part symbol ∷ []) items trees trees at there
 word_past at there depth symbol w items trees sound chosen fits free goes =
-    past at.position.reading (scope_at at) (scope_at at) at.to_come there depth (Part symbol ∷ []) items trees trees
+    past at.lookahead.cursor (scope_at at) (scope_at at) at.to_come there depth (Part symbol ∷ []) items trees trees
     goes
     (λ rest b. word_leads (next_at at) depth symbol w items trees (scope_at at) rest sound chosen fits free)
 
-pub word_stops : (at : Place) (d : Stop) (depth : ℕ) (symbol : Symbol) (w : Word) (items : List Item)
+pub word_stops : (at : Position) (d : Stop) (depth : ℕ) (symbol : Symbol) (w : Keyword) (items : List Item)
     (trees : List Value) → is_fault (next_at at).token ≡ false →
-    Chooses symbol (next_at at).token (AWord w ∷ items) → is_word w (next_at at).token ≡ true →
+    Chooses symbol (next_at at).token (AKeyword w ∷ items) → is_keyword w (next_at at).token ≡ true →
     IsFree depth symbol (next_at at) → StopsAt at d →
     FailsAt depth (Part symbol ∷ []) trees at d
 word_stops at d depth symbol w items trees sound chosen fits free stop =
-    stops at.position.reading (scope_at at) (scope_at at) at.to_come d depth (Part symbol ∷ []) items trees trees
+    stops at.lookahead.cursor (scope_at at) (scope_at at) at.to_come d depth (Part symbol ∷ []) items trees trees
     (λ rest b. word_leads (next_at at) depth symbol w items trees (scope_at at) rest sound chosen fits free) stop
 
 punctuator_leads : (located_token : LocatedToken) (depth : ℕ) (symbol : Symbol) (m : Punctuator) (items : List Item)
@@ -148,45 +149,46 @@ punctuator_leads located_token depth symbol m items trees known rest sound chose
   passes = λ profile stack values functions depths.
       then profile _ _ _
       (part profile symbol (Exactly m ∷ items) stack (located_token ∷ rest) _ known functions sound
-      (chosen (next_of rest)) (free stack rest depths))
+      (chosen (next_token rest)) (free stack rest depths))
       (punctuator profile m _ (located_token ∷ rest) _ known functions sound fits);
 }
 
-pub punctuator_past : (at there : Place) (depth : ℕ) (symbol : Symbol) (m : Punctuator) (items : List Item)
+pub punctuator_past : (at there : Position) (depth : ℕ) (symbol : Symbol) (m : Punctuator) (items : List Item)
     (trees : List Value) → is_fault (next_at at).token ≡ false →
     Chooses symbol (next_at at).token (Exactly m ∷ items) → is_punctuator m (next_at at).token ≡ true →
     IsFree depth symbol (next_at at) → GoesPast at there →
     Derives depth (Part symbol ∷ []) items trees trees at there
 punctuator_past at there depth symbol m items trees sound chosen fits free goes =
-    past at.position.reading (scope_at at) (scope_at at) at.to_come there depth (Part symbol ∷ []) items trees trees
+    past at.lookahead.cursor (scope_at at) (scope_at at) at.to_come there depth (Part symbol ∷ []) items trees trees
     goes
     (λ rest b. punctuator_leads (next_at at) depth symbol m items trees (scope_at at) rest sound chosen fits free)
 
-pub punctuator_stops : (at : Place) (d : Stop) (depth : ℕ) (symbol : Symbol) (m : Punctuator) (items : List Item)
+pub punctuator_stops : (at : Position) (d : Stop) (depth : ℕ) (symbol : Symbol) (m : Punctuator) (items : List Item)
     (trees : List Value) → is_fault (next_at at).token ≡ false →
     Chooses symbol (next_at at).token (Exactly m ∷ items) → is_punctuator m (next_at at).token ≡ true →
     IsFree depth symbol (next_at at) → StopsAt at d →
     FailsAt depth (Part symbol ∷ []) trees at d
 punctuator_stops at d depth symbol m items trees sound chosen fits free stop =
-    stops at.position.reading (scope_at at) (scope_at at) at.to_come d depth (Part symbol ∷ []) items trees trees
+    stops at.lookahead.cursor (scope_at at) (scope_at at) at.to_come d depth (Part symbol ∷ []) items trees trees
     (λ rest b. punctuator_leads (next_at at) depth symbol m items trees (scope_at at) rest sound chosen fits free) stop
 
 -- A level beyond the last one.
 
-pub word_too_deep : (at : Place) (n : ℕ) (near : IsNearTo at.position.reading n) (depth : ℕ) (symbol : Symbol)
-    (w : Word) (items : List Item) (trees : List Value) → is_fault (next_at at).token ≡ false →
-    Chooses symbol (next_at at).token (AWord w ∷ items) → is_word w (next_at at).token ≡ true →
+pub word_too_deep : (at : Position) (n : ℕ) (near : IsNearTo at.lookahead.cursor n) (depth : ℕ) (symbol : Symbol)
+    (w : Keyword) (items : List Item) (trees : List Value) → is_fault (next_at at).token ≡ false →
+    Chooses symbol (next_at at).token (AKeyword w ∷ items) → is_keyword w (next_at at).token ≡ true →
     ((after : Token) → enters symbol (next_at at).token after ≡ true) → 64 ≤ depth →
     FailsAt depth (Part symbol ∷ []) trees at
     (stop_with (refusal.Source (diagnostic (next_at at).line code.NestedTooDeeply)) n)
 word_too_deep at n near depth symbol w items trees sound chosen fits opened deep =
     fails_at_next depth (Part symbol ∷ []) trees at _ n near (λ tail b profile stack values functions depths.
-    too_deep_word profile symbol w items stack (next_at at) tail _ (scope_at at) functions sound (chosen (next_of tail))
+    too_deep_word profile symbol w items stack (next_at at) tail _ (scope_at at) functions sound
+    (chosen (next_token tail))
     fits
-    (beyond (enters symbol (next_at at).token (next_of tail)) (levels stack) (next_at at ∷ tail)
-    (opened (next_of tail)) (rw depths deep)))
+    (beyond (enters symbol (next_at at).token (next_token tail)) (levels stack) (next_at at ∷ tail)
+    (opened (next_token tail)) (rw depths deep)))
 
-pub punctuator_too_deep : (at : Place) (n : ℕ) (near : IsNearTo at.position.reading n) (depth : ℕ) (symbol : Symbol)
+pub punctuator_too_deep : (at : Position) (n : ℕ) (near : IsNearTo at.lookahead.cursor n) (depth : ℕ) (symbol : Symbol)
     (m : Punctuator) (items : List Item) (trees : List Value) → is_fault (next_at at).token ≡ false →
     Chooses symbol (next_at at).token (Exactly m ∷ items) → is_punctuator m (next_at at).token ≡ true →
     ((after : Token) → enters symbol (next_at at).token after ≡ true) → 64 ≤ depth →
@@ -194,17 +196,18 @@ pub punctuator_too_deep : (at : Place) (n : ℕ) (near : IsNearTo at.position.re
     (stop_with (refusal.Source (diagnostic (next_at at).line code.NestedTooDeeply)) n)
 punctuator_too_deep at n near depth symbol m items trees sound chosen fits opened deep =
     fails_at_next depth (Part symbol ∷ []) trees at _ n near (λ tail b profile stack values functions depths.
-    too_deep profile symbol m items stack (next_at at) tail _ (scope_at at) functions sound (chosen (next_of tail)) fits
-    (beyond (enters symbol (next_at at).token (next_of tail)) (levels stack) (next_at at ∷ tail)
-    (opened (next_of tail)) (rw depths deep)))
+    too_deep profile symbol m items stack (next_at at) tail _ (scope_at at) functions sound (chosen (next_token tail))
+    fits
+    (beyond (enters symbol (next_at at).token (next_token tail)) (levels stack) (next_at at ∷ tail)
+    (opened (next_token tail)) (rw depths deep)))
 
 -- Trees.
 
 -- a rule that makes these trees of those, and nothing else
 pub record MakesOnly (rule : SemanticAction) (taken left : List Value) : Type 0 where
-  pub makes : (values : List Value) → made rule (taken ++ values) ≡ left ++ values
-  pub learns : (scope : Scope) → behind_rule rule scope ≡ scope
-  pub defines : (values : List Value) (scope : Scope) → defined rule values scope ≡ []
+  pub makes : (values : List Value) → trees_after rule (taken ++ values) ≡ left ++ values
+  pub learns : (scope : Scope) → scope_after_action rule scope ≡ scope
+  pub defines : (values : List Value) (scope : Scope) → functions_defined rule values scope ≡ []
   pub clean : (profile : Profile) (stack : List Item) (rest : List LocatedToken) (values : List Value) (scope : Scope)
       (functions : List Definition) →
       item_faults profile (Make rule ∷ stack) rest values scope functions ≡ []
@@ -214,8 +217,8 @@ pub make_leads : (located_token : LocatedToken) (depth : ℕ) (rule : SemanticAc
     Leads depth (Make rule ∷ []) [] taken left known known (located_token ∷ rest) (located_token ∷ rest)
 make_leads located_token depth rule taken left known rest sound m = record {
   passes = λ profile stack values functions depths.
-      let same : state stack (located_token ∷ rest) (made rule (taken ++ values)) (behind_rule rule known)
-      (functions ++ defined rule (taken ++ values) known) ≡
+      let same : state stack (located_token ∷ rest) (trees_after rule (taken ++ values)) (scope_after_action rule known)
+      (functions ++ functions_defined rule (taken ++ values) known) ≡
       state stack (located_token ∷ rest) (left ++ values) known functions =
       rw (m.makes values, m.learns known, m.defines (taken ++ values) known, append-nil functions) refl in
       subst
@@ -225,7 +228,7 @@ make_leads located_token depth rule taken left known rest sound m = record {
       (m.clean profile stack (located_token ∷ rest) (taken ++ values) known functions));
 }
 
-pub make_stands : (at : Place) (depth : ℕ) (rule : SemanticAction) (taken left : List Value) →
+pub make_stands : (at : Position) (depth : ℕ) (rule : SemanticAction) (taken left : List Value) →
     is_fault (next_at at).token ≡ false → MakesOnly rule taken left → Derives depth (Make rule ∷ []) [] taken left at at
 make_stands at depth rule taken left sound m =
     stand at depth (Make rule ∷ []) [] taken left
@@ -240,7 +243,7 @@ close_leads located_token depth trees known rest sound =
           λ profile stack values functions depths. close profile stack (located_token ∷ rest) _ known functions sound;
     }
 
-pub close_stands : (at : Place) (depth : ℕ) (trees : List Value) → is_fault (next_at at).token ≡ false →
+pub close_stands : (at : Position) (depth : ℕ) (trees : List Value) → is_fault (next_at at).token ≡ false →
     Derives depth (Close ∷ []) [] trees trees at at
 close_stands at depth trees sound =
     stand at depth (Close ∷ []) [] trees trees (λ tail b. close_leads (next_at at) depth trees (scope_at at) tail sound)

@@ -2,7 +2,7 @@
 use Rattle.std.proofs.Common.{◌≡◌, ℕ, ◌+◌, ◌≤◌, drop, length, List, [], ◌∷◌, ◌++◌, refl, sym, ap, ◌∙◌, subst, Bool, true, false, append_assoc, arith}
 use Rattle.std.specs.Prelude.{Option, Some, None, cond}
 use Rattle.std.specs.Option.{option_map}
-use Rattle.tokens.specs.Reading.{IsNear, Reading, reach, undecided_reach_of, reach_of, shown, taken, IsNearTo}
+use Rattle.tokens.specs.Cursors.{IsNear, Cursor, reach, undecided_reach_of, reach_of, shown, bytes_taken, IsNearTo}
 use Rattle.tokens.specs.Tokens.{is_last, followed_by, tokens}
 use Rattle.tokens.specs.declared.located_tokens.LocatedToken.{LocatedToken}
 use Rattle.tokens.specs.declared.located_tokens.Token.{Token}
@@ -10,148 +10,151 @@ use Rattle.grammar.specs.declared.diagnostics.Diagnostic.{Diagnostic}
 use Rattle.grammar.specs.declared.diagnostics.ParseFault.{ParseFault}
 use Rattle.grammar.specs.declared.diagnostics.ParseFault.TheVariants as refusal
 use Rattle.grammar.specs.Compiled.{diagnostic}
-use Rattle.grammar.specs.Derivation.{State, run, state, Value, Definition, next_of, line_of}
+use Rattle.grammar.specs.Derivation.{State, derived, state, Value, Definition, next_token, line_at}
 use Rattle.grammar.specs.Faults.{misfit_code, levels}
 use Rattle.grammar.specs.Grammar.{Item, is_fault}
 use Rattle.grammar.specs.Laws.Parsing.{Fails, IsFault, Passes}
 use Rattle.grammar.specs.Profile.{Profile}
 use Rattle.grammar.specs.Scope.{Scope, no_names}
-use Rattle.grammar.proofs.Runs.{then, back, here, later, run-add}
+use Rattle.grammar.proofs.Runs.{then, back, here, later, derived-add}
 use Rattle.grammar.proofs.Firsts.{at_fault, at_rest, run_keeps}
 use Rattle.tokens.proofs.ReadingLemmas.{open-within}
 use Rattle.parser.proofs.StrictEnds.{reach_limited}
-use Rattle.parser.specs.Position.{Position, Place, place, GoesOn, tokens_at, next_at, after_at, scope_at}
-use Rattle.parser.specs.Stopping.{IfSource, NoneBefore, Stop, Stops, StopsInside, most_taken, stop_with}
+use Rattle.parser.specs.ScopedCursors.{Lookahead, Position, position_of, MayContinue, tokens_at, next_at, after_at, scope_at}
+use Rattle.parser.specs.Stopping.{IfSource, NoFaultBefore, Stop, Stops, StopsInside, most_taken, stop_with}
 use Rattle.parser.specs.Segment.{Derives, FailsAt, FailsItem, GoesPast, HasLexicalError, Refused, StopsAt, StopsAtFirst, TakesTokens}
 
 -- The tokens at a place.
 
 -- the token behind the next one, where the next isn't the last
-pub record IsBehind (r : Reading) (tail : List LocatedToken) : Type 0 where
+pub record IsBehind (r : Cursor) (tail : List LocatedToken) : Type 0 where
   pub others : List LocatedToken
   pub is : is_last r.next.token ≡ false → tail ≡ r.after ∷ others
 
 -- the tokens begin with the next one
-pub record Begins (r : Reading) (located_tokens : List LocatedToken) : Type 0 where
+pub record Begins (r : Cursor) (located_tokens : List LocatedToken) : Type 0 where
   pub tail : List LocatedToken
   pub is : located_tokens ≡ r.next ∷ tail
-  pub behind : IsBehind r tail
+  pub window : IsBehind r tail
 
-pub next_behind : (at : Place) (tail : List LocatedToken) → IsBehind at.position.reading tail →
-    is_last (next_at at).token ≡ false → next_of tail ≡ after_at at
-next_behind at tail b more = ap next_of (b.is more)
+pub next_behind : (at : Position) (tail : List LocatedToken) → IsBehind at.lookahead.cursor tail →
+    is_last (next_at at).token ≡ false → next_token tail ≡ after_at at
+next_behind at tail b more = ap next_token (b.is more)
 
 -- tokens, if there are any behind this one
 abbrev until_last : Token → List LocatedToken → List LocatedToken
 until_last t others = cond (is_last t) [] others
 
-pub goes_begins : (at : Place) (rest : List LocatedToken) → GoesOn at rest → Begins at.position.reading rest
+pub goes_begins : (at : Position) (rest : List LocatedToken) → MayContinue at rest → Begins at.lookahead.cursor rest
 goes_begins at rest g = record {
-  tail = until_last (next_at at).token (followed_by at.position.reading.after g.behind);
+  tail = until_last (next_at at).token (followed_by at.lookahead.cursor.after g.window);
   is = g.is;
-  behind = record { others = until_last at.position.reading.after.token g.behind; is = λ more. rw more refl };
+  window = record { others = until_last at.lookahead.cursor.after.token g.window; is = λ more. rw more refl };
 }
 
 some_same : {A : Type 0} → (x y : A) → Some x ≡ Some y → x ≡ y
 some_same x y e = cc
 
-goes_told : (position : Position) (more : Option (List ℕ)) (located_tokens : List LocatedToken) →
-    shown position.reading more ≡ Some located_tokens → GoesOn (place position more) located_tokens
+goes_told : (position : Lookahead) (more : Option (List ℕ)) (located_tokens : List LocatedToken) →
+    shown position.cursor more ≡ Some located_tokens → MayContinue (position_of position more) located_tokens
 goes_told position None located_tokens e = absurd (cc)
-goes_told position (Some bytes) located_tokens e = record { behind = _; is = sym (some_same _ _ e) }
+goes_told position (Some bytes) located_tokens e = record { window = _; is = sym (some_same _ _ e) }
 
 -- tokens that are told are such as the place may have
-pub told_goes : (at : Place) (located_tokens : List LocatedToken) → tokens_at at ≡ Some located_tokens →
-    GoesOn at located_tokens
+pub told_goes : (at : Position) (located_tokens : List LocatedToken) → tokens_at at ≡ Some located_tokens →
+    MayContinue at located_tokens
 told_goes at located_tokens e =
-    let g : GoesOn (place at.position at.to_come) located_tokens = goes_told at.position at.to_come located_tokens e in
-    record { behind = g.behind; is = g.is }
+    let g : MayContinue (position_of at.lookahead at.to_come) located_tokens =
+    goes_told at.lookahead at.to_come located_tokens e in
+    record { window = g.window; is = g.is }
 
-pub told_begins : (at : Place) (located_tokens : List LocatedToken) → tokens_at at ≡ Some located_tokens →
-    Begins at.position.reading located_tokens
+pub told_begins : (at : Position) (located_tokens : List LocatedToken) → tokens_at at ≡ Some located_tokens →
+    Begins at.lookahead.cursor located_tokens
 told_begins at located_tokens e = goes_begins at located_tokens (told_goes at located_tokens e)
 
 -- Steps of the derivation.
 
 -- these items in front, with these trees on top and these names known, pass to those, whatever stands below and behind
-pub record Leads (depth : ℕ) (front pending : List Item) (taken left : List Value) (known learnt : Scope)
+pub record Leads (depth : ℕ) (front pending : List Item) (bytes_taken left : List Value) (known learnt : Scope)
     (located_tokens rest : List LocatedToken) : Type 0 where
   pub passes : (profile : Profile) (stack : List Item) (values : List Value) (functions : List Definition) →
       levels stack ≡ depth →
-      Passes profile (state (front ++ stack) located_tokens (taken ++ values) known functions)
+      Passes profile (state (front ++ stack) located_tokens (bytes_taken ++ values) known functions)
       (state (pending ++ stack) rest (left ++ values) learnt functions)
 
 -- no token is passed
-pub stand : (at : Place) (depth : ℕ) (front pending : List Item) (taken left : List Value) →
-    ((tail : List LocatedToken) → IsBehind at.position.reading tail →
-    Leads depth front pending taken left (scope_at at) (scope_at at) (next_at at ∷ tail) (next_at at ∷ tail)) →
-    Derives depth front pending taken left at at
-stand at depth front pending taken left leads = record {
+pub stand : (at : Position) (depth : ℕ) (front pending : List Item) (bytes_taken left : List Value) →
+    ((tail : List LocatedToken) → IsBehind at.lookahead.cursor tail →
+    Leads depth front pending bytes_taken left (scope_at at) (scope_at at) (next_at at ∷ tail) (next_at at ∷ tail)) →
+    Derives depth front pending bytes_taken left at at
+stand at depth front pending bytes_taken left leads = record {
   consumed = [];
   told = λ located_tokens is. record { rest = located_tokens; is = refl; shows = is };
   follows = λ rest g. g;
   passes = λ rest g profile stack values functions depths.
-      let b : Begins at.position.reading rest = goes_begins at rest g in
+      let b : Begins at.lookahead.cursor rest = goes_begins at rest g in
       subst
-      (λ (ls : List LocatedToken). Passes profile (state (front ++ stack) ls (taken ++ values) (scope_at at) functions)
+      (λ (ls : List LocatedToken). Passes profile
+      (state (front ++ stack) ls (bytes_taken ++ values) (scope_at at) functions)
       (state (pending ++ stack) ls (left ++ values) (scope_at at) functions))
-      (sym b.is) ((leads b.tail b.behind).passes profile stack values functions depths);
+      (sym b.is) ((leads b.tail b.window).passes profile stack values functions depths);
 }
 
 -- nothing happens
-pub stay : (at : Place) (depth : ℕ) (front : List Item) (taken : List Value) →
-    Derives depth front front taken taken at at
-stay at depth front taken =
-    stand at depth front front taken taken
+pub stay : (at : Position) (depth : ℕ) (front : List Item) (bytes_taken : List Value) →
+    Derives depth front front bytes_taken bytes_taken at at
+stay at depth front bytes_taken =
+    stand at depth front front bytes_taken bytes_taken
     (λ tail b. record { passes = λ profile stack values functions depths. here profile _ })
 
-with_scope : Reading → Scope → Option (List ℕ) → Place
-with_scope reading scope more = place (record { reading = reading; scope = scope }) more
+with_scope : Cursor → Scope → Option (List ℕ) → Position
+with_scope cursor scope more = position_of (record { cursor = cursor; scope = scope }) more
 
-behind_past : (reading : Reading) (learnt : Scope) (more : Option (List ℕ)) (there : Place) →
-    GoesPast (place (record { reading = reading; scope = learnt }) more) there →
-    (rest : List LocatedToken) → GoesOn there rest → IsBehind reading rest
-behind_past reading learnt more there goes rest g = record {
-  others = until_last reading.after.token (followed_by there.position.reading.after g.behind);
+behind_past : (cursor : Cursor) (learnt : Scope) (more : Option (List ℕ)) (there : Position) →
+    GoesPast (position_of (record { cursor = cursor; scope = learnt }) more) there →
+    (rest : List LocatedToken) → MayContinue there rest → IsBehind cursor rest
+behind_past cursor learnt more there goes rest g = record {
+  others = until_last cursor.after.token (followed_by there.lookahead.cursor.after g.window);
   is = λ last. g.is ∙ rw goes.next refl;
 }
 
-follows_past : (reading : Reading) (known learnt : Scope) (more : Option (List ℕ)) (there : Place) →
-    GoesPast (place (record { reading = reading; scope = learnt }) more) there →
-    (rest : List LocatedToken) → GoesOn there rest →
-    GoesOn (place (record { reading = reading; scope = known }) more) (reading.next ∷ rest)
-follows_past reading known learnt more there goes rest g =
-    let last : is_last reading.next.token ≡ false = goes.more in
+follows_past : (cursor : Cursor) (known learnt : Scope) (more : Option (List ℕ)) (there : Position) →
+    GoesPast (position_of (record { cursor = cursor; scope = learnt }) more) there →
+    (rest : List LocatedToken) → MayContinue there rest →
+    MayContinue (position_of (record { cursor = cursor; scope = known }) more) (cursor.next ∷ rest)
+follows_past cursor known learnt more there goes rest g =
+    let last : is_last cursor.next.token ≡ false = goes.more in
     record {
-      behind = followed_by there.position.reading.after g.behind;
-      is = rw last (ap (λ (ls : List LocatedToken). reading.next ∷ ls) (g.is ∙ rw goes.next refl));
+      window = followed_by there.lookahead.cursor.after g.window;
+      is = rw last (ap (λ (ls : List LocatedToken). cursor.next ∷ ls) (g.is ∙ rw goes.next refl));
     }
 
-takes_past : (reading : Reading) (known learnt : Scope) (more : Option (List ℕ)) (there : Place) →
-    GoesPast (place (record { reading = reading; scope = learnt }) more) there →
+takes_past : (cursor : Cursor) (known learnt : Scope) (more : Option (List ℕ)) (there : Position) →
+    GoesPast (position_of (record { cursor = cursor; scope = learnt }) more) there →
     (located_tokens : List LocatedToken) →
-    tokens_at (place (record { reading = reading; scope = known }) more) ≡ Some located_tokens →
-    TakesTokens (reading.next ∷ []) located_tokens there
-takes_past reading known learnt more there goes located_tokens is =
-    let b : Begins reading located_tokens =
-    told_begins (place (record { reading = reading; scope = known }) more) located_tokens is in
-    record { rest = b.tail; is = b.is; shows = goes.told reading.next b.tail (is ∙ ap Some b.is) }
+    tokens_at (position_of (record { cursor = cursor; scope = known }) more) ≡ Some located_tokens →
+    TakesTokens (cursor.next ∷ []) located_tokens there
+takes_past cursor known learnt more there goes located_tokens is =
+    let b : Begins cursor located_tokens =
+    told_begins (position_of (record { cursor = cursor; scope = known }) more) located_tokens is in
+    record { rest = b.tail; is = b.is; shows = goes.told cursor.next b.tail (is ∙ ap Some b.is) }
 
 -- one token is passed, behind which these names are known
-pub past : (reading : Reading) (known learnt : Scope) (more : Option (List ℕ)) (there : Place) (depth : ℕ)
-    (front pending : List Item) (taken left : List Value) →
-    GoesPast (place (record { reading = reading; scope = learnt }) more) there →
-    ((rest : List LocatedToken) → IsBehind reading rest →
-    Leads depth front pending taken left known learnt (reading.next ∷ rest) rest) →
-    Derives depth front pending taken left (place (record { reading = reading; scope = known }) more) there
-past reading known learnt more there depth front pending taken left goes leads = record {
-  consumed = reading.next ∷ [];
-  told = takes_past reading known learnt more there goes;
-  follows = follows_past reading known learnt more there goes;
+pub past : (cursor : Cursor) (known learnt : Scope) (more : Option (List ℕ)) (there : Position) (depth : ℕ)
+    (front pending : List Item) (bytes_taken left : List Value) →
+    GoesPast (position_of (record { cursor = cursor; scope = learnt }) more) there →
+    ((rest : List LocatedToken) → IsBehind cursor rest →
+    Leads depth front pending bytes_taken left known learnt (cursor.next ∷ rest) rest) →
+    Derives depth front pending bytes_taken left (position_of (record { cursor = cursor; scope = known }) more) there
+past cursor known learnt more there depth front pending bytes_taken left goes leads = record {
+  consumed = cursor.next ∷ [];
+  told = takes_past cursor known learnt more there goes;
+  follows = follows_past cursor known learnt more there goes;
   passes = λ rest g profile stack values functions depths.
-      let b : IsBehind reading rest = behind_past reading learnt more there goes rest g in
+      let b : IsBehind cursor rest = behind_past cursor learnt more there goes rest g in
       subst
-      (λ (s : Scope). Passes profile (state (front ++ stack) (reading.next ∷ rest) (taken ++ values) known functions)
+      (λ (s : Scope). Passes profile
+      (state (front ++ stack) (cursor.next ∷ rest) (bytes_taken ++ values) known functions)
       (state (pending ++ stack) rest (left ++ values) s functions))
       (sym goes.scope) ((leads rest b).passes profile stack values functions depths);
 }
@@ -159,17 +162,17 @@ past reading known learnt more there depth front pending taken left goes leads =
 -- Where a reading stops.
 
 -- behind these there is none before
-pub none_before : (profile : Profile) (s : State) → NoneBefore profile s s.rest
+pub none_before : (profile : Profile) (s : State) → NoFaultBefore profile s s.rest
 none_before profile s = record {
   each =
       λ f is. subst (λ (ls : List LocatedToken). length ls ≤ length s.rest)
-      (sym (at_rest profile f (run is.steps s) is.here)) (run_keeps is.steps s);
+      (sym (at_rest profile f (derived is.steps s) is.here)) (run_keeps is.steps s);
 }
 
 -- it stops at the next token
 pub stops_here : (profile : Profile) (s : State) (stop : Stop) → IfSource stop.fault (Fails profile s) →
     stop.taken ≤ most_taken stop.fault s.rest → Stops profile s stop
-stops_here profile s stop fails taken = record {
+stops_here profile s stop fails bytes_taken = record {
   passed = [];
   rest = s.rest;
   is = refl;
@@ -177,7 +180,7 @@ stops_here profile s stop fails taken = record {
   comes = refl;
   none_before = none_before profile s;
   fails = fails;
-  taken = taken;
+  taken = bytes_taken;
 }
 
 fails_back : (profile : Profile) (s t : State) (f : ParseFault) → Passes profile s t → IfSource f (Fails profile t) →
@@ -187,7 +190,7 @@ fails_back profile s t refusal.Device p h = tt
 fails_back profile s t refusal.Memory p h = tt
 
 pub none_back : (profile : Profile) (s t : State) (rest : List LocatedToken) → Passes profile s t →
-    NoneBefore profile t rest → NoneBefore profile s rest
+    NoFaultBefore profile t rest → NoFaultBefore profile s rest
 none_back profile s t rest p h = record {
   each =
       λ f from. h.each f
@@ -195,8 +198,9 @@ none_back profile s t rest p h = record {
 }
 
 -- the state so many steps behind a segment
-pub run_behind : (profile : Profile) (s t : State) (n : ℕ) (p : Passes profile s t) → run (p.steps + n) s ≡ run n t
-run_behind profile s t n p = run-add p.steps n s ∙ ap (λ (v : State). run n v) p.leads
+pub run_behind : (profile : Profile) (s t : State) (n : ℕ) (p : Passes profile s t) →
+    derived (p.steps + n) s ≡ derived n t
+run_behind profile s t n p = derived-add p.steps n s ∙ ap (λ (v : State). derived n v) p.leads
 
 -- where it stops goes back along a segment without faults
 pub stops_back : (profile : Profile) (s t : State) (stop : Stop) (consumed : List LocatedToken) →
@@ -216,7 +220,7 @@ stops_back profile s t stop consumed is p h = record {
 
 pub functions_here : (profile : Profile) (s : State) (stop : Stop) (fails : IfSource stop.fault (Fails profile s))
     (few : stop.taken ≤ most_taken stop.fault s.rest) →
-    (run (stops_here profile s stop fails few).steps s).functions ≡ s.functions
+    (derived (stops_here profile s stop fails few).steps s).functions ≡ s.functions
 unfolding stops_here
 functions_here profile s stop fails few = refl
 
@@ -228,7 +232,7 @@ inside_here profile s stop fails few =
 -- the functions defined there are the same
 pub functions_back : (profile : Profile) (s t : State) (stop : Stop) (consumed : List LocatedToken)
     (is : s.rest ≡ consumed ++ t.rest) (p : Passes profile s t) (h : Stops profile t stop) →
-    (run (stops_back profile s t stop consumed is p h).steps s).functions ≡ (run h.steps t).functions
+    (derived (stops_back profile s t stop consumed is p h).steps s).functions ≡ (derived h.steps t).functions
 unfolding stops_back
 functions_back profile s t stop consumed is p h = ap (λ (v : State). v.functions) (run_behind profile s t h.steps p)
 
@@ -247,67 +251,69 @@ reach_told_at : (next after : LocatedToken) (others located_tokens : List Locate
 reach_told_at next after others located_tokens true e is = rw (is, e) refl
 reach_told_at next after others located_tokens false e is = rw (is, e) refl
 
-pub reach_told : (at : Place) (located_tokens : List LocatedToken) → tokens_at at ≡ Some located_tokens →
-    reach at.position.reading ≡ reach_of located_tokens
+pub reach_told : (at : Position) (located_tokens : List LocatedToken) → tokens_at at ≡ Some located_tokens →
+    reach at.lookahead.cursor ≡ reach_of located_tokens
 reach_told at located_tokens is =
-    let g : GoesOn at located_tokens = told_goes at located_tokens is in
+    let g : MayContinue at located_tokens = told_goes at located_tokens is in
     sym
-    (reach_told_at (next_at at) at.position.reading.after g.behind located_tokens (is_last (next_at at).token) refl
+    (reach_told_at (next_at at) at.lookahead.cursor.after g.window located_tokens (is_last (next_at at).token) refl
     g.is)
 
-pub near_told : (at : Place) (located_tokens : List LocatedToken) (used : ℕ) → tokens_at at ≡ Some located_tokens →
-    IsNearTo at.position.reading used → used ≤ reach_of located_tokens + 4096
+pub near_told : (at : Position) (located_tokens : List LocatedToken) (used : ℕ) → tokens_at at ≡ Some located_tokens →
+    IsNearTo at.lookahead.cursor used → used ≤ reach_of located_tokens + 4096
 near_told at located_tokens used is near = subst (λ (k : ℕ). used ≤ k + 4096) (reach_told at located_tokens is) near
 
 -- the first fault stands at the next token
-pub fails_at_next : (depth : ℕ) (front : List Item) (taken : List Value) (at : Place) (d : Diagnostic) (n : ℕ) →
-    IsNearTo at.position.reading n →
-    ((tail : List LocatedToken) → IsBehind at.position.reading tail →
+pub fails_at_next : (depth : ℕ) (front : List Item) (bytes_taken : List Value) (at : Position) (d : Diagnostic) (n : ℕ)
+    →
+    IsNearTo at.lookahead.cursor n →
+    ((tail : List LocatedToken) → IsBehind at.lookahead.cursor tail →
     (profile : Profile) (stack : List Item) (values : List Value) (functions : List Definition) →
     levels stack ≡ depth →
-    Fails profile (state (front ++ stack) (next_at at ∷ tail) (taken ++ values) (scope_at at) functions) d) →
-    FailsAt depth front taken at (stop_with (refusal.Source d) n)
-fails_at_next depth front taken at d n near fails located_tokens is profile stack values functions depths =
-    let b : Begins at.position.reading located_tokens = told_begins at located_tokens is in
+    Fails profile (state (front ++ stack) (next_at at ∷ tail) (bytes_taken ++ values) (scope_at at) functions) d) →
+    FailsAt depth front bytes_taken at (stop_with (refusal.Source d) n)
+fails_at_next depth front bytes_taken at d n near fails located_tokens is profile stack values functions depths =
+    let b : Begins at.lookahead.cursor located_tokens = told_begins at located_tokens is in
     let bound : n ≤ reach_of located_tokens + 4096 = near_told at located_tokens n is near in
-    let here : Fails profile (state (front ++ stack) located_tokens (taken ++ values) (scope_at at) functions) d =
-    rw b.is (fails b.tail b.behind profile stack values functions depths) in
-    inside_here profile (state (front ++ stack) located_tokens (taken ++ values) (scope_at at) functions)
+    let here : Fails profile (state (front ++ stack) located_tokens (bytes_taken ++ values) (scope_at at) functions) d =
+    rw b.is (fails b.tail b.window profile stack values functions depths) in
+    inside_here profile (state (front ++ stack) located_tokens (bytes_taken ++ values) (scope_at at) functions)
     (stop_with (refusal.Source d) n) here bound
 
 -- the token behind the one that was passed is a fault, or the device failed
-pub stops : (reading : Reading) (known learnt : Scope) (more : Option (List ℕ)) (d : Stop) (depth : ℕ)
-    (front pending : List Item) (taken left : List Value) →
-    ((rest : List LocatedToken) → IsBehind reading rest →
-    Leads depth front pending taken left known learnt (reading.next ∷ rest) rest) →
-    StopsAt (place (record { reading = reading; scope = learnt }) more) d →
-    FailsAt depth front taken (place (record { reading = reading; scope = known }) more) d
-stops reading known learnt more d depth front pending taken left leads stop located_tokens is profile stack values
+pub stops : (cursor : Cursor) (known learnt : Scope) (more : Option (List ℕ)) (d : Stop) (depth : ℕ)
+    (front pending : List Item) (bytes_taken left : List Value) →
+    ((rest : List LocatedToken) → IsBehind cursor rest →
+    Leads depth front pending bytes_taken left known learnt (cursor.next ∷ rest) rest) →
+    StopsAt (position_of (record { cursor = cursor; scope = learnt }) more) d →
+    FailsAt depth front bytes_taken (position_of (record { cursor = cursor; scope = known }) more) d
+stops cursor known learnt more d depth front pending bytes_taken left leads stop located_tokens is profile stack values
     functions depths =
-    let b : Begins reading located_tokens =
-    told_begins (place (record { reading = reading; scope = known }) more) located_tokens is in
-    let behind : b.tail ≡ reading.after ∷ b.behind.others = b.behind.is stop.more in
+    let b : Begins cursor located_tokens =
+    told_begins (position_of (record { cursor = cursor; scope = known }) more) located_tokens is in
+    let behind : b.tail ≡ cursor.after ∷ b.window.others = b.window.is stop.more in
     let t : State = state (pending ++ stack) b.tail (left ++ values) learnt functions in
     let fails : IfSource d.fault (Fails profile t) =
-    lexical_error_fails d.fault b.tail b.behind.others behind stop.lexical_error in
-    let last : d.taken ≤ most_taken d.fault b.tail = stop.taken reading.next b.tail (is ∙ ap Some b.is) in
-    rw b.is (inside_back profile (state (front ++ stack) (reading.next ∷ b.tail) (taken ++ values) known functions) t d
-    (reading.next ∷ []) refl refl
-    ((leads b.tail b.behind).passes profile stack values functions depths) (inside_here profile t d fails last))
+    lexical_error_fails d.fault b.tail b.window.others behind stop.lexical_error in
+    let last : d.taken ≤ most_taken d.fault b.tail = stop.taken cursor.next b.tail (is ∙ ap Some b.is) in
+    rw b.is (inside_back profile (state (front ++ stack) (cursor.next ∷ b.tail) (bytes_taken ++ values) known functions)
+    t d
+    (cursor.next ∷ []) refl refl
+    ((leads b.tail b.window).passes profile stack values functions depths) (inside_here profile t d fails last))
   where
-    lexical_error_fails : (f : ParseFault) (tail others : List LocatedToken) → tail ≡ reading.after ∷ others →
-        IfSource f (HasLexicalError (place (record { reading = reading; scope = learnt }) more)) →
+    lexical_error_fails : (f : ParseFault) (tail others : List LocatedToken) → tail ≡ cursor.after ∷ others →
+        IfSource f (HasLexicalError (position_of (record { cursor = cursor; scope = learnt }) more)) →
         IfSource f (Fails profile (state (pending ++ stack) tail (left ++ values) learnt functions))
     lexical_error_fails refusal.Device tail others behind h = tt
     lexical_error_fails refusal.Memory tail others behind h = tt
     lexical_error_fails (refusal.Source e) tail others behind h =
-        let same : e ≡ diagnostic (line_of tail) (misfit_code (next_of tail)) = h.is ∙ rw behind refl in
-        let lexical_error : is_fault (next_of tail) ≡ true = rw behind h.lexical_error in
+        let same : e ≡ diagnostic (line_at tail) (misfit_code (next_token tail)) = h.is ∙ rw behind refl in
+        let lexical_error : is_fault (next_token tail) ≡ true = rw behind h.lexical_error in
         rw same (at_fault profile _ tail _ learnt functions lexical_error)
 
 -- Segments one behind another.
 
-takes_join : (first second located_tokens : List LocatedToken) (between there : Place)
+takes_join : (first second located_tokens : List LocatedToken) (between there : Position)
     (t : TakesTokens first located_tokens between) → TakesTokens second t.rest there →
     TakesTokens (first ++ second) located_tokens there
 takes_join first second located_tokens between there t u = record {
@@ -317,19 +323,19 @@ takes_join first second located_tokens between there t u = record {
 }
 
 -- the second over more items and trees
-pub joined : (depth inner : ℕ) (front mid pending below : List Item) (taken between left under : List Value)
-    (at now there : Place) →
-    Derives depth front (mid ++ below) taken (between ++ under) at now →
+pub joined : (depth inner : ℕ) (front mid pending below : List Item) (bytes_taken between left under : List Value)
+    (at now there : Position) →
+    Derives depth front (mid ++ below) bytes_taken (between ++ under) at now →
     Derives inner mid pending between left now there →
     ((stack : List Item) → levels stack ≡ depth → levels (below ++ stack) ≡ inner) →
-    Derives depth front (pending ++ below) taken (left ++ under) at there
-joined depth inner front mid pending below taken between left under at now there a b opens = record {
+    Derives depth front (pending ++ below) bytes_taken (left ++ under) at there
+joined depth inner front mid pending below bytes_taken between left under at now there a b opens = record {
   consumed = a.consumed ++ b.consumed;
   told = λ located_tokens is.
       let t : TakesTokens a.consumed located_tokens now = a.told located_tokens is in
       takes_join a.consumed b.consumed located_tokens now there t (b.told t.rest t.shows);
   follows =
-      λ rest g. subst (λ (ls : List LocatedToken). GoesOn at ls) (sym (append_assoc a.consumed b.consumed rest))
+      λ rest g. subst (λ (ls : List LocatedToken). MayContinue at ls) (sym (append_assoc a.consumed b.consumed rest))
       (a.follows _ (b.follows rest g));
   passes = λ rest g profile stack values functions depths.
       rw (append_assoc a.consumed b.consumed rest)
@@ -345,9 +351,11 @@ joined depth inner front mid pending below taken between left under at now there
 }
 
 -- a fault behind a segment
-pub fails_then : (depth : ℕ) (front mid : List Item) (taken between : List Value) (at now : Place) (d : Stop) →
-    Derives depth front mid taken between at now → FailsAt depth mid between now d → FailsAt depth front taken at d
-fails_then depth front mid taken between at now d a fails located_tokens is profile stack values functions depths =
+pub fails_then : (depth : ℕ) (front mid : List Item) (bytes_taken between : List Value) (at now : Position) (d : Stop) →
+    Derives depth front mid bytes_taken between at now → FailsAt depth mid between now d →
+    FailsAt depth front bytes_taken at d
+fails_then depth front mid bytes_taken between at now d a fails located_tokens is profile stack values functions depths
+    =
     let t : TakesTokens a.consumed located_tokens now = a.told located_tokens is in
     rw t.is
     (inside_back profile _ _ d a.consumed refl refl
@@ -355,39 +363,41 @@ fails_then depth front mid taken between at now d a fails located_tokens is prof
     (fails t.rest t.shows profile stack values functions depths))
 
 -- the same fault, over more items and trees
-pub under_more : (depth inner : ℕ) (front below : List Item) (taken beneath : List Value) (at : Place) (d : Stop) →
+pub under_more : (depth inner : ℕ) (front below : List Item) (bytes_taken beneath : List Value) (at : Position)
+    (d : Stop) →
     ((stack : List Item) → levels stack ≡ depth → levels (below ++ stack) ≡ inner) →
-    FailsAt inner front taken at d → FailsAt depth (front ++ below) (taken ++ beneath) at d
-under_more depth inner front below taken beneath at d opens fails located_tokens is profile stack values functions
+    FailsAt inner front bytes_taken at d → FailsAt depth (front ++ below) (bytes_taken ++ beneath) at d
+under_more depth inner front below bytes_taken beneath at d opens fails located_tokens is profile stack values functions
     depths =
-    rw (append_assoc front below stack, append_assoc taken beneath values)
+    rw (append_assoc front below stack, append_assoc bytes_taken beneath values)
     (fails located_tokens is profile (below ++ stack) (beneath ++ values) functions (opens stack depths))
 
 -- a fault behind a segment, over more items and trees
-pub fails_behind : (depth inner : ℕ) (front mid below : List Item) (taken between under : List Value) (at now : Place)
+pub fails_behind : (depth inner : ℕ) (front mid below : List Item) (bytes_taken between under : List Value)
+    (at now : Position)
     (d : Stop) →
-    Derives depth front (mid ++ below) taken (between ++ under) at now →
+    Derives depth front (mid ++ below) bytes_taken (between ++ under) at now →
     ((stack : List Item) → levels stack ≡ depth → levels (below ++ stack) ≡ inner) →
-    FailsAt inner mid between now d → FailsAt depth front taken at d
-fails_behind depth inner front mid below taken between under at now d a opens fails =
-    fails_then depth front (mid ++ below) taken (between ++ under) at now d a
+    FailsAt inner mid between now d → FailsAt depth front bytes_taken at d
+fails_behind depth inner front mid below bytes_taken between under at now d a opens fails =
+    fails_then depth front (mid ++ below) bytes_taken (between ++ under) at now d a
     (under_more depth inner mid below between under now d opens fails)
 
 -- A builder was refused memory.
 
 -- at this place
-pub halts_here : (depth : ℕ) (front : List Item) (taken : List Value) (at : Place) (n : ℕ) →
-    IsNearTo at.position.reading n → FailsAt depth front taken at (stop_with refusal.Memory n)
-halts_here depth front taken at n near located_tokens is profile stack values functions depths =
-    inside_here profile (state (front ++ stack) located_tokens (taken ++ values) (scope_at at) functions)
+pub halts_here : (depth : ℕ) (front : List Item) (bytes_taken : List Value) (at : Position) (n : ℕ) →
+    IsNearTo at.lookahead.cursor n → FailsAt depth front bytes_taken at (stop_with refusal.Memory n)
+halts_here depth front bytes_taken at n near located_tokens is profile stack values functions depths =
+    inside_here profile (state (front ++ stack) located_tokens (bytes_taken ++ values) (scope_at at) functions)
     (stop_with refusal.Memory n) tt (near_told at located_tokens n is near)
 
 -- behind a segment
-pub halts : (depth : ℕ) (front mid : List Item) (taken between : List Value) (at now : Place) (n : ℕ) →
-    Derives depth front mid taken between at now → IsNearTo now.position.reading n →
-    FailsAt depth front taken at (stop_with refusal.Memory n)
-halts depth front mid taken between at now n d near =
-    fails_then depth front mid taken between at now (stop_with refusal.Memory n) d
+pub halts : (depth : ℕ) (front mid : List Item) (bytes_taken between : List Value) (at now : Position) (n : ℕ) →
+    Derives depth front mid bytes_taken between at now → IsNearTo now.lookahead.cursor n →
+    FailsAt depth front bytes_taken at (stop_with refusal.Memory n)
+halts depth front mid bytes_taken between at now n d near =
+    fails_then depth front mid bytes_taken between at now (stop_with refusal.Memory n) d
     (halts_here depth mid between now n near)
 
 -- Refusals.
@@ -399,25 +409,27 @@ refused_map n P Q denied more refusal.Device each memory h = each (stop_with ref
 refused_map n P Q denied more refusal.Memory each memory h = (memory h.0, each (stop_with refusal.Memory n) h.1)
 
 -- a refusal of a callee behind a segment is one of the caller's
-pub exit : (n : ℕ) (depth inner : ℕ) (front mid below : List Item) (taken between under : List Value) (at now : Place)
+pub exit : (n : ℕ) (depth inner : ℕ) (front mid below : List Item) (bytes_taken between under : List Value)
+    (at now : Position)
     (denied more : Type 0) (f : ParseFault) →
-    Derives depth front (mid ++ below) taken (between ++ under) at now →
+    Derives depth front (mid ++ below) bytes_taken (between ++ under) at now →
     ((stack : List Item) → levels stack ≡ depth → levels (below ++ stack) ≡ inner) →
     (denied → more) → Refused (FailsAt inner mid between now) denied n f →
-    Refused (FailsAt depth front taken at) more n f
-exit n depth inner front mid below taken between under at now denied more f a opens memory =
-    refused_map n _ _ denied more f (λ d. fails_behind depth inner front mid below taken between under at now d a opens)
+    Refused (FailsAt depth front bytes_taken at) more n f
+exit n depth inner front mid below bytes_taken between under at now denied more f a opens memory =
+    refused_map n _ _ denied more f
+    (λ d. fails_behind depth inner front mid below bytes_taken between under at now d a opens)
     memory
 
 -- of one that matches an item
 pub exit_item : (n : ℕ) (depth inner : ℕ) (front : List Item) (item : Item) (below : List Item)
-    (taken under : List Value) (at now : Place) (more : Type 0) (f : ParseFault) →
-    Derives depth front (item ∷ below) taken under at now →
+    (bytes_taken under : List Value) (at now : Position) (more : Type 0) (f : ParseFault) →
+    Derives depth front (item ∷ below) bytes_taken under at now →
     ((stack : List Item) → levels stack ≡ depth → levels (below ++ stack) ≡ inner) →
-    Refused (FailsItem item now) ⊥ n f → Refused (FailsAt depth front taken at) more n f
-exit_item n depth inner front item below taken under at now more f a opens =
-    refused_map n (FailsItem item now) (FailsAt depth front taken at) ⊥ more f
-    (λ d h. fails_behind depth inner front (item ∷ []) below taken [] under at now d a opens (h inner))
+    Refused (FailsItem item now) ⊥ n f → Refused (FailsAt depth front bytes_taken at) more n f
+exit_item n depth inner front item below bytes_taken under at now more f a opens =
+    refused_map n (FailsItem item now) (FailsAt depth front bytes_taken at) ⊥ more f
+    (λ d h. fails_behind depth inner front (item ∷ []) below bytes_taken [] under at now d a opens (h inner))
     (λ never. absurd never)
 
 -- At the first token.
@@ -445,23 +457,24 @@ no_opening (Some bytes) told' h =
     }
 
 -- the first token is a fault
-pub opens_at_lexical_error : (reading : Reading) (told told' : Option (List ℕ)) →
-    shown reading told' ≡ option_map tokens told → told' ≡ option_map (drop (taken reading)) told → IsNear reading →
-    taken reading ≤ 1048577 →
-    is_fault reading.next.token ≡ true →
-    StopsAtFirst told told' (refusal.Source (diagnostic reading.next.line (misfit_code reading.next.token)))
-opens_at_lexical_error reading told told' shows took near limited lexical_error = record {
-  taken = taken reading;
+pub opens_at_lexical_error : (cursor : Cursor) (told told' : Option (List ℕ)) →
+    shown cursor told' ≡ option_map tokens told → told' ≡ option_map (drop (bytes_taken cursor)) told → IsNear cursor →
+    bytes_taken cursor ≤ 1048577 →
+    is_fault cursor.next.token ≡ true →
+    StopsAtFirst told told' (refusal.Source (diagnostic cursor.next.line (misfit_code cursor.next.token)))
+opens_at_lexical_error cursor told told' shows took near limited lexical_error = record {
+  taken = bytes_taken cursor;
   took = λ bytes e. took ∙ rw e refl;
   limited = limited;
   refused = record {
     lexical_error = λ located_tokens e.
-        let b : Begins reading located_tokens = told_begins at located_tokens (shows ∙ e) in
+        let b : Begins cursor located_tokens = told_begins at located_tokens (shows ∙ e) in
         (rw b.is lexical_error, rw b.is refl);
     taken =
-        λ located_tokens e. subst (λ (k : ℕ). taken reading ≤ k + 4096) (reach_told at located_tokens (shows ∙ e)) near;
+        λ located_tokens e. subst (λ (k : ℕ). bytes_taken cursor ≤ k + 4096) (reach_told at located_tokens (shows ∙ e))
+        near;
   };
 }
   where
-    at : Place
-    at = place (record { reading = reading; scope = no_names }) told'
+    at : Position
+    at = position_of (record { cursor = cursor; scope = no_names }) told'

@@ -1,16 +1,16 @@
 -- Tokens end strictly one behind the other, but for the source's end, and none stands behind the last.
 use Rattle.std.proofs.Common.{◌≡◌, ℕ, zero, suc, ◌+◌, ◌<◌, ◌≤◌, Bool, true, false, cond, List, [], ◌∷◌, ◌++◌, length, take, refl, ap, arith, subst, length-take}
 use Rattle.tokens.specs.Ends.{AllEndBy}
-use Rattle.tokens.specs.Reading.{reach_of}
+use Rattle.tokens.specs.Cursors.{reach_of}
 use Rattle.tokens.specs.Source.{source}
-use Rattle.tokens.specs.Front.{Front, Nothing, Space, Unclosed, Sign, front}
-use Rattle.tokens.specs.Tokens.{Ahead, passed, at_end, last_located_token, is_last, cut, cut_front, located_tokens, from_start, tokens}
+use Rattle.tokens.specs.Front.{Front, Nothing, Space, Unclosed, Lexeme, front}
+use Rattle.tokens.specs.Tokens.{Ahead, ahead_after, at_end, last_located_token, is_last, tokens_within, tokens_of_front, located_tokens, ahead_of_source, tokens}
 use Rattle.tokens.specs.declared.located_tokens.LexicalError.TheVariants.{CommentNotClosed}
 use Rattle.tokens.specs.declared.located_tokens.Token.TheVariants as variant
 use Rattle.tokens.specs.declared.located_tokens.LocatedToken.{LocatedToken}
-use Rattle.tokens.proofs.EndLemmas.{IsInside, cut-by, front-inside, over, place-inside}
+use Rattle.tokens.proofs.EndLemmas.{IsInside, tokens_within-by, front-inside, over, place-inside}
 use Rattle.tokens.proofs.LocatedTokensLemmas.{IsPiece, front-is_piece, here}
-use Rattle.tokens.proofs.TakenLemmas.{place-passed}
+use Rattle.tokens.proofs.TakenLemmas.{place-ahead_after}
 use Rattle.grammar.specs.Derivation.{is_end}
 
 -- each token ends behind this place and behind the one ahead of it, the source's end perhaps with it; the last is last
@@ -27,40 +27,40 @@ cut_sooner p q (x ∷ xs) h r = (omega (arith, h, r.0), ((λ other. omega (arith
 -- The last token.
 
 -- the source's end
-closing_end : (place line : ℕ) (end : Ahead) → place ≤ end.place →
+closing_end : (place line : ℕ) (end : Ahead) → place ≤ end.position →
     IsCut place (last_located_token variant.End line end ∷ [])
 closing_end place line end h = by end.too_long
   where
-    by : (t : Bool) → IsCut place (last_located_token variant.End line (here end.line end.place end.bytes t) ∷ [])
+    by : (t : Bool) → IsCut place (last_located_token variant.End line (here end.line end.position end.bytes t) ∷ [])
     by true = (omega (arith, h), ((λ other. omega (arith, h)), ((λ last. refl), tt)))
     by false = (h, ((λ other. absurd (cc)), ((λ last. refl), tt)))
 
 -- a comment that is open there, of which something was passed
-closing_open : (place line : ℕ) (end : Ahead) → place < end.place →
+closing_open : (place line : ℕ) (end : Ahead) → place < end.position →
     IsCut place (last_located_token (variant.Fault CommentNotClosed) line end ∷ [])
 closing_open place line end h = by end.too_long
   where
     by : (t : Bool) →
         IsCut place
-        (last_located_token (variant.Fault CommentNotClosed) line (here end.line end.place end.bytes t) ∷ [])
+        (last_located_token (variant.Fault CommentNotClosed) line (here end.line end.position end.bytes t) ∷ [])
     by true = (omega (arith, h), ((λ other. omega (arith, h)), ((λ last. refl), tt)))
     by false = (omega (arith, h), ((λ other. h), ((λ last. refl), tt)))
 
 -- All tokens.
 
 cut_strictly : (n line place : ℕ) (bytes : List ℕ) (too_long : Bool) →
-    IsCut place (cut n (here line place bytes too_long))
+    IsCut place (tokens_within n (here line place bytes too_long))
 cut_strictly zero line place bytes t = tt
 cut_strictly (suc n) line place [] t =
-    closing_end place line (at_end (here line place [] t)) (place-passed 0 (here line place [] t))
+    closing_end place line (at_end (here line place [] t)) (place-ahead_after 0 (here line place [] t))
 cut_strictly (suc n) line place (b ∷ bytes) t =
     by (front (b ∷ bytes)) (front-inside (b ∷ bytes)) (front-is_piece (b ∷ bytes)) (λ count.
-    let p = passed count a in cut_strictly n p.line p.place p.bytes p.too_long)
+    let p = ahead_after count a in cut_strictly n p.line p.position p.bytes p.too_long)
   where
     a : Ahead
     a = here line place (b ∷ bytes) t
 
-    end_is : (at_end a).place ≡ place + length (b ∷ bytes)
+    end_is : (at_end a).position ≡ place + length (b ∷ bytes)
     end_is = place-inside (length (b ∷ bytes)) a (omega arith)
 
     followed : (last : Bool) (p : ℕ) (xs : List LocatedToken) → IsCut p xs → IsCut p (cond last [] xs)
@@ -71,18 +71,19 @@ cut_strictly (suc n) line place (b ∷ bytes) t =
     alone last xs e = rw e refl
 
     by : (f : Front) → IsInside (b ∷ bytes) f → IsPiece f →
-        ((count : ℕ) → IsCut (passed count a).place (cut n (passed count a))) → IsCut place (cut_front f a (cut n))
+        ((count : ℕ) → IsCut (ahead_after count a).position (tokens_within n (ahead_after count a))) →
+        IsCut place (tokens_of_front f a (tokens_within n))
     by Nothing i p h = closing_end place line (at_end a) (omega (arith, end_is))
     by Unclosed i p h = closing_open place line (at_end a) (omega (arith, end_is))
-    by (Space count) i p h = cut_sooner _ _ _ (place-passed count a) (h count)
-    by (Sign sign count) i p h = (
+    by (Space count) i p h = cut_sooner _ _ _ (place-ahead_after count a) (h count)
+    by (Lexeme sign count) i p h = (
       omega arith,
       (
         (λ other. omega (arith, p)),
         (
           (λ last. alone (is_last sign) _ last),
           followed (is_last sign) (place + count) _
-              (subst (λ (q : ℕ). IsCut q (cut n (passed count a))) (place-inside count a i) (h count)),
+              (subst (λ (q : ℕ). IsCut q (tokens_within n (ahead_after count a))) (place-inside count a i) (h count)),
         ),
       ),
     )
@@ -90,17 +91,17 @@ cut_strictly (suc n) line place (b ∷ bytes) t =
 pub tokens_cut : (bytes : List ℕ) → IsCut 0 (tokens bytes)
 unfolding tokens located_tokens
 tokens_cut bytes =
-    let a = from_start (source bytes) in
-    cut_strictly (suc (length a.bytes)) a.line a.place a.bytes a.too_long
+    let a = ahead_of_source (source bytes) in
+    cut_strictly (suc (length a.bytes)) a.line a.position a.bytes a.too_long
 
 -- The tokens behind some of them.
 
 pub record IsCutBehind (rest : List LocatedToken) : Type 0 where
-  pub place : ℕ
-  pub is : IsCut place rest
+  pub position : ℕ
+  pub is : IsCut position rest
 
 pub cut_behind : (place : ℕ) (before rest : List LocatedToken) → IsCut place (before ++ rest) → IsCutBehind rest
-cut_behind place [] rest h = record { place = place; is = h }
+cut_behind place [] rest h = record { position = place; is = h }
 cut_behind place (x ∷ before) rest h = cut_behind x.end before rest h.1.1.1
 
 -- No token ends behind the longest source and one byte more.
@@ -113,10 +114,11 @@ reach_by limit (x ∷ y ∷ xs) h = h.1.0
 pub reach_limited : (bytes : List ℕ) → reach_of (tokens bytes) ≤ 1048577
 unfolding tokens located_tokens
 reach_limited bytes =
-    let a = from_start (source bytes) in
-    reach_by 1048577 (cut (suc (length a.bytes)) a) (cut-by (suc (length a.bytes)) 1048577 a (within a.too_long refl))
+    let a = ahead_of_source (source bytes) in
+    reach_by 1048577 (tokens_within (suc (length a.bytes)) a)
+    (tokens_within-by (suc (length a.bytes)) 1048577 a (within a.too_long refl))
   where
-    within : (t : Bool) → (from_start (source bytes)).too_long ≡ t →
-        0 + length (take 1048576 (source bytes)) + over (from_start (source bytes)).too_long ≤ 1048577
+    within : (t : Bool) → (ahead_of_source (source bytes)).too_long ≡ t →
+        0 + length (take 1048576 (source bytes)) + over (ahead_of_source (source bytes)).too_long ≤ 1048577
     within true e = omega (arith, length-take 1048576 (source bytes), ap over e)
     within false e = omega (arith, length-take 1048576 (source bytes), ap over e)

@@ -1,7 +1,7 @@
 -- Which actions may follow what a builder stands for.
 use Rattle.std.proofs.Common.{ℕ, ◌+◌, ◌≤◌, List, [], ◌∷◌, ◌++◌, refl, ◌∙◌, arith}
 use Rattle.grammar.specs.declared.actions.Action.{Action}
-use Rattle.grammar.specs.Building.{Meaning, AppendsAll, MayFollow, MayFollowAll, StandsOpen}
+use Rattle.grammar.specs.Building.{Representation, AppendsAll, MayFollow, MayFollowAll, LeavesOpen}
 use Rattle.grammar.specs.Following.{Open, AValue, Opened, open_count}
 use Rattle.grammar.specs.Tree.{Args, NoMore, Argument}
 use Rattle.grammar.proofs.Beginnings.{follows_begins}
@@ -10,13 +10,13 @@ use Rattle.grammar.proofs.StandingLaws.{stands_then, may_first, may_then}
 use Rattle.parser.specs.Room.{HasRoom}
 
 -- one behind others that were told
-pub next_follows : (before now : Meaning) (acts : List Action) (action : Action) (more : List Action) →
+pub next_follows : (before now : Representation) (acts : List Action) (action : Action) (more : List Action) →
     MayFollowAll before (acts ++ action ∷ more) → AppendsAll before now acts → MayFollow now action
 next_follows before now acts action more f told =
     may_first now action more (may_then before now acts (action ∷ more) told f)
 
 -- actions that lead on from what is open
-pub all_follow : (before : Meaning) (opened next : Opened) (more : List Action) → StandsOpen before opened →
+pub all_follow : (before : Representation) (opened next : Opened) (more : List Action) → LeavesOpen before opened →
     Leads more opened next → MayFollowAll before more
 all_follow before opened next more s leads = record {
   profile = s.profile;
@@ -26,15 +26,16 @@ all_follow before opened next more s leads = record {
 }
 
 -- room for less
-pub room_within : (before : Meaning) (m n : ℕ) → HasRoom before n → m ≤ n → HasRoom before m
+pub room_within : (before : Representation) (m n : ℕ) → HasRoom before n → m ≤ n → HasRoom before m
 room_within before m n h less = record { outer = h.outer; opened = h.opened; stands = h.stands; few = few }
   where
     few : open_count (h.outer ∷ h.opened) + m ≤ 200
     few = let most : open_count (h.outer ∷ h.opened) + n ≤ 200 = h.few in omega arith
 
 -- room behind actions
-pub room_behind : (before now : Meaning) (n : ℕ) (acts : List Action) (opened : Opened) (inner : Open) (next : Opened) →
-    StandsOpen before opened → AppendsAll before now acts →
+pub room_behind : (before now : Representation) (n : ℕ) (acts : List Action) (opened : Opened) (inner : Open)
+    (next : Opened) →
+    LeavesOpen before opened → AppendsAll before now acts →
     Leads acts opened (inner ∷ next) → open_count (inner ∷ next) + n ≤ 200 → HasRoom now n
 room_behind before now n acts opened inner next s told leads small = record {
   outer = inner;
@@ -44,8 +45,8 @@ room_behind before now n acts opened inner next s told leads small = record {
 }
 
 -- room behind the values of arguments
-pub room_behind_args : (now : Meaning) (n : ℕ) (args : Args) (outer : Open) (o : Opened) →
-    StandsOpen now (pushed args (outer ∷ o)) → open_count (outer ∷ o) + n ≤ 200 → HasRoom now n
+pub room_behind_args : (now : Representation) (n : ℕ) (args : Args) (outer : Open) (o : Opened) →
+    LeavesOpen now (pushed args (outer ∷ o)) → open_count (outer ∷ o) + n ≤ 200 → HasRoom now n
 room_behind_args now n NoMore outer o s small = record { outer = outer; opened = o; stands = s; few = small }
 room_behind_args now n (Argument e rest) outer o s small =
     room_behind_args now n rest (AValue (origin_of e)) (outer ∷ o) s (omega arith)

@@ -1,12 +1,12 @@
 -- What may be told while branches, loops and rows of statements are read.
 use Rattle.std.proofs.Common.{ℕ, ◌+◌, ◌<◌, ◌≤◌, List, [], refl, false, arith}
 use Rattle.grammar.specs.declared.actions.Action.TheVariants.{BeginWhile, ElsePart, EndIf, EndWhile, IfTest, WhileTest}
-use Rattle.grammar.specs.Building.{Appends, MayFollow, Meaning}
+use Rattle.grammar.specs.Building.{Appends, MayFollow, Representation}
 use Rattle.grammar.specs.Following.{AValue, BeforeTest, InBranch, InElse, InTurn}
 use Rattle.grammar.specs.Grammar.{Item}
 use Rattle.grammar.proofs.FollowingLaws.{origin_of}
-use Rattle.parser.specs.Position.{Place}
-use Rattle.parser.specs.Room.{HasPlace, HasRoom, room}
+use Rattle.parser.specs.ScopedCursors.{Position}
+use Rattle.parser.specs.Room.{HasStatementRoom, HasRoom, room}
 use Rattle.parser.specs.Branches.{AddsElse, HasInside}
 use Rattle.parser.specs.Expressions.{AddsExpr}
 use Rattle.parser.specs.Statements.{AddsBody}
@@ -17,97 +17,104 @@ use Rattle.parser.proofs.Openings.{inside_behind, inside_place, inside_room, loo
 room_deeper : (depth : ℕ) → depth < 64 → room (depth + 1) 1 + 3 ≤ room depth 1
 room_deeper depth shallow = omega (arith, shallow)
 
-pub place_deeper : (before : Meaning) (depth : ℕ) → depth < 64 → HasPlace before (room depth 1) →
-    HasPlace before (room (depth + 1) 1)
+pub place_deeper : (before : Representation) (depth : ℕ) → depth < 64 → HasStatementRoom before (room depth 1) →
+    HasStatementRoom before (room (depth + 1) 1)
 place_deeper before depth shallow h =
-    record
-    { opened = h.opened; place = h.place; stands = h.stands; few = omega (arith, h.few, room_deeper depth shallow) }
+    record {
+      opened = h.opened;
+      position = h.position;
+      stands = h.stands;
+      few = omega (arith, h.few, room_deeper depth shallow);
+    }
 
-pub room_in_brackets : (before : Meaning) (depth : ℕ) → depth < 64 → HasPlace before (room depth 1) →
+pub room_in_brackets : (before : Representation) (depth : ℕ) → depth < 64 → HasStatementRoom before (room depth 1) →
     HasRoom before (room (depth + 1) 1)
 room_in_brackets before depth shallow h =
     place_room before (room depth 1) (room (depth + 1) 1) (omega (arith, room_deeper depth shallow)) h
 
 -- Behind statements there is the same room.
-pub place_kept : (before now : Meaning) (depth : ℕ) (front pending : List Item) (at there : Place) →
-    HasPlace before (room depth 1) → AddsBody before now depth front pending at there → HasPlace now (room depth 1)
+pub place_kept : (before now : Representation) (depth : ℕ) (front pending : List Item) (at there : Position) →
+    HasStatementRoom before (room depth 1) → AddsBody before now depth front pending at there →
+    HasStatementRoom now (room depth 1)
 place_kept before now depth front pending at there h s =
     place_behind before now (room depth 1) s.tree h s.numbered s.narrow s.added
 
 -- Branches.
 
-condition_inside : (before mid : Meaning) (depth : ℕ) (front : List Item) (at there : Place) → depth < 64 →
-    HasPlace before (room depth 1) → (c : AddsExpr before mid (depth + 1) 1 front [] at there) →
+condition_inside : (before mid : Representation) (depth : ℕ) (front : List Item) (at there : Position) → depth < 64 →
+    HasStatementRoom before (room depth 1) → (c : AddsExpr before mid (depth + 1) 1 front [] at there) →
     HasInside (AValue (origin_of c.tree)) mid (room depth 1)
 condition_inside before mid depth front at there shallow h c =
     value_inside before mid (room depth 1) c.tree h c.numbered (omega (arith, c.narrow, room_deeper depth shallow))
     c.added
 
-pub may_test_if : (before mid : Meaning) (depth : ℕ) (front : List Item) (at there : Place) → depth < 64 →
-    HasPlace before (room depth 1) → AddsExpr before mid (depth + 1) 1 front [] at there → MayFollow mid IfTest
+pub may_test_if : (before mid : Representation) (depth : ℕ) (front : List Item) (at there : Position) → depth < 64 →
+    HasStatementRoom before (room depth 1) → AddsExpr before mid (depth + 1) 1 front [] at there → MayFollow mid IfTest
 may_test_if before mid depth front at there shallow h c =
     may_turn IfTest (AValue (origin_of c.tree)) InBranch mid (room depth 1) (λ o is. rw is refl)
     (omega (arith, room_deeper depth shallow)) (condition_inside before mid depth front at there shallow h c)
 
-pub branch_open : (before mid now : Meaning) (depth : ℕ) (front : List Item) (at there : Place) → depth < 64 →
-    HasPlace before (room depth 1) → AddsExpr before mid (depth + 1) 1 front [] at there →
+pub branch_open : (before mid now : Representation) (depth : ℕ) (front : List Item) (at there : Position) → depth < 64 →
+    HasStatementRoom before (room depth 1) → AddsExpr before mid (depth + 1) 1 front [] at there →
     Appends mid now IfTest → HasInside InBranch now (room (depth + 1) 1)
 branch_open before mid now depth front at there shallow h c told =
     turn IfTest (AValue (origin_of c.tree)) InBranch mid now (room depth 1) (room (depth + 1) 1) (λ o is. rw is refl)
     (omega (arith, room_deeper depth shallow))
     (condition_inside before mid depth front at there shallow h c) told
 
-pub branch_place : (before : Meaning) (n : ℕ) → HasInside InBranch before n → HasPlace before n
+pub branch_place : (before : Representation) (n : ℕ) → HasInside InBranch before n → HasStatementRoom before n
 branch_place before n h = inside_place InBranch before n (λ o. refl) h
 
-pub branch_kept : (before now : Meaning) (depth : ℕ) (front : List Item) (at there : Place) →
+pub branch_kept : (before now : Representation) (depth : ℕ) (front : List Item) (at there : Position) →
     HasInside InBranch before (room depth 1) → AddsBody before now depth front [] at there →
     HasInside InBranch now (room depth 1)
 branch_kept before now depth front at there h s =
     inside_behind InBranch before now (room depth 1) s.tree (λ o. refl) (λ returned o. refl) h s.numbered s.narrow
     s.added
 
-pub may_end_branch : (before now : Meaning) (depth : ℕ) (at there : Place) → HasInside InBranch before (room depth 1) →
+pub may_end_branch : (before now : Representation) (depth : ℕ) (at there : Position) →
+    HasInside InBranch before (room depth 1) →
     AddsElse before now depth at there → MayFollow now EndIf
 may_end_branch before now depth at there h e = may_end_if before now (room depth 1) e.tree h e.numbered e.narrow e.added
 
-pub may_tell_else : (before : Meaning) (n : ℕ) → HasInside InBranch before n → MayFollow before ElsePart
+pub may_tell_else : (before : Representation) (n : ℕ) → HasInside InBranch before n → MayFollow before ElsePart
 may_tell_else before n h = may_turn ElsePart InBranch InElse before n (λ o is. refl) (omega arith) h
 
-pub else_place : (before now : Meaning) (n : ℕ) → HasInside InBranch before n → Appends before now ElsePart →
-    HasPlace now n
+pub else_place : (before now : Representation) (n : ℕ) → HasInside InBranch before n → Appends before now ElsePart →
+    HasStatementRoom now n
 else_place before now n h told =
     inside_place InElse now n (λ o. refl)
     (turn ElsePart InBranch InElse before now n n (λ o is. refl) (omega arith) h told)
 
 -- Loops.
 
-pub may_begin_loop : (before : Meaning) (depth : ℕ) → HasPlace before (room depth 1) → MayFollow before BeginWhile
+pub may_begin_loop : (before : Representation) (depth : ℕ) → HasStatementRoom before (room depth 1) →
+    MayFollow before BeginWhile
 may_begin_loop before depth h = may_begin before (room depth 1) (omega arith) h
 
-pub loop_open : (before now : Meaning) (depth : ℕ) → depth < 64 → HasPlace before (room depth 1) →
+pub loop_open : (before now : Representation) (depth : ℕ) → depth < 64 → HasStatementRoom before (room depth 1) →
     Appends before now BeginWhile → HasInside BeforeTest now (room (depth + 1) 1)
 loop_open before now depth shallow h told =
     loop_begun before now (room depth 1) (room (depth + 1) 1) (omega (arith, room_deeper depth shallow)) h told
 
-pub loop_room : (before : Meaning) (n : ℕ) → HasInside BeforeTest before n → HasRoom before n
+pub loop_room : (before : Representation) (n : ℕ) → HasInside BeforeTest before n → HasRoom before n
 loop_room before n h = inside_room BeforeTest before n h
 
-pub may_test_loop : (before mid : Meaning) (depth : ℕ) (front : List Item) (at there : Place) →
+pub may_test_loop : (before mid : Representation) (depth : ℕ) (front : List Item) (at there : Position) →
     HasInside BeforeTest before (room depth 1) → AddsExpr before mid depth 1 front [] at there → MayFollow mid WhileTest
 may_test_loop before mid depth front at there h c =
     may_test before mid (room depth 1) c.tree h c.numbered c.narrow c.added
 
-pub turn_open : (before mid now : Meaning) (depth : ℕ) (front : List Item) (at there : Place) →
+pub turn_open : (before mid now : Representation) (depth : ℕ) (front : List Item) (at there : Position) →
     HasInside BeforeTest before (room depth 1) → AddsExpr before mid depth 1 front [] at there →
     Appends mid now WhileTest → HasInside InTurn now (room depth 1)
 turn_open before mid now depth front at there h c told =
     turn_begun before mid now (room depth 1) c.tree h c.numbered c.narrow c.added told
 
-pub turn_place : (before : Meaning) (n : ℕ) → HasInside InTurn before n → HasPlace before n
+pub turn_place : (before : Representation) (n : ℕ) → HasInside InTurn before n → HasStatementRoom before n
 turn_place before n h = inside_place InTurn before n (λ o. refl) h
 
-pub may_end_loop : (before now : Meaning) (depth : ℕ) (front : List Item) (at there : Place) →
+pub may_end_loop : (before now : Representation) (depth : ℕ) (front : List Item) (at there : Position) →
     HasInside InTurn before (room depth 1) → AddsBody before now depth front [] at there → MayFollow now EndWhile
 may_end_loop before now depth front at there h s =
     may_end EndWhile InTurn false now (room depth 1) (λ o. refl)

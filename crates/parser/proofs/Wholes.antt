@@ -2,7 +2,7 @@
 use Rattle.std.proofs.Common.{◌≡◌, ℕ, List, [], ◌∷◌, ◌++◌, refl, sym, ap, ◌∙◌, subst, true, false, drop, ◌+◌, ◌≤◌, append_assoc, arith}
 use Rattle.std.specs.Option.{option_map}
 use Rattle.std.specs.Prelude.{Option, Some, None, Ok, Err, Result, is_some}
-use Rattle.tokens.specs.Reading.{undecided_reach_of, reach_of, IsNearTo}
+use Rattle.tokens.specs.Cursors.{undecided_reach_of, reach_of, IsNearTo}
 use Rattle.tokens.specs.Tokens.{is_last, tokens}
 use Rattle.tokens.specs.Window.{TakesBytes}
 use Rattle.tokens.proofs.ReadingLemmas.{open-to_last, open-within}
@@ -14,15 +14,15 @@ use Rattle.grammar.specs.declared.diagnostics.Diagnostic.{Diagnostic}
 use Rattle.grammar.specs.declared.diagnostics.ParseFault.{ParseFault}
 use Rattle.grammar.specs.declared.diagnostics.ParseFault.TheVariants as refusal
 use Rattle.grammar.specs.declared.actions.Action.{Action}
-use Rattle.grammar.specs.Building.{Meaning, StandsOpen}
+use Rattle.grammar.specs.Building.{Representation, LeavesOpen}
 use Rattle.grammar.specs.Compiled.{compiled, compiled_tokens, diagnostic, last_line, main_name, resolved}
-use Rattle.grammar.specs.Derivation.{run, start, Definition, is_end, next_of, line_of, state}
+use Rattle.grammar.specs.Derivation.{derived, initial_state, Definition, is_end, next_token, line_at, state}
 use Rattle.grammar.specs.Faults.{misfit_code}
 use Rattle.grammar.specs.Grammar.{AnEnd, Source, is_fault}
 use Rattle.grammar.specs.Laws.Naming.{line_of_undefined}
 use Rattle.grammar.specs.Need.{built, need}
 use Rattle.grammar.specs.Laws.Parsing.{Passes}
-use Rattle.grammar.specs.Pools.{Names}
+use Rattle.grammar.specs.Pools.{Pools}
 use Rattle.grammar.specs.Profile.{Profile}
 use Rattle.grammar.specs.Scope.{Scope, function_number, no_names}
 use Rattle.grammar.specs.Tree.{File}
@@ -33,34 +33,34 @@ use Rattle.grammar.proofs.Steps.{last, part}
 use Rattle.grammar.proofs.Verdicts.{clean_verdict, fault_verdict}
 use Rattle.grammar.specs.Laws.Finished.{IsFinished, PassesAll}
 use Rattle.grammar.proofs.FileLaws.{finished, undefined, without_main}
-use Rattle.parser.specs.Position.{GoesOn, Place, next_at, scope_at, tokens_at}
-use Rattle.parser.specs.Stopping.{NoneBefore, Stop, Stops, stop_with}
+use Rattle.parser.specs.ScopedCursors.{MayContinue, Position, next_at, scope_at, tokens_at}
+use Rattle.parser.specs.Stopping.{NoFaultBefore, Stop, Stops, stop_with}
 use Rattle.parser.specs.Segment.{Refused, StopsFirst, StopsAtFirst, TakesTokens}
 use Rattle.parser.proofs.Segments.{functions_here, near_told, none_back, none_before, stops_here, told_goes}
-use Rattle.parser.specs.Files.{BuildsAhead, FailsBytes, HasBuilt, LeavesUndecided, IsFile, IsNew, IsRefused, StopsTaking, TakesNoMore, TakesUpTo}
-use Rattle.parser.specs.Progress.{ADefinition, AMain, IsComplete, IsTold, Lacks, ReadsOn, StopsReading, StopsTelling, at_source}
+use Rattle.parser.specs.ParsedFiles.{BuildsAhead, FailsBytes, HasBuilt, LeavesUndecided, IsFile, IsNew, ParseIsRefused, StopsTaking, TakesNoMore, TakesUpTo}
+use Rattle.parser.specs.Progress.{ADefinition, AMain, IsComplete, HasTold, Lacks, ReadsOn, StopsPart, StopsTelling, at_source}
 use Rattle.parser.proofs.Built.{IsAmongDefined, built_by_stop}
 
 end_is : (t : Token) → is_end t ≡ true → t ≡ token.End
 end_is token.End is = refl
 end_is (token.Name name) is = absurd (cc)
 end_is (token.Punctuator m) is = absurd (cc)
-end_is (token.Word w) is = absurd (cc)
+end_is (token.Keyword w) is = absurd (cc)
 end_is (token.Constant value) is = absurd (cc)
 end_is (token.Fault lexical_error) is = absurd (cc)
 
 -- The end is the only token from there on.
 
-ends_alone : (at : Place) (rest : List LocatedToken) → is_end (next_at at).token ≡ true → GoesOn at rest →
+ends_alone : (at : Position) (rest : List LocatedToken) → is_end (next_at at).token ≡ true → MayContinue at rest →
     rest ≡ next_at at ∷ []
 ends_alone at rest is g =
     let last : is_last (next_at at).token ≡ true = rw (end_is (next_at at).token is) refl in
     g.is ∙ rw last refl
 
-goes_alone : (at : Place) → is_end (next_at at).token ≡ true → GoesOn at (next_at at ∷ [])
+goes_alone : (at : Position) → is_end (next_at at).token ≡ true → MayContinue at (next_at at ∷ [])
 goes_alone at is =
     let last : is_last (next_at at).token ≡ true = rw (end_is (next_at at).token is) refl in
-    record { behind = []; is = rw last refl }
+    record { window = []; is = rw last refl }
 
 end_steps : (profile : Profile) (next : LocatedToken) (scope : Scope) (functions : List Definition) →
     is_end next.token ≡ true →
@@ -77,17 +77,17 @@ last_line_is (located_token ∷ []) next = refl
 last_line_is (located_token ∷ other ∷ consumed) next = last_line_is (other ∷ consumed) next
 
 -- A reading from the start of a file to its end.
-pub record IsWhole (before after : Meaning) (told : Option (List ℕ)) (at there : Place) : Type 0 where
+pub record IsWhole (before after : Representation) (told : Option (List ℕ)) (at there : Position) : Type 0 where
   pub reads : ReadsOn before after at_source at_source at there
   pub nothing : scope_at at ≡ no_names
   pub tells : tokens_at at ≡ option_map tokens told
   pub ends : is_end (next_at there).token ≡ true
 
-abbrev all_of : (before after : Meaning) (told : Option (List ℕ)) (at there : Place) →
+abbrev all_of : (before after : Representation) (told : Option (List ℕ)) (at there : Position) →
     IsWhole before after told at there → List LocatedToken
 all_of before after told at there w = w.reads.consumed ++ next_at there ∷ []
 
-passes_all : (before after : Meaning) (told : Option (List ℕ)) (at there : Place)
+passes_all : (before after : Representation) (told : Option (List ℕ)) (at there : Position)
     (w : IsWhole before after told at there) (profile : Profile) → before profile [] →
     PassesAll profile (all_of before after told at there w) (scope_at there) w.reads.more
 passes_all before after told at there w profile h =
@@ -99,7 +99,7 @@ passes_all before after told at there w profile h =
     (end_steps profile (next_at there) (scope_at there) w.reads.more w.ends)
 
 -- where the device tells its bytes, their tokens are those
-tokens_all : (before after : Meaning) (told : Option (List ℕ)) (at there : Place)
+tokens_all : (before after : Representation) (told : Option (List ℕ)) (at there : Position)
     (w : IsWhole before after told at there) (bytes : List ℕ) → told ≡ Some bytes →
     tokens bytes ≡ all_of before after told at there w
 tokens_all before after told at there w bytes is =
@@ -109,7 +109,7 @@ tokens_all before after told at there w bytes is =
     ap (λ (ls : List LocatedToken). w.reads.consumed ++ ls)
     (ends_alone there t.rest w.ends (told_goes there t.rest t.shows))
 
-resolved_all : (before after : Meaning) (told : Option (List ℕ)) (at there : Place)
+resolved_all : (before after : Representation) (told : Option (List ℕ)) (at there : Position)
     (w : IsWhole before after told at there) (profile : Profile) → before profile [] →
     compiled_tokens profile (all_of before after told at there w) ≡
     resolved (all_of before after told at there w) (scope_at there) w.reads.more
@@ -124,10 +124,11 @@ unfolding compiled
 compiled_as profile bytes located_tokens verdict same is = rw same is
 
 -- all functions are defined, and main is among them
-pub whole_file : (before after : Meaning) (told : Option (List ℕ)) (at there : Place) (names : Names) → IsNew before →
+pub whole_file : (before after : Representation) (told : Option (List ℕ)) (at there : Position) (names : Pools) →
+    IsNew before →
     IsWhole before after told at there → IsComplete (scope_at there) →
     names ≡ record { externals = (scope_at there).externals; functions = (scope_at there).functions } →
-    StandsOpen after [] → IsFile before after told names
+    LeavesOpen after [] → IsFile before after told names
 whole_file before after told at there names new w complete same closed =
     let f : IsFinished new.profile (all_of before after told at there w) (scope_at there) w.reads.more =
     finished new.profile (all_of before after told at there w) (scope_at there) w.reads.more
@@ -148,7 +149,7 @@ whole_file before after told at there names new w complete same closed =
 
 -- What is lacking is the file's fault.
 
-lacks_definition : (before after : Meaning) (told : Option (List ℕ)) (at there : Place) (line : ℕ) →
+lacks_definition : (before after : Representation) (told : Option (List ℕ)) (at there : Position) (line : ℕ) →
     IsWhole before after told at there → line_of_undefined 0 (scope_at there).lines (scope_at there).begun ≡ Some line →
     FailsBytes before told (diagnostic line code.FunctionNotDefined)
 lacks_definition before after told at there line w is bytes shows profile h =
@@ -157,7 +158,8 @@ lacks_definition before after told at there line w is bytes shows profile h =
     (undefined profile (all_of before after told at there w) (scope_at there) w.reads.more line
     (passes_all before after told at there w profile h) is)
 
-lacks_main : (before after : Meaning) (told : Option (List ℕ)) (at there : Place) → IsWhole before after told at there →
+lacks_main : (before after : Representation) (told : Option (List ℕ)) (at there : Position) →
+    IsWhole before after told at there →
     line_of_undefined 0 (scope_at there).lines (scope_at there).begun ≡ None →
     is_some (function_number main_name (scope_at there)) ≡ false →
     FailsBytes before told (diagnostic (next_at there).line code.NoMainFunction)
@@ -168,9 +170,9 @@ lacks_main before after told at there w defined none bytes shows profile h =
     (passes_all before after told at there w profile h) defined none
     ∙ ap (λ (n : ℕ). Err (diagnostic n code.NoMainFunction)) (last_line_is w.reads.consumed (next_at there)))
 
-pub lacking : (before after : Meaning) (told to_come : Option (List ℕ)) (at there : Place) (f : ParseFault)
-    (denied : Type 0) → IsWhole before after told at there → Lacks there.position f →
-    IsRefused before after denied told to_come f
+pub lacking : (before after : Representation) (told to_come : Option (List ℕ)) (at there : Position) (f : ParseFault)
+    (denied : Type 0) → IsWhole before after told at there → Lacks there.lookahead f →
+    ParseIsRefused before after denied told to_come f
 lacking before after told to_come at there f denied w (ADefinition line is same) =
     rw same (lacks_definition before after told at there line w is)
 lacking before after told to_come at there f denied w (AMain defined none same) =
@@ -178,19 +180,19 @@ lacking before after told to_come at there f denied w (AMain defined none same) 
 
 -- Where the reading stops, the file's first fault is there.
 
-stops_bytes : (before after : Meaning) (told : Option (List ℕ)) (at : Place) (d : Diagnostic) (used : ℕ) →
+stops_bytes : (before after : Representation) (told : Option (List ℕ)) (at : Position) (d : Diagnostic) (used : ℕ) →
     scope_at at ≡ no_names → tokens_at at ≡ option_map tokens told →
-    StopsReading before after at_source at (stop_with (refusal.Source d) used) → FailsBytes before told d
+    StopsPart before after at_source at (stop_with (refusal.Source d) used) → FailsBytes before told d
 stops_bytes before after told at d used nothing tells stops bytes shows profile h =
     compiled_as profile bytes (tokens bytes) (Err d) refl
     (fault_verdict profile (tokens bytes) d
     (rw (sym nothing) (stops (tokens bytes) (tells ∙ ap (option_map tokens) shows) profile [] h).stops.fails))
 
-first_fails : (before : Meaning) (told told' : Option (List ℕ)) (d : Diagnostic) →
+first_fails : (before : Representation) (told told' : Option (List ℕ)) (d : Diagnostic) →
     StopsAtFirst told told' (refusal.Source d) → FailsBytes before told d
 first_fails before told told' d stops bytes shows profile h =
-    let s : (is_fault (next_of (tokens bytes)) ≡ true) ×
-    (d ≡ diagnostic (line_of (tokens bytes)) (misfit_code (next_of (tokens bytes)))) =
+    let s : (is_fault (next_token (tokens bytes)) ≡ true) ×
+    (d ≡ diagnostic (line_at (tokens bytes)) (misfit_code (next_token (tokens bytes)))) =
     stops.refused.lexical_error (tokens bytes) (ap (option_map tokens) shows) in
     compiled_as profile bytes (tokens bytes) (Err d) refl
     (fault_verdict profile (tokens bytes) d (rw s.1 (at_fault profile at_source (tokens bytes) [] no_names [] s.0)))
@@ -198,7 +200,8 @@ first_fails before told told' d stops bytes shows profile h =
 -- How much was taken.
 
 takes_up_to : (profile : Profile) (bytes : List ℕ) (to_come : Option (List ℕ)) (used more : ℕ)
-    (passed rest : List LocatedToken) → tokens bytes ≡ passed ++ rest → NoneBefore profile (start (tokens bytes)) rest →
+    (passed rest : List LocatedToken) → tokens bytes ≡ passed ++ rest →
+    NoFaultBefore profile (initial_state (tokens bytes)) rest →
     to_come ≡ Some (drop used bytes) → used ≤ 1048577 → used ≤ reach_of rest + more →
     TakesUpTo profile bytes to_come more
 takes_up_to profile bytes to_come used more passed rest is none took limited taken =
@@ -219,7 +222,8 @@ has_taken first used told between there to_come opened took same limited = recor
 }
 
 leaves_open : (profile : Profile) (bytes : List ℕ) (to_come : Option (List ℕ)) (used : ℕ)
-    (passed rest : List LocatedToken) → tokens bytes ≡ passed ++ rest → NoneBefore profile (start (tokens bytes)) rest →
+    (passed rest : List LocatedToken) → tokens bytes ≡ passed ++ rest →
+    NoFaultBefore profile (initial_state (tokens bytes)) rest →
     to_come ≡ Some (drop used bytes) → used ≤ 1048577 → used ≤ undecided_reach_of rest →
     LeavesUndecided profile bytes to_come
 leaves_open profile bytes to_come used passed rest is none took limited taken =
@@ -232,17 +236,19 @@ leaves_open profile bytes to_come used passed rest is none took limited taken =
       limited = limited;
     }
 
-stops_reading : (before after : Meaning) (told : Option (List ℕ)) (at : Place) (stop : Stop) → scope_at at ≡ no_names →
-    tokens_at at ≡ option_map tokens told → StopsReading before after at_source at stop →
+stops_reading : (before after : Representation) (told : Option (List ℕ)) (at : Position) (stop : Stop) →
+    scope_at at ≡ no_names →
+    tokens_at at ≡ option_map tokens told → StopsPart before after at_source at stop →
     (bytes : List ℕ) → told ≡ Some bytes → (profile : Profile) → before profile [] →
-    Stops profile (start (tokens bytes)) stop
+    Stops profile (initial_state (tokens bytes)) stop
 stops_reading before after told at stop nothing tells stops bytes shows profile h =
     subst (λ (known : Scope). Stops profile (state at_source (tokens bytes) [] known []) stop) nothing
     (stops (tokens bytes) (tells ∙ ap (option_map tokens) shows) profile [] h).stops
 
-pub stops_taking : (used : ℕ) (before after : Meaning) (told to_come : Option (List ℕ)) (at : Place) (f : ParseFault)
+pub stops_taking : (used : ℕ) (before after : Representation) (told to_come : Option (List ℕ)) (at : Position)
+    (f : ParseFault)
     (denied : Type 0) → scope_at at ≡ no_names → tokens_at at ≡ option_map tokens told →
-    HasTaken used told to_come → Refused (StopsReading before after at_source at) denied used f →
+    HasTaken used told to_come → Refused (StopsPart before after at_source at) denied used f →
     StopsTaking before told to_come f
 stops_taking used before after told to_come at (refusal.Source d) denied nothing tells taken h =
     λ bytes shows profile stands.
@@ -264,20 +270,22 @@ stops_taking used before after told to_come at refusal.Memory denied nothing tel
     takes_up_to profile bytes to_come used 4096 s.passed s.rest s.is s.none_before (taken.took bytes shows)
     taken.limited s.taken
 
-pub first_taking : (before : Meaning) (told to_come : Option (List ℕ)) (f : ParseFault) → StopsAtFirst told to_come f →
+pub first_taking : (before : Representation) (told to_come : Option (List ℕ)) (f : ParseFault) →
+    StopsAtFirst told to_come f →
     StopsTaking before told to_come f
 first_taking before told to_come (refusal.Source d) stops = λ bytes shows profile stands.
     takes_up_to profile bytes to_come stops.taken 4096 [] (tokens bytes) refl
-    (none_before profile (start (tokens bytes))) (stops.took bytes shows) stops.limited
+    (none_before profile (initial_state (tokens bytes))) (stops.took bytes shows) stops.limited
     (stops.refused.taken (tokens bytes) (ap (option_map tokens) shows))
 first_taking before told to_come refusal.Device stops = λ bytes shows profile stands.
-    leaves_open profile bytes to_come stops.taken [] (tokens bytes) refl (none_before profile (start (tokens bytes)))
+    leaves_open profile bytes to_come stops.taken [] (tokens bytes) refl
+    (none_before profile (initial_state (tokens bytes)))
     (stops.took bytes shows) stops.limited (stops.refused.taken (tokens bytes) (ap (option_map tokens) shows))
 first_taking before told to_come refusal.Memory stops = absurd stops.refused.0
 
 -- a file that was read to its end
-pub whole_takes : (used : ℕ) (before after : Meaning) (told to_come : Option (List ℕ)) (at there : Place) →
-    IsWhole before after told at there → IsNearTo there.position.reading used → HasTaken used told to_come →
+pub whole_takes : (used : ℕ) (before after : Representation) (told to_come : Option (List ℕ)) (at there : Position) →
+    IsWhole before after told at there → IsNearTo there.lookahead.cursor used → HasTaken used told to_come →
     TakesNoMore before told to_come 4096
 whole_takes used before after told to_come at there w near taken bytes shows profile h =
     let t : TakesTokens w.reads.consumed (tokens bytes) there =
@@ -289,16 +297,16 @@ whole_takes used before after told to_come at there w near taken bytes shows pro
     (λ (known : Scope). Passes profile (state at_source (w.reads.consumed ++ t.rest) [] known [])
     (state at_source t.rest [] (scope_at there) w.reads.more)) w.nothing
     (w.reads.passes t.rest (told_goes there t.rest t.shows) profile [] h) in
-    let none : NoneBefore profile (start (tokens bytes)) t.rest =
-    subst (λ (ls : List LocatedToken). NoneBefore profile (start ls) t.rest) (sym t.is)
+    let none : NoFaultBefore profile (initial_state (tokens bytes)) t.rest =
+    subst (λ (ls : List LocatedToken). NoFaultBefore profile (initial_state ls) t.rest) (sym t.is)
     (none_back profile _ (state at_source t.rest [] (scope_at there) w.reads.more) t.rest reached
     (none_before profile (state at_source t.rest [] (scope_at there) w.reads.more))) in
     takes_up_to profile bytes to_come used 4096 w.reads.consumed t.rest t.is none (taken.took bytes shows) taken.limited
     (near_told there t.rest used t.shows near)
 
-pub lacks_taking : (used : ℕ) (before after : Meaning) (told to_come : Option (List ℕ)) (at there : Place)
-    (f : ParseFault) → IsWhole before after told at there → Lacks there.position f →
-    IsNearTo there.position.reading used → HasTaken used told to_come →
+pub lacks_taking : (used : ℕ) (before after : Representation) (told to_come : Option (List ℕ)) (at there : Position)
+    (f : ParseFault) → IsWhole before after told at there → Lacks there.lookahead f →
+    IsNearTo there.lookahead.cursor used → HasTaken used told to_come →
     StopsTaking before told to_come f
 lacks_taking used before after told to_come at there f w (ADefinition line is same) near taken =
     rw same (whole_takes used before after told to_come at there w near taken)
@@ -307,9 +315,10 @@ lacks_taking used before after told to_come at there f w (AMain defined none sam
 
 -- What was built where the device failed.
 
-builds_by : (after : Meaning) (profile : Profile) (bytes : List ℕ) (to_come : Option (List ℕ)) (used : ℕ)
-    (s : Stops profile (start (tokens bytes)) (stop_with refusal.Device used)) →
-    to_come ≡ Some (drop used bytes) → IsTold after profile (run s.steps (start (tokens bytes))).functions →
+builds_by : (after : Representation) (profile : Profile) (bytes : List ℕ) (to_come : Option (List ℕ)) (used : ℕ)
+    (s : Stops profile (initial_state (tokens bytes)) (stop_with refusal.Device used)) →
+    to_come ≡ Some (drop used bytes) →
+    HasTold after profile (derived s.steps (initial_state (tokens bytes))).functions →
     HasBuilt after profile bytes to_come
 builds_by after profile bytes to_come used s took told =
     let defined : IsAmongDefined bytes used s.steps =
@@ -324,12 +333,12 @@ builds_by after profile bytes to_come used s took told =
           append_assoc (built bytes used) defined.more told.more) told.stands;
     }
 
-stops_building : (used : ℕ) (before after : Meaning) (told to_come : Option (List ℕ)) (at : Place) →
+stops_building : (used : ℕ) (before after : Representation) (told to_come : Option (List ℕ)) (at : Position) →
     scope_at at ≡ no_names → tokens_at at ≡ option_map tokens told →
-    HasTaken used told to_come → StopsReading before after at_source at (stop_with refusal.Device used) →
+    HasTaken used told to_come → StopsPart before after at_source at (stop_with refusal.Device used) →
     BuildsAhead before after told to_come
 stops_building used before after told to_come at nothing tells taken stops bytes shows profile h =
-    let s : StopsTelling after profile (start (tokens bytes)) (stop_with refusal.Device used) =
+    let s : StopsTelling after profile (initial_state (tokens bytes)) (stop_with refusal.Device used) =
     subst
     (λ (known : Scope). StopsTelling after profile (state at_source (tokens bytes) [] known [])
     (stop_with refusal.Device used)) nothing
@@ -337,36 +346,37 @@ stops_building used before after told to_come at nothing tells taken stops bytes
     builds_by after profile bytes to_come used s.stops (taken.took bytes shows) (s.told refl)
 
 -- what is said where the reading stops
-pub stopped : (used : ℕ) (before after : Meaning) (told to_come : Option (List ℕ)) (at : Place) (f : ParseFault)
+pub stopped : (used : ℕ) (before after : Representation) (told to_come : Option (List ℕ)) (at : Position)
+    (f : ParseFault)
     (denied : Type 0) → scope_at at ≡ no_names → tokens_at at ≡ option_map tokens told →
-    HasTaken used told to_come → Refused (StopsReading before after at_source at) denied used f →
-    IsRefused before after denied told to_come f
+    HasTaken used told to_come → Refused (StopsPart before after at_source at) denied used f →
+    ParseIsRefused before after denied told to_come f
 stopped used before after told to_come at (refusal.Source d) denied nothing tells taken h =
     stops_bytes before after told at d used nothing tells h
 stopped used before after told to_come at refusal.Device denied nothing tells taken h =
     stops_building used before after told to_come at nothing tells taken h
 stopped used before after told to_come at refusal.Memory denied nothing tells taken h = h.0
 
-opening_builds : (before : Meaning) (told to_come : Option (List ℕ)) (used : ℕ) → HasTaken used told to_come →
+opening_builds : (before : Representation) (told to_come : Option (List ℕ)) (used : ℕ) → HasTaken used told to_come →
     StopsFirst (option_map tokens told) (stop_with refusal.Device used) → BuildsAhead before before told to_come
 opening_builds before told to_come used taken stops bytes shows profile h =
     let some : used ≤ undecided_reach_of (tokens bytes) = stops.taken (tokens bytes) (ap (option_map tokens) shows) in
-    let s : Stops profile (start (tokens bytes)) (stop_with refusal.Device used) =
-    stops_here profile (start (tokens bytes)) (stop_with refusal.Device used) tt some in
+    let s : Stops profile (initial_state (tokens bytes)) (stop_with refusal.Device used) =
+    stops_here profile (initial_state (tokens bytes)) (stop_with refusal.Device used) tt some in
     builds_by before profile bytes to_come used s (taken.took bytes shows) (first_told before profile bytes used some h)
   where
-    first_told : (before : Meaning) (profile : Profile) (bytes : List ℕ) (used : ℕ)
+    first_told : (before : Representation) (profile : Profile) (bytes : List ℕ) (used : ℕ)
         (some : used ≤ undecided_reach_of (tokens bytes)) → before profile [] →
-        IsTold before profile
-        (run (stops_here profile (start (tokens bytes)) (stop_with refusal.Device used) tt some).steps
-        (start (tokens bytes))).functions
+        HasTold before profile
+        (derived (stops_here profile (initial_state (tokens bytes)) (stop_with refusal.Device used) tt some).steps
+        (initial_state (tokens bytes))).functions
     first_told before profile bytes used some h =
-        rw (functions_here profile (start (tokens bytes)) (stop_with refusal.Device used) tt some)
+        rw (functions_here profile (initial_state (tokens bytes)) (stop_with refusal.Device used) tt some)
         (record { more = []; stands = h })
 
 -- the same at the first token, where nothing was told
-pub first_refused : (before : Meaning) (told to_come : Option (List ℕ)) (f : ParseFault) (denied : Type 0) →
-    StopsAtFirst told to_come f → IsRefused before before denied told to_come f
+pub first_refused : (before : Representation) (told to_come : Option (List ℕ)) (f : ParseFault) (denied : Type 0) →
+    StopsAtFirst told to_come f → ParseIsRefused before before denied told to_come f
 first_refused before told to_come (refusal.Source d) denied stops = first_fails before told to_come d stops
 first_refused before told to_come refusal.Device denied stops =
     opening_builds before told to_come stops.taken (record { took = stops.took; limited = stops.limited }) stops.refused

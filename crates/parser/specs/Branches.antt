@@ -2,22 +2,22 @@
 use Rattle.std.specs.Prelude.{ℕ, ◌+◌, ◌≡◌, ◌≤◌, true, List, [], ◌∷◌, Option, Some, None, Result, Ok, Err}
 use Rattle.parser.specs.Stopping.{Stop}
 use Rattle.grammar.specs.declared.diagnostics.ParseFault.{ParseFault}
-use Rattle.grammar.specs.declared.limits.TheConstants.{MOST_NAMES}
+use Rattle.grammar.specs.declared.name_limits.TheConstants.{MOST_NAMES}
 use Rattle.grammar.specs.declared.actions.Action.{Action}
 use Rattle.grammar.specs.declared.actions.Action.TheVariants.{ElsePart as BetweenBranches}
 use Rattle.grammar.specs.Actions.{body_actions}
-use Rattle.grammar.specs.Building.{Meaning, AppendsAll, StandsOpen}
+use Rattle.grammar.specs.Building.{Representation, AppendsAll, LeavesOpen}
 use Rattle.grammar.specs.Derivation.{Value, ABody, AnExpr}
-use Rattle.grammar.specs.Following.{Open, Opened, is_place, open_count}
+use Rattle.grammar.specs.Following.{Open, Opened, may_take_statement, open_count}
 use Rattle.grammar.specs.Grammar.{ElsePart, Part}
-use Rattle.grammar.specs.Limits.{most_open}
+use Rattle.grammar.specs.NameLimits.{most_open}
 use Rattle.grammar.specs.Nesting.{body_nesting}
 use Rattle.grammar.specs.Resolved.{InBody}
 use Rattle.grammar.specs.Tree.{Body, IfElseStatement, Done, Expr, IfStatement, join}
-use Rattle.parser.specs.declared.reader.Reader.{Reader}
-use Rattle.parser.specs.Position.{Place}
+use Rattle.parser.specs.declared.parser.Parser.{Parser}
+use Rattle.parser.specs.ScopedCursors.{Position}
 use Rattle.parser.specs.Room.{room}
-use Rattle.parser.specs.Readers.{BreaksOffFrom}
+use Rattle.parser.specs.Parsers.{BreaksOffFrom}
 use Rattle.parser.specs.Segment.{Derives, FailsAt}
 
 -- the actions of a second branch, where there is one
@@ -43,7 +43,7 @@ abbrev pub before_else : Body → Expr → Body → List Value
 before_else s c body = ABody s ∷ AnExpr c ∷ ABody body ∷ []
 
 -- The second branch was read, or there is none, whatever the `if` is so far.
-pub record AddsElse (before after : Meaning) (depth : ℕ) (here there : Place) : Type 0 where
+pub record AddsElse (before after : Representation) (depth : ℕ) (here there : Position) : Type 0 where
   pub tree : Option Body
   pub numbered : IsElseNumbered tree
   pub narrow : else_nesting tree ≤ room depth 1
@@ -53,21 +53,21 @@ pub record AddsElse (before after : Meaning) (depth : ℕ) (here there : Place) 
       here there
 
 -- The first fault from there on, whatever the `if` is so far.
-abbrev pub FailsElse : ℕ → Place → Stop → Type 0
+abbrev pub FailsElse : ℕ → Position → Stop → Type 0
 FailsElse depth here d =
     (s : Body) (c : Expr) (body : Body) → FailsAt depth (Part ElsePart ∷ []) (before_else s c body) here d
 
 -- What a parse of a second branch says by its result.
-abbrev pub ParsesElse : {A F B : Type 0} → Result A ParseFault → Type 0 → (B → Meaning) →
-    (old new : Reader F B) → Type 0
+abbrev pub ParsesElse : {A F B : Type 0} → Result A ParseFault → Type 0 → (B → Representation) →
+    (old new : Parser F B) → Type 0
 ParsesElse (Ok x) denied stands old new =
-    AddsElse (stands old.build.now) (stands new.build.now) old.depth old.parser.place new.parser.place
+    AddsElse (stands old.builder.now) (stands new.builder.now) old.depth old.tokens.position new.tokens.position
 ParsesElse (Err fault) denied stands old new =
-    BreaksOffFrom (FailsElse old.depth old.parser.place) denied stands old new fault
+    BreaksOffFrom (FailsElse old.depth old.tokens.position) denied stands old new fault
 
 -- A list is stood for that leaves this open, where a statement stands, and room for so many more.
-pub record HasInside (inner : Open) (before : Meaning) (count : ℕ) : Type 0 where
+pub record HasInside (inner : Open) (before : Representation) (count : ℕ) : Type 0 where
   pub opened : Opened
-  pub place : is_place opened ≡ true
-  pub stands : StandsOpen before (inner ∷ opened)
+  pub position : may_take_statement opened ≡ true
+  pub stands : LeavesOpen before (inner ∷ opened)
   pub few : open_count (inner ∷ opened) + count ≤ most_open

@@ -1,8 +1,8 @@
 -- The items of lists of names, of declarations and of a function's heading, by what the names are declared as.
 use Rattle.std.specs.Prelude.{List, [], ◌∷◌}
 use Rattle.tokens.specs.declared.located_tokens.Punctuator.TheVariants as punctuator
-use Rattle.tokens.specs.declared.located_tokens.Word.TheVariants as word
-use Rattle.grammar.specs.Grammar.{Item, AName, AWord, Exactly, Part}
+use Rattle.tokens.specs.declared.located_tokens.Keyword.TheVariants as word
+use Rattle.grammar.specs.Grammar.{Item, AName, AKeyword, Exactly, Part}
 use Rattle.grammar.specs.Grammar.{Symbol, Declarations, Defined, More, ParameterTypes, Parameters, Types}
 use Rattle.parser.specs.Roles.{role_of}
 use Rattle.parser.specs.declared.roles.Declared.{Declared}
@@ -24,10 +24,10 @@ names_items declared = AName (role_of declared) ∷ Part (More (role_of declared
 
 -- type types name more ;
 abbrev pub declaration_items : Declared → List Item
-declaration_items declared = AWord word.Type ∷ Part Types ∷ names_items declared
+declaration_items declared = AKeyword word.Type ∷ Part Types ∷ names_items declared
 
 -- name ( params ) pdecls
-abbrev pub heading_items : List Item
-heading_items =
+abbrev pub header_items : List Item
+header_items =
     AName Defined ∷ Exactly punctuator.OpenRound ∷ Part Parameters ∷ Exactly punctuator.CloseRound
     ∷ Part ParameterTypes ∷ []

@@ -1,6 +1,6 @@
 -- What stays true of the names known while a function is defined.
 use Rattle.std.specs.Prelude.{◌≡◌, ◌≤◌, length}
-use Rattle.grammar.specs.declared.limits.TheConstants.{MOST_NAMES}
+use Rattle.grammar.specs.declared.name_limits.TheConstants.{MOST_NAMES}
 use Rattle.grammar.specs.Scope.{Scope}
 use Rattle.parser.specs.declared.roles.Declared.{Declared}
 use Rattle.parser.specs.declared.roles.Declared.TheVariants as kind

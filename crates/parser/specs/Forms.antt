@@ -3,13 +3,13 @@ use Rattle.std.specs.Prelude.{◌≡◌, List, [], ◌∷◌, Bool, true, false,
 use Rattle.tokens.specs.declared.located_tokens.Punctuator.TheVariants as punctuator
 use Rattle.tokens.specs.declared.located_tokens.Token.{Token}
 use Rattle.tokens.specs.declared.located_tokens.Token.TheVariants as token
-use Rattle.tokens.specs.declared.located_tokens.Word.TheVariants as word
+use Rattle.tokens.specs.declared.located_tokens.Keyword.TheVariants as word
 use Rattle.grammar.specs.declared.diagnostics.ParseFault.{ParseFault}
-use Rattle.grammar.specs.Building.{Meaning}
+use Rattle.grammar.specs.Building.{Representation}
 use Rattle.grammar.specs.Grammar.{Item, Exactly, Expression, Part}
-use Rattle.parser.specs.declared.reader.Reader.{Reader}
-use Rattle.parser.specs.Position.{Standing, token_of}
-use Rattle.parser.specs.Readers.{BreaksOffFrom}
+use Rattle.parser.specs.declared.parser.Parser.{Parser}
+use Rattle.parser.specs.ScopedCursors.{ScopedCursor, token_of}
+use Rattle.parser.specs.Parsers.{BreaksOffFrom}
 use Rattle.parser.specs.Segment.{FailsAt}
 use Rattle.parser.specs.Expressions.{AddsExpr}
 
@@ -17,13 +17,13 @@ use Rattle.parser.specs.Expressions.{AddsExpr}
 abbrev pub begins_statement : Token → Bool
 begins_statement (token.Punctuator punctuator.Semicolon) = true
 begins_statement (token.Punctuator punctuator.OpenCurly) = true
-begins_statement (token.Word word.If) = true
-begins_statement (token.Word word.While) = true
-begins_statement (token.Word word.Return) = true
+begins_statement (token.Keyword word.If) = true
+begins_statement (token.Keyword word.While) = true
+begins_statement (token.Keyword word.Return) = true
 begins_statement next = false
 
 -- an expression for its effect
-abbrev pub StartsEvaluation : Standing → Type 0
+abbrev pub StartsEvaluation : ScopedCursor → Type 0
 StartsEvaluation at = begins_statement (token_of at) ≡ false
 
 -- a condition
@@ -31,9 +31,10 @@ abbrev pub in_brackets : List Item
 in_brackets = Exactly punctuator.OpenRound ∷ Part Expression ∷ Exactly punctuator.CloseRound ∷ []
 
 -- What a parse of a condition says by its result: it was read, or the derivation stops within it, as the refusal says.
-abbrev pub ParsesCondition : {A F B : Type 0} → Result A ParseFault → Type 0 → (B → Meaning) →
-    (old new : Reader F B) → Type 0
+abbrev pub ParsesCondition : {A F B : Type 0} → Result A ParseFault → Type 0 → (B → Representation) →
+    (old new : Parser F B) → Type 0
 ParsesCondition (Ok x) denied stands old new =
-    AddsExpr (stands old.build.now) (stands new.build.now) old.depth 1 in_brackets [] old.parser.place new.parser.place
+    AddsExpr (stands old.builder.now) (stands new.builder.now) old.depth 1 in_brackets [] old.tokens.position
+    new.tokens.position
 ParsesCondition (Err fault) denied stands old new =
-    BreaksOffFrom (FailsAt old.depth in_brackets [] old.parser.place) denied stands old new fault
+    BreaksOffFrom (FailsAt old.depth in_brackets [] old.tokens.position) denied stands old new fault

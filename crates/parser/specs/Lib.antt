@@ -1,4 +1,4 @@
-pub mod Position
+pub mod ScopedCursors
 pub mod Defining
 pub mod Roles
 pub mod Stopping
@@ -6,14 +6,14 @@ pub mod Segment
 pub mod Room
 pub mod Growing
 pub mod Advancing
-pub mod Readers
+pub mod Parsers
 pub mod Matching
 pub mod Declarations
-pub mod Signs
+pub mod UnaryOps
 pub mod Starts
 pub mod Expressions
 pub mod Branches
 pub mod Forms
 pub mod Statements
-pub mod Files
+pub mod ParsedFiles
 pub mod Progress

@@ -8,59 +8,59 @@ use Rattle.grammar.specs.declared.diagnostics.Code.TheVariants as code
 use Rattle.grammar.specs.declared.actions.Action.{Action}
 use Rattle.grammar.specs.declared.actions.Action.TheVariants.{EndFunction}
 use Rattle.grammar.specs.Actions.{body_actions, code_length, last_return}
-use Rattle.grammar.specs.Building.{Meaning, AppendsAll, StandsOpen}
+use Rattle.grammar.specs.Building.{Representation, AppendsAll, LeavesOpen}
 use Rattle.grammar.specs.declared.diagnostics.Diagnostic.{Diagnostic}
 use Rattle.grammar.specs.declared.diagnostics.ParseFault.{ParseFault}
 use Rattle.grammar.specs.declared.diagnostics.ParseFault.TheVariants as refusal
-use Rattle.grammar.specs.declared.limits.TheConstants.{MOST_NAMES}
+use Rattle.grammar.specs.declared.name_limits.TheConstants.{MOST_NAMES}
 use Rattle.grammar.specs.Compiled.{diagnostic, main_name}
-use Rattle.grammar.specs.Derivation.{ABody, Definition, State, is_end, run, state}
+use Rattle.grammar.specs.Derivation.{ABody, Definition, State, is_end, derived, state}
 use Rattle.grammar.specs.Faults.{definitions_actions}
 use Rattle.grammar.specs.Following.{InFunction}
 use Rattle.grammar.specs.Grammar.{Item, AName, Define, Defined, Exactly, FunctionBlock, Make, ParameterTypes}
 use Rattle.grammar.specs.Grammar.{Parameters, Part, Close, Source, is_punctuator}
 use Rattle.grammar.specs.Laws.{KeepsFunction}
 use Rattle.grammar.specs.Laws.Naming.{line_of_undefined}
-use Rattle.grammar.specs.Limits.{most_open}
+use Rattle.grammar.specs.NameLimits.{most_open}
 use Rattle.grammar.specs.Nesting.{body_nesting}
 use Rattle.grammar.specs.Laws.Parsing.{Passes}
 use Rattle.grammar.specs.Profile.{Profile}
 use Rattle.grammar.specs.Resolved.{InBody}
 use Rattle.grammar.specs.Scope.{Scope, function_number}
 use Rattle.grammar.specs.Tree.{Body}
-use Rattle.parser.specs.Readers.{BreaksOffFrom}
-use Rattle.parser.specs.declared.reader.Reader.{Reader}
-use Rattle.parser.specs.Position.{GoesOn, Place, Position, Standing, next_at, scope_at, taken_at, token_of, tokens_at}
+use Rattle.parser.specs.Parsers.{BreaksOffFrom}
+use Rattle.parser.specs.declared.parser.Parser.{Parser}
+use Rattle.parser.specs.ScopedCursors.{MayContinue, Position, Lookahead, ScopedCursor, next_at, scope_at, taken_at, token_of, tokens_at}
 use Rattle.parser.specs.Stopping.{Stop, Stops}
 use Rattle.parser.specs.Segment.{Derives, FailsAt, Refused, TakesTokens}
 
 -- From one place between functions to another the builder was told further functions, and the derivation, which goes
 -- from these items to those, defines them. It takes the same tokens whether the device tells them or not.
-pub record ReadsOn (before after : Meaning) (front pending : List Item) (here there : Place) : Type 0 where
+pub record ReadsOn (before after : Representation) (front pending : List Item) (here there : Position) : Type 0 where
   pub consumed : List LocatedToken
   pub more : List Definition
   pub told : (located_tokens : List LocatedToken) → tokens_at here ≡ Some located_tokens
       → TakesTokens consumed located_tokens there
-  pub follows : (rest : List LocatedToken) → GoesOn there rest → GoesOn here (consumed ++ rest)
+  pub follows : (rest : List LocatedToken) → MayContinue there rest → MayContinue here (consumed ++ rest)
   pub added : AppendsAll before after (definitions_actions more)
-  pub passes : (rest : List LocatedToken) → GoesOn there rest → (profile : Profile) (functions : List Definition) →
+  pub passes : (rest : List LocatedToken) → MayContinue there rest → (profile : Profile) (functions : List Definition) →
       before profile (definitions_actions functions) →
       Passes profile (state front (consumed ++ rest) [] (scope_at here) functions)
       (state pending rest [] (scope_at there) (functions ++ more))
 
 -- the builder stands for the actions of these functions, and further ones
-pub record IsTold (after : Meaning) (profile : Profile) (functions : List Definition) : Type 0 where
+pub record HasTold (after : Representation) (profile : Profile) (functions : List Definition) : Type 0 where
   pub more : List Action
   pub stands : after profile (definitions_actions functions ++ more)
 
 -- The derivation from s stops so. Where the device failed, the builder was told the functions defined up to there.
-pub record StopsTelling (after : Meaning) (profile : Profile) (s : State) (stop : Stop) : Type 0 where
+pub record StopsTelling (after : Representation) (profile : Profile) (s : State) (stop : Stop) : Type 0 where
   pub stops : Stops profile s stop
-  pub told : refusal.Device ≡ stop.fault → IsTold after profile (run stops.steps s).functions
+  pub told : refusal.Device ≡ stop.fault → HasTold after profile (derived stops.steps s).functions
 
 -- where the tokens are told, the derivation from these items on stops so
-abbrev pub StopsReading : (before after : Meaning) → List Item → Place → Stop → Type 0
-StopsReading before after front here stop =
+abbrev pub StopsPart : (before after : Representation) → List Item → Position → Stop → Type 0
+StopsPart before after front here stop =
     (located_tokens : List LocatedToken) → tokens_at here ≡ Some located_tokens
     → (profile : Profile) (functions : List Definition) →
     before profile (definitions_actions functions) →
@@ -71,7 +71,7 @@ abbrev pub at_source : List Item
 at_source = Part Source ∷ []
 
 -- a further part of the file is next
-abbrev pub HasMore : Standing → Type 0
+abbrev pub HasMore : ScopedCursor → Type 0
 HasMore at = token_of at ≡ token.End → ⊥
 
 -- where a function's definition begins
@@ -87,7 +87,7 @@ at_brace = Make Define ∷ Exactly punctuator.CloseCurly ∷ Close ∷ []
 
 -- A function's block was read up to its closing brace: the builder was told its statements, and the function stayed the
 -- same.
-pub record AddsBlock (before after : Meaning) (here there : Place) : Type 0 where
+pub record AddsBlock (before after : Representation) (here there : Position) : Type 0 where
   pub tree : Body
   pub numbered : InBody MOST_NAMES MOST_NAMES MOST_NAMES tree
   pub narrow : body_nesting tree ≤ most_open
@@ -97,38 +97,39 @@ pub record AddsBlock (before after : Meaning) (here there : Place) : Type 0 wher
   pub closed : is_punctuator punctuator.CloseCurly (next_at there).token ≡ true
 
 -- a list is stood for that leaves a function open, which may end with so many variables
-pub record MayEnd (before : Meaning) (variables : ℕ) : Type 0 where
+pub record MayEnd (before : Representation) (variables : ℕ) : Type 0 where
   pub parameters : ℕ
   pub returned : Bool
-  pub stands : StandsOpen before (InFunction parameters returned ∷ [])
+  pub stands : LeavesOpen before (InFunction parameters returned ∷ [])
   pub within : parameters ≤ variables
   pub few : variables ≤ MOST_NAMES
 
 -- The builder was told the last return and the function's end, and the code is within the limit.
-pub record ClosesFunction (before after : Meaning) (variables : ℕ) : Type 0 where
+pub record ClosesFunction (before after : Representation) (variables : ℕ) : Type 0 where
   pub added : AppendsAll before after (last_return ++ EndFunction variables ∷ [])
   pub fits : (profile : Profile) (acts : List Action) → before profile acts →
       code_length profile (acts ++ last_return) + 1 ≤ profile.instructions
 
 -- The code passes the limit, and the diagnostic says so at this line.
-pub record IsTooMuch (before : Meaning) (line : ℕ) (d : Diagnostic) : Type 0 where
+pub record IsTooMuch (before : Representation) (line : ℕ) (d : Diagnostic) : Type 0 where
   pub is : d ≡ diagnostic line code.TooMuchCode
   pub over : (profile : Profile) (acts : List Action) → before profile acts →
       profile.instructions < code_length profile (acts ++ last_return) + 1
 
 -- what a refusal says at a function's end, whose closing brace is on this line
-abbrev pub RefusesEnd : (before : Meaning) (line : ℕ) (denied : Type 0) → ParseFault → Type 0
+abbrev pub RefusesEnd : (before : Representation) (line : ℕ) (denied : Type 0) → ParseFault → Type 0
 RefusesEnd before line denied (refusal.Source d) = IsTooMuch before line d
 RefusesEnd before line denied refusal.Device = ⊥
 RefusesEnd before line denied refusal.Memory = denied
 
 -- what the end of a function says, by its result
-abbrev pub EndsFunction : {A F B : Type 0} → Result A ParseFault → (denied : Type 0) → (B → Meaning) → (variables : ℕ) →
-    (old new : Reader F B) → Type 0
+abbrev pub EndsFunction : {A F B : Type 0} → Result A ParseFault → (denied : Type 0) → (B → Representation) →
+    (variables : ℕ) →
+    (old new : Parser F B) → Type 0
 EndsFunction (Ok x) denied stands variables old new =
-    ClosesFunction (stands old.build.now) (stands new.build.now) variables
+    ClosesFunction (stands old.builder.now) (stands new.builder.now) variables
 EndsFunction (Err fault) denied stands variables old new =
-    RefusesEnd (stands old.build.now) (next_at old.parser.place).line denied fault
+    RefusesEnd (stands old.builder.now) (next_at old.tokens.position).line denied fault
 
 -- Each function that was mentioned is defined, and main is among them.
 pub record IsComplete (scope : Scope) : Type 0 where
@@ -136,40 +137,41 @@ pub record IsComplete (scope : Scope) : Type 0 where
   pub main : is_some (function_number main_name scope) ≡ true
 
 -- A function is not defined, or else there is no main function.
-pub data Lacks (position : Position) (fault : ParseFault) : Type 0 where
+pub data Lacks (position : Lookahead) (fault : ParseFault) : Type 0 where
   ADefinition : (line : ℕ) → line_of_undefined 0 position.scope.lines position.scope.begun ≡ Some line →
       fault ≡ refusal.Source (diagnostic line code.FunctionNotDefined) → Lacks position fault
   AMain : line_of_undefined 0 position.scope.lines position.scope.begun ≡ None →
       is_some (function_number main_name position.scope) ≡ false →
-      fault ≡ refusal.Source (diagnostic position.reading.next.line code.NoMainFunction) → Lacks position fault
+      fault ≡ refusal.Source (diagnostic position.cursor.next.line code.NoMainFunction) → Lacks position fault
 
 -- What a parse of a file's parts says, by its result.
 
 -- Parts of a file were read from these items on, and the builder has nothing open. Or the derivation stops within them,
 -- as the refusal says.
-abbrev pub ReadsParts : {A F B : Type 0} → Result A ParseFault → (denied : Type 0) → (B → Meaning) →
-    List Item → (old new : Reader F B) → Type 0
+abbrev pub ReadsParts : {A F B : Type 0} → Result A ParseFault → (denied : Type 0) → (B → Representation) →
+    List Item → (old new : Parser F B) → Type 0
 ReadsParts (Ok x) denied stands front old new =
-    ReadsOn (stands old.build.now) (stands new.build.now) front at_source
-    old.parser.place new.parser.place × StandsOpen (stands new.build.now) []
+    ReadsOn (stands old.builder.now) (stands new.builder.now) front at_source
+    old.tokens.position new.tokens.position × LeavesOpen (stands new.builder.now) []
 ReadsParts (Err fault) denied stands front old new =
-    Refused (StopsReading (stands old.build.now) (stands new.build.now) front old.parser.place)
-    denied (taken_at new.parser.place) fault
+    Refused (StopsPart (stands old.builder.now) (stands new.builder.now) front old.tokens.position)
+    denied (taken_at new.tokens.position) fault
 
 -- the same of all parts, up to the end of the file
-abbrev pub ReadsSource : {A F B : Type 0} → Result A ParseFault → (denied : Type 0) → (B → Meaning) →
-    (old new : Reader F B) → Type 0
+abbrev pub ReadsSource : {A F B : Type 0} → Result A ParseFault → (denied : Type 0) → (B → Representation) →
+    (old new : Parser F B) → Type 0
 ReadsSource (Ok x) denied stands old new =
-    ReadsOn (stands old.build.now) (stands new.build.now) at_source at_source
-    old.parser.place new.parser.place × StandsOpen (stands new.build.now) [] × (is_end (token_of new.parser) ≡ true)
+    ReadsOn (stands old.builder.now) (stands new.builder.now) at_source at_source
+    old.tokens.position new.tokens.position × LeavesOpen (stands new.builder.now) [] ×
+    (is_end (token_of new.tokens) ≡ true)
 ReadsSource (Err fault) denied stands old new =
-    Refused (StopsReading (stands old.build.now) (stands new.build.now) at_source old.parser.place)
-    denied (taken_at new.parser.place) fault
+    Refused (StopsPart (stands old.builder.now) (stands new.builder.now) at_source old.tokens.position)
+    denied (taken_at new.tokens.position) fault
 
 -- the same of a function's block, up to its closing brace
-abbrev pub ParsesBlock : {A F B : Type 0} → Result A ParseFault → (denied : Type 0) → (B → Meaning) →
-    (old new : Reader F B) → Type 0
+abbrev pub ParsesBlock : {A F B : Type 0} → Result A ParseFault → (denied : Type 0) → (B → Representation) →
+    (old new : Parser F B) → Type 0
 ParsesBlock (Ok x) denied stands old new =
-    AddsBlock (stands old.build.now) (stands new.build.now) old.parser.place new.parser.place
+    AddsBlock (stands old.builder.now) (stands new.builder.now) old.tokens.position new.tokens.position
 ParsesBlock (Err fault) denied stands old new =
-    BreaksOffFrom (FailsAt 0 (Part FunctionBlock ∷ []) [] old.parser.place) denied stands old new fault
+    BreaksOffFrom (FailsAt 0 (Part FunctionBlock ∷ []) [] old.tokens.position) denied stands old new fault

@@ -3,73 +3,74 @@ use Rattle.std.specs.Prelude.{ℕ, ◌≡◌, ◌<◌, ◌≤◌, List, [], ◌�
 use Rattle.std.specs.Prelude.{Option, Some, None, Result, Ok, Err}
 use Rattle.std.specs.Option.{option_map}
 use Rattle.tokens.specs.Feed.{Account, failed_again}
-use Rattle.tokens.specs.ReadLimits.{most_bytes}
+use Rattle.tokens.specs.WindowLimits.{most_taken_bytes}
 use Rattle.tokens.specs.Tokens.{is_last, tokens}
 use Rattle.tokens.specs.declared.located_tokens.LocatedToken.{LocatedToken}
 use Rattle.grammar.specs.declared.diagnostics.Code.{Code}
 use Rattle.grammar.specs.declared.diagnostics.Diagnostic.{Diagnostic}
 use Rattle.grammar.specs.declared.diagnostics.ParseFault.{ParseFault}
 use Rattle.grammar.specs.declared.diagnostics.ParseFault.TheVariants as refusal
-use Rattle.grammar.specs.declared.limits.TheConstants.{MOST_NAMES}
+use Rattle.grammar.specs.declared.name_limits.TheConstants.{MOST_NAMES}
 use Rattle.grammar.specs.Compiled.{diagnostic}
-use Rattle.grammar.specs.Derivation.{state, Value, Definition, line_of, name_of_token, next_of}
+use Rattle.grammar.specs.Derivation.{state, Value, Definition, line_at, name_of_token, next_token}
 use Rattle.grammar.specs.Faults.{levels, misfit_code}
 use Rattle.grammar.specs.Grammar.{Item, is_fault}
 use Rattle.grammar.specs.Laws.Parsing.{Passes}
 use Rattle.grammar.specs.Profile.{Profile}
 use Rattle.parser.specs.Defining.{IsWithin}
-use Rattle.parser.specs.Position.{Place, Position, GoesOn, tokens_at, next_at, scope_at}
+use Rattle.parser.specs.ScopedCursors.{Position, Lookahead, MayContinue, tokens_at, next_at, scope_at}
 use Rattle.parser.specs.Stopping.{IfSource, Stop, StopsInside, most_taken, stop_with}
 
 -- the tokens told at a place are those that a segment took, and then those told behind it
-pub record TakesTokens (consumed located_tokens : List LocatedToken) (there : Place) : Type 0 where
+pub record TakesTokens (consumed located_tokens : List LocatedToken) (there : Position) : Type 0 where
   pub rest : List LocatedToken
   pub is : located_tokens ≡ consumed ++ rest
   pub shows : tokens_at there ≡ Some rest
 
 -- From one place to another the derivation goes from these items in front to those, with so many levels open below
 -- them, and leaves these trees in the place of those. It takes the same tokens whether the device tells them or not.
-pub record Derives (depth : ℕ) (front pending : List Item) (taken left : List Value) (here there : Place) : Type 0 where
-  pub consumed : List LocatedToken
-  pub told : (located_tokens : List LocatedToken) → tokens_at here ≡ Some located_tokens
-      → TakesTokens consumed located_tokens there
-  pub follows : (rest : List LocatedToken) → GoesOn there rest → GoesOn here (consumed ++ rest)
-  pub passes : (rest : List LocatedToken) → GoesOn there rest →
-      (profile : Profile) (stack : List Item) (values : List Value) (functions : List Definition) →
-      levels stack ≡ depth →
-      Passes profile (state (front ++ stack) (consumed ++ rest) (taken ++ values) (scope_at here) functions)
-      (state (pending ++ stack) rest (left ++ values) (scope_at there) functions)
+pub record Derives (depth : ℕ) (front pending : List Item) (taken left : List Value) (here there : Position) : Type 0
+  where
+    pub consumed : List LocatedToken
+    pub told : (located_tokens : List LocatedToken) → tokens_at here ≡ Some located_tokens
+        → TakesTokens consumed located_tokens there
+    pub follows : (rest : List LocatedToken) → MayContinue there rest → MayContinue here (consumed ++ rest)
+    pub passes : (rest : List LocatedToken) → MayContinue there rest →
+        (profile : Profile) (stack : List Item) (values : List Value) (functions : List Definition) →
+        levels stack ≡ depth →
+        Passes profile (state (front ++ stack) (consumed ++ rest) (taken ++ values) (scope_at here) functions)
+        (state (pending ++ stack) rest (left ++ values) (scope_at there) functions)
 
 -- where the tokens are told, the derivation from these items on stops so, with so many levels open, and before a
 -- further function is defined
-abbrev pub FailsAt : ℕ → List Item → List Value → Place → Stop → Type 0
+abbrev pub FailsAt : ℕ → List Item → List Value → Position → Stop → Type 0
 FailsAt depth front taken here stop =
     (located_tokens : List LocatedToken) → tokens_at here ≡ Some located_tokens →
     (profile : Profile) (stack : List Item) (values : List Value) (functions : List Definition) → levels stack ≡ depth →
     StopsInside profile (state (front ++ stack) located_tokens (taken ++ values) (scope_at here) functions) stop
 
 -- one item was matched or replaced, however many levels are open
-abbrev pub DerivesItem : Item → List Item → List Value → Place → Place → Type 0
+abbrev pub DerivesItem : Item → List Item → List Value → Position → Position → Type 0
 DerivesItem item pending left here there = (depth : ℕ) → Derives depth (item ∷ []) pending [] left here there
 
-abbrev pub FailsItem : Item → Place → Stop → Type 0
+abbrev pub FailsItem : Item → Position → Stop → Type 0
 FailsItem item here stop = (depth : ℕ) → FailsAt depth (item ∷ []) [] here stop
 
 -- one token was passed, and no name became known
-pub record GoesPast (here there : Place) : Type 0 where
+pub record GoesPast (here there : Position) : Type 0 where
   pub more : is_last (next_at here).token ≡ false
-  pub next : next_at there ≡ here.position.reading.after
+  pub next : next_at there ≡ here.lookahead.cursor.after
   pub told : (first : LocatedToken) (rest : List LocatedToken) → tokens_at here ≡ Some (first ∷ rest)
       → tokens_at there ≡ Some rest
   pub scope : scope_at there ≡ scope_at here
 
 -- the token behind the next is a fault, which stops any derivation
-pub record HasLexicalError (here : Place) (d : Diagnostic) : Type 0 where
-  pub lexical_error : is_fault here.position.reading.after.token ≡ true
-  pub is : d ≡ diagnostic here.position.reading.after.line (misfit_code here.position.reading.after.token)
+pub record HasLexicalError (here : Position) (d : Diagnostic) : Type 0 where
+  pub lexical_error : is_fault here.lookahead.cursor.after.token ≡ true
+  pub is : d ≡ diagnostic here.lookahead.cursor.after.line (misfit_code here.lookahead.cursor.after.token)
 
 -- the next token fits, and behind it a fault is the next, or the device failed
-pub record StopsAt (here : Place) (stop : Stop) : Type 0 where
+pub record StopsAt (here : Position) (stop : Stop) : Type 0 where
   pub more : is_last (next_at here).token ≡ false
   pub lexical_error : IfSource stop.fault (HasLexicalError here)
   pub taken : (next : LocatedToken) (others : List LocatedToken) → tokens_at here ≡ Some (next ∷ others) →
@@ -78,8 +79,8 @@ pub record StopsAt (here : Place) (stop : Stop) : Type 0 where
 -- the first token is a fault, or the device failed
 pub record StopsFirst (told : Option (List LocatedToken)) (stop : Stop) : Type 0 where
   pub lexical_error : (located_tokens : List LocatedToken) → told ≡ Some located_tokens → IfSource stop.fault (λ d.
-      (is_fault (next_of located_tokens) ≡ true)
-      × (d ≡ diagnostic (line_of located_tokens) (misfit_code (next_of located_tokens))))
+      (is_fault (next_token located_tokens) ≡ true)
+      × (d ≡ diagnostic (line_at located_tokens) (misfit_code (next_token located_tokens))))
   pub taken : (located_tokens : List LocatedToken) → told ≡ Some located_tokens
       → stop.taken ≤ most_taken stop.fault located_tokens
 
@@ -90,13 +91,13 @@ pub record IsNoName (next : LocatedToken) (fault : ParseFault) : Type 0 where
   pub is : fault ≡ refusal.Source (diagnostic next.line (misfit_code next.token))
 
 -- the name was refused in its role, at the next token
-pub record IsRefused {T : Type 0} (answer : Result T Code) (next : LocatedToken) (fault : ParseFault) : Type 0 where
+pub record NameIsRefused {T : Type 0} (answer : Result T Code) (next : LocatedToken) (fault : ParseFault) : Type 0 where
   pub code : Code
   pub answered : answer ≡ Err code
   pub is : fault ≡ refusal.Source (diagnostic next.line code)
 
 -- the definition of the function of this number began
-pub record BeginsDefinition (number : ℕ) (old new : Position) : Type 0 where
+pub record BeginsDefinition (number : ℕ) (old new : Lookahead) : Type 0 where
   pub is : new.scope.number ≡ number
   pub few : number < MOST_NAMES
   pub mentioned : number < length new.scope.functions
@@ -113,15 +114,15 @@ Refused stops denied taken refusal.Memory = denied × stops (stop_with refusal.M
 pub record StopsAtFirst (told told' : Option (List ℕ)) (fault : ParseFault) : Type 0 where
   pub taken : ℕ
   pub took : (bytes : List ℕ) → told ≡ Some bytes → told' ≡ Some (drop taken bytes)
-  pub limited : taken ≤ most_bytes
+  pub limited : taken ≤ most_taken_bytes
   pub refused : Refused (StopsFirst (option_map tokens told)) ⊥ taken fault
 
 -- the same device, of which one more read has failed if it is the device that is answered
-abbrev pub counted : Account → ParseFault → Account
-counted account refusal.Device = failed_again account
-counted account (refusal.Source d) = account
-counted account refusal.Memory = account
+abbrev pub account_after : Account → ParseFault → Account
+account_after account refusal.Device = failed_again account
+account_after account (refusal.Source d) = account
+account_after account refusal.Memory = account
 
-abbrev pub Counts : {A : Type 0} → Result A ParseFault → Account → Account → Type 0
-Counts (Ok x) before behind = behind ≡ before
-Counts (Err e) before behind = behind ≡ counted before e
+abbrev pub CountsRefusal : {A : Type 0} → Result A ParseFault → Account → Account → Type 0
+CountsRefusal (Ok x) before behind = behind ≡ before
+CountsRefusal (Err e) before behind = behind ≡ account_after before e

@@ -3,48 +3,48 @@ use Rattle.std.specs.Prelude.{◌≡◌, ℕ, Some, None, is_some, true, false}
 use Rattle.tokens.specs.declared.located_tokens.Punctuator.TheVariants as punctuator
 use Rattle.tokens.specs.declared.located_tokens.Token.TheVariants as token
 use Rattle.tokens.specs.Tokens.{FitsToken}
-use Rattle.grammar.specs.declared.operators.Binary.{Binary}
+use Rattle.grammar.specs.declared.operators.BinaryOperator.{BinaryOperator}
 use Rattle.grammar.specs.declared.operators.StoreOp.{StoreOp}
 use Rattle.grammar.specs.Derivation.{name_of_token}
 use Rattle.grammar.specs.Grammar.{is_punctuator}
 use Rattle.grammar.specs.Operators.{operator_of, store_operator}
-use Rattle.parser.specs.Position.{Standing, token_after, token_of}
-use Rattle.parser.specs.declared.signs.Step.{Step}
-use Rattle.parser.specs.Signs.{step_punctuator}
+use Rattle.parser.specs.ScopedCursors.{ScopedCursor, token_after, token_of}
+use Rattle.parser.specs.declared.unary_ops.IncrementOp.{IncrementOp}
+use Rattle.parser.specs.UnaryOps.{increment_punctuator}
 
 -- a constant, of a value that it may have
-pub record StartsConstant (value : ℕ) (at : Standing) : Type 0 where
+pub record StartsConstant (value : ℕ) (at : ScopedCursor) : Type 0 where
   pub is : token_of at ≡ token.Constant value
   pub fits : FitsToken (token.Constant value)
 
 -- an operator of two operands
-abbrev pub StartsOperand : Binary → Standing → Type 0
+abbrev pub StartsOperand : BinaryOperator → ScopedCursor → Type 0
 StartsOperand binary at = operator_of (token_of at) ≡ Some binary
 
 -- a name
-abbrev pub StartsName : Standing → Type 0
+abbrev pub StartsName : ScopedCursor → Type 0
 StartsName at = is_some (name_of_token (token_of at)) ≡ true
 
 -- a name and an operator of assignments
-pub record StartsAssignment (op : StoreOp) (at : Standing) : Type 0 where
+pub record StartsAssignment (op : StoreOp) (at : ScopedCursor) : Type 0 where
   pub named : StartsName at
   pub is : store_operator (token_after at) ≡ Some op
 
 -- no name, or none of these operators after it
-abbrev pub StartsNoAssignment : Standing → Type 0
+abbrev pub StartsNoAssignment : ScopedCursor → Type 0
 StartsNoAssignment at = StartsName at → store_operator (token_after at) ≡ None
 
 -- a name and `(`
-pub record StartsCall (at : Standing) : Type 0 where
+pub record StartsCall (at : ScopedCursor) : Type 0 where
   pub named : StartsName at
   pub is : is_punctuator punctuator.OpenRound (token_after at) ≡ true
 
 -- a name without `(`
-pub record StartsVariable (at : Standing) : Type 0 where
+pub record StartsVariable (at : ScopedCursor) : Type 0 where
   pub named : StartsName at
   pub plain : is_punctuator punctuator.OpenRound (token_after at) ≡ false
 
 -- a name and `++` or `--`
-pub record StartsStep (step : Step) (at : Standing) : Type 0 where
+pub record StartsPostfix (step : IncrementOp) (at : ScopedCursor) : Type 0 where
   pub named : StartsName at
-  pub is : is_punctuator (step_punctuator step) (token_after at) ≡ true
+  pub is : is_punctuator (increment_punctuator step) (token_after at) ≡ true

@@ -4,23 +4,24 @@ use Rattle.std.specs.Prelude.{ℕ, ◌≤◌, List, [], ◌∷◌, Result, Ok, E
 use Rattle.tokens.specs.declared.located_tokens.Punctuator.TheVariants as punctuator
 use Rattle.parser.specs.Stopping.{Stop}
 use Rattle.grammar.specs.Actions.{body_actions}
-use Rattle.grammar.specs.Building.{Meaning, AppendsAll}
+use Rattle.grammar.specs.Building.{Representation, AppendsAll}
 use Rattle.grammar.specs.Derivation.{ABody}
-use Rattle.grammar.specs.declared.limits.TheConstants.{MOST_NAMES}
+use Rattle.grammar.specs.declared.name_limits.TheConstants.{MOST_NAMES}
 use Rattle.grammar.specs.declared.diagnostics.ParseFault.{ParseFault}
 use Rattle.grammar.specs.Grammar.{Item, Part, Statements, Symbol}
 use Rattle.grammar.specs.Nesting.{body_nesting}
 use Rattle.grammar.specs.Resolved.{InBody}
 use Rattle.grammar.specs.Tree.{Body, join}
-use Rattle.parser.specs.Advancing.{IsNext}
-use Rattle.parser.specs.declared.reader.Reader.{Reader}
-use Rattle.parser.specs.Position.{Place}
+use Rattle.parser.specs.Advancing.{IsNextPunctuator}
+use Rattle.parser.specs.declared.parser.Parser.{Parser}
+use Rattle.parser.specs.ScopedCursors.{Position}
 use Rattle.parser.specs.Room.{room}
-use Rattle.parser.specs.Readers.{BreaksOffFrom}
+use Rattle.parser.specs.Parsers.{BreaksOffFrom}
 use Rattle.parser.specs.Segment.{Derives, FailsAt}
 
 -- Statements were read, by the items in front, with so many levels of nesting open, whatever the body is so far.
-pub record AddsBody (before after : Meaning) (depth : ℕ) (front pending : List Item) (here there : Place) : Type 0 where
+pub record AddsBody (before after : Representation) (depth : ℕ) (front pending : List Item) (here there : Position) :
+    Type 0 where
   pub tree : Body
   pub numbered : InBody MOST_NAMES MOST_NAMES MOST_NAMES tree
   pub narrow : body_nesting tree ≤ room depth 1
@@ -28,24 +29,24 @@ pub record AddsBody (before after : Meaning) (depth : ℕ) (front pending : List
   pub derives : (body : Body) → Derives depth front pending (ABody body ∷ []) (ABody (join body tree) ∷ []) here there
 
 -- The first fault from there on, whatever the body is so far.
-abbrev pub FailsBody : ℕ → List Item → Place → Stop → Type 0
+abbrev pub FailsBody : ℕ → List Item → Position → Stop → Type 0
 FailsBody depth front here d = (body : Body) → FailsAt depth front (ABody body ∷ []) here d
 
 -- What a parse of statements says by its result: they were read, or the derivation stops within them, as the refusal
 -- says.
-abbrev pub ParsesBody : {A F B : Type 0} → Result A ParseFault → Type 0 → (B → Meaning) → Symbol →
-    (old new : Reader F B) → Type 0
+abbrev pub ParsesBody : {A F B : Type 0} → Result A ParseFault → Type 0 → (B → Representation) → Symbol →
+    (old new : Parser F B) → Type 0
 ParsesBody (Ok x) denied stands symbol old new =
-    AddsBody (stands old.build.now) (stands new.build.now) old.depth (Part symbol ∷ [])
-    [] old.parser.place new.parser.place
+    AddsBody (stands old.builder.now) (stands new.builder.now) old.depth (Part symbol ∷ [])
+    [] old.tokens.position new.tokens.position
 ParsesBody (Err fault) denied stands symbol old new =
-    BreaksOffFrom (FailsBody old.depth (Part symbol ∷ []) old.parser.place) denied stands old new fault
+    BreaksOffFrom (FailsBody old.depth (Part symbol ∷ []) old.tokens.position) denied stands old new fault
 
 -- the same of all statements up to a closing brace
-abbrev pub ParsesStatements : {A F B : Type 0} → Result A ParseFault → Type 0 → (B → Meaning) →
-    (old new : Reader F B) → Type 0
+abbrev pub ParsesStatements : {A F B : Type 0} → Result A ParseFault → Type 0 → (B → Representation) →
+    (old new : Parser F B) → Type 0
 ParsesStatements (Ok x) denied stands old new =
-    AddsBody (stands old.build.now) (stands new.build.now) old.depth (Part Statements ∷ [])
-    [] old.parser.place new.parser.place × IsNext punctuator.CloseCurly new.parser
+    AddsBody (stands old.builder.now) (stands new.builder.now) old.depth (Part Statements ∷ [])
+    [] old.tokens.position new.tokens.position × IsNextPunctuator punctuator.CloseCurly new.tokens
 ParsesStatements (Err fault) denied stands old new =
-    BreaksOffFrom (FailsBody old.depth (Part Statements ∷ []) old.parser.place) denied stands old new fault
+    BreaksOffFrom (FailsBody old.depth (Part Statements ∷ []) old.tokens.position) denied stands old new fault

@@ -1,12 +1,12 @@
 -- Where a derivation stops: at its first fault, or where the device failed or a builder was refused memory.
 use Rattle.std.specs.Prelude.{ℕ, ◌+◌, ◌≡◌, ◌≤◌, List, ◌++◌, length}
-use Rattle.tokens.specs.Reading.{undecided_reach_of, reach_of}
-use Rattle.tokens.specs.declared.limits.TheConstants.{WINDOW}
+use Rattle.tokens.specs.Cursors.{undecided_reach_of, reach_of}
+use Rattle.tokens.specs.declared.token_limits.TheConstants.{WINDOW_BYTES}
 use Rattle.tokens.specs.declared.located_tokens.LocatedToken.{LocatedToken}
 use Rattle.grammar.specs.declared.diagnostics.Diagnostic.{Diagnostic}
 use Rattle.grammar.specs.declared.diagnostics.ParseFault.{ParseFault}
 use Rattle.grammar.specs.declared.diagnostics.ParseFault.TheVariants as refusal
-use Rattle.grammar.specs.Derivation.{State, run}
+use Rattle.grammar.specs.Derivation.{State, derived}
 use Rattle.grammar.specs.Faults.{Fault}
 use Rattle.grammar.specs.Laws.Parsing.{Fails, IsFault}
 use Rattle.grammar.specs.Profile.{Profile}
@@ -28,12 +28,12 @@ IfSource refusal.Memory says = Unit {0}
 -- How many bytes may have been taken where these tokens are next. Where the device failed, no more than may leave the
 -- second of them open; else a window past it.
 abbrev pub most_taken : ParseFault → List LocatedToken → ℕ
-most_taken (refusal.Source d) rest = reach_of rest + WINDOW
+most_taken (refusal.Source d) rest = reach_of rest + WINDOW_BYTES
 most_taken refusal.Device rest = undecided_reach_of rest
-most_taken refusal.Memory rest = reach_of rest + WINDOW
+most_taken refusal.Memory rest = reach_of rest + WINDOW_BYTES
 
 -- no fault of the derivation stands before these last tokens of the source
-pub record NoneBefore (profile : Profile) (s : State) (rest : List LocatedToken) : Type 0 where
+pub record NoFaultBefore (profile : Profile) (s : State) (rest : List LocatedToken) : Type 0 where
   pub each : (f : Fault) → IsFault profile s f → length f.rest ≤ length rest
 
 -- The derivation from s comes to these of its tokens and stops there. The fault that is told is its first, and no more
@@ -43,12 +43,12 @@ pub record Stops (profile : Profile) (s : State) (stop : Stop) : Type 0 where
   pub rest : List LocatedToken
   pub is : s.rest ≡ passed ++ rest
   pub steps : ℕ
-  pub comes : (run steps s).rest ≡ rest
-  pub none_before : NoneBefore profile s rest
+  pub comes : (derived steps s).rest ≡ rest
+  pub none_before : NoFaultBefore profile s rest
   pub fails : IfSource stop.fault (Fails profile s)
   pub taken : stop.taken ≤ most_taken stop.fault rest
 
 -- and no function was defined on the way there
 pub record StopsInside (profile : Profile) (s : State) (stop : Stop) : Type 0 where
   pub stops : Stops profile s stop
-  pub functions : (run stops.steps s).functions ≡ s.functions
+  pub functions : (derived stops.steps s).functions ≡ s.functions

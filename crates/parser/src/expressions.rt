@@ -5,23 +5,24 @@ ghost use Rattle.tokens.specs.declared.located_tokens.Punctuator.TheVariants as 
 ghost use Rattle.grammar.specs.Actions.{middle};
 ghost use Rattle.grammar.specs.Building.{AppendsAll, MayFollowAll, Refuses};
 ghost use Rattle.grammar.specs.Grammar.{Expression, Primary, Unary};
-ghost use Rattle.parser.specs.Advancing.{Anywhere, IsNext};
-ghost use Rattle.parser.specs.Readers.{IsAt, MayProceed, Proceeds};
-ghost use Rattle.parser.specs.Room.{HasLeft, HasRoom};
+ghost use Rattle.parser.specs.Advancing.{Anywhere, IsNextPunctuator};
+ghost use Rattle.parser.specs.Parsers.{IsAt, MayProceed, Proceeds};
+ghost use Rattle.parser.specs.Room.{HasLeftSide, HasRoom};
 ghost use Rattle.parser.specs.Expressions.{Parses, ParsesArgs, ParsesLevels, ParsesOperand};
-ghost use Rattle.parser.specs.Signs.{sign_punctuator};
+ghost use Rattle.parser.specs.UnaryOps.{unary_punctuator};
 ghost use Rattle.parser.specs.Starts.{StartsAssignment, StartsCall, StartsNoAssignment, StartsOperand};
 
 use crate::parser::Parser;
-use crate::reader::Reader;
-use crate::signs::{Sign, sign_of, step_of};
+use crate::scoped_cursor::ScopedCursor;
 use crate::token_predicates::is_punctuator;
+use crate::unary_ops::{UnaryOp, increment_op_of, unary_op_of};
 use grammar::{
-    Action, Binary, Build, BuildFault, Op, ParseFault, StoreOp, operator_from, store_operator,
+    Action, BinaryOperator, Build, BuildFault, Op, ParseFault, StoreOp, operator_from,
+    store_operator,
 };
 use tokens::{Feed, Punctuator, Token};
 
-impl<F: Feed, B: Build> Reader<'_, '_, '_, F, B> {
+impl<F: Feed, B: Build> Parser<'_, '_, '_, F, B> {
     /// `expr → name asg expr` and `expr → level1`
     #[inline(never)]
     #[cycle(expressions)]
@@ -30,7 +31,7 @@ impl<F: Feed, B: Build> Reader<'_, '_, '_, F, B> {
         ensures parses { Parses result B.denied B.stands 1 Expression self.old self.new }
         ensures kept { Proceeds result self.old self.new }
     {
-        if let Some(op) = assignment_operator(&self.parser) {
+        if let Some(op) = assignment_operator(&self.tokens) {
             self.assignment(op)?;
         } else {
             self.levels(1)?;
@@ -47,12 +48,12 @@ impl<F: Feed, B: Build> Reader<'_, '_, '_, F, B> {
         ensures kept { Proceeds result self.old self.new }
     {
         self.check_level()?;
-        let var = self.parser.mention()?;
-        self.parser.advance()?;
+        let var = self.tokens.expect_variable()?;
+        self.tokens.advance()?;
         self.depth += 1;
         self.right_side()?;
         self.depth -= 1;
-        Ok(self.build.act(Action::StoreVariable(var, op))?)
+        Ok(self.builder.act(Action::StoreVariable(var, op))?)
     }
 
     /// `expr`, behind the operator of an assignment: most often no further assignment, which is parsed with no further call
@@ -63,7 +64,7 @@ impl<F: Feed, B: Build> Reader<'_, '_, '_, F, B> {
         ensures parses { Parses result B.denied B.stands 1 Expression self.old self.new }
         ensures kept { Proceeds result self.old self.new }
     {
-        match assignment_operator(&self.parser) {
+        match assignment_operator(&self.tokens) {
             Some(_) => self.expression(),
             None => self.levels(1),
         }
@@ -79,7 +80,7 @@ impl<F: Feed, B: Build> Reader<'_, '_, '_, F, B> {
         ensures kept { Proceeds result self.old self.new }
     {
         self.unary()?;
-        while let Some(binary) = operator_from(&self.parser.peek().token, level) {
+        while let Some(binary) = operator_from(&self.tokens.peek().token, level) {
             self.operand(binary)?;
         }
         Ok(())
@@ -88,15 +89,15 @@ impl<F: Feed, B: Build> Reader<'_, '_, '_, F, B> {
     /// `tailN → operator level(N+1) tailN`, up to the next `tailN`
     #[inline(never)]
     #[cycle(expressions)]
-    fn operand(&mut self, binary: Binary) -> Result<(), ParseFault>
-        requires at { IsAt B.stands HasLeft binary.level (StartsOperand binary) self.old }
+    fn operand(&mut self, binary: BinaryOperator) -> Result<(), ParseFault>
+        requires at { IsAt B.stands HasLeftSide binary.level (StartsOperand binary) self.old }
         ensures parses { ParsesOperand result B.denied B.stands binary self.old self.new }
         ensures kept { Proceeds result self.old self.new }
     {
-        self.parser.advance()?;
-        tell_middle(self.build, binary.op)?;
+        self.tokens.advance()?;
+        tell_middle(self.builder, binary.op)?;
         self.levels(binary.level + 1)?;
-        Ok(self.build.act(Action::ApplyBinop(binary.op))?)
+        Ok(self.builder.act(Action::ApplyBinop(binary.op))?)
     }
 
     /// `level11 → operator level11`, `level11 → operator name` and `level11 → primary`
@@ -107,8 +108,8 @@ impl<F: Feed, B: Build> Reader<'_, '_, '_, F, B> {
         ensures parses { Parses result B.denied B.stands 11 Unary self.old self.new }
         ensures kept { Proceeds result self.old self.new }
     {
-        if let Token::Punctuator(_) = self.parser.peek().token {
-            self.from_punctuator()?;
+        if let Token::Punctuator(_) = self.tokens.peek().token {
+            self.unary_from_punctuator()?;
         } else {
             self.primary()?;
         }
@@ -118,15 +119,15 @@ impl<F: Feed, B: Build> Reader<'_, '_, '_, F, B> {
     /// `level11` from a punctuator on: apart from the names and constants that most operands are
     #[inline(never)]
     #[cycle(expressions)]
-    fn from_punctuator(&mut self) -> Result<(), ParseFault>
+    fn unary_from_punctuator(&mut self) -> Result<(), ParseFault>
         requires at { IsAt B.stands HasRoom 11 Anywhere self.old }
         ensures parses { Parses result B.denied B.stands 11 Unary self.old self.new }
         ensures kept { Proceeds result self.old self.new }
     {
-        if let Some(sign) = sign_of(&self.parser.peek().token) {
-            self.signed(sign)?;
-        } else if let Some(step) = step_of(&self.parser.peek().token) {
-            self.step_before(step)?;
+        if let Some(sign) = unary_op_of(&self.tokens.peek().token) {
+            self.unary_operation(sign)?;
+        } else if let Some(step) = increment_op_of(&self.tokens.peek().token) {
+            self.prefix_increment(step)?;
         } else {
             self.primary()?;
         }
@@ -136,21 +137,21 @@ impl<F: Feed, B: Build> Reader<'_, '_, '_, F, B> {
     /// `level11 → operator level11`
     #[inline(never)]
     #[cycle(expressions)]
-    fn signed(&mut self, sign: Sign) -> Result<(), ParseFault>
-        requires at { IsAt B.stands HasRoom 11 (IsNext (sign_punctuator sign)) self.old }
+    fn unary_operation(&mut self, sign: UnaryOp) -> Result<(), ParseFault>
+        requires at { IsAt B.stands HasRoom 11 (IsNextPunctuator (unary_punctuator sign)) self.old }
         ensures parses { Parses result B.denied B.stands 11 Unary self.old self.new }
         ensures kept { Proceeds result self.old self.new }
     {
         self.check_level()?;
-        self.parser.advance()?;
-        sign.begin(self.build)?;
+        self.tokens.advance()?;
+        sign.tell_before_operand(self.builder)?;
         self.depth += 1;
         self.unary()?;
         self.depth -= 1;
-        Ok(sign.end(self.build)?)
+        Ok(sign.tell_after_operand(self.builder)?)
     }
 
-    /// `primary → constant`, `name ( args )`, `name operator`, `name` and `( expr )`
+    /// `primary → constant`, `name ( args )`, `name operator`, `next_name` and `( expr )`
     #[inline(always)]
     #[cycle(expressions)]
     fn primary(&mut self) -> Result<(), ParseFault>
@@ -158,16 +159,16 @@ impl<F: Feed, B: Build> Reader<'_, '_, '_, F, B> {
         ensures parses { Parses result B.denied B.stands 11 Primary self.old self.new }
         ensures kept { Proceeds result self.old self.new }
     {
-        match self.parser.peek().token {
+        match self.tokens.peek().token {
             Token::Constant(value) => self.constant(value),
-            Token::Name(_) if is_punctuator(self.parser.after(), Punctuator::OpenRound) => {
+            Token::Name(_) if is_punctuator(self.tokens.after(), Punctuator::OpenRound) => {
                 self.call()
             }
             Token::Name(_) => self.variable(),
-            _ if is_punctuator(&self.parser.peek().token, Punctuator::OpenRound) => {
+            _ if is_punctuator(&self.tokens.peek().token, Punctuator::OpenRound) => {
                 self.bracketed()
             }
-            _ => Err(self.parser.misfit()),
+            _ => Err(self.tokens.misfit()),
         }
     }
 
@@ -180,14 +181,14 @@ impl<F: Feed, B: Build> Reader<'_, '_, '_, F, B> {
         ensures kept { Proceeds result self.old self.new }
     {
         self.check_level()?;
-        let callee = self.parser.callee()?;
-        self.build.act(Action::BeginCall)?;
-        self.parser.expect(Punctuator::OpenRound)?;
+        let callee = self.tokens.expect_callee()?;
+        self.builder.act(Action::BeginCall)?;
+        self.tokens.expect(Punctuator::OpenRound)?;
         self.depth += 1;
         self.arguments()?;
         self.depth -= 1;
-        self.parser.expect(Punctuator::CloseRound)?;
-        Ok(self.build.act(Action::EndCall(callee))?)
+        self.tokens.expect(Punctuator::CloseRound)?;
+        Ok(self.builder.act(Action::EndCall(callee))?)
     }
 
     /// `args → expr moreargs`, and empty at the closing bracket; `moreargs → , expr moreargs`
@@ -197,12 +198,12 @@ impl<F: Feed, B: Build> Reader<'_, '_, '_, F, B> {
         ensures parses { ParsesArgs result B.denied B.stands self.old self.new }
         ensures kept { MayProceed result self.old self.new }
     {
-        if is_punctuator(&self.parser.peek().token, Punctuator::CloseRound) {
+        if is_punctuator(&self.tokens.peek().token, Punctuator::CloseRound) {
             return Ok(());
         }
         self.expression()?;
-        while is_punctuator(&self.parser.peek().token, Punctuator::Comma) {
-            self.parser.expect(Punctuator::Comma)?;
+        while is_punctuator(&self.tokens.peek().token, Punctuator::Comma) {
+            self.tokens.expect(Punctuator::Comma)?;
             self.expression()?;
         }
         Ok(())
@@ -212,22 +213,22 @@ impl<F: Feed, B: Build> Reader<'_, '_, '_, F, B> {
     #[inline(never)]
     #[cycle(expressions)]
     fn bracketed(&mut self) -> Result<(), ParseFault>
-        requires at { IsAt B.stands HasRoom 11 (IsNext punctuator.OpenRound) self.old }
+        requires at { IsAt B.stands HasRoom 11 (IsNextPunctuator punctuator.OpenRound) self.old }
         ensures parses { Parses result B.denied B.stands 11 Primary self.old self.new }
         ensures kept { Proceeds result self.old self.new }
     {
         self.check_level()?;
-        self.parser.advance()?;
+        self.tokens.advance()?;
         self.depth += 1;
         self.expression()?;
         self.depth -= 1;
-        self.parser.expect(Punctuator::CloseRound)?;
+        self.tokens.expect(Punctuator::CloseRound)?;
         Ok(())
     }
 }
 
 /// Returns the operator of an assignment, if the next token is a name and the one after it is such an operator.
-fn assignment_operator<F: Feed>(parser: &Parser<'_, '_, F>) -> Option<StoreOp>
+fn assignment_operator<F: Feed>(parser: &ScopedCursor<'_, '_, F>) -> Option<StoreOp>
     ensures starts { IfSome result (λ op. StartsAssignment op parser.now) }
     ensures none { IfNone result (StartsNoAssignment parser.now) }
 {

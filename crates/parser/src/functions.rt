@@ -1,32 +1,31 @@
 //! Functions: their headings, blocks and ends.
 
 ghost use Rattle.parser.specs.Advancing.{Anywhere};
-ghost use Rattle.parser.specs.Readers.{IsAtBlock, IsBetween, OnlyTells, Proceeds};
+ghost use Rattle.parser.specs.Parsers.{IsAtBlock, IsBetween, OnlyTells, Proceeds};
 ghost use Rattle.parser.specs.Progress.{EndsFunction, MayEnd, ParsesBlock, ReadsParts, at_definition};
 
-use crate::headings::heading;
-use crate::lists::declarations;
-use crate::reader::Reader;
+use crate::function_headers::function_header;
+use crate::name_lists::declarations;
+use crate::parser::Parser;
 use crate::roles::Declared;
 use crate::token_predicates::is_punctuator;
 use grammar::{Action, Build, BuildFault, Code, ParseFault};
 use tokens::{Feed, Punctuator};
 
-impl<F: Feed, B: Build> Reader<'_, '_, '_, F, B> {
+impl<F: Feed, B: Build> Parser<'_, '_, '_, F, B> {
     /// `name ( params ) pdecls block`
     pub fn function(&mut self) -> Result<(), ParseFault>
         requires at { IsBetween B.stands Anywhere self.old }
         ensures reads { ReadsParts result B.denied B.stands at_definition self.old self.new }
         ensures kept { Proceeds result self.old self.new }
     {
-        let number = heading(&mut self.parser)?;
-        self.build
-            .act(Action::BeginFunction(number, self.parser.parameters()))?;
+        let number = function_header(&mut self.tokens)?;
+        self.builder.act(Action::BeginFunction(number, self.tokens.parameter_count()))?;
         self.function_block()?;
-        let variables = self.parser.variables();
-        self.close(variables)?;
-        self.parser.end_definition();
-        self.parser.expect(Punctuator::CloseCurly)?;
+        let variables = self.tokens.variable_count();
+        self.end_function(variables)?;
+        self.tokens.end_definition();
+        self.tokens.expect(Punctuator::CloseCurly)?;
         Ok(())
     }
 
@@ -36,11 +35,11 @@ impl<F: Feed, B: Build> Reader<'_, '_, '_, F, B> {
         ensures parses { ParsesBlock result B.denied B.stands self.old self.new }
         ensures kept { Proceeds result self.old self.new }
     {
-        if !is_punctuator(&self.parser.peek().token, Punctuator::OpenCurly) {
-            return Err(self.parser.misfit());
+        if !is_punctuator(&self.tokens.peek().token, Punctuator::OpenCurly) {
+            return Err(self.tokens.misfit());
         }
-        self.parser.advance()?;
-        declarations(&mut self.parser, Declared::Locals)?;
+        self.tokens.advance()?;
+        declarations(&mut self.tokens, Declared::Locals)?;
         self.depth += 1;
         self.statements()?;
         self.depth -= 1;
@@ -48,16 +47,16 @@ impl<F: Feed, B: Build> Reader<'_, '_, '_, F, B> {
     }
 
     /// Ends a function with so many variables, with a return, and judges its length at the closing brace, the next token.
-    fn close(&mut self, variables: u8) -> Result<(), ParseFault>
-        requires open { MayEnd (B.stands self.old.build.now) variables }
+    fn end_function(&mut self, variables: u8) -> Result<(), ParseFault>
+        requires open { MayEnd (B.stands self.old.builder.now) variables }
         ensures ends { EndsFunction result B.denied B.stands variables self.old self.new }
         ensures kept { OnlyTells self.old self.new }
     {
-        self.build.act(Action::PushConstant(0))?;
-        self.build.act(Action::GiveBack)?;
-        match self.build.act(Action::EndFunction(variables)) {
+        self.builder.act(Action::PushConstant(0))?;
+        self.builder.act(Action::GiveBack)?;
+        match self.builder.act(Action::EndFunction(variables)) {
             Ok(()) => Ok(()),
-            Err(BuildFault::Full) => Err(self.parser.refusal(Code::TooMuchCode)),
+            Err(BuildFault::Full) => Err(self.tokens.refusal(Code::TooMuchCode)),
             Err(BuildFault::Memory) => Err(ParseFault::Memory),
         }
     }

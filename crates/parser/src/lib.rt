@@ -3,16 +3,16 @@
 #![tactic(auto)]
 
 mod expressions;
-mod files;
+mod function_headers;
 mod functions;
-mod headings;
-mod lists;
+mod name_lists;
 mod operands;
 mod parser;
-mod reader;
 mod roles;
-mod signs;
+mod scoped_cursor;
+mod sources;
 mod statements;
 mod token_predicates;
+mod unary_ops;
 
-pub use files::{parse, parse_into};
+pub use sources::{parse, parse_into};

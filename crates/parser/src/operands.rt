@@ -1,19 +1,19 @@
 //! Operands without operands of their own: constants and variables, with `++` and `--`.
 
 ghost use Rattle.grammar.specs.Grammar.{Primary, Unary};
-ghost use Rattle.parser.specs.Advancing.{IsNext};
-ghost use Rattle.parser.specs.Readers.{IsAt, Proceeds};
+ghost use Rattle.parser.specs.Advancing.{IsNextPunctuator};
+ghost use Rattle.parser.specs.Parsers.{IsAt, Proceeds};
 ghost use Rattle.parser.specs.Room.{HasRoom};
 ghost use Rattle.parser.specs.Expressions.{ParsesOperandAlone};
-ghost use Rattle.parser.specs.Signs.{step_punctuator};
-ghost use Rattle.parser.specs.Starts.{StartsConstant, StartsStep, StartsVariable};
+ghost use Rattle.parser.specs.UnaryOps.{increment_punctuator};
+ghost use Rattle.parser.specs.Starts.{StartsConstant, StartsPostfix, StartsVariable};
 
-use crate::reader::Reader;
-use crate::signs::{Step, step_of};
+use crate::parser::Parser;
+use crate::unary_ops::{IncrementOp, increment_op_of};
 use grammar::{Action, Build, ParseFault};
 use tokens::Feed;
 
-impl<F: Feed, B: Build> Reader<'_, '_, '_, F, B> {
+impl<F: Feed, B: Build> Parser<'_, '_, '_, F, B> {
     /// `primary → constant`
     #[inline(always)]
     pub fn constant(&mut self, value: u32) -> Result<(), ParseFault>
@@ -21,8 +21,8 @@ impl<F: Feed, B: Build> Reader<'_, '_, '_, F, B> {
         ensures parses { ParsesOperandAlone result B.denied B.stands Primary self.old self.new }
         ensures kept { Proceeds result self.old self.new }
     {
-        self.build.act(Action::PushConstant(value as i32))?;
-        self.parser.advance()?;
+        self.builder.act(Action::PushConstant(value as i32))?;
+        self.tokens.advance()?;
         Ok(())
     }
 
@@ -33,40 +33,44 @@ impl<F: Feed, B: Build> Reader<'_, '_, '_, F, B> {
         ensures parses { ParsesOperandAlone result B.denied B.stands Primary self.old self.new }
         ensures kept { Proceeds result self.old self.new }
     {
-        if let Some(step) = step_of(self.parser.after()) {
-            self.step_behind(step)?;
+        if let Some(step) = increment_op_of(self.tokens.after()) {
+            self.postfix_increment(step)?;
             return Ok(());
         }
-        let var = self.parser.mention()?;
-        Ok(self.build.act(Action::FetchVariable(var))?)
+        let var = self.tokens.expect_variable()?;
+        Ok(self.builder.act(Action::FetchVariable(var))?)
     }
 
     /// `primary → name operator`
     #[inline(never)]
-    fn step_behind(&mut self, step: Step) -> Result<(), ParseFault>
-        requires at { IsAt B.stands HasRoom 11 (StartsStep step) self.old }
+    fn postfix_increment(&mut self, step: IncrementOp) -> Result<(), ParseFault>
+        requires at { IsAt B.stands HasRoom 11 (StartsPostfix step) self.old }
         ensures parses { ParsesOperandAlone result B.denied B.stands Primary self.old self.new }
         ensures kept { Proceeds result self.old self.new }
     {
-        let var = self.parser.mention()?;
-        self.build.act(Action::FetchVariable(var))?;
-        self.build.act(Action::PushConstant(1))?;
-        self.build.act(Action::StoreVariable(var, step.store()))?;
-        self.build.act(Action::Chop)?;
-        self.parser.expect(step.punctuator())?;
+        let var = self.tokens.expect_variable()?;
+        self.builder.act(Action::FetchVariable(var))?;
+        self.builder.act(Action::PushConstant(1))?;
+        self.builder
+            .act(Action::StoreVariable(var, step.store_op()))?;
+        self.builder.act(Action::Chop)?;
+        self.tokens.expect(step.punctuator())?;
         Ok(())
     }
 
     /// `level11 → operator name`
     #[inline(never)]
-    pub fn step_before(&mut self, step: Step) -> Result<(), ParseFault>
-        requires at { IsAt B.stands HasRoom 11 (IsNext (step_punctuator step)) self.old }
+    pub fn prefix_increment(&mut self, step: IncrementOp) -> Result<(), ParseFault>
+        requires at { IsAt B.stands HasRoom 11 (IsNextPunctuator (increment_punctuator step)) self.old }
         ensures parses { ParsesOperandAlone result B.denied B.stands Unary self.old self.new }
         ensures kept { Proceeds result self.old self.new }
     {
-        self.parser.advance()?;
-        let var = self.parser.mention()?;
-        self.build.act(Action::PushConstant(1))?;
-        Ok(self.build.act(Action::StoreVariable(var, step.store()))?)
+        self.tokens.advance()?;
+        let var = self.tokens.expect_variable()?;
+        self.builder.act(Action::PushConstant(1))?;
+        Ok(
+            self.builder
+                .act(Action::StoreVariable(var, step.store_op()))?,
+        )
     }
 }

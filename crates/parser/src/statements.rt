@@ -1,33 +1,33 @@
 //! Blocks, branches, loops, returns and expressions for their effect.
 
 ghost use Rattle.tokens.specs.declared.located_tokens.Punctuator.TheVariants as punctuator;
-ghost use Rattle.tokens.specs.declared.located_tokens.Word.TheVariants as word;
+ghost use Rattle.tokens.specs.declared.located_tokens.Keyword.TheVariants as word;
 ghost use Rattle.grammar.specs.Following.{InBranch};
 ghost use Rattle.grammar.specs.Grammar.{Back, Statement};
-ghost use Rattle.parser.specs.Advancing.{Anywhere, IsNext, IsNextWord};
-ghost use Rattle.parser.specs.Readers.{IsAt, MayProceed, Proceeds};
-ghost use Rattle.parser.specs.Room.{HasPlace, HasRoom};
+ghost use Rattle.parser.specs.Advancing.{Anywhere, IsNextPunctuator, IsNextKeyword};
+ghost use Rattle.parser.specs.Parsers.{IsAt, MayProceed, Proceeds};
+ghost use Rattle.parser.specs.Room.{HasStatementRoom, HasRoom};
 ghost use Rattle.parser.specs.Expressions.{Parses};
 ghost use Rattle.parser.specs.Branches.{HasInside, ParsesElse};
 ghost use Rattle.parser.specs.Forms.{ParsesCondition, StartsEvaluation};
 ghost use Rattle.parser.specs.Statements.{ParsesBody, ParsesStatements};
 
-use crate::lists::declarations;
-use crate::reader::Reader;
+use crate::name_lists::declarations;
+use crate::parser::Parser;
 use crate::roles::Declared;
-use crate::token_predicates::{is_punctuator, is_word};
+use crate::token_predicates::{is_keyword, is_punctuator};
 use grammar::{Action, Build, ParseFault};
-use tokens::{Feed, Punctuator, Token, Word};
+use tokens::{Feed, Keyword, Punctuator, Token};
 
-impl<F: Feed, B: Build> Reader<'_, '_, '_, F, B> {
+impl<F: Feed, B: Build> Parser<'_, '_, '_, F, B> {
     /// `stmts → stmt stmts`, up to the closing brace
     #[cycle(statements)]
     pub fn statements(&mut self) -> Result<(), ParseFault>
-        requires at { IsAt B.stands HasPlace 1 Anywhere self.old }
+        requires at { IsAt B.stands HasStatementRoom 1 Anywhere self.old }
         ensures parses { ParsesStatements result B.denied B.stands self.old self.new }
         ensures kept { MayProceed result self.old self.new }
     {
-        while !is_punctuator(&self.parser.peek().token, Punctuator::CloseCurly) {
+        while !is_punctuator(&self.tokens.peek().token, Punctuator::CloseCurly) {
             self.statement()?;
         }
         Ok(())
@@ -36,17 +36,17 @@ impl<F: Feed, B: Build> Reader<'_, '_, '_, F, B> {
     /// `stmt → ;`, `block`, `if ( expr ) stmt elsepart`, `while ( expr ) stmt`, `return back ;` and `expr ;`
     #[cycle(statements)]
     fn statement(&mut self) -> Result<(), ParseFault>
-        requires at { IsAt B.stands HasPlace 1 Anywhere self.old }
+        requires at { IsAt B.stands HasStatementRoom 1 Anywhere self.old }
         ensures parses { ParsesBody result B.denied B.stands Statement self.old self.new }
         ensures kept { Proceeds result self.old self.new }
     {
-        match self.parser.peek().token {
-            Token::Punctuator(Punctuator::Semicolon) => self.parser.expect(Punctuator::Semicolon)?,
+        match self.tokens.peek().token {
+            Token::Punctuator(Punctuator::Semicolon) => self.tokens.expect(Punctuator::Semicolon)?,
             Token::Punctuator(Punctuator::OpenCurly) => self.block()?,
-            Token::Word(Word::If) => self.branch()?,
-            Token::Word(Word::While) => self.repetition()?,
-            Token::Word(Word::Return) => self.give_back()?,
-            _ => self.evaluation()?,
+            Token::Keyword(Keyword::If) => self.if_statement()?,
+            Token::Keyword(Keyword::While) => self.while_statement()?,
+            Token::Keyword(Keyword::Return) => self.return_statement()?,
+            _ => self.expression_statement()?,
         }
         Ok(())
     }
@@ -54,36 +54,36 @@ impl<F: Feed, B: Build> Reader<'_, '_, '_, F, B> {
     /// `block → { decls stmts }`
     #[cycle(statements)]
     fn block(&mut self) -> Result<(), ParseFault>
-        requires at { IsAt B.stands HasPlace 1 (IsNext punctuator.OpenCurly) self.old }
+        requires at { IsAt B.stands HasStatementRoom 1 (IsNextPunctuator punctuator.OpenCurly) self.old }
         ensures parses { ParsesBody result B.denied B.stands Statement self.old self.new }
         ensures kept { Proceeds result self.old self.new }
     {
         self.check_level()?;
-        self.parser.advance()?;
-        declarations(&mut self.parser, Declared::Locals)?;
+        self.tokens.advance()?;
+        declarations(&mut self.tokens, Declared::Locals)?;
         self.depth += 1;
         self.statements()?;
         self.depth -= 1;
-        self.parser.expect(Punctuator::CloseCurly)?;
+        self.tokens.expect(Punctuator::CloseCurly)?;
         Ok(())
     }
 
     /// `stmt → if ( expr ) stmt elsepart`
     #[cycle(statements)]
-    fn branch(&mut self) -> Result<(), ParseFault>
-        requires at { IsAt B.stands HasPlace 1 (IsNextWord word.If) self.old }
+    fn if_statement(&mut self) -> Result<(), ParseFault>
+        requires at { IsAt B.stands HasStatementRoom 1 (IsNextKeyword word.If) self.old }
         ensures parses { ParsesBody result B.denied B.stands Statement self.old self.new }
         ensures kept { Proceeds result self.old self.new }
     {
         self.check_level()?;
-        self.parser.advance()?;
+        self.tokens.advance()?;
         self.depth += 1;
         self.condition()?;
-        self.build.act(Action::IfTest)?;
+        self.builder.act(Action::IfTest)?;
         self.statement()?;
         self.else_part()?;
         self.depth -= 1;
-        Ok(self.build.act(Action::EndIf)?)
+        Ok(self.builder.act(Action::EndIf)?)
     }
 
     /// `elsepart → else stmt`, and empty where no `else` is next
@@ -94,9 +94,9 @@ impl<F: Feed, B: Build> Reader<'_, '_, '_, F, B> {
         ensures parses { ParsesElse result B.denied B.stands self.old self.new }
         ensures kept { MayProceed result self.old self.new }
     {
-        if is_word(&self.parser.peek().token, Word::Else) {
-            self.build.act(Action::ElsePart)?;
-            self.parser.advance()?;
+        if is_keyword(&self.tokens.peek().token, Keyword::Else) {
+            self.builder.act(Action::ElsePart)?;
+            self.tokens.advance()?;
             self.statement()?;
         }
         Ok(())
@@ -104,20 +104,20 @@ impl<F: Feed, B: Build> Reader<'_, '_, '_, F, B> {
 
     /// `stmt → while ( expr ) stmt`
     #[cycle(statements)]
-    fn repetition(&mut self) -> Result<(), ParseFault>
-        requires at { IsAt B.stands HasPlace 1 (IsNextWord word.While) self.old }
+    fn while_statement(&mut self) -> Result<(), ParseFault>
+        requires at { IsAt B.stands HasStatementRoom 1 (IsNextKeyword word.While) self.old }
         ensures parses { ParsesBody result B.denied B.stands Statement self.old self.new }
         ensures kept { Proceeds result self.old self.new }
     {
         self.check_level()?;
-        self.build.act(Action::BeginWhile)?;
-        self.parser.advance()?;
+        self.builder.act(Action::BeginWhile)?;
+        self.tokens.advance()?;
         self.depth += 1;
         self.condition()?;
-        self.build.act(Action::WhileTest)?;
+        self.builder.act(Action::WhileTest)?;
         self.statement()?;
         self.depth -= 1;
-        Ok(self.build.act(Action::EndWhile)?)
+        Ok(self.builder.act(Action::EndWhile)?)
     }
 
     /// `( expr )`, behind `if` or `while`
@@ -127,32 +127,32 @@ impl<F: Feed, B: Build> Reader<'_, '_, '_, F, B> {
         ensures parses { ParsesCondition result B.denied B.stands self.old self.new }
         ensures kept { Proceeds result self.old self.new }
     {
-        self.parser.expect(Punctuator::OpenRound)?;
+        self.tokens.expect(Punctuator::OpenRound)?;
         self.expression()?;
-        self.parser.expect(Punctuator::CloseRound)?;
+        self.tokens.expect(Punctuator::CloseRound)?;
         Ok(())
     }
 
     /// `stmt → return back ;`
-    fn give_back(&mut self) -> Result<(), ParseFault>
-        requires at { IsAt B.stands HasPlace 1 (IsNextWord word.Return) self.old }
+    fn return_statement(&mut self) -> Result<(), ParseFault>
+        requires at { IsAt B.stands HasStatementRoom 1 (IsNextKeyword word.Return) self.old }
         ensures parses { ParsesBody result B.denied B.stands Statement self.old self.new }
         ensures kept { Proceeds result self.old self.new }
     {
-        self.parser.advance()?;
-        self.back()?;
-        self.parser.expect(Punctuator::Semicolon)?;
-        Ok(self.build.act(Action::GiveBack)?)
+        self.tokens.advance()?;
+        self.return_value()?;
+        self.tokens.expect(Punctuator::Semicolon)?;
+        Ok(self.builder.act(Action::GiveBack)?)
     }
 
     /// `back → expr`, and empty at the semicolon
-    fn back(&mut self) -> Result<(), ParseFault>
+    fn return_value(&mut self) -> Result<(), ParseFault>
         requires at { IsAt B.stands HasRoom 1 Anywhere self.old }
         ensures parses { Parses result B.denied B.stands 1 Back self.old self.new }
         ensures kept { MayProceed result self.old self.new }
     {
-        if is_punctuator(&self.parser.peek().token, Punctuator::Semicolon) {
-            self.build.act(Action::PushConstant(0))?;
+        if is_punctuator(&self.tokens.peek().token, Punctuator::Semicolon) {
+            self.builder.act(Action::PushConstant(0))?;
             return Ok(());
         }
         self.expression()?;
@@ -160,13 +160,13 @@ impl<F: Feed, B: Build> Reader<'_, '_, '_, F, B> {
     }
 
     /// `stmt → expr ;`
-    fn evaluation(&mut self) -> Result<(), ParseFault>
-        requires at { IsAt B.stands HasPlace 1 StartsEvaluation self.old }
+    fn expression_statement(&mut self) -> Result<(), ParseFault>
+        requires at { IsAt B.stands HasStatementRoom 1 StartsEvaluation self.old }
         ensures parses { ParsesBody result B.denied B.stands Statement self.old self.new }
         ensures kept { Proceeds result self.old self.new }
     {
         self.expression()?;
-        self.parser.expect(Punctuator::Semicolon)?;
-        Ok(self.build.act(Action::Chop)?)
+        self.tokens.expect(Punctuator::Semicolon)?;
+        Ok(self.builder.act(Action::Chop)?)
     }
 }

@@ -1,9 +1,9 @@
 //! Whether a token is this punctuator or this word.
 
 ghost use Rattle.std.specs.Prelude.{◌≡◌};
-ghost use Rattle.grammar.specs.Grammar.{is_punctuator, is_word};
+ghost use Rattle.grammar.specs.Grammar.{is_punctuator, is_keyword};
 
-use tokens::{Punctuator, Token, Word};
+use tokens::{Keyword, Punctuator, Token};
 
 /// Returns whether the token is this punctuator.
 pub fn is_punctuator(token: &Token, punctuator: Punctuator) -> bool
@@ -13,8 +13,8 @@ pub fn is_punctuator(token: &Token, punctuator: Punctuator) -> bool
 }
 
 /// Returns whether the token is this word.
-pub fn is_word(token: &Token, word: Word) -> bool
-    ensures { result ≡ is_word word token.now }
+pub fn is_keyword(token: &Token, word: Keyword) -> bool
+    ensures { result ≡ is_keyword word token.now }
 {
-    matches!(token, Token::Word(found) if *found == word)
+    matches!(token, Token::Keyword(found) if *found == word)
 }

@@ -7,34 +7,34 @@ use Rattle.std.proofs.lemmas.List.{get_or-map, length-map, map-append, map-set, 
 use Rattle.std.proofs.lemmas.Option.{slice_get-get_or, slice_get-map}
 use Rattle.std.proofs.Math.Seq.{map-set_same}
 use Rattle.arena.specs.Field.{Field, is_alive, is_live, live_count}
-use Rattle.arena.specs.Ground.{Body, Ground, body_of, lives}
-use Rattle.arena.specs.Standing.{StandsFor}
+use Rattle.arena.specs.Arena.{Robot, Arena, robot_of, lives}
+use Rattle.arena.specs.Representing.{RepresentsField}
 use Rattle.arena.proofs.Represents.{body_at}
 use Rattle.code.specs.declared.want.Want.{Want}
 use Rattle.code.specs.declared.want.Want.TheVariants.{Ask, Quiet, Restart}
 use Rattle.grammar.specs.Profile.{Profile}
 use Rattle.grammar.specs.Tree.{File}
-use Rattle.code.specs.Codes.{AreCodesOf}
-use Rattle.code.specs.Generation.{ObjectCode}
+use Rattle.code.specs.Codes.{AreProgramsOf}
+use Rattle.code.specs.Generation.{Program}
 use Rattle.engine.specs.Executables.{Executable}
-use Rattle.code.specs.Machine.{State, want_code}
-use Rattle.code.specs.Standing.{IsReached}
+use Rattle.code.specs.Machine.{Machine, want_code}
+use Rattle.code.specs.ReachedMachines.{IsReached}
 use Rattle.code.proofs.Correct.{want_code_is_want}
-use Rattle.battles.specs.Battle.{Behaviour, Stage, first_above, granted, is_over, last_cycle, robot_of, stage_after, step, turns}
-use Rattle.battles.specs.Carrying.{AreRobotsOf, EachIsAt, IsRobotOf, Runner}
+use Rattle.battles.specs.Battle.{Behaviour, Stage, first_above, granted, is_over, last_cycle, behaviour_at, stage_after, robot_turn, turns}
+use Rattle.battles.specs.Carrying.{AreRobotsOf, EachIsAheadOf, IsRobotOf, Runner}
 use Rattle.battles.proofs.Cycles.{cycle_alone, cycle_updates, first_here, first_later, first_none, goes_on, over_if_few, stage_more}
 use Rattle.battles.proofs.Running.{at_end, end_at}
 use Rattle.battles.proofs.Stages.{HasStepped, robot_at, robots_length, stands_at, turn_reached, turns_more}
 use Rattle.battles.specs.Pairing.{paired, robots_of}
 use Rattle.battles.proofs.Beginnings.{robots_are, stands_more}
-use Rattle.playing.specs.Pilot.{Seat, TakesTurn}
+use Rattle.playing.specs.Pilot.{Pilot, TakesTurn}
 use Rattle.playing.specs.Games.{Game, HasCome, HaveRun}
 use Rattle.playing.specs.Played.{EndsAt, HavePlayed, HaveUpdated, codes_of, engine_of, exes_of, plainly, runner_of, runners_of}
 
 -- what a want makes of the field and of the machine
-granted_takes : (code : ObjectCode) (i : ℕ) (trace : List ℤ) (w : Want) (machine : State) (before after : Ground)
-    (f : Field) → TakesTurn code i trace w machine before after → StandsFor before f
-    → StandsFor after (granted w i f trace).0 × IsReached machine code (granted w i f trace).1
+granted_takes : (code : Program) (i : ℕ) (trace : List ℤ) (w : Want) (machine : Machine) (before after : Arena)
+    (f : Field) → TakesTurn code i trace w machine before after → RepresentsField before f
+    → RepresentsField after (granted w i f trace).0 × IsReached machine code (granted w i f trace).1
 unfolding granted
 granted_takes code i trace Quiet machine before after f (at, same) stands = (rw same stands, at)
 granted_takes code i trace Restart machine before after f (at, same) stands = (rw same stands, at)
@@ -43,33 +43,34 @@ granted_takes code i trace (Ask intrinsic arguments) machine before after f take
 
 -- a live robot and a dead one
 step_live : (r : Behaviour) (i : ℕ) (f : Field) (trace : List ℤ) → is_live f i ≡ true
-    → step r i f trace ≡ granted (r trace) i f trace
-unfolding step
+    → robot_turn r i f trace ≡ granted (r trace) i f trace
+unfolding robot_turn
 step_live r i f trace live = rw live refl
 
-step_dead : (r : Behaviour) (i : ℕ) (f : Field) (trace : List ℤ) → is_live f i ≡ false → step r i f trace ≡ (f, trace)
-unfolding step
+step_dead : (r : Behaviour) (i : ℕ) (f : Field) (trace : List ℤ) → is_live f i ≡ false →
+    robot_turn r i f trace ≡ (f, trace)
+unfolding robot_turn
 step_dead r i f trace dead = rw dead refl
 
 -- a robot wants what its program wants
-pub wants_code : (r : Behaviour) (code : ObjectCode) (trace : List ℤ) → IsRobotOf (plainly code) r →
+pub wants_code : (r : Behaviour) (code : Program) (trace : List ℤ) → IsRobotOf (plainly code) r →
     r trace ≡ want_code code trace
 wants_code r code trace is =
     ap (λ (q : Behaviour). q trace) is.wants ∙ sym (want_code_is_want is.profile is.file is.resolved trace)
-    ∙ ap (λ (c : ObjectCode). want_code c trace) (sym is.program)
+    ∙ ap (λ (c : Program). want_code c trace) (sym is.program)
 
 -- a pilot's turn, of a live robot and of a dead one
-pub record HasTurned (i : ℕ) (code : ObjectCode) (old new : State) (before after : Ground) : Type 0 where
-  pub live : (f : Field) → StandsFor before f → lives before i ≡ is_live f i
+pub record HasTurned (i : ℕ) (code : Program) (old new : Machine) (before after : Arena) : Type 0 where
+  pub live : (f : Field) → RepresentsField before f → lives before i ≡ is_live f i
   pub dead : lives before i ≡ false → (new ≡ old) × (after ≡ before)
   pub lives : lives before i ≡ true → (trace : List ℤ) → IsReached old code trace
       → TakesTurn code i trace (want_code code trace) new before after
 
 -- is the robot's step
-turn_steps : (i : ℕ) (code : ObjectCode) (old new : State) (before after : Ground) (r : Behaviour) (f : Field)
-    (trace : List ℤ) → HasTurned i code old new before after → IsRobotOf (plainly code) r → StandsFor before f
+turn_steps : (i : ℕ) (code : Program) (old new : Machine) (before after : Arena) (r : Behaviour) (f : Field)
+    (trace : List ℤ) → HasTurned i code old new before after → IsRobotOf (plainly code) r → RepresentsField before f
     → IsReached old code trace
-    → StandsFor after (step r i f trace).0 × IsReached new code (step r i f trace).1
+    → RepresentsField after (robot_turn r i f trace).0 × IsReached new code (robot_turn r i f trace).1
 turn_steps i code old new before after r f trace turned is stands at = elim (cases_Bool (lives before i)) [
   | inl live ↦
       let stepped = step_live r i f trace (sym (turned.live f stands) ∙ live) in
@@ -81,7 +82,7 @@ turn_steps i code old new before after r f trace turned is stands at = elim (cas
       rw (step_dead r i f trace (sym (turned.live f stands) ∙ dead), same.0, same.1) (stands, at)
 ]
 
-pub has_stepped : (i : ℕ) (code : ObjectCode) (old new : State) (before after : Ground)
+pub has_stepped : (i : ℕ) (code : Program) (old new : Machine) (before after : Arena)
     → HasTurned i code old new before after
     → HasStepped i (plainly code) (record { machine = engine_of old; ahead = 0 })
     (record { machine = engine_of new; ahead = 0 }) before after
@@ -96,7 +97,7 @@ has_stepped i code old new before after turned = record {
 }
 
 -- one cycle more, without an update
-pub cycle_plain : (robots : List Behaviour) (codes : List ObjectCode) (seats : List Seat) (arena : Ground) (s : Stage)
+pub cycle_plain : (robots : List Behaviour) (codes : List Program) (seats : List Pilot) (arena : Arena) (s : Stage)
     (n : ℕ) → (n + 1) % 15 ≢ 0
     → HavePlayed codes seats arena (turns robots (length robots) (stage_after robots s n))
     → HavePlayed codes seats arena (stage_after robots s (n + 1))
@@ -104,7 +105,7 @@ cycle_plain robots codes seats arena s n plain played =
     rw (stage_more robots s n, cycle_alone robots (n + 1) (stage_after robots s n) plain) played
 
 -- and with one
-pub cycle_due : (robots : List Behaviour) (codes : List ObjectCode) (seats : List Seat) (before after : Ground)
+pub cycle_due : (robots : List Behaviour) (codes : List Program) (seats : List Pilot) (before after : Arena)
     (s : Stage) (n : ℕ) (decides : Bool) → (n + 1) % 15 ≡ 0
     → HavePlayed codes seats before (turns robots (length robots) (stage_after robots s n))
     → HaveUpdated (turns robots (length robots) (stage_after robots s n)).field after decides
@@ -113,7 +114,7 @@ cycle_due robots codes seats before after s n decides due played updated =
     rw (stage_more robots s n, cycle_updates robots (n + 1) (stage_after robots s n) due)
     (record { field = updated.stands; traces = played.traces })
 
-pub over_due : (robots : List Behaviour) (s : Stage) (n : ℕ) (arena : Ground) (decides : Bool) → (n + 1) % 15 ≡ 0
+pub over_due : (robots : List Behaviour) (s : Stage) (n : ℕ) (arena : Arena) (decides : Bool) → (n + 1) % 15 ≡ 0
     → HaveUpdated (turns robots (length robots) (stage_after robots s n)).field arena decides
     → is_over (n + 1) (stage_after robots s (n + 1)) ≡ decides
 over_due robots s n arena decides due updated =
@@ -123,11 +124,11 @@ over_due robots s n arena decides due updated =
     ∙ sym updated.decided
 
 -- So a cycle was run, with an update or without one.
-pub run_due : (robots : List Behaviour) (codes : List ObjectCode) (seats others : List Seat) (old before after : Ground)
+pub run_due : (robots : List Behaviour) (codes : List Program) (seats others : List Pilot) (old before after : Arena)
     (s : Stage) (n : ℕ) (decides : Bool) → (n + 1) % 15 ≡ 0
     → (HavePlayed codes seats old (stage_after robots s n)
     → HavePlayed codes others before (turns robots (length robots) (stage_after robots s n)))
-    → ((f : Field) → StandsFor before f → HaveUpdated f after decides)
+    → ((f : Field) → RepresentsField before f → HaveUpdated f after decides)
     → HaveRun codes robots s n seats old others after decides
 run_due robots codes seats others old before after s n decides due turned updates = λ played.
     let now = turned played in
@@ -136,7 +137,7 @@ run_due robots codes seats others old before after s n decides due turned update
       over_due robots s n after decides due updated,
     )
 
-pub run_plain : (robots : List Behaviour) (codes : List ObjectCode) (seats others : List Seat) (old after : Ground)
+pub run_plain : (robots : List Behaviour) (codes : List Program) (seats others : List Pilot) (old after : Arena)
     (s : Stage) (n : ℕ) → (n + 1) % 15 ≢ 0
     → (HavePlayed codes seats old (stage_after robots s n)
     → HavePlayed codes others after (turns robots (length robots) (stage_after robots s n)))
@@ -275,7 +276,7 @@ ends_next robots s n limit false ended within before over is = elim (cases_eq (n
 ]
 
 -- A game has come further by a cycle.
-pub comes_on : (codes : List ObjectCode) (robots : List Behaviour) (s : Stage) (seats others : List Seat)
+pub comes_on : (codes : List Program) (robots : List Behaviour) (s : Stage) (seats others : List Pilot)
     (old new : Game) (decided : Bool) → old.ending.cycles < old.limit → old.ending.is_over ≡ false
     → new.ending.cycles ≡ old.ending.cycles + 1 → new.limit ≡ old.limit
     → new.ending.is_over ≡ (decided || old.ending.cycles + 1 == old.limit)
@@ -288,30 +289,30 @@ comes_on codes robots s seats others old new decided within on more same over ru
     record { played = rw more ran.0; ends = rw (same, more) ends }
 
 -- the programs of pilots stay when one of them goes on
-pub codes_stay : (seats : List Seat) (i : ℕ) (none new : Seat) → new.code ≡ (get_or seats i none).code
+pub codes_stay : (seats : List Pilot) (i : ℕ) (none new : Pilot) → new.code ≡ (get_or seats i none).code
     → codes_of (set seats i new) ≡ codes_of seats
-codes_stay seats i none new same = map-set_same (λ (seat : Seat). seat.code) seats i new none same
+codes_stay seats i none new same = map-set_same (λ (seat : Pilot). seat.code) seats i new none same
 
-pub codes_length : (seats : List Seat) → length (codes_of seats) ≡ length seats
-codes_length seats = length-map seats (λ (seat : Seat). seat.code)
+pub codes_length : (seats : List Pilot) → length (codes_of seats) ≡ length seats
+codes_length seats = length-map seats (λ (seat : Pilot). seat.code)
 
-pub seats_length : (seats others : List Seat) → codes_of others ≡ codes_of seats → length seats ≡ length others
+pub seats_length : (seats others : List Pilot) → codes_of others ≡ codes_of seats → length seats ≡ length others
 seats_length seats others same = sym (codes_length seats) ∙ sym (ap length same) ∙ codes_length others
 
 -- the program of one of them
-code_here : (seats : List Seat) (i : ℕ) (none : Seat) → i < length seats
+code_here : (seats : List Pilot) (i : ℕ) (none : Pilot) → i < length seats
     → slice_get (codes_of seats) i ≡ Some (get_or seats i none).code
 code_here seats i none inside =
-    slice_get-map (λ (seat : Seat). seat.code) seats i
-    ∙ ap (option_map (λ (seat : Seat). seat.code)) (slice_get-get_or seats i none inside)
+    slice_get-map (λ (seat : Pilot). seat.code) seats i
+    ∙ ap (option_map (λ (seat : Pilot). seat.code)) (slice_get-get_or seats i none inside)
 
-exe_here : (codes : List ObjectCode) (i : ℕ) (code : ObjectCode) → slice_get codes i ≡ Some code
+exe_here : (codes : List Program) (i : ℕ) (code : Program) → slice_get codes i ≡ Some code
     → slice_get (exes_of codes) i ≡ Some (plainly code)
 exe_here codes i code here = slice_get-map plainly codes i ∙ ap (option_map plainly) here
 
 -- the robots so far have had their turns, and one more
-pub one_turned : (codes : List ObjectCode) (robots : List Behaviour) (seats : List Seat) (i : ℕ) (none new : Seat)
-    (before after : Ground) (s : Stage) → AreRobotsOf (exes_of codes) robots → codes_of seats ≡ codes
+pub one_turned : (codes : List Program) (robots : List Behaviour) (seats : List Pilot) (i : ℕ) (none new : Pilot)
+    (before after : Arena) (s : Stage) → AreRobotsOf (exes_of codes) robots → codes_of seats ≡ codes
     → i < length seats
     → HasTurned i (get_or seats i none).code (get_or seats i none).state new.state before after
     → HavePlayed codes seats before (turns robots i s) →
@@ -330,10 +331,10 @@ one_turned codes robots seats i none new before after s are same inside turned p
     (runner_of none) (runner_of new) are played exe stepped)
 
 -- the pilots so far are at their start, and one more
-pub one_begun : (codes : List ObjectCode) (seats : List Seat) (i : ℕ) (none new : Seat) → codes_of seats ≡ codes
+pub one_begun : (codes : List Program) (seats : List Pilot) (i : ℕ) (none new : Pilot) → codes_of seats ≡ codes
     → i < length seats → IsReached new.state (get_or seats i none).code []
-    → EachIsAt (runners_of (take i seats)) (take i (exes_of codes)) (replicate i [])
-    → EachIsAt (runners_of (take (i + 1) (set seats i new))) (take (i + 1) (exes_of codes)) (replicate (i + 1) [])
+    → EachIsAheadOf (runners_of (take i seats)) (take i (exes_of codes)) (replicate i [])
+    → EachIsAheadOf (runners_of (take (i + 1) (set seats i new))) (take (i + 1) (exes_of codes)) (replicate (i + 1) [])
 one_begun codes seats i none new same inside begins begun =
     let code = (get_or seats i none).code in
     let here : slice_get codes i ≡ Some code = rw same at (code_here seats i none inside) in
@@ -341,14 +342,15 @@ one_begun codes seats i none new same inside begins begun =
     (stands_more (runners_of (take i seats)) (exes_of codes) i (runner_of new) (plainly code) begun
     (exe_here codes i code here) (at_end (engine_of new.state) 0 (plainly code) [] refl (sym begins)))
 
-each_length : (runners : List Runner) (exes : List Executable) (traces : List (List ℤ)) → EachIsAt runners exes traces
+each_length : (runners : List Runner) (exes : List Executable) (traces : List (List ℤ)) →
+    EachIsAheadOf runners exes traces
     → length traces ≡ length runners
 each_length [] [] [] each = refl
 each_length (runner ∷ runners) (exe ∷ exes) (trace ∷ traces) each = ap suc (each_length runners exes traces each.1)
 each_length _ _ _ each = absurd each
 
 -- A pilot's machine is where the replies of its robot lead.
-pub seat_reached : (codes : List ObjectCode) (seats : List Seat) (arena : Ground) (s : Stage) (i : ℕ) (none : Seat)
+pub seat_reached : (codes : List Program) (seats : List Pilot) (arena : Arena) (s : Stage) (i : ℕ) (none : Pilot)
     → codes_of seats ≡ codes → i < length seats → HavePlayed codes seats arena s
     → IsReached (get_or seats i none).state (get_or seats i none).code (get_or s.traces i [])
 seat_reached codes seats arena s i none same inside played =
@@ -361,10 +363,10 @@ seat_reached codes seats arena s i none same inside played =
     sym (end_at (runner_of seat) (plainly seat.code) (get_or s.traces i []) refl (rw runner at at))
 
 -- and its robot wants what its program wants
-pub robot_wants : (codes : List ObjectCode) (robots : List Behaviour) (seats : List Seat) (i : ℕ) (none : Seat)
+pub robot_wants : (codes : List Program) (robots : List Behaviour) (seats : List Pilot) (i : ℕ) (none : Pilot)
     (trace : List ℤ) → AreRobotsOf (exes_of codes) robots → codes_of seats ≡ codes → i < length seats
-    → robot_of robots i trace ≡ want_code (get_or seats i none).code trace
-unfolding robot_of
+    → behaviour_at robots i trace ≡ want_code (get_or seats i none).code trace
+unfolding behaviour_at
 robot_wants codes robots seats i none trace are same inside =
     let code = (get_or seats i none).code in
     let here : slice_get codes i ≡ Some code = rw same at (code_here seats i none inside) in
@@ -375,7 +377,7 @@ pub some_same : {A : Type 0} {x y : A} → Some x ≡ Some y → x ≡ y
 some_same e = cc
 
 -- a pilot keeps its program
-pub code_same : (codes : List ObjectCode) (seats others : List Seat) (i : ℕ) (none new : Seat) → codes_of seats ≡ codes
+pub code_same : (codes : List Program) (seats others : List Pilot) (i : ℕ) (none new : Pilot) → codes_of seats ≡ codes
     → codes_of others ≡ codes → i < length seats → (get_or others i new).code ≡ (get_or seats i none).code
 code_same codes seats others i none new same still inside =
     let count = seats_length seats others (still ∙ sym same) in
@@ -383,26 +385,26 @@ code_same codes seats others i none new same still inside =
     ∙ rw same at (code_here seats i none inside))
 
 -- there are as many robots and traces as pilots
-pub robots_as_seats : (codes : List ObjectCode) (robots : List Behaviour) (seats : List Seat)
+pub robots_as_seats : (codes : List Program) (robots : List Behaviour) (seats : List Pilot)
     → AreRobotsOf (exes_of codes) robots → codes_of seats ≡ codes → length robots ≡ length seats
 robots_as_seats codes robots seats are same =
     robots_length (exes_of codes) robots are ∙ length-map codes plainly ∙ sym (ap length same) ∙ codes_length seats
 
-pub traces_as_seats : (codes : List ObjectCode) (seats : List Seat) (arena : Ground) (s : Stage)
+pub traces_as_seats : (codes : List Program) (seats : List Pilot) (arena : Arena) (s : Stage)
     → HavePlayed codes seats arena s → length s.traces ≡ length seats
 traces_as_seats codes seats arena s played =
     each_length (runners_of seats) (exes_of codes) s.traces played.traces ∙ length-map seats runner_of
 
 -- a robot of the field lives if it is alive
-pub lives_are : (g : Ground) (f : Field) (i : ℕ) → StandsFor g f → lives g i ≡ is_live f i
-unfolding lives is_live is_alive body_of
-lives_are g f i stands = ap (λ (b : Body). nat_lt b.damage 100) (body_at g f i stands)
+pub lives_are : (g : Arena) (f : Field) (i : ℕ) → RepresentsField g f → lives g i ≡ is_live f i
+unfolding lives is_live is_alive robot_of
+lives_are g f i stands = ap (λ (b : Robot). nat_lt b.damage 100) (body_at g f i stands)
 
 -- what plain machines run has these codes, so their robots want what the files' trees want
-plain_programs : (codes : List ObjectCode) → map (λ (e : Executable). e.program) (exes_of codes) ≡ codes
+plain_programs : (codes : List Program) → map (λ (e : Executable). e.program) (exes_of codes) ≡ codes
 plain_programs [] = refl
-plain_programs (code ∷ codes) = ap (λ (l : List ObjectCode). code ∷ l) (plain_programs codes)
+plain_programs (code ∷ codes) = ap (λ (l : List Program). code ∷ l) (plain_programs codes)
 
-pub plain_robots : (codes : List ObjectCode) (p : Profile) (files : List File) → AreCodesOf codes p files
+pub plain_robots : (codes : List Program) (p : Profile) (files : List File) → AreProgramsOf codes p files
     → AreRobotsOf (exes_of (paired codes)) (robots_of p files)
 plain_robots codes p files are = robots_are (exes_of (paired codes)) codes p files (plain_programs (paired codes)) are

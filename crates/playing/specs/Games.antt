@@ -1,21 +1,21 @@
 -- A match that is played cycle by cycle, by the definition of a battle.
 use Rattle.std.specs.Prelude.{◌≡◌, ◌⊎◌, ◌<◌, ◌≤◌, ◌+◌, ◌*◌, ◌/◌, ℕ, Bool, true, false, List}
-use Rattle.arena.specs.Ground.{Ground}
+use Rattle.arena.specs.Arena.{Arena}
 use Rattle.battles.specs.Battle.{Behaviour, Stage, is_over, stage_after}
-use Rattle.code.specs.Generation.{ObjectCode}
-use Rattle.playing.specs.Pilot.{Seat}
+use Rattle.code.specs.Generation.{Program}
+use Rattle.playing.specs.Pilot.{Pilot}
 use Rattle.playing.specs.Played.{HavePlayed, IsEndOf}
-use Rattle.playing.specs.declared.games.Ending.{Ending}
+use Rattle.playing.specs.declared.games.PlayEnd.{PlayEnd}
 
 -- its field, how far it has come, and its limit of cycles
 pub record Game : Type 0 where
-  pub arena : Ground
-  pub ending : Ending
+  pub arena : Arena
+  pub ending : PlayEnd
   pub limit : ℕ
 
 -- The pilots and the field are at the stage after the cycles that were played since the opening. The match is over
 -- exactly if its last cycle was played.
-pub record HasCome (codes : List ObjectCode) (robots : List Behaviour) (opening : Stage) (seats : List Seat)
+pub record HasCome (codes : List Program) (robots : List Behaviour) (opening : Stage) (seats : List Pilot)
     (game : Game) : Type 0 where
   pub played : HavePlayed codes seats game.arena (stage_after robots opening game.ending.cycles)
   pub ends : IsEndOf robots opening game.limit game.ending
@@ -37,7 +37,7 @@ EndsWell game = game.ending.is_over ≡ true
     → (game.ending.cycles ≡ game.limit) ⊎ (game.ending.cycles ≡ game.ending.cycles / 15 * 15)
 
 -- the cycle after so many was run, which may decide the match
-abbrev pub HaveRun : List ObjectCode → List Behaviour → Stage → (before : ℕ) → List Seat → Ground → List Seat → Ground
+abbrev pub HaveRun : List Program → List Behaviour → Stage → (before : ℕ) → List Pilot → Arena → List Pilot → Arena
     → Bool → Type 0
 HaveRun codes robots opening before seats arena seats' arena' decides =
     HavePlayed codes seats arena (stage_after robots opening before)

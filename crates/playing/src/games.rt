@@ -2,17 +2,17 @@
 
 ghost use Rattle.std.specs.Prelude.{◌≡◌, ◌⊎◌, ◌==◌, ◌||◌, ℕ, ◌≢◌, ◌+◌, ◌*◌, ◌/◌, ◌%◌, ◌≤◌, ◌<◌, false, [], List, length, replicate};
 ghost use Rattle.arena.specs.Field.{Field};
-ghost use Rattle.arena.specs.Ground.{most_updates};
-ghost use Rattle.arena.specs.Standing.{StandsFor};
+ghost use Rattle.arena.specs.Arena.{most_updates};
+ghost use Rattle.arena.specs.Representing.{RepresentsField};
 ghost use Rattle.battles.specs.Battle.{Behaviour, Stage, opening, turns};
-ghost use Rattle.battles.specs.Carrying.{AreRobotsOf, EachIsAt};
+ghost use Rattle.battles.specs.Carrying.{AreRobotsOf, EachIsAheadOf};
 ghost use Rattle.playing.specs.Games.{EndsWell, GoesOn, HasCome, HaveRun};
 ghost use Rattle.playing.specs.Played.{HavePlayed, HaveUpdated, IsPlayed, codes_of, exes_of, runners_of};
 
 use crate::pilot::Pilot;
 use crate::watcher::{Turn, Watcher};
 use arena::{Arena, MOST_ROBOTS};
-use settings::CYCLES_MAX;
+use settings::MOST_CYCLES;
 use std::marker::Model;
 
 /// An update follows each cycle whose number is a multiple of this.
@@ -20,7 +20,7 @@ pub const UPDATE_CYCLES: u32 = 15;
 
 /// How far a match was played.
 #[derive(Clone, Copy)]
-pub struct Ending {
+pub struct PlayEnd {
     /// The number of the last cycle that was played.
     pub cycles: u32,
     /// Whether the match is over: at most one robot lives after an update, or the limit of cycles is reached. If not, the
@@ -32,20 +32,20 @@ pub struct Ending {
 #[derive(Drop)]
 pub struct Game {
     arena: Arena,
-    ending: Ending,
+    ending: PlayEnd,
     limit: u32,
 }
 
 impl Model for Game {
     ghost use Rattle.std.specs.Prelude.{◌≤◌};
-    ghost use Rattle.settings.specs.declared.limits.TheConstants.{CYCLES_MAX};
+    ghost use Rattle.settings.specs.declared.settings_limits.TheConstants.{MOST_CYCLES};
     ghost use Rattle.playing.specs.Games.{Game, IsCounted};
 
     ghost Value = { Game };
 
     ghost view = { λ g. record { arena = g.arena; ending = g.ending; limit = g.limit } };
 
-    ghost invariant = { λ g. IsCounted (view g) × (g.limit ≤ CYCLES_MAX) };
+    ghost invariant = { λ g. IsCounted (view g) × (g.limit ≤ MOST_CYCLES) };
 }
 
 impl Game {
@@ -54,7 +54,7 @@ impl Game {
     pub fn new(pilots: &mut [Pilot<'_>], seed: u64, number: u32, limit: u32) -> Game
         requires some { 2 ≤ length pilots.old }
         requires most { length pilots.old ≤ MOST_ROBOTS }
-        requires limit { limit ≤ CYCLES_MAX }
+        requires limit { limit ≤ MOST_CYCLES }
         ensures battle { (robots : List Behaviour) → AreRobotsOf (exes_of (codes_of pilots.old)) robots
             → HasCome (codes_of pilots.old) robots (opening (length robots) seed number) pilots.new result }
         ensures codes { codes_of pilots.new ≡ codes_of pilots.old }
@@ -66,7 +66,7 @@ impl Game {
         begin(pilots);
         Game {
             arena: Arena::new(seed, u64::from(number), pilots.len()),
-            ending: Ending {
+            ending: PlayEnd {
                 cycles: 0,
                 is_over: limit == 0,
             },
@@ -82,10 +82,10 @@ impl Game {
     }
 
     /// Returns how far the match was played.
-    pub fn ending(&self) -> Ending
+    pub fn ending(&self) -> PlayEnd
         ensures ending { result ≡ self.now.ending }
         ensures limit { result.cycles ≤ self.now.limit }
-        ensures most { result.cycles ≤ CYCLES_MAX }
+        ensures most { result.cycles ≤ MOST_CYCLES }
     {
         self.ending
     }
@@ -104,7 +104,7 @@ impl Game {
     {
         let cycle = self.ending.cycles + 1;
         let is_decided = run_cycle(pilots, &mut self.arena, watcher, cycle);
-        self.ending = Ending {
+        self.ending = PlayEnd {
             cycles: cycle,
             is_over: is_last(is_decided, cycle, self.limit),
         };
@@ -126,10 +126,10 @@ pub fn play<W: Watcher>(
     seed: u64,
     number: u32,
     limit: u32,
-) -> Ending
+) -> PlayEnd
     requires some { 2 ≤ length pilots.old }
     requires most { length pilots.old ≤ MOST_ROBOTS }
-    requires limit { limit ≤ CYCLES_MAX }
+    requires limit { limit ≤ MOST_CYCLES }
     ensures battle { (robots : List Behaviour) → AreRobotsOf (exes_of (codes_of pilots.old)) robots
         → IsPlayed robots seed number limit result }
     ensures limit { result.cycles ≤ limit }
@@ -144,7 +144,7 @@ pub fn play<W: Watcher>(
 /// Puts each pilot at the start of its program.
 fn begin(pilots: &mut [Pilot<'_>])
     ensures codes { codes_of pilots.new ≡ codes_of pilots.old }
-    ensures begun { EachIsAt (runners_of pilots.new) (exes_of (codes_of pilots.old)) (replicate (length pilots.old) []) }
+    ensures begun { EachIsAheadOf (runners_of pilots.new) (exes_of (codes_of pilots.old)) (replicate (length pilots.old) []) }
 {
     for robot in 0..pilots.len() {
         pilots[robot].begin();
@@ -183,7 +183,7 @@ fn run_cycle<W: Watcher>(
     cycle: u32,
 ) -> bool
     requires manned { length arena.old.robots ≡ length pilots.old }
-    requires most { cycle ≤ CYCLES_MAX }
+    requires most { cycle ≤ MOST_CYCLES }
     requires updates { arena.old.updates < most_updates }
     ensures battle { (robots : List Behaviour) (s : Stage) (before : ℕ) → cycle ≡ before + 1
         → AreRobotsOf (exes_of (codes_of pilots.old)) robots
@@ -200,7 +200,7 @@ fn run_cycle<W: Watcher>(
 /// Runs the turns of one cycle, in the order of the robots.
 fn turns<W: Watcher>(pilots: &mut [Pilot<'_>], arena: &mut Arena, watcher: &mut W, cycle: u32)
     requires manned { length arena.old.robots ≡ length pilots.old }
-    requires cycle { cycle ≤ CYCLES_MAX }
+    requires cycle { cycle ≤ MOST_CYCLES }
     ensures stage { (robots : List Behaviour) (s : Stage) → AreRobotsOf (exes_of (codes_of pilots.old)) robots
         → HavePlayed (codes_of pilots.old) pilots.old arena.old s
         → HavePlayed (codes_of pilots.old) pilots.new arena.new (turns robots (length robots) s) }
@@ -216,7 +216,7 @@ fn turns<W: Watcher>(pilots: &mut [Pilot<'_>], arena: &mut Arena, watcher: &mut 
 /// Does the update after a cycle. Reports whether it decides the match: at most one robot lives.
 fn decides<W: Watcher>(arena: &mut Arena, watcher: &mut W, cycle: u32) -> bool
     requires most { arena.old.updates < most_updates }
-    ensures stands { (f : Field) → StandsFor arena.old f → HaveUpdated f arena.new result }
+    ensures stands { (f : Field) → RepresentsField arena.old f → HaveUpdated f arena.new result }
     ensures robots { length arena.new.robots ≡ length arena.old.robots }
     ensures updates { arena.new.updates ≡ arena.old.updates + 1 }
 {

@@ -5,6 +5,6 @@ mod games;
 mod pilot;
 mod watcher;
 
-pub use games::{Ending, Game, UPDATE_CYCLES, play};
+pub use games::{Game, PlayEnd, UPDATE_CYCLES, play};
 pub use pilot::{Pilot, pilots};
-pub use watcher::{Question, Turn, Watcher, word_of};
+pub use watcher::{Exchange, Turn, Watcher, word_of};

@@ -1,17 +1,17 @@
 //! Pilots: a robot's program with the machine that runs it.
 
 ghost use Rattle.std.specs.Prelude.{◌≡◌, ◌==◌, ◌<◌, ◌≤◌, if◌then◌else◌, ℤ, List, [], IfOk, false, length, true};
-ghost use Rattle.arena.specs.Ground.{lives};
+ghost use Rattle.arena.specs.Arena.{lives};
 ghost use Rattle.code.specs.Machine.{want_code};
-ghost use Rattle.code.specs.Standing.{FitsProgram, IsReached};
+ghost use Rattle.code.specs.ReachedMachines.{FitsProgram, IsReached};
 ghost use Rattle.battles.specs.Pairing.{paired};
 ghost use Rattle.playing.specs.Pilot.{IsOfSameUpdate, TakesTurn};
 ghost use Rattle.playing.specs.Played.{codes_of};
 
-use crate::watcher::{Question, Turn, Watcher};
+use crate::watcher::{Exchange, Turn, Watcher};
 use arena::{Arena, MOST_ROBOTS};
 use code::{Machine, Program, Want};
-use settings::CYCLES_MAX;
+use settings::MOST_CYCLES;
 use std::alloc::{AllocError, Global};
 use std::marker::Model;
 
@@ -23,10 +23,10 @@ pub struct Pilot<'a> {
 }
 
 impl<'a> Model for Pilot<'a> {
-    ghost use Rattle.code.specs.Standing.{FitsProgram};
-    ghost use Rattle.playing.specs.Pilot.{Seat};
+    ghost use Rattle.code.specs.ReachedMachines.{FitsProgram};
+    ghost use Rattle.playing.specs.Pilot.{Pilot};
 
-    ghost Value = { Seat };
+    ghost Value = { Pilot };
 
     ghost view = { λ p. record { code = p.program.now; state = p.machine } };
 
@@ -70,7 +70,7 @@ impl<'a> Pilot<'a> {
     /// Runs one cycle before a watcher, which sees it and changes nothing. A dead robot does nothing.
     pub fn turn<W: Watcher>(&mut self, turn: Turn, arena: &mut Arena, watcher: &mut W)
         requires inside { turn.robot < length arena.old.robots }
-        requires cycle { turn.cycle ≤ CYCLES_MAX }
+        requires cycle { turn.cycle ≤ MOST_CYCLES }
         ensures program { self.new.code ≡ self.old.code }
         ensures dead { lives arena.old turn.robot ≡ false → (self.new ≡ self.old) × (arena.new ≡ arena.old) }
         ensures lives { lives arena.old turn.robot ≡ true → (trace : List ℤ)
@@ -88,7 +88,7 @@ impl<'a> Pilot<'a> {
             Want::Restart => self.restart(turn, watcher),
             Want::Ask(intrinsic, arguments) => {
                 let reply = arena.ask(turn.robot, intrinsic, arguments);
-                let question = Question {
+                let question = Exchange {
                     intrinsic,
                     arguments,
                     reply,

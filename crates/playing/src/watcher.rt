@@ -5,7 +5,7 @@ ghost use Rattle.std.specs.Prelude.{◌<◌, ◌≤◌, length};
 use crate::pilot::Pilot;
 use arena::Arena;
 use code::{Cause, Intrinsic};
-use settings::CYCLES_MAX;
+use settings::MOST_CYCLES;
 
 /// A robot's turn in a cycle.
 #[derive(Clone, Copy)]
@@ -18,7 +18,7 @@ pub struct Turn {
 
 /// A call of an intrinsic function, and its reply.
 #[derive(Clone, Copy)]
-pub struct Question {
+pub struct Exchange {
     /// The function.
     pub intrinsic: Intrinsic,
     /// Its arguments: 0 where one is missing or not used.
@@ -46,9 +46,9 @@ pub trait Watcher {
 
     /// In its turn a robot has asked the field. Its machine doesn't have the reply yet. If this isn't written, it passes
     /// on shots and scans.
-    fn asked(&mut self, turn: Turn, pilot: &Pilot<'_>, question: Question, arena: &Arena)
+    fn asked(&mut self, turn: Turn, pilot: &Pilot<'_>, question: Exchange, arena: &Arena)
         requires inside { turn.robot < length arena.now.robots }
-        requires cycle { turn.cycle ≤ CYCLES_MAX }
+        requires cycle { turn.cycle ≤ MOST_CYCLES }
     {
         match question.intrinsic {
             Intrinsic::Cannon => self.shot(turn, question, arena),
@@ -68,13 +68,13 @@ pub trait Watcher {
     }
 
     /// In its turn a robot has called `cannon`. The shot may be refused.
-    fn shot(&mut self, turn: Turn, question: Question, arena: &Arena)
+    fn shot(&mut self, turn: Turn, question: Exchange, arena: &Arena)
         requires inside { turn.robot < length arena.now.robots }
-        requires cycle { turn.cycle ≤ CYCLES_MAX }
+        requires cycle { turn.cycle ≤ MOST_CYCLES }
     {}
 
     /// In its turn a robot has called `scan`.
-    fn scanned(&mut self, turn: Turn, question: Question) {}
+    fn scanned(&mut self, turn: Turn, question: Exchange) {}
 
     /// In its turn a robot is about to restart.
     fn restarts(&mut self, turn: Turn, pilot: &Pilot<'_>, cause: Cause) {}

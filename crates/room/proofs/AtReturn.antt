@@ -3,7 +3,7 @@
 use Rattle.std.specs.Prelude.{ℕ, ℤ, ◌+◌, ◌≡◌, List, [], ◌∷◌, Bool, true, false, Option, Some, None, length, if◌then◌else◌}
 use Rattle.std.proofs.Common.{refl, ap, sym, ◌∙◌, arith}
 use Rattle.std.proofs.lemmas.Bool.Decides.{nat_tests}
-use Rattle.grammar.specs.declared.names.Callee.TheVariants as callee
+use Rattle.grammar.specs.declared.resolved_names.Callee.TheVariants as callee
 use Rattle.grammar.specs.Profile.{Profile, profile_of}
 use Rattle.grammar.specs.Resolved.{IsResolved}
 use Rattle.grammar.specs.Tree.{File}
@@ -14,8 +14,8 @@ use Rattle.code.specs.declared.instr.Instr.TheVariants.{Fetch, Store, Const, Bin
 use Rattle.code.specs.declared.instr.Instr.TheVariants as instr
 use Rattle.code.specs.declared.want.Want.TheVariants.{Restart}
 use Rattle.code.specs.Causes.{cause_if, lacking}
-use Rattle.code.specs.Generation.{ObjectCode, code_of}
-use Rattle.code.specs.Machine.{State, after, done_with, event_of, frame_of, instr_at, is_fitting, is_ready, reached, start_state}
+use Rattle.code.specs.Generation.{Program, code_of}
+use Rattle.code.specs.Machine.{Machine, machine_after, done_with, event_of, frame_of, instr_at, is_fitting, is_ready, reached, started_machine}
 use Rattle.code.specs.Machine.{variables_at, want_code, want_next}
 use Rattle.code.proofs.Correct.{never_stuck, want_code_is_want}
 use Rattle.room.specs.declared.room.Room.{Room}
@@ -29,7 +29,7 @@ abbrev wider : Profile → ℕ → ℕ → Profile
 wider p words frames = profile_of p.instructions (p.words + words) (p.frames + frames) p.short_circuit
 
 -- what an instruction wants is no restart
-never_restart : (s : State) (i : Option Instr) → event_of s i ≡ Restart → ⊥
+never_restart : (s : Machine) (i : Option Instr) → event_of s i ≡ Restart → ⊥
 never_restart s None same = absurd (cc)
 never_restart s (Some (Fetch v)) same = absurd (cc)
 never_restart s (Some (Store v o)) same = absurd (cc)
@@ -45,7 +45,7 @@ never_restart s (Some Truth) same = absurd (cc)
 never_restart s (Some Nop) same = absurd (cc)
 
 -- what two machines want tells whether an instruction fits
-same_fitting : (s : State) (i : Option Instr) (a b : Bool) →
+same_fitting : (s : Machine) (i : Option Instr) (a b : Bool) →
     (if a then event_of s i else Restart) ≡ (if b then event_of s i else Restart) → a ≡ b
 same_fitting s i true true same = refl
 same_fitting s i false false same = refl
@@ -53,7 +53,7 @@ same_fitting s i true false same = absurd (never_restart s i same)
 same_fitting s i false true same = absurd (never_restart s i (sym same))
 
 -- machines that want the same along all replies stand at the same place
-same_reached : (code : ObjectCode) (q : Profile) (s : State) (trace : List ℤ) →
+same_reached : (code : Program) (q : Profile) (s : Machine) (trace : List ℤ) →
     ((t : List ℤ) → want_next code (reached code s t) ≡ want_next (by_profile code q) (reached (by_profile code q) s t))
     →
     reached code s trace ≡ reached (by_profile code q) s trace
@@ -63,23 +63,23 @@ same_reached code q s (reply ∷ rest) alike =
     let i = instr_at code s.at in
     let fit : is_fitting code s i ≡ is_fitting other s i =
     same_fitting s i (is_fitting code s i) (is_fitting other s i) (alike []) in
-    let step : after code reply s ≡ after other reply s =
+    let step : machine_after code reply s ≡ machine_after other reply s =
     ap (λ (b : Bool). if b then done_with code reply s i else s) fit in
-    same_reached code q (after code reply s) rest
-    (λ t. alike (reply ∷ t) ∙ ap (λ (s : State). want_next other (reached other s t)) (sym step))
-    ∙ ap (λ (s : State). reached other s rest) step
+    same_reached code q (machine_after code reply s) rest
+    (λ t. alike (reply ∷ t) ∙ ap (λ (s : Machine). want_next other (reached other s t)) (sym step))
+    ∙ ap (λ (s : Machine). reached other s rest) step
 
 -- how many words an instruction takes up at most, with those that are there
-abbrev called_words : ObjectCode → Option Instr → ℕ
+abbrev called_words : Program → Option Instr → ℕ
 called_words code (Some (Fcall (callee.Function k))) = variables_at code k
 called_words code i = 0
 
 -- all words that are there, those below the last frame once more, and one
-abbrev more_words : ObjectCode → State → Option Instr → ℕ
+abbrev more_words : Program → Machine → Option Instr → ℕ
 more_words code s i = length s.words + ((frame_of s.frames).base + (called_words code i + 1))
 
 -- with so much room only a return is refused
-lacks_none : (code : ObjectCode) (p : Profile) (s : State) (i : Option Instr) → is_ready code s i ≡ true →
+lacks_none : (code : Program) (p : Profile) (s : Machine) (i : Option Instr) → is_ready code s i ≡ true →
     is_fitting (by_profile code (wider p (more_words code s i) (length s.frames + 1))) s i ≡ false →
     lacking i ≡ cause.Returned
 lacks_none code p s None ready unfit = absurd (cc)
@@ -103,7 +103,7 @@ within_wider p words frames None within = within
 within_wider p words frames (Some r) within = (omega (arith, within.0), omega (arith, within.1))
 
 -- what is refused, and why
-refused : (code : ObjectCode) (s : State) (i : Option Instr) (c : Cause) → cause_if code s i ≡ Some c →
+refused : (code : Program) (s : Machine) (i : Option Instr) (c : Cause) → cause_if code s i ≡ Some c →
     (is_fitting code s i ≡ false) × (c ≡ lacking i)
 refused code s i c is = by (is_fitting code s i) is
   where
@@ -121,20 +121,20 @@ same_wants p q file resolved alike first second trace =
 pub restarts_at_return : RestartsAtReturn
 restarts_at_return p file resolved has_room trace c is =
     let code = code_of p file in
-    let s = reached code (start_state code) trace in
+    let s = reached code (started_machine code) trace in
     let i = instr_at code s.at in
     let q = wider p (more_words code s i) (length s.frames + 1) in
     let wide : HasRoom q file =
     within_wider p (more_words code s i) (length s.frames + 1) (need_of p file) has_room in
     let code_is : by_profile code q ≡ code_of q file = same_code p q refl file in
-    let alike : (t : List ℤ) → want_next code (reached code (start_state code) t) ≡
-    want_next (by_profile code q) (reached (by_profile code q) (start_state code) t) =
+    let alike : (t : List ℤ) → want_next code (reached code (started_machine code) t) ≡
+    want_next (by_profile code q) (reached (by_profile code q) (started_machine code) t) =
     λ t. same_wants p q file resolved refl has_room wide t
-    ∙ ap (λ (c : ObjectCode). want_next c (reached c (start_state c) t)) (sym code_is) in
-    let there : reached code (start_state code) trace ≡ reached (by_profile code q) (start_state code) trace =
-    same_reached code q (start_state code) trace alike in
+    ∙ ap (λ (c : Program). want_next c (reached c (started_machine c) t)) (sym code_is) in
+    let there : reached code (started_machine code) trace ≡ reached (by_profile code q) (started_machine code) trace =
+    same_reached code q (started_machine code) trace alike in
     let no = refused code s i c is in
     let fit : is_fitting code s i ≡ is_fitting (by_profile code q) s i =
     same_fitting s i (is_fitting code s i) (is_fitting (by_profile code q) s i)
-    (alike trace ∙ ap (λ (t : State). want_next (by_profile code q) t) (sym there)) in
+    (alike trace ∙ ap (λ (t : Machine). want_next (by_profile code q) t) (sym there)) in
     no.1 ∙ lacks_none code p s i (never_stuck p file resolved trace) (sym fit ∙ no.0)

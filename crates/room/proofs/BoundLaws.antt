@@ -4,17 +4,17 @@ use Rattle.std.proofs.Common.{ap, sym, ◌∙◌, subst, arith}
 use Rattle.grammar.specs.declared.diagnostics.ParseFault.{ParseFault}
 use Rattle.grammar.specs.declared.diagnostics.ParseFault.TheVariants as refusal
 use Rattle.grammar.specs.Actions.{actions}
-use Rattle.grammar.specs.Building.{Meaning, StandsOpen}
+use Rattle.grammar.specs.Building.{Representation, LeavesOpen}
 use Rattle.grammar.specs.Profile.{Profile, IsProfile}
 use Rattle.grammar.specs.Resolved.{IsResolved}
 use Rattle.grammar.specs.Tree.{File}
 use Rattle.code.proofs.Bounds.{few_words, few_frames}
-use Rattle.parser.specs.Files.{IsFile, IsRefused, TakesEnough}
+use Rattle.parser.specs.ParsedFiles.{IsFile, ParseIsRefused, TakesEnough}
 use Rattle.grammar.specs.Compiled.{main_name}
-use Rattle.grammar.specs.Pools.{FunctionNames, Names}
+use Rattle.grammar.specs.Pools.{FunctionNames, Pools}
 use Rattle.grammar.specs.Scope.{number_of_name}
 use Rattle.trees.specs.Laws.{Told, told_functions, told_trees}
-use Rattle.trees.specs.Standing.{Kept, Stands}
+use Rattle.trees.specs.TreeMakers.{TreeMaker, TreeMakerRepresents}
 use Rattle.trees.proofs.Rebuilding.{actions_determine_trees}
 use Rattle.trees.proofs.ReplayLaws.{is_done}
 use Rattle.room.specs.declared.room.Room.{Room}
@@ -26,29 +26,30 @@ use Rattle.room.specs.Rooms.{IsWithin}
 use Rattle.room.proofs.AtReturn.{restarts_at_return}
 
 -- the trees are the file's
-pub trees_are : (m : Kept) (p : Profile) (file : File) → StandsOpen (λ p acts. Stands m p acts) [] →
-    Stands m p (actions file) → told_functions file.functions file.order ≡ told_trees m.functions
+pub trees_are : (m : TreeMaker) (p : Profile) (file : File) → LeavesOpen (λ p acts. TreeMakerRepresents m p acts) [] →
+    TreeMakerRepresents m p (actions file) → told_functions file.functions file.order ≡ told_trees m.functions
 trees_are m p file closed stands =
     actions_determine_trees file m.functions ((is_done m closed).each p (actions file) stands)
 
 -- what is said for each profile that the maker goes by is said for its own
-pub takes : {A : Type 0} (result : Result A ParseFault) (m : Kept) (p : Profile) (told to_come : Option (List ℕ)) →
-    Stands m p [] → TakesEnough result (λ p acts. Stands m p acts) told to_come →
+pub takes : {A : Type 0} (result : Result A ParseFault) (m : TreeMaker) (p : Profile) (told to_come : Option (List ℕ)) →
+    TreeMakerRepresents m p [] → TakesEnough result (λ p acts. TreeMakerRepresents m p acts) told to_come →
     TakesEnough result (goes_by p) told to_come
 takes (Ok x) m p told to_come new took =
-    λ bytes is q by. took bytes is q (subst (λ (q : Profile). Stands m q []) (sym by) new)
+    λ bytes is q by. took bytes is q (subst (λ (q : Profile). TreeMakerRepresents m q []) (sym by) new)
 takes (Err (refusal.Source d)) m p told to_come new took =
-    λ bytes is q by. took bytes is q (subst (λ (q : Profile). Stands m q []) (sym by) new)
+    λ bytes is q by. took bytes is q (subst (λ (q : Profile). TreeMakerRepresents m q []) (sym by) new)
 takes (Err refusal.Device) m p told to_come new took =
-    λ bytes is q by. took bytes is q (subst (λ (q : Profile). Stands m q []) (sym by) new)
+    λ bytes is q by. took bytes is q (subst (λ (q : Profile). TreeMakerRepresents m q []) (sym by) new)
 takes (Err refusal.Memory) m p told to_come new took =
-    λ bytes is q by. took bytes is q (subst (λ (q : Profile). Stands m q []) (sym by) new)
+    λ bytes is q by. took bytes is q (subst (λ (q : Profile). TreeMakerRepresents m q []) (sym by) new)
 
-pub refuses : (fault : ParseFault) (m : Kept) (p : Profile) (after : Meaning) (denied : Type 0)
-    (told to_come : Option (List ℕ)) → Stands m p [] →
-    IsRefused (λ p acts. Stands m p acts) after denied told to_come fault → IsRefusedSource p told fault
+pub refuses : (fault : ParseFault) (m : TreeMaker) (p : Profile) (after : Representation) (denied : Type 0)
+    (told to_come : Option (List ℕ)) → TreeMakerRepresents m p [] →
+    ParseIsRefused (λ p acts. TreeMakerRepresents m p acts) after denied told to_come fault →
+    IsRefusedSource p told fault
 refuses (refusal.Source d) m p after denied told to_come new fails =
-    λ bytes is q by. fails bytes is q (subst (λ (q : Profile). Stands m q []) (sym by) new)
+    λ bytes is q by. fails bytes is q (subst (λ (q : Profile). TreeMakerRepresents m q []) (sym by) new)
 refuses refusal.Device m p after denied told to_come new fails = tt
 refuses refusal.Memory m p after denied told to_come new fails = tt
 
@@ -67,9 +68,9 @@ within_counted p None within = within
 within_counted p (Some r) within = (grind (arith, within.0), grind (arith, within.1))
 
 -- what is answered of a file
-pub bounds_are : (p : Profile) (told : Option (List ℕ)) (before after : Kept) (names : Names) (number : Option ℕ)
-    (main : ℕ) (need : Option Room) (has_room : Bool) → Stands before p [] → IsProfile p →
-    IsFile (λ p acts. Stands before p acts) (λ p acts. Stands after p acts) told names →
+pub bounds_are : (p : Profile) (told : Option (List ℕ)) (before after : TreeMaker) (names : Pools) (number : Option ℕ)
+    (main : ℕ) (need : Option Room) (has_room : Bool) → TreeMakerRepresents before p [] → IsProfile p →
+    IsFile (λ p acts. TreeMakerRepresents before p acts) (λ p acts. TreeMakerRepresents after p acts) told names →
     number ≡ number_of_name main_name (map (λ (f : FunctionNames). f.name) names.functions) →
     main ≡ unwrap_or number 0 →
     ((file : File) → IsResolved file → file.main ≡ main →
@@ -98,9 +99,9 @@ bounds_are p told before after names number main need has_room new known is numb
     }
 
 -- and of the functions that call one another where it needs most
-pub chain_are : (p : Profile) (told : Option (List ℕ)) (before after : Kept) (names : Names) (number : Option ℕ)
-    (main : ℕ) (chain : List ℕ) → Stands before p [] →
-    IsFile (λ p acts. Stands before p acts) (λ p acts. Stands after p acts) told names →
+pub chain_are : (p : Profile) (told : Option (List ℕ)) (before after : TreeMaker) (names : Pools) (number : Option ℕ)
+    (main : ℕ) (chain : List ℕ) → TreeMakerRepresents before p [] →
+    IsFile (λ p acts. TreeMakerRepresents before p acts) (λ p acts. TreeMakerRepresents after p acts) told names →
     number ≡ number_of_name main_name (map (λ (f : FunctionNames). f.name) names.functions) →
     main ≡ unwrap_or number 0 → IsChain p (told_trees after.functions) main chain → IsChainOf p told chain
 chain_are p told before after names number main chain new is numbered first linked =

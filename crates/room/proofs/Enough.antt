@@ -6,8 +6,8 @@ use Rattle.std.proofs.lemmas.Bool.Decides.{nat_tests}
 use Rattle.arith.specs.declared.operators.Op.{Op}
 use Rattle.arith.specs.declared.operators.Op.TheVariants as op
 use Rattle.arith.specs.Op.{holds, value_of}
-use Rattle.grammar.specs.declared.names.Callee.{Callee}
-use Rattle.grammar.specs.declared.names.Callee.TheVariants as callee
+use Rattle.grammar.specs.declared.resolved_names.Callee.{Callee}
+use Rattle.grammar.specs.declared.resolved_names.Callee.TheVariants as callee
 use Rattle.grammar.specs.Profile.{Profile}
 use Rattle.grammar.specs.Tree.{Expr, Constant, Variable, Binary, Assign, Postfix, Call, Args, NoMore, Argument, Body}
 use Rattle.grammar.specs.Tree.{Done, ExpressionStatement, IfStatement, IfElseStatement, While, Return, File}

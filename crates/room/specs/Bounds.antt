@@ -2,12 +2,12 @@
 use Rattle.std.specs.Prelude.{◌≡◌, ℕ, List, true, Option, Some, Ok}
 use Rattle.grammar.specs.declared.diagnostics.ParseFault.{ParseFault}
 use Rattle.grammar.specs.declared.diagnostics.ParseFault.TheVariants as refusal
-use Rattle.grammar.specs.Building.{Meaning}
+use Rattle.grammar.specs.Building.{Representation}
 use Rattle.grammar.specs.Compiled.{compiled}
 use Rattle.grammar.specs.Profile.{Profile}
 use Rattle.grammar.specs.Resolved.{IsResolved}
 use Rattle.grammar.specs.Tree.{File}
-use Rattle.parser.specs.Files.{FailsBytes}
+use Rattle.parser.specs.ParsedFiles.{FailsBytes}
 use Rattle.room.specs.declared.bounding.Bound.{Bound}
 use Rattle.trees.specs.Laws.{told_functions}
 use Rattle.room.specs.Chains.{IsChain}
@@ -16,7 +16,7 @@ use Rattle.room.specs.Functions.{need_of, HasRoom}
 use Rattle.room.specs.Laws.{NeverLacks}
 
 -- what goes by this profile
-abbrev pub goes_by : Profile → Meaning
+abbrev pub goes_by : Profile → Representation
 goes_by profile p acts = p ≡ profile
 
 -- The need is a resolved file's, as it is counted, and there is room exactly if the file has it: then the robot

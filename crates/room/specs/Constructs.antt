@@ -3,8 +3,8 @@
 use Rattle.std.specs.Prelude.{ℕ, Bool, Option, if◌then◌else◌, false}
 use Rattle.arith.specs.declared.operators.Op.{Op}
 use Rattle.arith.specs.Op.{is_logic}
-use Rattle.grammar.specs.declared.names.Callee.{Callee}
-use Rattle.grammar.specs.declared.names.Callee.TheVariants as callee
+use Rattle.grammar.specs.declared.resolved_names.Callee.{Callee}
+use Rattle.grammar.specs.declared.resolved_names.Callee.TheVariants as callee
 use Rattle.grammar.specs.Tree.{Expr, Constant, Variable, Binary, Assign, Postfix, Call, Args, NoMore, Argument, Body}
 use Rattle.grammar.specs.Tree.{Done, ExpressionStatement, IfStatement, IfElseStatement, While, Return}
 use Rattle.room.specs.declared.room.Room.{Room}

@@ -1,9 +1,9 @@
 -- What small files need, worked out by hand.
 use Rattle.std.specs.Prelude.{◌≡◌, ℕ, List, [], ◌∷◌, Option, None, codes}
 use Rattle.arith.specs.declared.operators.Op.TheVariants as op
-use Rattle.grammar.specs.declared.names.Callee.TheVariants as callee
-use Rattle.grammar.specs.declared.names.Intrinsic.TheVariants as intrinsic
-use Rattle.grammar.specs.declared.names.Var.TheVariants as var
+use Rattle.grammar.specs.declared.resolved_names.Callee.TheVariants as callee
+use Rattle.grammar.specs.declared.resolved_names.Intrinsic.TheVariants as intrinsic
+use Rattle.grammar.specs.declared.resolved_names.Var.TheVariants as var
 use Rattle.grammar.specs.declared.operators.StoreOp.TheVariants as store
 use Rattle.grammar.specs.KnownSources.{constant, file_of_main, local}
 use Rattle.grammar.specs.Profile.{first_profile, second_profile}

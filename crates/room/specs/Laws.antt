@@ -7,7 +7,7 @@ use Rattle.code.specs.declared.cause.Cause.{Cause}
 use Rattle.code.specs.declared.cause.Cause.TheVariants as cause
 use Rattle.code.specs.Causes.{cause_next}
 use Rattle.code.specs.Generation.{code_of}
-use Rattle.code.specs.Machine.{reached, start_state}
+use Rattle.code.specs.Machine.{reached, started_machine}
 use Rattle.code.specs.Meaning.{want}
 use Rattle.room.specs.Functions.{HasRoom}
 
@@ -19,7 +19,7 @@ RoomIsEnough = (p q : Profile) (file : File) → p.short_circuit ≡ q.short_cir
 -- Along all replies: where the robot restarts, main returns.
 abbrev pub NeverLacks : Profile → File → Type 0
 NeverLacks p file = (trace : List ℤ) (c : Cause)
-    → cause_next (code_of p file) (reached (code_of p file) (start_state (code_of p file)) trace) ≡ Some c
+    → cause_next (code_of p file) (reached (code_of p file) (started_machine (code_of p file)) trace) ≡ Some c
     → c ≡ cause.Returned
 
 -- A robot that has the room that it needs restarts only where main returns.

@@ -5,15 +5,15 @@ ghost use Rattle.tokens.specs.Feed.{MayRead};
 ghost use Rattle.grammar.specs.Compiled.{main_name};
 ghost use Rattle.grammar.specs.Profile.{IsProfile};
 ghost use Rattle.grammar.specs.Scope.{number_of_name};
-ghost use Rattle.parser.specs.Files.{TakesEnough};
-ghost use Rattle.parser.specs.Segment.{Counts};
+ghost use Rattle.parser.specs.ParsedFiles.{TakesEnough};
+ghost use Rattle.parser.specs.Segment.{CountsRefusal};
 ghost use Rattle.room.specs.Bounds.{AreBoundsOf, IsChainOf, IsRefusedSource, goes_by};
 ghost use Rattle.room.specs.Rooms.{IsWithin};
 
 use crate::chains::chain_of;
 use crate::room::Room;
 use crate::tables::need;
-use grammar::{Function, MOST_NAMES, ParseFault, Profile};
+use grammar::{FunctionNames, MOST_NAMES, ParseFault, Profile};
 use parser::parse;
 use std::alloc::{AllocError, Global};
 use tokens::Feed;
@@ -38,7 +38,7 @@ pub fn bounds<F: Feed>(alloc: Global, feed: &mut F, profile: Profile) -> Result<
     ensures bounds { IfOk result (AreBoundsOf profile (F.device feed.old).to_come) }
     ensures refused { IfErr result (IsRefusedSource profile (F.device feed.old).to_come) }
     ensures taken { TakesEnough result (goes_by profile) (F.device feed.old).to_come (F.device feed.new).to_come }
-    ensures counted { Counts result (F.device feed.old).account (F.device feed.new).account }
+    ensures counted { CountsRefusal result (F.device feed.old).account (F.device feed.new).account }
 {
     let mut maker = TreeMaker::new(alloc, profile);
     let names = parse(feed, &mut maker)?;
@@ -61,7 +61,7 @@ pub fn chain<F: Feed>(alloc: Global, feed: &mut F, profile: Profile) -> Result<V
     ensures chain { IfOk result (λ chain. IsChainOf profile (F.device feed.old).to_come chain.items) }
     ensures refused { IfErr result (IsRefusedSource profile (F.device feed.old).to_come) }
     ensures taken { TakesEnough result (goes_by profile) (F.device feed.old).to_come (F.device feed.new).to_come }
-    ensures counted { Counts result (F.device feed.old).account (F.device feed.new).account }
+    ensures counted { CountsRefusal result (F.device feed.old).account (F.device feed.new).account }
 {
     let mut maker = TreeMaker::new(alloc, profile);
     let names = parse(feed, &mut maker)?;
@@ -87,12 +87,12 @@ fn is_within(need: Option<Room>, profile: Profile) -> bool
 
 /// Returns the number of the function `main`.
 #[tactic(auto, using(code::proofs::Mains::main_here, code::proofs::Mains::main_nowhere))]
-fn main_number(functions: &[Function]) -> Option<u8>
+fn main_number(functions: &[FunctionNames]) -> Option<u8>
     requires { length functions.now ≤ MOST_NAMES }
     ensures { result ≡ number_of_name main_name (map (λ f. f.name) functions.now) }
 {
     for (number, function) in functions.iter().enumerate() {
-        if function.name().is(b"main") {
+        if function.name().has_bytes(b"main") {
             return Some(number as u8);
         }
     }

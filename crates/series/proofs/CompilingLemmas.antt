@@ -9,15 +9,15 @@ use Rattle.grammar.specs.Profile.{Profile}
 use Rattle.grammar.specs.declared.diagnostics.Diagnostic.{Diagnostic}
 use Rattle.grammar.specs.Compiled.{compiled}
 use Rattle.grammar.specs.Tree.{File}
-use Rattle.code.specs.Generation.{ObjectCode, code_of}
+use Rattle.code.specs.Generation.{Program, code_of}
 use Rattle.settings.specs.declared.settings.Mode.{Mode}
-use Rattle.settings.specs.Setup.{Setup}
-use Rattle.series.specs.Compiling.{Source, and_file, files_of, codes_of, code_or_fault, compiled_code, pieces_of, source_pieces, status_of, compiling}
+use Rattle.settings.specs.Settings.{Settings}
+use Rattle.series.specs.Compiling.{Source, and_file, files_of, codes_of, code_or_fault, compiled_code, pieces_of, source_pieces, compile_status, compiling}
 use Rattle.series.specs.Pieces.{Taken, Writes, Begins}
-use Rattle.series.specs.Keeping.{and_code, and_compiled, both, count_of, kept_by, KeepsMore, status_by}
+use Rattle.series.specs.ProgramKeeping.{and_code, and_compiled, worse_status, count_of, kept_by, KeepsMore, status_by}
 use Rattle.series.specs.Runs.{CompilesAll}
-use Rattle.series.specs.declared.endings.Status.{Status}
-use Rattle.series.specs.declared.endings.Status.TheVariants.{Done, Faulty}
+use Rattle.series.specs.declared.run_results.Status.{Status}
+use Rattle.series.specs.declared.run_results.Status.TheVariants.{Done, Faulty}
 use Rattle.sinks.specs.Texts.{file_name}
 use Rattle.series.proofs.PiecesLemmas.{writes_then, begins_then, begins_more}
 use Rattle.series.proofs.RunsLemmas.{no_source}
@@ -27,7 +27,7 @@ codes_and_file : (profile : Profile) (files : Option (List File)) (verdict : Res
     → option_map (λ files. map (code_of profile) files) (and_file files verdict)
     ≡ and_code (option_map (λ files. map (code_of profile) files) files) (code_or_fault profile verdict)
 codes_and_file profile (Some files) (Ok file) =
-    ap (λ (l : List ObjectCode). Some l) (map-append (code_of profile) files (file ∷ []))
+    ap (λ (l : List Program). Some l) (map-append (code_of profile) files (file ∷ []))
 codes_and_file profile (Some files) (Err d) = refl
 codes_and_file profile None (Ok file) = refl
 codes_and_file profile None (Err d) = refl
@@ -44,7 +44,9 @@ files_more profile sources file within =
 
 -- the status of the files with one more
 both_of : (profile : Profile) (files : Option (List File)) (verdict : Result File Diagnostic)
-    → both (status_of files) (status_by (code_or_fault profile verdict)) ≡ status_of (and_file files verdict)
+    →
+    worse_status (compile_status files) (status_by (code_or_fault profile verdict)) ≡
+    compile_status (and_file files verdict)
 both_of profile (Some files) (Ok file) = refl
 both_of profile (Some files) (Err d) = refl
 both_of profile None (Ok file) = refl
@@ -52,15 +54,15 @@ both_of profile None (Err d) = refl
 
 -- the status of the files so far, with one source more
 pub status_more : (profile : Profile) (sources : List Source) (file : ℕ) (so_far one : Status) → file < length sources
-    → so_far ≡ status_of (files_of profile (take file sources)) →
+    → so_far ≡ compile_status (files_of profile (take file sources)) →
     one ≡ status_by (compiled_code profile (get_or sources file no_source).bytes)
-    → both so_far one ≡ status_of (files_of profile (take (file + 1) sources))
+    → worse_status so_far one ≡ compile_status (files_of profile (take (file + 1) sources))
 status_more profile sources file so_far one within is one_is = rw (files_more profile sources file within, is, one_is)
     (both_of profile (files_of profile (take file sources)) (compiled profile (get_or sources file no_source).bytes))
 
 -- what a loop keeps, with one source more
-pub kept_more : (profile : Profile) (sources : List Source) (file : ℕ) (kept : Option (List ObjectCode))
-    (code : Result ObjectCode Diagnostic) → file < length sources
+pub kept_more : (profile : Profile) (sources : List Source) (file : ℕ) (kept : Option (List Program))
+    (code : Result Program Diagnostic) → file < length sources
     → kept ≡ codes_of profile (take file sources) → code ≡ compiled_code profile (get_or sources file no_source).bytes
     → and_code kept code ≡ codes_of profile (take (file + 1) sources)
 kept_more profile sources file kept code within so_far is = rw (so_far, is)
@@ -70,9 +72,9 @@ kept_more profile sources file kept code within so_far is = rw (so_far, is)
     (compiled profile (get_or sources file no_source).bytes)))
 
 -- the programs kept of the files so far, with what is kept of one more
-kept_of : (so_far : Status) (kept codes : Option (List ObjectCode)) (code : Result ObjectCode Diagnostic) →
+kept_of : (so_far : Status) (kept codes : Option (List Program)) (code : Result Program Diagnostic) →
     IfSome kept (λ k. kept_by so_far k ≡ codes)
-    → IfSome (and_compiled kept code) (λ k. kept_by (both so_far (status_by code)) k ≡ and_code codes code)
+    → IfSome (and_compiled kept code) (λ k. kept_by (worse_status so_far (status_by code)) k ≡ and_code codes code)
 kept_of so_far None codes (Ok code) are = tt
 kept_of so_far None codes (Err d) are = tt
 kept_of Done (Some kept) codes (Ok code) are = ap (λ c. and_code c (Ok code)) are
@@ -82,32 +84,32 @@ kept_of Faulty (Some kept) codes (Err d) are = ap (λ c. and_code c (Err d)) are
 
 -- those with one source more
 pub kept_with : (profile : Profile) (sources : List Source) (file : ℕ) (so_far one : Status)
-    (kept after : Option (List ObjectCode)) → file < length sources
+    (kept after : Option (List Program)) → file < length sources
     → IfSome kept (λ k. kept_by so_far k ≡ codes_of profile (take file sources))
     → one ≡ status_by (compiled_code profile (get_or sources file no_source).bytes)
     → after ≡ and_compiled kept (compiled_code profile (get_or sources file no_source).bytes)
-    → IfSome after (λ k. kept_by (both so_far one) k ≡ codes_of profile (take (file + 1) sources))
+    → IfSome after (λ k. kept_by (worse_status so_far one) k ≡ codes_of profile (take (file + 1) sources))
 kept_with profile sources file so_far one kept after within are is adds =
-    let code : Result ObjectCode Diagnostic = compiled_code profile (get_or sources file no_source).bytes in
-    let P : Option (List ObjectCode) → Type 0 = λ codes. IfSome after (λ k. kept_by (both so_far one) k ≡ codes) in
+    let code : Result Program Diagnostic = compiled_code profile (get_or sources file no_source).bytes in
+    let P : Option (List Program) → Type 0 = λ codes. IfSome after (λ k. kept_by (worse_status so_far one) k ≡ codes) in
     subst P (kept_more profile sources file (codes_of profile (take file sources)) code within refl refl)
     (rw (is, adds) (kept_of so_far kept (codes_of profile (take file sources)) code are))
 
 -- how many they are
 pub manned_more : (so_far one : Status) (file kept after : ℕ) → after ≡ kept + count_of one → kept ≤ file →
     (so_far ≡ Done → kept ≡ file)
-    → (after ≤ file + 1) × (both so_far one ≡ Done → after ≡ file + 1)
+    → (after ≤ file + 1) × (worse_status so_far one ≡ Done → after ≡ file + 1)
 manned_more Done Done file kept after is most all = (omega (arith, is, most), λ done. omega (arith, is, all refl))
 manned_more Done Faulty file kept after is most all = (omega (arith, is, most), λ done. cc)
 manned_more Faulty Done file kept after is most all = (omega (arith, is, most), λ done. cc)
 manned_more Faulty Faulty file kept after is most all = (omega (arith, is, most), λ done. cc)
 
 -- of the files so far one program each is kept, unless one was faulty
-abbrev pub IsManned : Status → ℕ → List ObjectCode → Type 0
+abbrev pub IsManned : Status → ℕ → List Program → Type 0
 IsManned so_far file kept = (length kept ≤ file) × (so_far ≡ Done → length kept ≡ file)
 
-pub manned_with : (so_far one : Status) (file : ℕ) (kept after : Option (List ObjectCode)) → KeepsMore one kept after
-    → IfSome kept (λ k. IsManned so_far file k) → IfSome after (λ k. IsManned (both so_far one) (file + 1) k)
+pub manned_with : (so_far one : Status) (file : ℕ) (kept after : Option (List Program)) → KeepsMore one kept after
+    → IfSome kept (λ k. IsManned so_far file k) → IfSome after (λ k. IsManned (worse_status so_far one) (file + 1) k)
 manned_with so_far one file kept None more are = tt
 manned_with so_far one file None (Some after) more are = absurd cc
 manned_with so_far one file (Some kept) (Some after) more are =
@@ -115,33 +117,33 @@ manned_with so_far one file (Some kept) (Some after) more are =
     manned_more so_far one file (length kept) (length after) is are.0 are.1
 
 -- so there is room for the program of one more file
-pub room_left : (so_far : Status) (file files : ℕ) (kept : Option (List ObjectCode)) → file < files → files ≤ 4 →
+pub room_left : (so_far : Status) (file files : ℕ) (kept : Option (List Program)) → file < files → files ≤ 4 →
     IfSome kept (λ k. IsManned so_far file k)
     → IfSome kept (λ k. length k < 4)
 room_left so_far file files None within most are = tt
 room_left so_far file files (Some kept) within most are = omega (arith, are.0)
 
 -- and at the end one program for each
-pub all_manned : (so_far : Status) (file files : ℕ) (kept : Option (List ObjectCode)) → file ≡ files → so_far ≡ Done →
+pub all_manned : (so_far : Status) (file files : ℕ) (kept : Option (List Program)) → file ≡ files → so_far ≡ Done →
     IfSome kept (λ k. IsManned so_far file k)
     → IfSome kept (λ k. length k ≡ files)
 all_manned so_far file files None end done are = tt
 all_manned so_far file files (Some kept) end done are = are.1 done ∙ end
 
 -- at the beginning nothing is kept
-pub none_manned : (kept : Option (List ObjectCode)) → IfSome kept (λ k. k ≡ []) → IfSome kept (λ k. IsManned Done 0 k)
+pub none_manned : (kept : Option (List Program)) → IfSome kept (λ k. k ≡ []) → IfSome kept (λ k. IsManned Done 0 k)
 none_manned None are = tt
 none_manned (Some kept) are = (rw are (omega arith), λ done. rw are refl)
 
-pub none_kept : (kept : Option (List ObjectCode)) → IfSome kept (λ k. k ≡ []) → IfSome kept (λ k. Some k ≡ Some [])
+pub none_kept : (kept : Option (List Program)) → IfSome kept (λ k. k ≡ []) → IfSome kept (λ k. Some k ≡ Some [])
 none_kept None are = tt
-none_kept (Some kept) are = ap (λ (l : List ObjectCode). Some l) are
+none_kept (Some kept) are = ap (λ (l : List Program). Some l) are
 
-pub none_other : (profile : Profile) (kept : Option (List ObjectCode)) → IfSome kept (λ k. k ≡ []) →
+pub none_other : (profile : Profile) (kept : Option (List Program)) → IfSome kept (λ k. k ≡ []) →
     IfSome kept (λ k. AreOfProfile profile k)
 none_other profile None are = tt
 none_other profile (Some kept) are =
-    let P : List ObjectCode → Type 0 = λ l. AreOfProfile profile l in
+    let P : List Program → Type 0 = λ l. AreOfProfile profile l in
     let none : P [] = λ k d below. absurd (omega arith) in
     subst P (sym are) none
 
@@ -193,16 +195,16 @@ pieces_cut mode profile sources file before now after verdict within so_far is b
     so_far (subst P is begins)))
 
 -- all files are compiled
-pub all_compiled : (setup : Setup) (sources : List Source) (file : ℕ) (so_far : Status)
-    (kept : Option (List ObjectCode)) (before after : Taken)
+pub all_compiled : (settings : Settings) (sources : List Source) (file : ℕ) (so_far : Status)
+    (kept : Option (List Program)) (before after : Taken)
     → length sources ≤ file
-    → Writes before after (compiling setup.mode setup.profile (take file sources))
-    × (so_far ≡ status_of (files_of setup.profile (take file sources)))
-    × IfSome kept (λ k. kept_by so_far k ≡ codes_of setup.profile (take file sources))
-    → CompilesAll setup sources (Ok so_far) kept before after
-all_compiled setup sources file so_far kept before after past are =
-    let P : List Source → Type 0 = λ l. Writes before after (compiling setup.mode setup.profile l)
-    × (so_far ≡ status_of (files_of setup.profile l))
-    × IfSome kept (λ k. kept_by so_far k ≡ codes_of setup.profile l) in
+    → Writes before after (compiling settings.mode settings.profile (take file sources))
+    × (so_far ≡ compile_status (files_of settings.profile (take file sources)))
+    × IfSome kept (λ k. kept_by so_far k ≡ codes_of settings.profile (take file sources))
+    → CompilesAll settings sources (Ok so_far) kept before after
+all_compiled settings sources file so_far kept before after past are =
+    let P : List Source → Type 0 = λ l. Writes before after (compiling settings.mode settings.profile l)
+    × (so_far ≡ compile_status (files_of settings.profile l))
+    × IfSome kept (λ k. kept_by so_far k ≡ codes_of settings.profile l) in
     let (writes, status, codes) = subst P (take_all file sources past) are in
-    record { output = (writes, status); codes = codes }
+    record { output = (writes, status); programs = codes }

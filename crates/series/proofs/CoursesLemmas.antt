@@ -10,23 +10,24 @@ use Rattle.std.proofs.lemmas.Bool.Decides.{nat_tests}
 use Rattle.grammar.specs.Tree.{File}
 use Rattle.battles.specs.Battle.{Outcome, alive, battle}
 use Rattle.battles.specs.Pairing.{robots_of}
-use Rattle.settings.specs.Setup.{Setup}
+use Rattle.settings.specs.Settings.{Settings}
 use Rattle.series.specs.declared.tallies.Score.{Score}
-use Rattle.series.specs.Courses.{Tallied, IsTallyOf, next_text, played_after, score_at, step_of, with_match}
-use Rattle.series.specs.Names.{robot_names}
+use Rattle.series.specs.SeriesSteps.{Tally, IsTallyOf, next_text, played_after, score_at, next_step, with_match}
+use Rattle.series.specs.RobotNames.{robot_names}
 use Rattle.series.specs.Outcomes.{outcome_of, outcomes, report_text, totals_text}
 use Rattle.series.specs.Reports.{report}
 use Rattle.sinks.specs.Texts.{file_name}
 use Rattle.series.specs.Lines.{lines_text}
 use Rattle.series.specs.Totals.{has_won, has_tied, has_lost, score_line, score_of, survivors, totals, totals_line}
-use Rattle.series.specs.declared.endings.Step.{Step}
-use Rattle.series.specs.declared.endings.Step.TheVariants.{Played}
+use Rattle.series.specs.declared.run_results.Step.{Step}
+use Rattle.series.specs.declared.run_results.Step.TheVariants.{Played}
 use Rattle.series.proofs.TextsLemmas.{robots_there}
 
 -- one match more
-pub outcomes_more : (setup : Setup) (files : List File) (count k : ℕ) → setup.first + count ≡ k
-    → outcomes setup files (count + 1) ≡ outcomes setup files count ++ outcome_of setup files k ∷ []
-outcomes_more setup files count k here = map-range_with_len_more (outcome_of setup files) setup.first count k here
+pub outcomes_more : (settings : Settings) (files : List File) (count k : ℕ) → settings.first + count ≡ k
+    → outcomes settings files (count + 1) ≡ outcomes settings files count ++ outcome_of settings files k ∷ []
+outcomes_more settings files count k here =
+    map-range_with_len_more (outcome_of settings files) settings.first count k here
 
 -- there is no robot past the last one
 pub none_alive : (outcome : Outcome) (i : ℕ) → length outcome.damages ≤ i → alive outcome i ≡ false
@@ -93,43 +94,44 @@ score_more ended outcome i is_alive count lives survived =
     by_end b n some = by_test b (n == 1) (nat_le 2 n) _ _ _ (λ lives. several n (some lives))
 
 -- how the match of this number ended
-pub outcome_is : (setup : Setup) (files : List File) (number : ℕ) (outcome : Outcome)
-    → outcome ≡ battle (robots_of setup.profile files) setup.seed number setup.limit →
-    outcome ≡ outcome_of setup files number
+pub outcome_is : (settings : Settings) (files : List File) (number : ℕ) (outcome : Outcome)
+    → outcome ≡ battle (robots_of settings.profile files) settings.seed number settings.limit →
+    outcome ≡ outcome_of settings files number
 unfolding outcome_of
-outcome_is setup files number outcome is = is
+outcome_is settings files number outcome is = is
 
 -- a match is left
 pub is_left : (played matches : ℕ) → played ≤ matches → nat_eq played matches ≡ false → played < matches
 is_left played matches most other = grind (arith, nat_tests)
 
 -- the text of the next step, if a match is left
-pub next_is : (setup : Setup) (files : List File) (played number : ℕ) (outcome : Outcome) (names : List (List ℕ))
-    → played < setup.matches → setup.first + played ≡ number → names ≡ robot_names setup.words
-    → outcome ≡ outcome_of setup files number → report number names outcome ≡ next_text setup files played
-next_is setup files played number outcome names left here named is =
-    let more : nat_lt played setup.matches ≡ true = grind (arith, nat_tests) in
+pub next_is : (settings : Settings) (files : List File) (played number : ℕ) (outcome : Outcome) (names : List (List ℕ))
+    → played < settings.matches → settings.first + played ≡ number → names ≡ robot_names settings.file_words
+    → outcome ≡ outcome_of settings files number → report number names outcome ≡ next_text settings files played
+next_is settings files played number outcome names left here named is =
+    let more : nat_lt played settings.matches ≡ true = grind (arith, nat_tests) in
     rw (more, here, named, is) refl
 
-pub next_report : (setup : Setup) (files : List File) (played : ℕ) → played < setup.matches
-    → next_text setup files played ≡ report_text setup files (setup.first + played)
-next_report setup files played left =
-    let more : nat_lt played setup.matches ≡ true = grind (arith, nat_tests) in
+pub next_report : (settings : Settings) (files : List File) (played : ℕ) → played < settings.matches
+    → next_text settings files played ≡ report_text settings files (settings.first + played)
+next_report settings files played left =
+    let more : nat_lt played settings.matches ≡ true = grind (arith, nat_tests) in
     rw more refl
 
 -- the next step, if a match is left
-pub step_is : (setup : Setup) (played number : ℕ) → played < setup.matches → setup.first + played ≡ number
-    → Played number ≡ step_of setup played
-step_is setup played number left here =
-    let more : nat_lt played setup.matches ≡ true = grind (arith, nat_tests) in
+pub step_is : (settings : Settings) (played number : ℕ) → played < settings.matches → settings.first + played ≡ number
+    → Played number ≡ next_step settings played
+step_is settings played number left here =
+    let more : nat_lt played settings.matches ≡ true = grind (arith, nat_tests) in
     rw (more, here) refl
 
 -- that step plays a match
-pub plays : (setup : Setup) (played : ℕ) (step : Step) → played < setup.matches → step ≡ step_of setup played
+pub plays : (settings : Settings) (played : ℕ) (step : Step) → played < settings.matches →
+    step ≡ next_step settings played
     → played_after (Ok step) played ≡ played + 1
-plays setup played step left is =
-    let more : nat_lt played setup.matches ≡ true = grind (arith, nat_tests) in
-    let played_one : step ≡ Played (setup.first + played) = is ∙ rw more refl in
+plays settings played step left is =
+    let more : nat_lt played settings.matches ≡ true = grind (arith, nat_tests) in
+    let played_one : step ≡ Played (settings.first + played) = is ∙ rw more refl in
     rw played_one refl
 
 -- the scores' lines, if the scores are the same
@@ -140,23 +142,24 @@ same_lines f g a (suc n) each =
     rw (each a (omega arith)) (ap (λ l. g a ∷ l) (same_lines f g (a + 1) n (λ i below. each i (omega arith))))
 
 -- the text of the totals
-pub totals_are : (setup : Setup) (files : List File) (tally : Tallied) (names : List (List ℕ)) →
-    0 < length setup.words → length setup.words ≤ 4
-    → tally.matches ≡ setup.matches → names ≡ robot_names setup.words →
-    IsTallyOf tally (outcomes setup files setup.matches)
-    → totals tally.matches names (score_at tally) ≡ totals_text setup files
+pub totals_are : (settings : Settings) (files : List File) (tally : Tally) (names : List (List ℕ)) →
+    0 < length settings.file_words → length settings.file_words ≤ 4
+    → tally.matches ≡ settings.matches → names ≡ robot_names settings.file_words →
+    IsTallyOf tally (outcomes settings files settings.matches)
+    → totals tally.matches names (score_at tally) ≡ totals_text settings files
 unfolding totals
-totals_are setup files tally names some most all named is =
-    let few : length (robot_names setup.words) ≤ 4 =
+totals_are settings files tally names some most all named is =
+    let few : length (robot_names settings.file_words) ≤ 4 =
     omega (
       arith,
-      length-map setup.words file_name,
-      robots_there (map file_name setup.words) (omega (arith, length-map setup.words file_name)),
+      length-map settings.file_words file_name,
+      robots_there (map file_name settings.file_words) (omega (arith, length-map settings.file_words file_name)),
     ) in
     ap (λ l. totals tally.matches l (score_at tally)) named
-    ∙ ap (λ n. totals n (robot_names setup.words) (score_at tally)) all
-    ∙ (ap (λ lines. lines_text (totals_line setup.matches ∷ lines))
-    (same_lines (λ i. score_line i (score_at tally i) (get_or (robot_names setup.words) i []))
-    (λ i. score_line i (score_of (outcomes setup files setup.matches) i) (get_or (robot_names setup.words) i []))
-    0 (length (robot_names setup.words))
-    (λ i below. ap (λ score. score_line i score (get_or (robot_names setup.words) i [])) (is i (omega arith)))))
+    ∙ ap (λ n. totals n (robot_names settings.file_words) (score_at tally)) all
+    ∙ (ap (λ lines. lines_text (totals_line settings.matches ∷ lines))
+    (same_lines (λ i. score_line i (score_at tally i) (get_or (robot_names settings.file_words) i []))
+    (λ i. score_line i (score_of (outcomes settings files settings.matches) i)
+    (get_or (robot_names settings.file_words) i []))
+    0 (length (robot_names settings.file_words))
+    (λ i below. ap (λ score. score_line i score (get_or (robot_names settings.file_words) i [])) (is i (omega arith)))))

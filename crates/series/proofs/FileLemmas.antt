@@ -5,40 +5,41 @@ use Rattle.std.proofs.lemmas.List.Elements.{All-push}
 use Rattle.battles.specs.Programs.{AreOfProfile}
 use Rattle.grammar.specs.Profile.{Profile}
 use Rattle.grammar.specs.declared.diagnostics.Diagnostic.{Diagnostic}
-use Rattle.grammar.specs.Building.{Meaning}
+use Rattle.grammar.specs.Building.{Representation}
 use Rattle.grammar.specs.Compiled.{compiled}
-use Rattle.grammar.specs.Pools.{Names, names_of}
+use Rattle.grammar.specs.Pools.{Pools, pools_of}
 use Rattle.grammar.specs.Tree.{File}
-use Rattle.code.specs.Finishing.{IsTold}
-use Rattle.code.specs.Generation.{ObjectCode, code_of}
-use Rattle.code.specs.Making.{Made}
-use Rattle.code.specs.Told.{Stands}
-use Rattle.parser.specs.Files.{IsFile}
+use Rattle.code.specs.Finishing.{MakerIsTold}
+use Rattle.code.specs.Generation.{Program, code_of}
+use Rattle.code.specs.Making.{Maker}
+use Rattle.code.specs.Told.{MakerRepresents}
+use Rattle.parser.specs.ParsedFiles.{IsFile}
 use Rattle.settings.specs.declared.settings.Mode.{Mode}
 use Rattle.series.specs.Compiling.{code_or_fault, compiled_code, listed, listing_piece, pieces_of}
 use Rattle.series.specs.Pieces.{Taken, Writes, Begins}
-use Rattle.series.specs.Keeping.{and_compiled, and_program, KeepsMore, status_by}
-use Rattle.series.specs.declared.endings.Status.TheVariants.{Done}
+use Rattle.series.specs.ProgramKeeping.{and_compiled, and_program, KeepsMore, status_by}
+use Rattle.series.specs.declared.run_results.Status.TheVariants.{Done}
 
 -- a file is that of its names, whoever has them
-file_of_names : (before after : Meaning) (told : Option (List ℕ)) (kept names : Names) → names ≡ kept →
+file_of_names : (before after : Representation) (told : Option (List ℕ)) (kept names : Pools) → names ≡ kept →
     IsFile before after told kept → IsFile before after told names
 file_of_names before after told kept names same file = rw same file
 
 -- a parsed file, whose bytes the device may have told: the maker was told it, and these are its names
-pub record IsGood (maker : Made) (profile : Profile) (bytes_told : Option (List ℕ)) (names : Names) : Type 0 where
+pub record IsGood (maker : Maker) (profile : Profile) (bytes_told : Option (List ℕ)) (names : Pools) : Type 0 where
   pub file : File
-  pub told : IsTold maker profile names file
+  pub told : MakerIsTold maker profile names file
   pub is : (bytes : List ℕ) → bytes_told ≡ Some bytes → compiled profile bytes ≡ Ok file
 
 -- what a new maker was told of a file
-pub good_file : (before after : Made) (profile : Profile) (bytes_told : Option (List ℕ)) (kept names : Names) →
-    Stands before profile [] → names ≡ kept →
-    IsFile (λ p acts. Stands before p acts) (λ p acts. Stands after p acts) bytes_told kept →
+pub good_file : (before after : Maker) (profile : Profile) (bytes_told : Option (List ℕ)) (kept names : Pools) →
+    MakerRepresents before profile [] → names ≡ kept →
+    IsFile (λ p acts. MakerRepresents before p acts) (λ p acts. MakerRepresents after p acts) bytes_told kept →
     IsGood after profile bytes_told names
 good_file before after profile bytes_told kept names new same file =
     let f =
-    file_of_names (λ p acts. Stands before p acts) (λ p acts. Stands after p acts) bytes_told kept names same file in
+    file_of_names (λ p acts. MakerRepresents before p acts) (λ p acts. MakerRepresents after p acts) bytes_told kept
+    names same file in
     record {
       file = f.file;
       told = record { resolved = f.resolved; stands = f.built profile new; named = f.named; main = f.main };
@@ -46,69 +47,69 @@ good_file before after profile bytes_told kept names new same file =
     }
 
 -- a good file's code
-pub good_code : (profile : Profile) (bytes : List ℕ) (file : File) (code : ObjectCode) →
+pub good_code : (profile : Profile) (bytes : List ℕ) (file : File) (code : Program) →
     compiled profile bytes ≡ Ok file
     → code ≡ code_of profile file → compiled_code profile bytes ≡ Ok code
 good_code profile bytes file code is made = rw made (ap (code_or_fault profile) is)
 
 -- a good file's program is kept
-pub good_kept : (profile : Profile) (bytes : List ℕ) (code : ObjectCode) (kept after : Option (List ObjectCode))
+pub good_kept : (profile : Profile) (bytes : List ℕ) (code : Program) (kept after : Option (List Program))
     → compiled_code profile bytes ≡ Ok code → after ≡ and_program kept code →
     after ≡ and_compiled kept (compiled_code profile bytes)
 good_kept profile bytes code kept after is adds = adds ∙ sym (ap (and_compiled kept) is)
 
 -- one program more
-pub good_more : (code : ObjectCode) (kept after : Option (List ObjectCode)) → after ≡ and_program kept code →
+pub good_more : (code : Program) (kept after : Option (List Program)) → after ≡ and_program kept code →
     KeepsMore Done kept after
 good_more code None after adds = rw adds refl
 good_more code (Some kept) after adds = rw (adds, length-append kept (code ∷ [])) refl
 
 -- the programs kept so far are of a good file's profile
-pub alike : (profile : Profile) (file : File) (code : ObjectCode) (kept : Option (List ObjectCode)) →
+pub alike : (profile : Profile) (file : File) (code : Program) (kept : Option (List Program)) →
     code ≡ code_of profile file
     → IfSome kept (λ k. AreOfProfile profile k) → IfSome kept (λ k. AreOfProfile code.profile k)
 alike profile file code None made each = tt
-alike profile file code (Some kept) made each = rw (ap (λ (c : ObjectCode). c.profile) made) each
+alike profile file code (Some kept) made each = rw (ap (λ (c : Program). c.profile) made) each
 
 -- and with its program they are
-pub alike_more : (profile : Profile) (file : File) (code : ObjectCode) (kept after : Option (List ObjectCode)) →
+pub alike_more : (profile : Profile) (file : File) (code : Program) (kept after : Option (List Program)) →
     code ≡ code_of profile file
     → IfSome kept (λ k. AreOfProfile profile k) → after ≡ and_program kept code →
     IfSome after (λ k. AreOfProfile profile k)
 alike_more profile file code None after made each adds = rw adds tt
 alike_more profile file code (Some kept) after made each adds =
     rw adds
-    (All-push (λ (c : ObjectCode). c.profile ≡ profile) kept code each (ap (λ (c : ObjectCode). c.profile) made))
+    (All-push (λ (c : Program). c.profile ≡ profile) kept code each (ap (λ (c : Program). c.profile) made))
 
 -- whether a file is good
-pub good_status : (profile : Profile) (bytes : List ℕ) (code : ObjectCode) → compiled_code profile bytes ≡ Ok code
+pub good_status : (profile : Profile) (bytes : List ℕ) (code : Program) → compiled_code profile bytes ≡ Ok code
     → Done ≡ status_by (compiled_code profile bytes)
 good_status profile bytes code is = sym (ap status_by is)
 
-at_end : (kept : List ObjectCode) (code : ObjectCode) → slice_get (kept ++ code ∷ []) (length kept) ≡ Some code
+at_end : (kept : List Program) (code : Program) → slice_get (kept ++ code ∷ []) (length kept) ≡ Some code
 at_end [] code = refl
 at_end (x ∷ kept) code = at_end kept code
 
 -- what a good file's program gives was put
-pub good_put : (mode : Mode) (profile : Profile) (name bytes : List ℕ) (file : File) (names : Names) (code : ObjectCode)
+pub good_put : (mode : Mode) (profile : Profile) (name bytes : List ℕ) (file : File) (names : Pools) (code : Program)
     (before after : Taken)
-    → compiled profile bytes ≡ Ok file → names ≡ names_of file → code ≡ code_of profile file →
+    → compiled profile bytes ≡ Ok file → names ≡ pools_of file → code ≡ code_of profile file →
     Writes before after (listed mode (listing_piece name names code))
     → Writes before after (pieces_of mode profile name (compiled profile bytes))
 good_put mode profile name bytes file names code before after is named made writes =
     let P : Result File Diagnostic → Type 0 = λ r. Writes before after (pieces_of mode profile name r) in
-    let Q : Names → ObjectCode → Type 0 =
+    let Q : Pools → Program → Type 0 =
     λ names code. Writes before after (listed mode (listing_piece name names code)) in
-    subst P (sym is) (subst (λ c. Q (names_of file) c) made (subst (λ n. Q n code) named writes))
+    subst P (sym is) (subst (λ c. Q (pools_of file) c) made (subst (λ n. Q n code) named writes))
 
 -- it was cut
-pub good_cut : (mode : Mode) (profile : Profile) (name bytes : List ℕ) (file : File) (names : Names) (code : ObjectCode)
+pub good_cut : (mode : Mode) (profile : Profile) (name bytes : List ℕ) (file : File) (names : Pools) (code : Program)
     (before after : Taken)
-    → compiled profile bytes ≡ Ok file → names ≡ names_of file → code ≡ code_of profile file →
+    → compiled profile bytes ≡ Ok file → names ≡ pools_of file → code ≡ code_of profile file →
     Begins before after (listed mode (listing_piece name names code))
     → Begins before after (pieces_of mode profile name (compiled profile bytes))
 good_cut mode profile name bytes file names code before after is named made begins =
     let P : Result File Diagnostic → Type 0 = λ r. Begins before after (pieces_of mode profile name r) in
-    let Q : Names → ObjectCode → Type 0 =
+    let Q : Pools → Program → Type 0 =
     λ names code. Begins before after (listed mode (listing_piece name names code)) in
-    subst P (sym is) (subst (λ c. Q (names_of file) c) made (subst (λ n. Q n code) named begins))
+    subst P (sym is) (subst (λ c. Q (pools_of file) c) made (subst (λ n. Q n code) named begins))

@@ -3,12 +3,12 @@ use Rattle.std.proofs.Common.{refl}
 use Rattle.std.specs.Fmt.{digits}
 use Rattle.tokens.specs.Tokens.{tokens, located_tokens}
 use Rattle.tokens.specs.Punctuators.{punctuator_of}
-use Rattle.tokens.specs.Words.{word_of}
+use Rattle.tokens.specs.Keywords.{keyword_of}
 use Rattle.grammar.specs.Compiled.{compiled}
-use Rattle.grammar.specs.Intrinsics.{intrinsic_named, name_of}
-use Rattle.grammar.specs.Limits.{most_levels}
+use Rattle.grammar.specs.Intrinsics.{intrinsic_named, intrinsic_name}
+use Rattle.grammar.specs.NameLimits.{most_levels}
 use Rattle.grammar.specs.Profile.{first_profile}
-use Rattle.grammar.specs.Texts.{text_of}
+use Rattle.grammar.specs.DiagnosticTexts.{text_of}
 use Rattle.listings.specs.Listing.{code_lines, externals_lines, function_lines, instr_line, name_line}
 use Rattle.listings.specs.Spelling.{instr_text}
 use Rattle.battles.specs.Battle.{alive}
@@ -33,6 +33,7 @@ unfolding digits report totals alive
 reports = record { single_file = refl; dead_and_alive = refl; scores = refl }
 
 pub outputs : KnownOutputs
-unfolding digits tokens located_tokens punctuator_of word_of first_profile most_levels intrinsic_named name_of compiled
+unfolding digits tokens located_tokens punctuator_of keyword_of first_profile most_levels intrinsic_named intrinsic_name
+    compiled
     text_of instr_text name_line instr_line externals_lines function_lines code_lines
 outputs = record { listed = refl; faulty = refl; mixed = refl }

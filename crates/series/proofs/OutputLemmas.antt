@@ -11,39 +11,39 @@ use Rattle.grammar.specs.Laws.{CompiledIsResolved}
 use Rattle.grammar.specs.Profile.{Profile}
 use Rattle.grammar.specs.Resolved.{IsResolved}
 use Rattle.grammar.specs.Tree.{File}
-use Rattle.code.specs.Codes.{AreCodesOf}
-use Rattle.code.specs.Generation.{ObjectCode, code_of}
+use Rattle.code.specs.Codes.{AreProgramsOf}
+use Rattle.code.specs.Generation.{Program, code_of}
 use Rattle.settings.specs.declared.settings.Mode.{Mode}
 use Rattle.settings.specs.declared.settings.Mode.TheVariants.{Listing, Matches}
-use Rattle.settings.specs.Setup.{Setup}
-use Rattle.series.specs.declared.endings.RunFault.{RunFault}
-use Rattle.series.specs.declared.endings.RunFault.TheVariants as fault
-use Rattle.series.specs.declared.endings.Status.{Status}
-use Rattle.series.specs.declared.endings.Status.TheVariants.{Done, Faulty}
-use Rattle.series.specs.Compiling.{Source, and_file, codes_of, compiling, files_of, status_of}
-use Rattle.series.specs.Output.{output, played, Runs, Stops}
+use Rattle.settings.specs.Settings.{Settings}
+use Rattle.series.specs.declared.run_results.RunFault.{RunFault}
+use Rattle.series.specs.declared.run_results.RunFault.TheVariants as fault
+use Rattle.series.specs.declared.run_results.Status.{Status}
+use Rattle.series.specs.declared.run_results.Status.TheVariants.{Done, Faulty}
+use Rattle.series.specs.Compiling.{Source, and_file, codes_of, compiling, files_of, compile_status}
+use Rattle.series.specs.Output.{output, played, Runs, StopsRun}
 use Rattle.series.specs.Pieces.{Piece, Taken, Writes, Begins}
 use Rattle.series.specs.Playing.{playing}
 use Rattle.series.specs.Runs.{PutsPieces, StopsCompiling}
 use Rattle.series.proofs.PiecesLemmas.{writes_then, begins_then, begins_more}
 
 -- with a faulty file nothing is played
-faulty_plays : (setup : Setup) (mode : Mode) (files : Option (List File)) →
-    None ≡ option_map (λ files. map (code_of setup.profile) files) files
-    → (played setup mode files ≡ []) × (Faulty ≡ status_of files)
-faulty_plays setup mode (Some files) none = cc
-faulty_plays setup Listing None none = (refl, refl)
-faulty_plays setup Matches None none = (refl, refl)
+faulty_plays : (settings : Settings) (mode : Mode) (files : Option (List File)) →
+    None ≡ option_map (λ files. map (code_of settings.profile) files) files
+    → (played settings mode files ≡ []) × (Faulty ≡ compile_status files)
+faulty_plays settings mode (Some files) none = cc
+faulty_plays settings Listing None none = (refl, refl)
+faulty_plays settings Matches None none = (refl, refl)
 
-pub faulty_run : (setup : Setup) (sources : List Source) (before after : Taken)
-    → Writes before after (compiling setup.mode setup.profile sources) → None ≡ codes_of setup.profile sources
-    → Writes before after (output setup sources).pieces × (Faulty ≡ (output setup sources).status)
-faulty_run setup sources before after writes none =
-    let ends = faulty_plays setup setup.mode (files_of setup.profile sources) none in
-    (rw (ends.0, append-nil (compiling setup.mode setup.profile sources)) writes, ends.1)
+pub faulty_run : (settings : Settings) (sources : List Source) (before after : Taken)
+    → Writes before after (compiling settings.mode settings.profile sources) → None ≡ codes_of settings.profile sources
+    → Writes before after (output settings sources).pieces × (Faulty ≡ (output settings sources).status)
+faulty_run settings sources before after writes none =
+    let ends = faulty_plays settings settings.mode (files_of settings.profile sources) none in
+    (rw (ends.0, append-nil (compiling settings.mode settings.profile sources)) writes, ends.1)
 
 -- the files of the codes that were kept
-kept_files : (profile : Profile) (kept : List ObjectCode) (files : Option (List File)) →
+kept_files : (profile : Profile) (kept : List Program) (files : Option (List File)) →
     Some kept ≡ option_map (λ files. map (code_of profile) files) files
     → (good : List File) × (files ≡ Some good) × (kept ≡ map (code_of profile) good)
 kept_files profile kept (Some files) some = (files, refl, cc)
@@ -91,64 +91,71 @@ all_resolved law profile (source ∷ sources) so_far files each is =
     by_verdict (Err d) here rest more = let none = none_later sources in cc
 
 -- the programs that were kept are the codes of the files, each resolved
-pub kept_codes : CompiledIsResolved → (profile : Profile) (sources : List Source) (kept : List ObjectCode) →
+pub kept_codes : CompiledIsResolved → (profile : Profile) (sources : List Source) (kept : List Program) →
     Some kept ≡ codes_of profile sources
-    → (files : List File) × (files_of profile sources ≡ Some files) × AreCodesOf kept profile files
+    → (files : List File) × (files_of profile sources ≡ Some files) × AreProgramsOf kept profile files
 kept_codes law profile sources kept some =
     let found = kept_files profile kept (files_of profile sources) some in
     let none : All IsResolved [] = λ k d below. absurd (omega arith) in
     (found.0, found.1, record { are = found.2; resolved = all_resolved law profile sources [] found.0 none found.1 })
 
 -- all matches were played
-pub played_run : (setup : Setup) (sources : List Source) (files : List File) (before now after : Taken) →
-    setup.mode ≡ Matches
-    → files_of setup.profile sources ≡ Some files → Writes before now (compiling setup.mode setup.profile sources) →
-    Writes now after (playing setup files)
-    → Writes before after (output setup sources).pieces × (Done ≡ (output setup sources).status)
-played_run setup sources files before now after matches good first second =
-    let Pieces : List Piece → Type 0 = λ l. Writes before after (compiling setup.mode setup.profile sources ++ l) in
-    let plays : playing setup files ≡ played setup setup.mode (files_of setup.profile sources) =
+pub played_run : (settings : Settings) (sources : List Source) (files : List File) (before now after : Taken) →
+    settings.mode ≡ Matches
+    → files_of settings.profile sources ≡ Some files →
+    Writes before now (compiling settings.mode settings.profile sources) →
+    Writes now after (playing settings files)
+    → Writes before after (output settings sources).pieces × (Done ≡ (output settings sources).status)
+played_run settings sources files before now after matches good first second =
+    let Pieces : List Piece → Type 0 =
+    λ l. Writes before after (compiling settings.mode settings.profile sources ++ l) in
+    let plays : playing settings files ≡ played settings settings.mode (files_of settings.profile sources) =
     rw (matches, good) refl in (
       subst Pieces plays
-          (writes_then before now after (compiling setup.mode setup.profile sources) (playing setup files) first
+          (writes_then before now after (compiling settings.mode settings.profile sources) (playing settings files)
+          first
           second),
       rw good refl,
     )
 
 -- a write failed while they were played
-pub played_stop : (setup : Setup) (sources : List Source) (files : List File) (before now after : Taken) →
-    setup.mode ≡ Matches
-    → files_of setup.profile sources ≡ Some files → Writes before now (compiling setup.mode setup.profile sources) →
-    Begins now after (playing setup files)
-    → Begins before after (output setup sources).pieces
-played_stop setup sources files before now after matches good first second =
-    let Pieces : List Piece → Type 0 = λ l. Begins before after (compiling setup.mode setup.profile sources ++ l) in
-    let plays : playing setup files ≡ played setup setup.mode (files_of setup.profile sources) =
+pub played_stop : (settings : Settings) (sources : List Source) (files : List File) (before now after : Taken) →
+    settings.mode ≡ Matches
+    → files_of settings.profile sources ≡ Some files →
+    Writes before now (compiling settings.mode settings.profile sources) →
+    Begins now after (playing settings files)
+    → Begins before after (output settings sources).pieces
+played_stop settings sources files before now after matches good first second =
+    let Pieces : List Piece → Type 0 =
+    λ l. Begins before after (compiling settings.mode settings.profile sources ++ l) in
+    let plays : playing settings files ≡ played settings settings.mode (files_of settings.profile sources) =
     rw (matches, good) refl in
     subst Pieces plays
-    (begins_then before now after (compiling setup.mode setup.profile sources) (playing setup files) first second)
+    (begins_then before now after (compiling settings.mode settings.profile sources) (playing settings files) first
+    second)
 
 -- what playing left, by its answer
-pub plays_run : (setup : Setup) (sources : List Source) (files : List File) (before now after : Taken)
-    (result : Result Status RunFault) → setup.mode ≡ Matches
-    → files_of setup.profile sources ≡ Some files → Writes before now (compiling setup.mode setup.profile sources) →
-    PutsPieces result now after (playing setup files)
+pub plays_run : (settings : Settings) (sources : List Source) (files : List File) (before now after : Taken)
+    (result : Result Status RunFault) → settings.mode ≡ Matches
+    → files_of settings.profile sources ≡ Some files →
+    Writes before now (compiling settings.mode settings.profile sources) →
+    PutsPieces result now after (playing settings files)
     → MatchResult result (λ status. status ≡ Done) (λ stopped. stopped ≡ fault.Write) →
-    Runs setup sources result before after
-plays_run setup sources files before now after (Ok status) matches good first second is =
+    Runs settings sources result before after
+plays_run settings sources files before now after (Ok status) matches good first second is =
     let Ends : Status → Type 0 =
-    λ s. Writes before after (output setup sources).pieces × (s ≡ (output setup sources).status) in
-    subst Ends (sym is) (played_run setup sources files before now after matches good first second)
-plays_run setup sources files before now after (Err stopped) matches good first second is =
-    let Ends : RunFault → Type 0 = λ f. Stops setup sources f before after in
-    subst Ends (sym is) (played_stop setup sources files before now after matches good first second)
+    λ s. Writes before after (output settings sources).pieces × (s ≡ (output settings sources).status) in
+    subst Ends (sym is) (played_run settings sources files before now after matches good first second)
+plays_run settings sources files before now after (Err stopped) matches good first second is =
+    let Ends : RunFault → Type 0 = λ f. StopsRun settings sources f before after in
+    subst Ends (sym is) (played_stop settings sources files before now after matches good first second)
 
 -- compiling was stopped
-pub stops_run : (setup : Setup) (sources : List Source) (stopped : RunFault) (before after : Taken) →
-    StopsCompiling setup sources stopped before after
-    → Stops setup sources stopped before after
-stops_run setup sources (fault.Read file) before after writes = writes
-stops_run setup sources fault.Write before after begins =
-    begins_more before after (compiling setup.mode setup.profile sources)
-    (played setup setup.mode (files_of setup.profile sources)) begins
-stops_run setup sources fault.Memory before after never = never
+pub stops_run : (settings : Settings) (sources : List Source) (stopped : RunFault) (before after : Taken) →
+    StopsCompiling settings sources stopped before after
+    → StopsRun settings sources stopped before after
+stops_run settings sources (fault.Read file) before after writes = writes
+stops_run settings sources fault.Write before after begins =
+    begins_more before after (compiling settings.mode settings.profile sources)
+    (played settings settings.mode (files_of settings.profile sources)) begins
+stops_run settings sources fault.Memory before after never = never

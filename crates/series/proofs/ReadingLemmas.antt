@@ -5,14 +5,14 @@ use Rattle.std.proofs.lemmas.List.{get_or-map, drop-map, length-drop, length-map
 use Rattle.std.proofs.lemmas.Grind.{flat_map-append}
 use Rattle.grammar.specs.Profile.{Profile}
 use Rattle.settings.specs.declared.settings.Mode.{Mode}
-use Rattle.settings.specs.Setup.{Setup}
-use Rattle.series.specs.declared.endings.RunFault.{RunFault}
-use Rattle.series.specs.declared.endings.RunFault.TheVariants as fault
-use Rattle.series.specs.declared.endings.Status.{Status}
-use Rattle.series.specs.declared.endings.Status.TheVariants.{Done}
+use Rattle.settings.specs.Settings.{Settings}
+use Rattle.series.specs.declared.run_results.RunFault.{RunFault}
+use Rattle.series.specs.declared.run_results.RunFault.TheVariants as fault
+use Rattle.series.specs.declared.run_results.Status.{Status}
+use Rattle.series.specs.declared.run_results.Status.TheVariants.{Done}
 use Rattle.series.specs.Compiling.{Source, compiling, source_pieces}
 use Rattle.series.specs.Pieces.{Begins, Piece, Taken, Writes}
-use Rattle.series.specs.Reading.{FailsAt, MayLeaveUndecided, Reads, ReadsFirst, StopsReading, TakesOf, TakesOfFirst, TakesPast}
+use Rattle.series.specs.SourceReading.{FailsToRead, MayLeaveUndecided, ReadsSources, ReadsFirst, StopsReading, TakesOf, TakesOfFirst, TakesPast}
 use Rattle.series.specs.Runs.{AreSources}
 use Rattle.series.proofs.PiecesLemmas.{begins_then, writes_split}
 use Rattle.series.proofs.RunsLemmas.{feed_here, rest_more}
@@ -103,7 +103,7 @@ module _ {X : Type 0} where
       file < length start
       → drop file feeds ≡ drop file start → TakesOfFirst profile (map tells start) (map tells feeds) file
       → MayLeaveUndecided profile (tells (get_or feeds file x)) (tells y)
-      → FailsAt profile (map tells start) (map tells (set feeds file y)) file
+      → FailsToRead profile (map tells start) (map tells (set feeds file y)) file
   fails_at tells profile start feeds file x y within same read takes = record {
     before = reads_before tells profile start feeds file y read;
     here = reads_here (MayLeaveUndecided profile) tells start feeds file x y within same takes;
@@ -136,14 +136,14 @@ cut_behind mode profile sources count before now after pieces writes begins =
     (between, front, (rest ++ pieces, begins_then between now after rest pieces back begins))
 
 -- what was read by the end of the matches
-pub reads_played : (setup : Setup) (result : Result Status RunFault) (told later : List (Option (List ℕ)))
+pub reads_played : (settings : Settings) (result : Result Status RunFault) (told later : List (Option (List ℕ)))
     (before after : Taken)
-    → ReadsFirst setup.profile told later (length told)
+    → ReadsFirst settings.profile told later (length told)
     → MatchResult result (λ status. status ≡ Done) (λ stopped. stopped ≡ fault.Write)
-    → (result ≡ Err fault.Write → (sources : List Source) → AreSources sources setup.words told
-    → TakesPast before after (compiling setup.mode setup.profile (take (length told - 1) sources)))
-    → Reads setup result told later before after
-reads_played setup (Ok status) told later before after reads is puts = reads
-reads_played setup (Err stopped) told later before after reads is puts =
-    let P : RunFault → Type 0 = λ f. StopsReading setup f told later before after in
+    → (result ≡ Err fault.Write → (sources : List Source) → AreSources sources settings.file_words told
+    → TakesPast before after (compiling settings.mode settings.profile (take (length told - 1) sources)))
+    → ReadsSources settings result told later before after
+reads_played settings (Ok status) told later before after reads is puts = reads
+reads_played settings (Err stopped) told later before after reads is puts =
+    let P : RunFault → Type 0 = λ f. StopsReading settings f told later before after in
     subst P (sym is) (record { count = length told; reads = reads; puts = puts (ap (λ f. Err f) is) })

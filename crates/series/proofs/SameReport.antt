@@ -8,9 +8,9 @@ use Rattle.grammar.specs.declared.diagnostics.Diagnostic.{Diagnostic}
 use Rattle.grammar.specs.Profile.{Profile}
 use Rattle.grammar.specs.Tree.{File}
 use Rattle.settings.specs.declared.settings.Mode.TheVariants.{Matches}
-use Rattle.settings.specs.Setup.{Setup}
-use Rattle.series.specs.declared.endings.Status.TheVariants.{Done}
-use Rattle.series.specs.Compiling.{Source, and_file, compiling, files_of, pieces_of, status_of}
+use Rattle.settings.specs.Settings.{Settings}
+use Rattle.series.specs.declared.run_results.Status.TheVariants.{Done}
+use Rattle.series.specs.Compiling.{Source, and_file, compiling, files_of, pieces_of, compile_status}
 use Rattle.series.specs.Output.{output, played}
 use Rattle.series.specs.Pieces.{Piece}
 use Rattle.series.specs.Outcomes.{outcome_of, report_text, totals_text}
@@ -45,7 +45,7 @@ nothing_listed profile (source ∷ sources) so_far files is =
     by_verdict (Err d) rest more = let none = none_later profile sources in cc
 
 -- the files of a run that is done
-done_files : (files : Option (List File)) → status_of files ≡ Done → (good : List File) × (files ≡ Some good)
+done_files : (files : Option (List File)) → compile_status files ≡ Done → (good : List File) × (files ≡ Some good)
 done_files (Some files) done = (files, refl)
 done_files None done = cc
 
@@ -63,35 +63,37 @@ report_at f a (suc n) (suc i) below =
     report_at f (a + 1) n i (omega arith) ∙ ap (λ k. Some (f k)) (omega arith)
 
 -- the report of a match that the series contains
-report_is : (setup : Setup) (sources : List Source) (files : List File) (k : ℕ) → setup.mode ≡ Matches →
-    files_of setup.profile sources ≡ Some files
-    → Contains setup k → report_in setup sources k ≡ Some (text_piece (report_text setup files k))
+report_is : (settings : Settings) (sources : List Source) (files : List File) (k : ℕ) → settings.mode ≡ Matches →
+    files_of settings.profile sources ≡ Some files
+    → Contains settings k → report_in settings sources k ≡ Some (text_piece (report_text settings files k))
 unfolding playing
-report_is setup sources files k matches good contains =
-    let Report : ℕ → Piece = λ k. text_piece (report_text setup files k) in
-    let none : compiling setup.mode setup.profile sources ≡ [] =
-    rw matches (nothing_listed setup.profile sources [] files good) in
-    let all : played setup setup.mode (files_of setup.profile sources) ≡ playing setup files =
+report_is settings sources files k matches good contains =
+    let Report : ℕ → Piece = λ k. text_piece (report_text settings files k) in
+    let none : compiling settings.mode settings.profile sources ≡ [] =
+    rw matches (nothing_listed settings.profile sources [] files good) in
+    let all : played settings settings.mode (files_of settings.profile sources) ≡ playing settings files =
     rw (matches, good) refl in
-    let whole : (output setup sources).pieces ≡ playing setup files =
-    ap (λ l. l ++ played setup setup.mode (files_of setup.profile sources)) none ∙ all in
-    let place : k - setup.first < setup.matches = omega (arith, contains.least, contains.most) in
-    let number : setup.first + (k - setup.first) ≡ k = omega (arith, contains.least) in
-    ap (λ l. slice_get l (k - setup.first)) whole
-    ∙ in_front (reports setup files setup.matches) (text_piece (totals_text setup files) ∷ []) (k - setup.first)
-    (omega (arith, length-map-range_with_len Report setup.first setup.matches))
-    ∙ report_at Report setup.first setup.matches (k - setup.first) place
+    let whole : (output settings sources).pieces ≡ playing settings files =
+    ap (λ l. l ++ played settings settings.mode (files_of settings.profile sources)) none ∙ all in
+    let place : k - settings.first < settings.matches = omega (arith, contains.least, contains.most) in
+    let number : settings.first + (k - settings.first) ≡ k = omega (arith, contains.least) in
+    ap (λ l. slice_get l (k - settings.first)) whole
+    ∙
+    in_front (reports settings files settings.matches) (text_piece (totals_text settings files) ∷ [])
+    (k - settings.first)
+    (omega (arith, length-map-range_with_len Report settings.first settings.matches))
+    ∙ report_at Report settings.first settings.matches (k - settings.first) place
     ∙ ap (λ n. Some (Report n)) number
 
 -- whatever the other matches are
-same_text : (setup : Setup) (files : List File) (first matches k : ℕ) →
-    report_text setup files k ≡ report_text (with_matches setup first matches) files k
+same_text : (settings : Settings) (files : List File) (first matches k : ℕ) →
+    report_text settings files k ≡ report_text (with_matches settings first matches) files k
 unfolding outcome_of
-same_text setup files first matches k = refl
+same_text settings files first matches k = refl
 
 pub same_report : SameReport
-same_report setup sources first matches k is done here there =
-    let found = done_files (files_of setup.profile sources) done in
-    report_is setup sources found.0 k is found.1 here
-    ∙ ap (λ text. Some (text_piece text)) (same_text setup found.0 first matches k)
-    ∙ sym (report_is (with_matches setup first matches) sources found.0 k is found.1 there)
+same_report settings sources first matches k is done here there =
+    let found = done_files (files_of settings.profile sources) done in
+    report_is settings sources found.0 k is found.1 here
+    ∙ ap (λ text. Some (text_piece text)) (same_text settings found.0 first matches k)
+    ∙ sym (report_is (with_matches settings first matches) sources found.0 k is found.1 there)

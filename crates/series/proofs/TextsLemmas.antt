@@ -8,7 +8,7 @@ use Rattle.battles.specs.Battle.{Outcome, alive}
 use Rattle.battles.specs.Pairing.{paired}
 use Rattle.series.specs.declared.tallies.Score.{Score}
 use Rattle.series.specs.Reports.{report, robot_line, robot_lines, state_text}
-use Rattle.series.specs.Names.{robot_names}
+use Rattle.series.specs.RobotNames.{robot_names}
 use Rattle.sinks.specs.Texts.{column, file_name}
 use Rattle.series.specs.Totals.{score_line, score_lines}
 

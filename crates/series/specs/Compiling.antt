@@ -2,16 +2,16 @@
 use Rattle.std.specs.Prelude.{ℕ, List, [], ◌∷◌, ◌++◌, Option, Some, None, Result, Ok, Err, map, fold, flat_map, option_map}
 use Rattle.grammar.specs.declared.diagnostics.Diagnostic.{Diagnostic}
 use Rattle.grammar.specs.Compiled.{compiled}
-use Rattle.grammar.specs.Pools.{Names, names_of}
+use Rattle.grammar.specs.Pools.{Pools, pools_of}
 use Rattle.grammar.specs.Profile.{Profile}
-use Rattle.grammar.specs.Texts.{text_of}
+use Rattle.grammar.specs.DiagnosticTexts.{text_of}
 use Rattle.grammar.specs.Tree.{File}
-use Rattle.code.specs.Generation.{ObjectCode, code_of}
+use Rattle.code.specs.Generation.{Program, code_of}
 use Rattle.listings.specs.Listing.{listing_of}
 use Rattle.settings.specs.declared.settings.Mode.{Mode}
 use Rattle.settings.specs.declared.settings.Mode.TheVariants.{Listing, Matches}
-use Rattle.series.specs.declared.endings.Status.{Status}
-use Rattle.series.specs.declared.endings.Status.TheVariants.{Done, Faulty}
+use Rattle.series.specs.declared.run_results.Status.{Status}
+use Rattle.series.specs.declared.run_results.Status.TheVariants.{Done, Faulty}
 use Rattle.series.specs.Pieces.{Piece, Text, Faults}
 use Rattle.sinks.specs.Texts.{file_name, diagnostic_line}
 
@@ -30,24 +30,24 @@ abbrev pub files_of : Profile → List Source → Option (List File)
 files_of profile sources = fold (λ files source. and_file files (compiled profile source.bytes)) (Some []) sources
 
 -- the code of each file
-abbrev pub codes_of : Profile → List Source → Option (List ObjectCode)
+abbrev pub codes_of : Profile → List Source → Option (List Program)
 codes_of profile sources = option_map (λ files. map (code_of profile) files) (files_of profile sources)
 
 -- whether a file had a fault
-abbrev pub status_of : Option (List File) → Status
-status_of (Some files) = Done
-status_of None = Faulty
+abbrev pub compile_status : Option (List File) → Status
+compile_status (Some files) = Done
+compile_status None = Faulty
 
 -- the code of a file, or its fault
-abbrev pub code_or_fault : Profile → Result File Diagnostic → Result ObjectCode Diagnostic
+abbrev pub code_or_fault : Profile → Result File Diagnostic → Result Program Diagnostic
 code_or_fault profile (Ok file) = Ok (code_of profile file)
 code_or_fault profile (Err d) = Err d
 
-abbrev pub compiled_code : Profile → List ℕ → Result ObjectCode Diagnostic
+abbrev pub compiled_code : Profile → List ℕ → Result Program Diagnostic
 compiled_code profile bytes = code_or_fault profile (compiled profile bytes)
 
 -- a good file's listing is a text
-abbrev pub listing_piece : List ℕ → Names → ObjectCode → Piece
+abbrev pub listing_piece : List ℕ → Pools → Program → Piece
 listing_piece name names code = record { channel = Text; bytes = listing_of name names code }
 
 -- a faulty file's diagnostic goes to the channel of faults
@@ -61,7 +61,7 @@ listed Matches listing = []
 
 -- what is written of one file, by its name and what it compiles to
 abbrev pub pieces_of : Mode → Profile → List ℕ → Result File Diagnostic → List Piece
-pieces_of mode profile name (Ok file) = listed mode (listing_piece name (names_of file) (code_of profile file))
+pieces_of mode profile name (Ok file) = listed mode (listing_piece name (pools_of file) (code_of profile file))
 pieces_of mode profile name (Err d) = diagnostic_piece name d ∷ []
 
 abbrev pub source_pieces : Mode → Profile → Source → List Piece

@@ -4,8 +4,8 @@ use Rattle.tokens.specs.declared.devices.DeviceFault.{DeviceFault}
 use Rattle.tokens.specs.Feed.{Account, Counts, Device, failed_again}
 use Rattle.sinks.specs.Portions.{Written}
 use Rattle.sinks.specs.Puts.{CanFail, CountsSink}
-use Rattle.series.specs.declared.endings.RunFault.{RunFault}
-use Rattle.series.specs.declared.endings.RunFault.TheVariants as fault
+use Rattle.series.specs.declared.run_results.RunFault.{RunFault}
+use Rattle.series.specs.declared.run_results.RunFault.TheVariants as fault
 
 -- which device each feed is and how often it has failed, and how often the sink of texts and that of faults have
 pub record Failures : Type 0 where
@@ -46,8 +46,8 @@ StoppedBy fault.Write before after = SinkFailed before after
 StoppedBy fault.Memory before after = ⊥
 
 -- no device failed, or the one that stopped the run
-abbrev pub Accounts : {A : Type 0} → Result A RunFault → Failures → Failures → Type 0
-Accounts result before after = MatchResult result (λ _. after ≡ before) (λ fault. StoppedBy fault before after)
+abbrev pub FailsAsAnswered : {A : Type 0} → Result A RunFault → Failures → Failures → Type 0
+FailsAsAnswered result before after = MatchResult result (λ _. after ≡ before) (λ fault. StoppedBy fault before after)
 
 -- A sink fails once for all: a call that asks it fails exactly if it does. After that each call fails, and it is asked
 -- no more.

@@ -2,13 +2,13 @@
 use Rattle.std.specs.Prelude.{◌≡◌, ℕ, List, [], ◌∷◌, codes, map, ◌++◌}
 use Rattle.battles.specs.Battle.{Outcome}
 use Rattle.grammar.specs.Profile.{first_profile}
-use Rattle.series.specs.declared.endings.Status.TheVariants.{Done, Faulty}
+use Rattle.series.specs.declared.run_results.Status.TheVariants.{Done, Faulty}
 use Rattle.series.specs.Compiling.{Source}
 use Rattle.series.specs.Output.{Output, output}
-use Rattle.settings.specs.Setup.{Setup}
+use Rattle.settings.specs.Settings.{Settings}
 use Rattle.settings.specs.declared.settings.Mode.{Mode}
 use Rattle.settings.specs.declared.settings.Mode.TheVariants.{Listing}
-use Rattle.series.specs.Names.{robot_names}
+use Rattle.series.specs.RobotNames.{robot_names}
 use Rattle.series.specs.Pieces.{Text, Faults}
 use Rattle.series.specs.Reports.{report}
 use Rattle.sinks.specs.Texts.{file_name, column, diagnostic_line}
@@ -24,7 +24,7 @@ pub record KnownTexts : Type 0 where
   pub diagnostic : diagnostic_line (codes "c.r") 2 (codes "reserved word") ≡ codes "c.r:2: reserved word\n"
 
 -- a setup by the first profile and the seed 1
-abbrev asked : Mode → ℕ → ℕ → List Source → Setup
+abbrev asked : Mode → ℕ → ℕ → List Source → Settings
 asked mode matches limit sources = record {
   mode = mode;
   matches = matches;
@@ -32,7 +32,7 @@ asked mode matches limit sources = record {
   seed = 1;
   profile = first_profile;
   first = 1;
-  words = map (λ s. s.word) sources;
+  file_words = map (λ s. s.word) sources;
 }
 
 -- what a run writes that lists these files

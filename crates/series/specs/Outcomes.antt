@@ -4,21 +4,22 @@ use Rattle.std.specs.List.{range_with_len}
 use Rattle.grammar.specs.Tree.{File}
 use Rattle.battles.specs.Battle.{Outcome, battle}
 use Rattle.battles.specs.Pairing.{robots_of}
-use Rattle.settings.specs.Setup.{Setup}
-use Rattle.series.specs.Names.{robot_names}
+use Rattle.settings.specs.Settings.{Settings}
+use Rattle.series.specs.RobotNames.{robot_names}
 use Rattle.series.specs.Reports.{report}
 use Rattle.series.specs.Totals.{score_of, totals}
 
 -- how the match of this number ends
-unfoldable pub outcome_of : Setup → List File → ℕ → Outcome
-outcome_of setup files k = battle (robots_of setup.profile files) setup.seed k setup.limit
+unfoldable pub outcome_of : Settings → List File → ℕ → Outcome
+outcome_of settings files k = battle (robots_of settings.profile files) settings.seed k settings.limit
 
 -- the outcomes of so many matches, from the first on
-abbrev pub outcomes : Setup → List File → ℕ → List Outcome
-outcomes setup files count = map (outcome_of setup files) (range_with_len setup.first count)
+abbrev pub outcomes : Settings → List File → ℕ → List Outcome
+outcomes settings files count = map (outcome_of settings files) (range_with_len settings.first count)
 
-abbrev pub report_text : Setup → List File → ℕ → List ℕ
-report_text setup files k = report k (robot_names setup.words) (outcome_of setup files k)
+abbrev pub report_text : Settings → List File → ℕ → List ℕ
+report_text settings files k = report k (robot_names settings.file_words) (outcome_of settings files k)
 
-abbrev pub totals_text : Setup → List File → List ℕ
-totals_text setup files = totals setup.matches (robot_names setup.words) (score_of (outcomes setup files setup.matches))
+abbrev pub totals_text : Settings → List File → List ℕ
+totals_text settings files =
+    totals settings.matches (robot_names settings.file_words) (score_of (outcomes settings files settings.matches))

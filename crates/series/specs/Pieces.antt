@@ -22,8 +22,8 @@ abbrev pub on_both : Portions → Portions → Taken
 on_both text faults = record { text = text; faults = faults }
 
 -- what the sink of texts and that of faults have taken
-abbrev pub taken : (text faults : Written) → Taken
-taken text faults = on_both text.portions faults.portions
+abbrev pub taken_by_sinks : (text faults : Written) → Taken
+taken_by_sinks text faults = on_both text.portions faults.portions
 
 -- the channel's sink took exactly these bytes, and the other one nothing
 abbrev pub TakesOn : Channel → Taken → Taken → List ℕ → Type 0

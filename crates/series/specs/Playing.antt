@@ -2,7 +2,7 @@
 use Rattle.std.specs.Prelude.{ℕ, List, [], ◌∷◌, ◌++◌, map}
 use Rattle.std.specs.List.{range_with_len}
 use Rattle.grammar.specs.Tree.{File}
-use Rattle.settings.specs.Setup.{Setup}
+use Rattle.settings.specs.Settings.{Settings}
 use Rattle.series.specs.Outcomes.{report_text, totals_text}
 use Rattle.series.specs.Pieces.{Piece, Text}
 
@@ -10,8 +10,9 @@ abbrev pub text_piece : List ℕ → Piece
 text_piece text = record { channel = Text; bytes = text }
 
 -- the reports of so many matches, from the first on
-abbrev pub reports : Setup → List File → ℕ → List Piece
-reports setup files count = map (λ k. text_piece (report_text setup files k)) (range_with_len setup.first count)
+abbrev pub reports : Settings → List File → ℕ → List Piece
+reports settings files count =
+    map (λ k. text_piece (report_text settings files k)) (range_with_len settings.first count)
 
-unfoldable pub playing : Setup → List File → List Piece
-playing setup files = reports setup files setup.matches ++ text_piece (totals_text setup files) ∷ []
+unfoldable pub playing : Settings → List File → List Piece
+playing settings files = reports settings files settings.matches ++ text_piece (totals_text settings files) ∷ []

@@ -3,14 +3,14 @@ use Rattle.std.specs.Prelude.{◌≡◌, ℕ, List, Option, Some, Result, MatchR
 use Rattle.tokens.specs.Feed.{Device}
 use Rattle.grammar.specs.Compiled.{compiled}
 use Rattle.grammar.specs.Profile.{Profile}
-use Rattle.code.specs.Generation.{ObjectCode}
+use Rattle.code.specs.Generation.{Program}
 use Rattle.settings.specs.declared.settings.Mode.{Mode}
-use Rattle.settings.specs.Setup.{Setup}
-use Rattle.series.specs.declared.endings.RunFault.{RunFault}
-use Rattle.series.specs.declared.endings.RunFault.TheVariants as fault
-use Rattle.series.specs.declared.endings.Status.{Status}
-use Rattle.series.specs.Compiling.{Source, codes_of, compiled_code, compiling, files_of, pieces_of, status_of}
-use Rattle.series.specs.Keeping.{and_compiled, kept_by, status_by}
+use Rattle.settings.specs.Settings.{Settings}
+use Rattle.series.specs.declared.run_results.RunFault.{RunFault}
+use Rattle.series.specs.declared.run_results.RunFault.TheVariants as fault
+use Rattle.series.specs.declared.run_results.Status.{Status}
+use Rattle.series.specs.Compiling.{Source, codes_of, compiled_code, compiling, files_of, pieces_of, compile_status}
+use Rattle.series.specs.ProgramKeeping.{and_compiled, kept_by, status_by}
 use Rattle.series.specs.Pieces.{Piece, Taken, Writes, Begins}
 
 -- of each feed the bytes still to come, where it tells them
@@ -24,22 +24,23 @@ pub record AreSources (sources : List Source) (words : List (List ℕ)) (known :
 
 -- What the sinks took if a device stopped the compiling: after a failed write a beginning of what compiling writes, and
 -- after a failed read what the files before it give.
-abbrev pub StopsCompiling : Setup → List Source → RunFault → Taken → Taken → Type 0
-StopsCompiling setup sources (fault.Read file) before after = Writes before after
-    (compiling setup.mode setup.profile (take file sources))
-StopsCompiling setup sources fault.Write before after = Begins before after (compiling setup.mode setup.profile sources)
-StopsCompiling setup sources fault.Memory before after = ⊥
+abbrev pub StopsCompiling : Settings → List Source → RunFault → Taken → Taken → Type 0
+StopsCompiling settings sources (fault.Read file) before after = Writes before after
+    (compiling settings.mode settings.profile (take file sources))
+StopsCompiling settings sources fault.Write before after =
+    Begins before after (compiling settings.mode settings.profile sources)
+StopsCompiling settings sources fault.Memory before after = ⊥
 
 -- the files were compiled: the sinks took what that writes, and this is the answer
-abbrev pub CompilesTo : {T : Type 0} → T → Setup → List Source → Result T RunFault → Taken → Taken → Type 0
-CompilesTo answer setup sources result before after = MatchResult result
-    (λ given. Writes before after (compiling setup.mode setup.profile sources) × (given ≡ answer))
-    (λ fault. StopsCompiling setup sources fault before after)
+abbrev pub CompilesTo : {T : Type 0} → T → Settings → List Source → Result T RunFault → Taken → Taken → Type 0
+CompilesTo answer settings sources result before after = MatchResult result
+    (λ given. Writes before after (compiling settings.mode settings.profile sources) × (given ≡ answer))
+    (λ fault. StopsCompiling settings sources fault before after)
 
 -- the programs are theirs, if none has a fault
-abbrev pub Compiles : Setup → List Source → Result (Option (List ObjectCode)) RunFault → Taken → Taken → Type 0
-Compiles setup sources result before after =
-    CompilesTo (codes_of setup.profile sources) setup sources result before after
+abbrev pub Compiles : Settings → List Source → Result (Option (List Program)) RunFault → Taken → Taken → Type 0
+Compiles settings sources result before after =
+    CompilesTo (codes_of settings.profile sources) settings sources result before after
 
 -- the sinks took the pieces, or a beginning of them
 abbrev pub PutsPieces : {T E : Type 0} → Result T E → Taken → Taken → List Piece → Type 0
@@ -49,13 +50,14 @@ PutsPieces result before after pieces = MatchResult result (λ _. Writes before 
 -- A file of these bytes was compiled: the sinks took what that gives, or a beginning of it. If they took all of it, the
 -- status and what is kept then are those of the file.
 pub record CompilesFile {E : Type 0} (mode : Mode) (profile : Profile) (name bytes : List ℕ) (put : Result Status E)
-    (kept later : Option (List ObjectCode)) (before after : Taken) : Type 0 where
+    (kept later : Option (List Program)) (before after : Taken) : Type 0 where
   pub output : PutsPieces put before after (pieces_of mode profile name (compiled profile bytes))
   pub status : IfOk put (λ status. status ≡ status_by (compiled_code profile bytes))
   pub keeps : IfOk put (λ status. later ≡ and_compiled kept (compiled_code profile bytes))
 
 -- These sources were compiled: the sinks took what that gives, the status is theirs, and what is kept are their codes.
-pub record CompilesAll (setup : Setup) (sources : List Source) (result : Result Status RunFault)
-    (kept : Option (List ObjectCode)) (before after : Taken) : Type 0 where
-  pub output : CompilesTo (status_of (files_of setup.profile sources)) setup sources result before after
-  pub codes : IfOk result (λ status. IfSome kept (λ programs. kept_by status programs ≡ codes_of setup.profile sources))
+pub record CompilesAll (settings : Settings) (sources : List Source) (result : Result Status RunFault)
+    (kept : Option (List Program)) (before after : Taken) : Type 0 where
+  pub output : CompilesTo (compile_status (files_of settings.profile sources)) settings sources result before after
+  pub programs : IfOk result
+      (λ status. IfSome kept (λ programs. kept_by status programs ≡ codes_of settings.profile sources))

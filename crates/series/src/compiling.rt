@@ -3,26 +3,26 @@
 ghost use Rattle.std.specs.Prelude.{◌≡◌, ℕ, ◌+◌, ◌-◌, ◌^◌, ◌<◌, ◌≤◌, List, [], ◌∷◌, Some, length, map, MatchResult};
 ghost use Rattle.grammar.specs.Scope.{no_names};
 ghost use Rattle.series.specs.Compiling.{Source};
-ghost use Rattle.series.specs.Failures.{Accounts, AreReady, CountsFile, failures};
-ghost use Rattle.series.specs.Pieces.{taken};
-ghost use Rattle.series.specs.Reading.{Reads, ReadsFile};
-ghost use Rattle.series.specs.Keeping.{CanKeep, IsNewKeeper, KeepsAll, KeepsOn, both};
+ghost use Rattle.series.specs.Failures.{FailsAsAnswered, AreReady, CountsFile, failures};
+ghost use Rattle.series.specs.Pieces.{taken_by_sinks};
+ghost use Rattle.series.specs.SourceReading.{ReadsSources, ReadsFile};
+ghost use Rattle.series.specs.ProgramKeeping.{CanKeep, IsNewKeeper, KeepsAll, KeepsOn, worse_status};
 ghost use Rattle.series.specs.Runs.{AreSources, CompilesAll, CompilesFile, told_by};
 
-use crate::endings::{RunFault, Status};
 use crate::keeping::TakesPrograms;
+use crate::run_results::{RunFault, Status};
 use code::Maker;
 use grammar::{Diagnostic, ParseFault, Profile, Scope};
 use parser::parse_into;
 use settings::Settings;
-use sinks::{Sink, name_of, put_diagnostic};
+use sinks::{Sink, file_name, put_diagnostic};
 use tokens::{DeviceFault, Feed};
 
 /// Compiles each file. The keeper takes the program of a good one; of a faulty one puts the diagnostic.
 ///
 /// It isn't inlined: a caller that lists files would have room for their names in its frame while matches are played.
 #[inline(never)]
-pub(crate) fn compile_into<K: TakesPrograms, F: Feed, O: Sink, E: Sink>(
+pub(crate) fn compile_all<K: TakesPrograms, F: Feed, O: Sink, E: Sink>(
     keeper: &mut K,
     settings: &Settings,
     feeds: &mut [F],
@@ -30,25 +30,25 @@ pub(crate) fn compile_into<K: TakesPrograms, F: Feed, O: Sink, E: Sink>(
     err: &mut E,
 ) -> Result<Status, RunFault>
     requires new { IsNewKeeper settings.now.mode (K.mode keeper.old) (K.kept keeper.old) }
-    requires ready { AreReady F.device (length settings.now.words) feeds.old
+    requires ready { AreReady F.device (length settings.now.file_words) feeds.old
         (O.written out.old) (E.written err.old) }
-    ensures output { (sources : List Source) → AreSources sources settings.now.words (told_by F.device feeds.old)
+    ensures output { (sources : List Source) → AreSources sources settings.now.file_words (told_by F.device feeds.old)
         → CompilesAll settings.now sources result (K.kept keeper.new)
-        (taken (O.written out.old) (E.written err.old)) (taken (O.written out.new) (E.written err.new)) }
-    ensures keeps { KeepsAll settings.now.profile (length settings.now.words) result (K.kept keeper.new) }
-    ensures read { Reads settings.now result (told_by F.device feeds.old) (told_by F.device feeds.new)
-        (taken (O.written out.old) (E.written err.old)) (taken (O.written out.new) (E.written err.new)) }
-    ensures failures { Accounts result
+        (taken_by_sinks (O.written out.old) (E.written err.old)) (taken_by_sinks (O.written out.new) (E.written err.new)) }
+    ensures keeps { KeepsAll settings.now.profile (length settings.now.file_words) result (K.kept keeper.new) }
+    ensures read { ReadsSources settings.now result (told_by F.device feeds.old) (told_by F.device feeds.new)
+        (taken_by_sinks (O.written out.old) (E.written err.old)) (taken_by_sinks (O.written out.new) (E.written err.new)) }
+    ensures failures { FailsAsAnswered result
         (failures F.device feeds.old (O.written out.old) (E.written err.old))
         (failures F.device feeds.new (O.written out.new) (E.written err.new)) }
 {
-    let words = settings.words();
+    let words = settings.file_words();
     let profile = settings.profile();
     let mut status = Status::Done;
     // Names are large: those of one file have the room of those before.
     let mut names = Scope::new();
     for file in 0..feeds.len() {
-        let name = name_of(words[file].as_bytes());
+        let name = file_name(words[file].as_bytes());
         names.clear();
         let put = match compile_file(
             keeper,
@@ -66,14 +66,14 @@ pub(crate) fn compile_into<K: TakesPrograms, F: Feed, O: Sink, E: Sink>(
             Ok(compiled) => compiled,
             Err(DeviceFault) => return Err(RunFault::Write),
         };
-        status = both(status, compiled);
+        status = worse_status(status, compiled);
     }
     Ok(status)
 }
 
 /// Returns the status of two parts of a run: `Faulty` if one of them has it.
-pub(crate) fn both(first: Status, second: Status) -> Status
-    ensures { result ≡ both first second }
+pub(crate) fn worse_status(first: Status, second: Status) -> Status
+    ensures { result ≡ worse_status first second }
 {
     match first {
         Status::Done => second,
@@ -100,7 +100,7 @@ fn compile_file<K: TakesPrograms, F: Feed, O: Sink, E: Sink>(
     // If the file was not read nothing was put.
     ensures output { MatchResult result (λ put. (bytes : List ℕ) → (F.device feed.old).to_come ≡ Some bytes
         → CompilesFile (K.mode keeper.old) profile name.now bytes put (K.kept keeper.old) (K.kept keeper.new)
-        (taken (O.written out.old) (E.written err.old)) (taken (O.written out.new) (E.written err.new)))
+        (taken_by_sinks (O.written out.old) (E.written err.old)) (taken_by_sinks (O.written out.new) (E.written err.new)))
         (λ _. (out.new ≡ out.old) × (err.new ≡ err.old)) }
     ensures keeps { KeepsOn profile result (K.mode keeper.old) (K.mode keeper.new)
         (K.kept keeper.old) (K.kept keeper.new) }
@@ -112,7 +112,7 @@ fn compile_file<K: TakesPrograms, F: Feed, O: Sink, E: Sink>(
     match parse_into(feed, &mut maker, names) {
         Ok(()) => {
             let names = names.pools();
-            match keeper.take(name, names, maker.finish(names), out) {
+            match keeper.take_program(name, names, maker.finish(names), out) {
                 Ok(()) => Ok(Ok(Status::Done)),
                 Err(DeviceFault) => Ok(Err(DeviceFault)),
             }

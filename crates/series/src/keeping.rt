@@ -1,10 +1,10 @@
 //! What becomes of the program of a good file: it is kept with those of the other files, or let go.
 
 ghost use Rattle.std.specs.Prelude.{◌≡◌, ◌-◌, ◌^◌, ◌<◌, List, [], Option, Some, None};
-ghost use Rattle.code.specs.Generation.{ObjectCode};
+ghost use Rattle.code.specs.Generation.{Program};
 ghost use Rattle.series.specs.Compiling.{listed, listing_piece};
-ghost use Rattle.series.specs.Pieces.{taken};
-ghost use Rattle.series.specs.Keeping.{CanKeep, and_program};
+ghost use Rattle.series.specs.Pieces.{taken_by_sinks};
+ghost use Rattle.series.specs.ProgramKeeping.{CanKeep, and_program};
 ghost use Rattle.series.specs.Runs.{PutsPieces};
 ghost use Rattle.settings.specs.declared.settings.Mode.{Mode};
 ghost use Rattle.settings.specs.declared.settings.Mode.TheVariants.{Listing};
@@ -22,13 +22,13 @@ use tokens::DeviceFault;
 /// What takes the programs of good files, in order. It has a mode: in that of listings it puts one of each program.
 pub(crate) trait TakesPrograms {
     /// The programs that it was given, unless it lets them go.
-    ghost kept: { Self → Option (List ObjectCode) };
+    ghost kept: { Self → Option (List Program) };
 
     /// Whether it puts listings.
     ghost mode: { Self → Mode };
 
     /// Takes the program of the file with this name. Puts its listing with these names, if listings are asked for.
-    fn take<S: Sink>(
+    fn take_program<S: Sink>(
         &mut self,
         name: &[u8],
         names: &Pools,
@@ -40,7 +40,7 @@ pub(crate) trait TakesPrograms {
         ensures mode { mode self.new ≡ mode self.old }
         ensures kept { kept self.new ≡ and_program (kept self.old) program }
         ensures output { (faults : Written)
-            → PutsPieces result (taken (S.written out.old) faults) (taken (S.written out.new) faults)
+            → PutsPieces result (taken_by_sinks (S.written out.old) faults) (taken_by_sinks (S.written out.new) faults)
             (listed (mode self.old) (listing_piece name.now names.now program)) }
         ensures count { CountsSink result (S.written out.old) (S.written out.new) };
 }
@@ -71,7 +71,7 @@ impl TakesPrograms for Keeper {
 
     ghost mode = { λ keeper. keeper.mode };
 
-    fn take<S: Sink>(
+    fn take_program<S: Sink>(
         &mut self,
         name: &[u8],
         names: &Pools,
@@ -96,7 +96,7 @@ impl TakesPrograms for Lister {
 
     ghost mode = { λ lister. Listing };
 
-    fn take<S: Sink>(
+    fn take_program<S: Sink>(
         &mut self,
         name: &[u8],
         names: &Pools,

@@ -2,25 +2,25 @@
 #![tactic(auto)]
 
 mod compiling;
-mod endings;
 mod keeping;
-mod known;
 pub mod laws;
-mod names;
 mod reports;
+mod robot_names;
+mod run_results;
 mod runs;
 mod series;
 mod tallies;
+mod worked_outputs;
 
 pub use battles::Programs;
-pub use endings::{RunFault, SeriesFault, Status, Step};
-pub use known::known_outputs;
 pub use listings::put_listing;
+pub use run_results::{RunFault, SeriesFault, Status, Step};
 pub use runs::{compile_files, run};
 pub use series::Series;
 pub use settings::{
-    CYCLES_DEFAULT, CYCLES_MAX, FILES_MAX, FIRST_MAX, MATCHES_MAX, Mode, Numbers, SEED_DEFAULT,
-    Settings,
+    CYCLES_DEFAULT, MOST_CYCLES, MOST_FILES, MOST_FIRST_MATCH, MOST_MATCHES, Mode, Numbers,
+    SEED_DEFAULT, Settings,
 };
-pub use sinks::{PAGE, Pen, Recorder, Sink, name_of, put_all, put_diagnostic};
+pub use sinks::{BUFFER_BYTES, MemorySink, Pen, Sink, file_name, put_all, put_diagnostic};
 pub use tokens::{DeviceFault, Feed};
+pub use worked_outputs::known_outputs;

@@ -3,15 +3,15 @@
 ghost use Rattle.std.specs.Prelude.{◌≡◌, ℕ, ◌+◌, ◌-◌, ◌^◌, ◌<◌, ◌≤◌, List, [], ◌∷◌, ◌++◌, length, map, slice_index};
 ghost use Rattle.battles.specs.Battle.{alive};
 ghost use Rattle.battles.specs.Pairing.{paired};
-ghost use Rattle.sinks.specs.Draft.{MayFail, Adds};
+ghost use Rattle.sinks.specs.Pens.{MayFail, Adds};
 ghost use Rattle.sinks.specs.Puts.{CanFail, Puts};
 ghost use Rattle.series.specs.Reports.{report, robot_line, robot_lines, state_text};
-ghost use Rattle.series.specs.Names.{robot_names};
+ghost use Rattle.series.specs.RobotNames.{robot_names};
 ghost use Rattle.series.specs.Lines.{ended_line, lines_text};
 
-use crate::names::robot_name;
+use crate::robot_names::robot_name;
 use battles::Outcome;
-use settings::FILES_MAX;
+use settings::MOST_FILES;
 use sinks::{Pen, Sink};
 use tokens::DeviceFault;
 
@@ -29,7 +29,7 @@ pub(crate) fn put_report<S: Sink>(
 {
     let mut pen = Pen::new();
     add_report(&mut pen, sink, number, outcome, words);
-    pen.done(sink)
+    pen.finish(sink)
 }
 
 /// Adds the report of the match of this number.
@@ -41,9 +41,9 @@ fn add_report<S: Sink>(pen: &mut Pen, sink: &mut S, number: u32, outcome: &Outco
         (report number (robot_names (map (λ word. word.now) words.now)) outcome.now) }
 {
     pen.add(sink, b"Match ");
-    pen.number(sink, number);
+    pen.add_number(sink, number);
     pen.add(sink, b": cycles = ");
-    pen.number(sink, outcome.cycles());
+    pen.add_number(sink, outcome.cycles());
     pen.add(sink, b"\n");
     add_robots(pen, sink, outcome, words);
 }
@@ -64,18 +64,18 @@ fn add_robots<S: Sink>(pen: &mut Pen, sink: &mut S, outcome: &Outcome, words: &[
 /// Adds the line of one robot, which has this name.
 fn add_robot<S: Sink>(pen: &mut Pen, sink: &mut S, outcome: &Outcome, robot: usize, name: &[u8])
     requires there { robot < length outcome.now.damages }
-    requires most { robot < FILES_MAX }
+    requires most { robot < MOST_FILES }
     requires countable { MayFail pen.old (S.written sink.old) }
     ensures countable { MayFail pen.new (S.written sink.new) }
     ensures text { Adds (S.written sink.old) pen.old (S.written sink.new) pen.new
         (ended_line (robot_line robot (alive outcome.now robot) (slice_index outcome.now.damages robot) name.now)) }
 {
     pen.add(sink, b"  ");
-    pen.number(sink, robot as u32 + 1);
+    pen.add_number(sink, robot as u32 + 1);
     pen.add(sink, b") ");
     pen.add(sink, state_text(outcome.is_alive(robot)));
     pen.add(sink, b" damage ");
-    pen.column(sink, 3, u32::from(outcome.damages()[robot]));
+    pen.add_column(sink, 3, u32::from(outcome.damages()[robot]));
     pen.add(sink, b"% ");
     pen.add(sink, name);
     pen.add(sink, b"\n");

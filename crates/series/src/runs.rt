@@ -2,22 +2,22 @@
 
 ghost use Rattle.std.specs.Prelude.{◌≡◌, ◌-◌, ◌^◌, ◌<◌, List, length, map, MatchResult, IfOk, IfSome};
 ghost use Rattle.battles.specs.Programs.{AreOfProfile};
-ghost use Rattle.code.specs.Codes.{AreCodesOf};
+ghost use Rattle.code.specs.Codes.{AreProgramsOf};
 ghost use Rattle.grammar.specs.Tree.{File};
 ghost use Rattle.series.specs.Compiling.{Source};
-ghost use Rattle.series.specs.Failures.{Accounts, AreReady, failures};
+ghost use Rattle.series.specs.Failures.{FailsAsAnswered, AreReady, failures};
 ghost use Rattle.series.specs.Output.{Runs};
-ghost use Rattle.series.specs.Pieces.{taken};
+ghost use Rattle.series.specs.Pieces.{taken_by_sinks};
 ghost use Rattle.series.specs.Playing.{playing};
 ghost use Rattle.sinks.specs.Portions.{Written};
 ghost use Rattle.sinks.specs.Puts.{CanFail, CountsSink};
-ghost use Rattle.series.specs.Reading.{Reads};
+ghost use Rattle.series.specs.SourceReading.{ReadsSources};
 ghost use Rattle.series.specs.Runs.{AreSources, Compiles, PutsPieces, told_by};
 ghost use Rattle.settings.specs.declared.settings.Mode.TheVariants.{Matches};
 
-use crate::compiling::compile_into;
-use crate::endings::{RunFault, SeriesFault, Status};
+use crate::compiling::compile_all;
 use crate::keeping::{Keeper, Lister};
+use crate::run_results::{RunFault, SeriesFault, Status};
 use crate::series::Series;
 use battles::Programs;
 use grammar::laws::resolved_files;
@@ -39,19 +39,19 @@ pub fn run<F: Feed, O: Sink, E: Sink>(
     out: &mut O,
     err: &mut E,
 ) -> Result<Status, RunFault>
-    requires ready { AreReady F.device (length settings.now.words) feeds.old
+    requires ready { AreReady F.device (length settings.now.file_words) feeds.old
         (O.written out.old) (E.written err.old) }
-    ensures output { (sources : List Source) → AreSources sources settings.now.words (told_by F.device feeds.old)
-        → Runs settings.now sources result (taken (O.written out.old) (E.written err.old))
-        (taken (O.written out.new) (E.written err.new)) }
-    ensures read { Reads settings.now result (told_by F.device feeds.old) (told_by F.device feeds.new)
-        (taken (O.written out.old) (E.written err.old)) (taken (O.written out.new) (E.written err.new)) }
-    ensures failures { Accounts result
+    ensures output { (sources : List Source) → AreSources sources settings.now.file_words (told_by F.device feeds.old)
+        → Runs settings.now sources result (taken_by_sinks (O.written out.old) (E.written err.old))
+        (taken_by_sinks (O.written out.new) (E.written err.new)) }
+    ensures read { ReadsSources settings.now result (told_by F.device feeds.old) (told_by F.device feeds.new)
+        (taken_by_sinks (O.written out.old) (E.written err.old)) (taken_by_sinks (O.written out.new) (E.written err.new)) }
+    ensures failures { FailsAsAnswered result
         (failures F.device feeds.old (O.written out.old) (E.written err.old))
         (failures F.device feeds.new (O.written out.new) (E.written err.new)) }
 {
     match settings.mode() {
-        Mode::Listing => compile_into(&mut Lister, settings, feeds, out, err),
+        Mode::Listing => compile_all(&mut Lister, settings, feeds, out, err),
         Mode::Matches => play_files(settings, feeds, out, err),
     }
 }
@@ -67,19 +67,19 @@ fn play_files<F: Feed, O: Sink, E: Sink>(
     err: &mut E,
 ) -> Result<Status, RunFault>
     requires matches { settings.now.mode ≡ Matches }
-    requires ready { AreReady F.device (length settings.now.words) feeds.old
+    requires ready { AreReady F.device (length settings.now.file_words) feeds.old
         (O.written out.old) (E.written err.old) }
-    ensures output { (sources : List Source) → AreSources sources settings.now.words (told_by F.device feeds.old)
-        → Runs settings.now sources result (taken (O.written out.old) (E.written err.old))
-        (taken (O.written out.new) (E.written err.new)) }
-    ensures read { Reads settings.now result (told_by F.device feeds.old) (told_by F.device feeds.new)
-        (taken (O.written out.old) (E.written err.old)) (taken (O.written out.new) (E.written err.new)) }
-    ensures failures { Accounts result
+    ensures output { (sources : List Source) → AreSources sources settings.now.file_words (told_by F.device feeds.old)
+        → Runs settings.now sources result (taken_by_sinks (O.written out.old) (E.written err.old))
+        (taken_by_sinks (O.written out.new) (E.written err.new)) }
+    ensures read { ReadsSources settings.now result (told_by F.device feeds.old) (told_by F.device feeds.new)
+        (taken_by_sinks (O.written out.old) (E.written err.old)) (taken_by_sinks (O.written out.new) (E.written err.new)) }
+    ensures failures { FailsAsAnswered result
         (failures F.device feeds.old (O.written out.old) (E.written err.old))
         (failures F.device feeds.new (O.written out.new) (E.written err.new)) }
 {
     let mut keeper = Keeper::new(settings.mode());
-    match compile_into(&mut keeper, settings, feeds, out, err) {
+    match compile_all(&mut keeper, settings, feeds, out, err) {
         Ok(Status::Done) => {
             // For the proof alone: a file that compiles is resolved.
             resolved_files();
@@ -96,11 +96,11 @@ fn play_all<O: Sink>(
     settings: &Settings,
     out: &mut O,
 ) -> Result<Status, RunFault>
-    requires manned { length programs.now ≡ length settings.now.words }
+    requires manned { length programs.now ≡ length settings.now.file_words }
     requires profile { AreOfProfile settings.now.profile programs.now }
     requires countable { CanFail (O.written out.old) }
-    ensures output { (files : List File) (faults : Written) → AreCodesOf programs.now settings.now.profile files
-        → PutsPieces result (taken (O.written out.old) faults) (taken (O.written out.new) faults)
+    ensures output { (files : List File) (faults : Written) → AreProgramsOf programs.now settings.now.profile files
+        → PutsPieces result (taken_by_sinks (O.written out.old) faults) (taken_by_sinks (O.written out.new) faults)
         (playing settings.now files) }
     ensures answer { MatchResult result (λ status. status ≡ Status.Done) (λ fault. fault ≡ RunFault.Write) }
     ensures count { CountsSink result (O.written out.old) (O.written out.new) }
@@ -124,23 +124,23 @@ pub fn compile_files<F: Feed, O: Sink, E: Sink>(
     out: &mut O,
     err: &mut E,
 ) -> Result<Option<Programs>, RunFault>
-    requires ready { AreReady F.device (length settings.now.words) feeds.old
+    requires ready { AreReady F.device (length settings.now.file_words) feeds.old
         (O.written out.old) (E.written err.old) }
-    ensures output { (sources : List Source) → AreSources sources settings.now.words (told_by F.device feeds.old)
-        → Compiles settings.now sources result (taken (O.written out.old) (E.written err.old))
-        (taken (O.written out.new) (E.written err.new)) }
+    ensures output { (sources : List Source) → AreSources sources settings.now.file_words (told_by F.device feeds.old)
+        → Compiles settings.now sources result (taken_by_sinks (O.written out.old) (E.written err.old))
+        (taken_by_sinks (O.written out.new) (E.written err.new)) }
     ensures manned { IfOk result (λ programs. IfSome programs
-        (λ programs. length programs ≡ length settings.now.words)) }
+        (λ programs. length programs ≡ length settings.now.file_words)) }
     ensures profile { IfOk result (λ programs. IfSome programs
         (λ programs. AreOfProfile settings.now.profile programs)) }
-    ensures read { Reads settings.now result (told_by F.device feeds.old) (told_by F.device feeds.new)
-        (taken (O.written out.old) (E.written err.old)) (taken (O.written out.new) (E.written err.new)) }
-    ensures failures { Accounts result
+    ensures read { ReadsSources settings.now result (told_by F.device feeds.old) (told_by F.device feeds.new)
+        (taken_by_sinks (O.written out.old) (E.written err.old)) (taken_by_sinks (O.written out.new) (E.written err.new)) }
+    ensures failures { FailsAsAnswered result
         (failures F.device feeds.old (O.written out.old) (E.written err.old))
         (failures F.device feeds.new (O.written out.new) (E.written err.new)) }
 {
     let mut keeper = Keeper::new(settings.mode());
-    match compile_into(&mut keeper, settings, feeds, out, err) {
+    match compile_all(&mut keeper, settings, feeds, out, err) {
         Ok(Status::Done) => Ok(Some(keeper.programs)),
         Ok(Status::Faulty) => Ok(None),
         Err(fault) => Err(fault),

@@ -2,15 +2,15 @@
 
 ghost use Rattle.std.specs.Prelude.{◌≡◌, ℕ, ◌+◌, ◌-◌, ◌^◌, ◌<◌, ◌≤◌, List, length, is_err, nat_eq, false, true, IfOk};
 ghost use Rattle.battles.specs.Programs.{AreOfProfile};
-ghost use Rattle.code.specs.Codes.{AreCodesOf};
+ghost use Rattle.code.specs.Codes.{AreProgramsOf};
 ghost use Rattle.grammar.specs.Tree.{File};
-ghost use Rattle.series.specs.Courses.{IsTallyOf, next_text, played_after, step_of};
+ghost use Rattle.series.specs.SeriesSteps.{IsTallyOf, next_text, played_after, next_step};
 ghost use Rattle.series.specs.Failures.{FailsOnce};
 ghost use Rattle.series.specs.Outcomes.{outcomes, totals_text};
 ghost use Rattle.sinks.specs.Puts.{CanFail, Puts};
 
-use crate::endings::{SeriesFault, Step};
 use crate::reports::put_report;
+use crate::run_results::{SeriesFault, Step};
 use crate::tallies::{Tally, put_totals};
 use battles::{Machines, Programs, battle};
 use settings::Settings;
@@ -34,24 +34,24 @@ pub struct Series<'a> {
 impl<'a> Model for Series<'a> {
     ghost use Rattle.std.specs.Prelude.{◌≡◌, ◌≤◌, List, length};
     ghost use Rattle.battles.specs.Programs.{AreOfProfile};
-    ghost use Rattle.code.specs.Codes.{AreCodesOf};
+    ghost use Rattle.code.specs.Codes.{AreProgramsOf};
     ghost use Rattle.grammar.specs.Tree.{File};
-    ghost use Rattle.series.specs.Courses.{IsTallyOf, Standing};
+    ghost use Rattle.series.specs.SeriesSteps.{IsTallyOf, Series};
     ghost use Rattle.series.specs.Outcomes.{outcomes};
 
-    ghost Value = { Standing };
+    ghost Value = { Series };
 
     ghost view = { λ s. record {
-      setup = s.settings.now;
-      codes = s.programs.now;
+      settings = s.settings.now;
+      programs = s.programs.now;
       played = s.tally.matches;
       failed = s.failed;
     } };
 
-    ghost invariant = { λ s. (length s.programs.now ≡ length s.settings.now.words)
+    ghost invariant = { λ s. (length s.programs.now ≡ length s.settings.now.file_words)
         × AreOfProfile s.settings.now.profile s.programs.now
         × (s.tally.matches ≤ s.settings.now.matches)
-        × ((files : List File) → AreCodesOf s.programs.now s.settings.now.profile files
+        × ((files : List File) → AreProgramsOf s.programs.now s.settings.now.profile files
         → IsTallyOf s.tally (outcomes s.settings.now files s.tally.matches)) };
 }
 
@@ -59,9 +59,9 @@ impl<'a> Series<'a> {
     /// Makes the series of these programs, one for each word of the settings and of their profile. No match of it was
     /// played.
     pub fn new(programs: &'a Programs, settings: &'a Settings<'a>) -> Series<'a>
-        requires manned { length programs.now ≡ length settings.now.words }
+        requires manned { length programs.now ≡ length settings.now.file_words }
         requires profile { AreOfProfile settings.now.profile programs.now }
-        ensures { result ≡ record { setup = settings.now; codes = programs.now; played = 0; failed = false } }
+        ensures { result ≡ record { settings = settings.now; programs = programs.now; played = 0; failed = false } }
     {
         Series {
             programs,
@@ -80,13 +80,13 @@ impl<'a> Series<'a> {
     /// on each call answers `Write` and writes nothing.
     pub fn next<S: Sink>(&mut self, out: &mut S) -> Result<Step, SeriesFault>
         requires { CanFail (S.written out.old) }
-        ensures step { IfOk result (λ step. step ≡ step_of self.old.setup self.old.played) }
+        ensures step { IfOk result (λ step. step ≡ next_step self.old.settings self.old.played) }
         ensures after { self.new ≡ record self.old
             { played = played_after result self.old.played; failed = is_err result } }
         ensures text { self.old.failed ≡ false → (files : List File)
-            → AreCodesOf self.old.codes self.old.setup.profile files
+            → AreProgramsOf self.old.programs self.old.settings.profile files
             → Puts result (S.written out.old) (S.written out.new)
-            (next_text self.old.setup files self.old.played) }
+            (next_text self.old.settings files self.old.played) }
         ensures over { IfOk result (λ step. step ≡ Step.Over → S.written out.new ≡ S.written out.old) }
         ensures fails { FailsOnce self.old.failed result
             (S.written out.old) (S.written out.new) }
@@ -100,9 +100,9 @@ impl<'a> Series<'a> {
         let number = self.settings.first() + self.tally.matches();
         let (seed, limit) = (self.settings.seed(), self.settings.limit());
         let outcome = battle(self.programs, &mut self.machines, seed, number, limit);
-        match put_report(out, number, &outcome, self.settings.words()) {
+        match put_report(out, number, &outcome, self.settings.file_words()) {
             Ok(()) => {
-                self.tally.count(&outcome);
+                self.tally.count_match(&outcome);
                 Ok(Step::Played(number))
             }
             Err(DeviceFault) => {
@@ -118,20 +118,20 @@ impl<'a> Series<'a> {
     ///
     /// `Write` if the sink fails, which leaves a beginning of the totals, or if it failed before.
     pub fn finish<S: Sink>(&mut self, out: &mut S) -> Result<(), SeriesFault>
-        requires over { self.old.played ≡ self.old.setup.matches }
+        requires over { self.old.played ≡ self.old.settings.matches }
         requires countable { CanFail (S.written out.old) }
         ensures after { self.new ≡ record self.old { failed = is_err result } }
         ensures text { self.old.failed ≡ false → (files : List File)
-            → AreCodesOf self.old.codes self.old.setup.profile files
+            → AreProgramsOf self.old.programs self.old.settings.profile files
             → Puts result (S.written out.old) (S.written out.new)
-            (totals_text self.old.setup files) }
+            (totals_text self.old.settings files) }
         ensures fails { FailsOnce self.old.failed result
             (S.written out.old) (S.written out.new) }
     {
         if self.has_failed() {
             return Err(SeriesFault::Write);
         }
-        match put_totals(out, &self.tally, self.settings.words()) {
+        match put_totals(out, &self.tally, self.settings.file_words()) {
             Ok(()) => Ok(()),
             Err(DeviceFault) => {
                 self.failed = true;
@@ -142,7 +142,7 @@ impl<'a> Series<'a> {
 
     /// Reports whether all matches were played.
     pub fn is_over(&self) -> bool
-        ensures { result ≡ nat_eq self.now.played self.now.setup.matches }
+        ensures { result ≡ nat_eq self.now.played self.now.settings.matches }
     {
         self.tally.matches() == self.settings.matches()
     }

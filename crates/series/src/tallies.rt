@@ -2,18 +2,18 @@
 
 ghost use Rattle.std.specs.Prelude.{◌≡◌, ℕ, ◌+◌, ◌-◌, ◌^◌, ◌<◌, ◌≤◌, List, [], ◌∷◌, ◌++◌, length, map, All};
 ghost use Rattle.battles.specs.Battle.{Outcome as Ended, alive};
-ghost use Rattle.settings.specs.Limits.{files_max};
+ghost use Rattle.settings.specs.SettingsLimits.{most_files};
 ghost use Rattle.series.specs.Lines.{ended_line};
-ghost use Rattle.series.specs.Courses.{Tallied, IsTallyOf, score_at, with_match};
-ghost use Rattle.sinks.specs.Draft.{MayFail, Adds};
+ghost use Rattle.series.specs.SeriesSteps.{Tally, IsTallyOf, score_at, with_match};
+ghost use Rattle.sinks.specs.Pens.{MayFail, Adds};
 ghost use Rattle.sinks.specs.Puts.{CanFail, Puts};
-ghost use Rattle.series.specs.Names.{robot_names};
+ghost use Rattle.series.specs.RobotNames.{robot_names};
 ghost use Rattle.series.specs.Lines.{lines_text};
 ghost use Rattle.series.specs.Totals.{totals, score_line, score_lines, survivors};
 
-use crate::names::robot_name;
+use crate::robot_names::robot_name;
 use battles::Outcome;
-use settings::FILES_MAX;
+use settings::MOST_FILES;
 use sinks::{Pen, Sink};
 use std::marker::Model;
 use tokens::DeviceFault;
@@ -30,15 +30,15 @@ pub(crate) struct Score {
 #[derive(Drop)]
 pub(crate) struct Tally {
     matches: u32,
-    scores: [Score; FILES_MAX],
+    scores: [Score; MOST_FILES],
 }
 
 impl Model for Tally {
-    ghost Value = { Tallied };
+    ghost Value = { Tally };
 
     ghost view = { λ t. record { matches = t.matches; scores = t.scores } };
 
-    ghost invariant = { λ t. (length t.scores ≡ files_max)
+    ghost invariant = { λ t. (length t.scores ≡ most_files)
         × All (λ score. score.won + score.tied + score.lost ≡ t.matches) t.scores };
 }
 
@@ -54,7 +54,7 @@ impl Tally {
                 won: 0,
                 tied: 0,
                 lost: 0,
-            }; FILES_MAX],
+            }; MOST_FILES],
         }
     }
 
@@ -66,7 +66,7 @@ impl Tally {
     }
 
     /// Counts one more match.
-    pub(crate) fn count(&mut self, outcome: &Outcome)
+    pub(crate) fn count_match(&mut self, outcome: &Outcome)
         requires { self.old.matches < 2 ^ 32 - 1 }
         ensures matches { self.new.matches ≡ self.old.matches + 1 }
         ensures tally { (outcomes : List Ended) → IsTallyOf self.old outcomes
@@ -74,7 +74,7 @@ impl Tally {
     {
         self.matches += 1;
         let survivors = survivor_count(outcome);
-        for robot in 0..FILES_MAX {
+        for robot in 0..MOST_FILES {
             self.scores[robot] = self.scores[robot].with_match(is_alive(outcome, robot), survivors);
         }
     }
@@ -129,24 +129,24 @@ pub(crate) fn put_totals<S: Sink>(
     words: &[&str],
 ) -> Result<(), DeviceFault>
     requires some { 0 < length words.now }
-    requires most { length words.now ≤ FILES_MAX }
+    requires most { length words.now ≤ MOST_FILES }
     requires countable { CanFail (S.written sink.old) }
     ensures { Puts result (S.written sink.old) (S.written sink.new)
         (totals tally.now.matches (robot_names (map (λ word. word.now) words.now)) (score_at tally.now)) }
 {
     let mut pen = Pen::new();
     pen.add(sink, b"Totals: ");
-    pen.number(sink, tally.matches);
+    pen.add_number(sink, tally.matches);
     pen.add(sink, b" matches");
     pen.add(sink, b"\n");
     add_scores(&mut pen, sink, tally, words);
-    pen.done(sink)
+    pen.finish(sink)
 }
 
 /// Adds the line of each robot.
 fn add_scores<S: Sink>(pen: &mut Pen, sink: &mut S, tally: &Tally, words: &[&str])
     requires some { 0 < length words.now }
-    requires most { length words.now ≤ FILES_MAX }
+    requires most { length words.now ≤ MOST_FILES }
     requires countable { MayFail pen.old (S.written sink.old) }
     ensures countable { MayFail pen.new (S.written sink.new) }
     ensures text { Adds (S.written sink.old) pen.old (S.written sink.new) pen.new
@@ -165,20 +165,20 @@ fn add_scores<S: Sink>(pen: &mut Pen, sink: &mut S, tally: &Tally, words: &[&str
 
 /// Adds the line of one robot, which has this score and this name.
 fn add_score<S: Sink>(pen: &mut Pen, sink: &mut S, robot: usize, score: Score, name: &[u8])
-    requires there { robot < FILES_MAX }
+    requires there { robot < MOST_FILES }
     requires countable { MayFail pen.old (S.written sink.old) }
     ensures countable { MayFail pen.new (S.written sink.new) }
     ensures text { Adds (S.written sink.old) pen.old (S.written sink.new) pen.new
         (ended_line (score_line robot score name.now)) }
 {
     pen.add(sink, b"  ");
-    pen.number(sink, robot as u32 + 1);
+    pen.add_number(sink, robot as u32 + 1);
     pen.add(sink, b") won ");
-    pen.number(sink, score.won);
+    pen.add_number(sink, score.won);
     pen.add(sink, b" tied ");
-    pen.number(sink, score.tied);
+    pen.add_number(sink, score.tied);
     pen.add(sink, b" lost ");
-    pen.number(sink, score.lost);
+    pen.add_number(sink, score.lost);
     pen.add(sink, b" ");
     pen.add(sink, name);
     pen.add(sink, b"\n");

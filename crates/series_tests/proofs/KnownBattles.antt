@@ -9,21 +9,21 @@ use Rattle.arena.specs.Scan.{apart, east_to, north_to, in_arc, sees, range_of, n
 use Rattle.arena.specs.Random.{generator, random_word}
 use Rattle.arena.specs.Start.{standing, quadrant, drawn_place, drawn_robot, start}
 use Rattle.arena.specs.Placed.{placed}
-use Rattle.arena.specs.Answer.{argument, fired, wanting, directed, random_limit, random_number, answer}
-use Rattle.battles.specs.Battle.{granted, step, robot_of, turn, turns, is_due, updated, cycle, is_over, stage_after, first_above, last_cycle, opening, damages_of, battle, alive}
+use Rattle.arena.specs.Answer.{argument_at, fired, wanting, directed, random_limit, random_number, answer}
+use Rattle.battles.specs.Battle.{granted, robot_turn, behaviour_at, turn, turns, is_due, updated, cycle, is_over, stage_after, first_above, last_cycle, opening, damages_of, battle, alive}
 use Rattle.arith.specs.Circle.{sine_at, cosine_at, sine_of, cosine_of}
 use Rattle.arith.specs.Degree.{degree_of}
 use Rattle.arith.specs.Table.{sines, tangents}
 use Rattle.arith.specs.Op.{value_of}
 use Rattle.std.specs.Int.{int_wrap}
 use Rattle.code.specs.Values.{stored}
-use Rattle.grammar.specs.Limits.{most_levels}
+use Rattle.grammar.specs.NameLimits.{most_levels}
 use Rattle.grammar.specs.Profile.{first_profile, second_profile}
 use Rattle.tokens.specs.Tokens.{tokens, located_tokens}
 use Rattle.tokens.specs.Punctuators.{punctuator_of}
-use Rattle.tokens.specs.Words.{word_of}
+use Rattle.tokens.specs.Keywords.{keyword_of}
 use Rattle.grammar.specs.Compiled.{compiled}
-use Rattle.grammar.specs.Intrinsics.{intrinsic_named, name_of}
+use Rattle.grammar.specs.Intrinsics.{intrinsic_named, intrinsic_name}
 use Rattle.battles.specs.KnownBattles.{idle_file, KnownBattles, KnownShortBattles}
 use Rattle.battles.specs.Pairing.{robots_of}
 use Rattle.code.specs.KnownPrograms.{shooting_file}
@@ -34,11 +34,12 @@ unfolding clamped along way_east way_north end_x end_y place_x place_y leg_anew 
     hits_wall walled tried driven damage_of is_alive no_robot robot_at is_live live_count metres_x metres_y candidate
     mover moves square is_close is_no_further collides others touches aimed_x aimed_y flight shot in_air due_at ring
     bursts put_back leg_after knocks moved_robot moved apart east_to north_to in_arc sees range_of nearest scanned
-    generator random_word standing quadrant drawn_place drawn_robot start placed argument fired wanting directed
-    random_limit random_number answer granted step robot_of turn turns is_due updated cycle is_over stage_after
+    generator random_word standing quadrant drawn_place drawn_robot start placed argument_at fired wanting directed
+    random_limit random_number answer granted robot_turn behaviour_at turn turns is_due updated cycle is_over
+    stage_after
     first_above last_cycle opening damages_of battle alive sine_at cosine_at sine_of cosine_of degree_of sines tangents
-    value_of int_wrap stored first_profile second_profile tokens located_tokens punctuator_of word_of most_levels
-    intrinsic_named name_of compiled
+    value_of int_wrap stored first_profile second_profile tokens located_tokens punctuator_of keyword_of most_levels
+    intrinsic_named intrinsic_name compiled
 battles = record {
   empty = record { compiles = refl; ends = refl };
   none_survives = record {
@@ -79,11 +80,12 @@ unfolding clamped along way_east way_north end_x end_y place_x place_y leg_anew 
     hits_wall walled tried driven damage_of is_alive no_robot robot_at is_live live_count metres_x metres_y candidate
     mover moves square is_close is_no_further collides others touches aimed_x aimed_y flight shot in_air due_at ring
     bursts put_back leg_after knocks moved_robot moved apart east_to north_to in_arc sees range_of nearest scanned
-    generator random_word standing quadrant drawn_place drawn_robot start placed argument fired wanting directed
-    random_limit random_number answer granted step robot_of turn turns is_due updated cycle is_over stage_after
+    generator random_word standing quadrant drawn_place drawn_robot start placed argument_at fired wanting directed
+    random_limit random_number answer granted robot_turn behaviour_at turn turns is_due updated cycle is_over
+    stage_after
     first_above last_cycle opening damages_of battle alive sine_at cosine_at sine_of cosine_of degree_of sines tangents
-    value_of int_wrap stored first_profile second_profile tokens located_tokens punctuator_of word_of most_levels
-    intrinsic_named name_of compiled
+    value_of int_wrap stored first_profile second_profile tokens located_tokens punctuator_of keyword_of most_levels
+    intrinsic_named intrinsic_name compiled
 short_battles = record {
   left_out = record { compiles = refl; ends = refl };
   taken = record { compiles = refl; ends = refl };

@@ -6,9 +6,9 @@ use Rattle.settings.specs.declared.faults.UseFault.TheVariants.{Number, TooMany,
 use Rattle.settings.specs.declared.settings.Mode.{Mode}
 use Rattle.settings.specs.declared.settings.Numbers.{Numbers}
 use Rattle.settings.specs.declared.settings.Mode.TheVariants.{Listing, Matches}
-use Rattle.settings.specs.Limits.{matches_max, matches_default, cycles_max, cycles_default, seed_max, seed_default, profile_default, first_max, first_default, files_max}
-use Rattle.settings.specs.Numbers.{number_of}
-use Rattle.settings.specs.Setup.{Setup, setup_of}
+use Rattle.settings.specs.SettingsLimits.{most_matches, matches_default, most_cycles, cycles_default, most_seed, seed_default, profile_default, most_first_match, first_default, most_files}
+use Rattle.settings.specs.Numbers.{value_number}
+use Rattle.settings.specs.Settings.{Settings, settings_of}
 
 -- whether `-c` was given, the texts of `-m`, `-l`, `-s`, `-p` and `-f`, and the words that name files
 pub record Given : Type 0 where
@@ -18,12 +18,12 @@ pub record Given : Type 0 where
   pub seed : Option (List ℕ)
   pub profile : Option (List ℕ)
   pub first : Option (List ℕ)
-  pub files : List (List ℕ)
+  pub file_words : List (List ℕ)
 
 -- the number of an option, which has a default; there is none if its text is no number within its limits
 abbrev pub value_of : ℕ → ℕ → ℕ → Option (List ℕ) → Option ℕ
 value_of least most default None = Some default
-value_of least most default (Some text) = number_of least most text
+value_of least most default (Some text) = value_number least most text
 
 -- `-c` asks for listings, and else `-m` for matches
 abbrev pub mode_of : Given → Option Mode
@@ -31,11 +31,11 @@ mode_of given = if given.listing then Some Listing else option_map (λ _. Matche
 
 -- each number is within its limits
 pub record AreWithin (numbers : Numbers) : Type 0 where
-  pub matches : (1 ≤ numbers.matches) × (numbers.matches ≤ matches_max)
-  pub limit : (1 ≤ numbers.limit) × (numbers.limit ≤ cycles_max)
-  pub seed : numbers.seed ≤ seed_max
+  pub matches : (1 ≤ numbers.matches) × (numbers.matches ≤ most_matches)
+  pub limit : (1 ≤ numbers.limit) × (numbers.limit ≤ most_cycles)
+  pub seed : numbers.seed ≤ most_seed
   pub profile : IsProfile numbers.profile
-  pub first : (1 ≤ numbers.first) × (numbers.first ≤ first_max)
+  pub first : (1 ≤ numbers.first) × (numbers.first ≤ most_first_match)
 
 -- goes on with the number of a value, if there is one
 abbrev pub with_number : {A : Type 0} → Option ℕ → (ℕ → Option A) → Option A
@@ -45,11 +45,11 @@ with_number (Some n) next = next n
 -- the numbers that are asked for, if each value is one
 unfoldable pub numbers_of : Given → Option Numbers
 numbers_of given =
-    with_number (value_of 1 matches_max matches_default given.matches) (λ matches.
-    with_number (value_of 1 cycles_max cycles_default given.limit) (λ limit.
-    with_number (value_of 0 seed_max seed_default given.seed) (λ seed.
+    with_number (value_of 1 most_matches matches_default given.matches) (λ matches.
+    with_number (value_of 1 most_cycles cycles_default given.limit) (λ limit.
+    with_number (value_of 0 most_seed seed_default given.seed) (λ seed.
     with_number (value_of 1 most_profile profile_default given.profile) (λ profile.
-    with_number (value_of 1 first_max first_default given.first) (λ first.
+    with_number (value_of 1 most_first_match first_default given.first) (λ first.
     Some (record {
       matches = matches;
       limit = limit;
@@ -60,11 +60,11 @@ numbers_of given =
 
 -- the settings, with these numbers and this mode, or the first fault: a value, then how many files there are, then the
 -- mode
-abbrev pub settled_by : List (List ℕ) → Option Numbers → Option Mode → Result Setup UseFault
+abbrev pub settled_by : List (List ℕ) → Option Numbers → Option Mode → Result Settings UseFault
 settled_by files None mode = Err Number
-settled_by files (Some numbers) mode = if nat_lt files_max (length files) then Err TooMany else ok_or
-    (option_map (λ m. setup_of numbers m files) mode) NoMode
+settled_by files (Some numbers) mode = if nat_lt most_files (length files) then Err TooMany else ok_or
+    (option_map (λ m. settings_of numbers m files) mode) NoMode
 
 -- the settings that are asked for, or the first fault
-abbrev pub asked_by : Given → Result Setup UseFault
-asked_by given = settled_by given.files (numbers_of given) (mode_of given)
+abbrev pub settings_given : Given → Result Settings UseFault
+settings_given given = settled_by given.file_words (numbers_of given) (mode_of given)

@@ -1,5 +1,5 @@
-pub mod Limits
-pub mod Setup
+pub mod SettingsLimits
+pub mod Settings
 pub mod Numbers
 pub mod Given
 pub mod KnownSettings

@@ -1,15 +1,15 @@
 //! What the command line gave, and the settings that follow from it.
 
 ghost use Rattle.std.specs.Prelude.{◌≡◌, ◌<◌, ◌≤◌, length, map, option_map, IfSome};
-ghost use Rattle.settings.specs.Given.{AreWithin, mode_of, numbers_of, asked_by, value_of};
+ghost use Rattle.settings.specs.Given.{AreWithin, mode_of, numbers_of, settings_given, value_of};
 
 use crate::faults::UseFault;
-use crate::limits::{
-    CYCLES_DEFAULT, CYCLES_MAX, FIRST_DEFAULT, FIRST_MAX, MATCHES_DEFAULT, MATCHES_MAX,
+use crate::numbers::value_number;
+use crate::settings::{Mode, Numbers, Settings};
+use crate::settings_limits::{
+    CYCLES_DEFAULT, FIRST_DEFAULT, MATCHES_DEFAULT, MOST_CYCLES, MOST_FIRST_MATCH, MOST_MATCHES,
     PROFILE_DEFAULT, SEED_DEFAULT,
 };
-use crate::numbers::number;
-use crate::settings::{Mode, Numbers, Settings};
 use arrayvec::ArrayVec;
 use grammar::{MOST_PROFILE, Profile};
 use std::marker::Model;
@@ -30,7 +30,7 @@ pub struct Given<'w, 'a> {
     /// The number of the first match.
     pub first: Option<&'a str>,
     /// The words that name files.
-    pub files: &'w [&'a str],
+    pub file_words: &'w [&'a str],
 }
 
 impl<'w, 'a> Model for Given<'w, 'a> {
@@ -46,7 +46,7 @@ impl<'w, 'a> Model for Given<'w, 'a> {
       seed = option_map (λ text. text.now) g.seed;
       profile = option_map (λ text. text.now) g.profile;
       first = option_map (λ text. text.now) g.first;
-      files = map (λ word. word.now) g.files.now;
+      file_words = map (λ word. word.now) g.file_words.now;
     } };
 }
 
@@ -56,14 +56,14 @@ impl<'w, 'a> Model for Given<'w, 'a> {
 ///
 /// The first that applies of `Number` if a value is no number within its limits, `TooMany` for over four files, and
 /// `NoMode` if neither listings nor matches are asked for.
-pub fn settle<'a>(given: Given<'_, 'a>) -> Result<Settings<'a>, UseFault>
-    requires { 0 < length given.files }
-    ensures { result ≡ asked_by given.entry }
+pub fn settings_given<'a>(given: Given<'_, 'a>) -> Result<Settings<'a>, UseFault>
+    requires { 0 < length given.file_words }
+    ensures { result ≡ settings_given given.entry }
 {
-    let Some(numbers) = read_numbers(&given) else {
+    let Some(numbers) = option_numbers(&given) else {
         return Err(UseFault::Number);
     };
-    let Ok(words) = ArrayVec::try_from(given.files) else {
+    let Ok(words) = ArrayVec::try_from(given.file_words) else {
         return Err(UseFault::TooMany);
     };
     let Some(mode) = mode(&given) else {
@@ -74,37 +74,37 @@ pub fn settle<'a>(given: Given<'_, 'a>) -> Result<Settings<'a>, UseFault>
 
 /// Returns the numbers that are asked for, if each value is one within its limits.
 #[tactic(auto, unfolding(crate::specs::Given::numbers_of))]
-fn read_numbers(given: &Given<'_, '_>) -> Option<Numbers>
+fn option_numbers(given: &Given<'_, '_>) -> Option<Numbers>
     ensures value { result ≡ numbers_of given.now }
     ensures within { IfSome result AreWithin }
 {
     Some(Numbers {
-        matches: count(given.matches, MATCHES_MAX, MATCHES_DEFAULT)?,
-        limit: count(given.limit, CYCLES_MAX, CYCLES_DEFAULT)?,
-        seed: value(given.seed, 0, u64::MAX, SEED_DEFAULT)?,
-        profile: Profile::numbered(count(given.profile, MOST_PROFILE, PROFILE_DEFAULT)?),
-        first: count(given.first, FIRST_MAX, FIRST_DEFAULT)?,
+        matches: option_count(given.matches, MOST_MATCHES, MATCHES_DEFAULT)?,
+        limit: option_count(given.limit, MOST_CYCLES, CYCLES_DEFAULT)?,
+        seed: option_value(given.seed, 0, u64::MAX, SEED_DEFAULT)?,
+        profile: Profile::numbered(option_count(given.profile, MOST_PROFILE, PROFILE_DEFAULT)?),
+        first: option_count(given.first, MOST_FIRST_MATCH, FIRST_DEFAULT)?,
     })
 }
 
 /// Reads the value of an option that is 1 at least, and which has a default.
-fn count(given: Option<&str>, most: u32, default: u32) -> Option<u32>
+fn option_count(given: Option<&str>, most: u32, default: u32) -> Option<u32>
     requires least { 1 ≤ default }
     requires most { default ≤ most }
     ensures value { result ≡ value_of 1 most default (option_map (λ text. text.now) given.entry) }
     ensures within { IfSome result (λ n. (1 ≤ n) × (n ≤ most)) }
 {
-    let number = value(given, 1, u64::from(most), u64::from(default))?;
+    let number = option_value(given, 1, u64::from(most), u64::from(default))?;
     Some(number as u32)
 }
 
 /// Reads the value of an option, which has a default.
-fn value(given: Option<&str>, least: u64, most: u64, default: u64) -> Option<u64>
+fn option_value(given: Option<&str>, least: u64, most: u64, default: u64) -> Option<u64>
     ensures value { result ≡ value_of least most default (option_map (λ text. text.now) given.entry) }
     ensures within { least ≤ default → default ≤ most → IfSome result (λ n. (least ≤ n) × (n ≤ most)) }
 {
     match given {
-        Some(text) => number(text, least, most),
+        Some(text) => value_number(text, least, most),
         None => Some(default),
     }
 }

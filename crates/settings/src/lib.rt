@@ -3,17 +3,17 @@
 
 mod faults;
 mod given;
-mod known;
-mod limits;
 mod numbers;
 mod settings;
+mod settings_limits;
+mod worked_settings;
 
 pub use faults::UseFault;
-pub use given::{Given, settle};
-pub use known::known_settings;
-pub use limits::{
-    CYCLES_DEFAULT, CYCLES_MAX, FILES_MAX, FIRST_DEFAULT, FIRST_MAX, MATCHES_DEFAULT, MATCHES_MAX,
-    PROFILE_DEFAULT, SEED_DEFAULT,
-};
-pub use numbers::number;
+pub use given::{Given, settings_given};
+pub use numbers::value_number;
 pub use settings::{Mode, Numbers, Settings};
+pub use settings_limits::{
+    CYCLES_DEFAULT, FIRST_DEFAULT, MATCHES_DEFAULT, MOST_CYCLES, MOST_FILES, MOST_FIRST_MATCH,
+    MOST_MATCHES, PROFILE_DEFAULT, SEED_DEFAULT,
+};
+pub use worked_settings::known_settings;

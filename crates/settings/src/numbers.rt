@@ -1,13 +1,13 @@
 //! The number that a value of the command line represents.
 
 ghost use Rattle.std.specs.Prelude.{◌≡◌, ◌≤◌, ◌==◌, IfSome, slice_index};
-ghost use Rattle.settings.specs.Numbers.{number_of};
+ghost use Rattle.settings.specs.Numbers.{value_number};
 
 /// Reads a value: one or more ASCII digits, whose number is from `least` to `most`.
 ///
 /// Leading zeros are allowed, and a sign isn't. `None` if the text is no such number.
-pub fn number(text: &str, least: u64, most: u64) -> Option<u64>
-    ensures value { result ≡ number_of least most text.now }
+pub fn value_number(text: &str, least: u64, most: u64) -> Option<u64>
+    ensures value { result ≡ value_number least most text.now }
     ensures within { IfSome result (λ n. (least ≤ n) × (n ≤ most)) }
 {
     if has_plus(text) {

@@ -1,9 +1,9 @@
 //! What a run is asked to do.
 
 ghost use Rattle.std.specs.Prelude.{◌≡◌, map};
-ghost use Rattle.settings.specs.Setup.{Setup, IsSetup, setup_of};
+ghost use Rattle.settings.specs.Settings.{Settings, AreSettings, settings_of};
 
-use crate::limits::FILES_MAX;
+use crate::settings_limits::MOST_FILES;
 use arrayvec::ArrayVec;
 use grammar::Profile;
 use std::marker::Model;
@@ -37,34 +37,34 @@ pub struct Numbers {
 pub struct Settings<'a> {
     mode: Mode,
     numbers: Numbers,
-    words: ArrayVec<&'a str, FILES_MAX>,
+    file_words: ArrayVec<&'a str, MOST_FILES>,
 }
 
 impl<'a> Model for Settings<'a> {
-    ghost Value = { Setup };
+    ghost Value = { Settings };
 
-    ghost view = { λ s. setup_of s.numbers s.mode (map (λ word. word.now) s.words.items) };
+    ghost view = { λ s. settings_of s.numbers s.mode (map (λ word. word.now) s.file_words.items) };
 
-    ghost invariant = { λ s. IsSetup (view s) };
+    ghost invariant = { λ s. AreSettings (view s) };
 }
 
 impl<'a> Settings<'a> {
     /// Makes the settings of this mode, these numbers and these files.
-    pub fn new(mode: Mode, numbers: Numbers, words: ArrayVec<&'a str, FILES_MAX>) -> Settings<'a>
-        requires { IsSetup (setup_of numbers mode (map (λ word. word.now) words.items)) }
-        ensures { result ≡ setup_of numbers mode (map (λ word. word.now) words.entry.items) }
+    pub fn new(mode: Mode, numbers: Numbers, words: ArrayVec<&'a str, MOST_FILES>) -> Settings<'a>
+        requires { AreSettings (settings_of numbers mode (map (λ word. word.now) words.items)) }
+        ensures { result ≡ settings_of numbers mode (map (λ word. word.now) words.entry.items) }
     {
         Settings {
             mode,
             numbers,
-            words,
+            file_words: words,
         }
     }
 
     /// Returns whether files are listed or play matches.
     pub fn mode(&self) -> Mode
         ensures value { result ≡ self.now.mode }
-        ensures within { IsSetup self.now }
+        ensures within { AreSettings self.now }
     {
         self.mode
     }
@@ -72,7 +72,7 @@ impl<'a> Settings<'a> {
     /// Returns how many matches are played, 1 to 1,000,000. No match is played if files are listed.
     pub fn matches(&self) -> u32
         ensures value { result ≡ self.now.matches }
-        ensures within { IsSetup self.now }
+        ensures within { AreSettings self.now }
     {
         self.numbers.matches
     }
@@ -80,7 +80,7 @@ impl<'a> Settings<'a> {
     /// Returns the most cycles of a match, 1 to 1,000,000,000.
     pub fn limit(&self) -> u32
         ensures value { result ≡ self.now.limit }
-        ensures within { IsSetup self.now }
+        ensures within { AreSettings self.now }
     {
         self.numbers.limit
     }
@@ -88,7 +88,7 @@ impl<'a> Settings<'a> {
     /// Returns the seed of the random numbers.
     pub fn seed(&self) -> u64
         ensures value { result ≡ self.now.seed }
-        ensures within { IsSetup self.now }
+        ensures within { AreSettings self.now }
     {
         self.numbers.seed
     }
@@ -96,7 +96,7 @@ impl<'a> Settings<'a> {
     /// Returns the language profile of all files.
     pub fn profile(&self) -> Profile
         ensures value { result ≡ self.now.profile }
-        ensures within { IsSetup self.now }
+        ensures within { AreSettings self.now }
     {
         self.numbers.profile
     }
@@ -104,16 +104,16 @@ impl<'a> Settings<'a> {
     /// Returns the number of the first match, 1 to 1,000,000.
     pub fn first(&self) -> u32
         ensures value { result ≡ self.now.first }
-        ensures within { IsSetup self.now }
+        ensures within { AreSettings self.now }
     {
         self.numbers.first
     }
 
     /// Returns the words that name the files, one to four.
-    pub fn words(&self) -> &[&'a str]
-        ensures value { map (λ word. word.now) result.now ≡ self.now.words }
-        ensures within { IsSetup self.now }
+    pub fn file_words(&self) -> &[&'a str]
+        ensures value { map (λ word. word.now) result.now ≡ self.now.file_words }
+        ensures within { AreSettings self.now }
     {
-        self.words.as_slice()
+        self.file_words.as_slice()
     }
 }

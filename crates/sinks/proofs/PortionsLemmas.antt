@@ -4,7 +4,7 @@ use Rattle.std.specs.List.{concat, between}
 use Rattle.std.proofs.lemmas.List.{append-nil, map-append, take-append-drop, take_all, take_more, drop_all}
 use Rattle.std.proofs.lemmas.Slice.{between_to_end}
 use Rattle.std.proofs.lemmas.List.Folds.{concat-append}
-use Rattle.sinks.specs.Portions.{Portions, and_portions, Takes, TakesAllBut, TakesFront, TakesWhole, page_bytes}
+use Rattle.sinks.specs.Portions.{Portions, and_portions, Takes, TakesAllBut, TakesFront, TakesWhole, buffer_bytes}
 
 -- portions after portions
 pub and_portions_twice : (p : Portions) (xs ys : List (List ℕ)) →
@@ -36,7 +36,7 @@ one_more before now after bytes left n so_far told = record {
 
 -- nothing is left, and it was one portion if it had to be
 pub all_taken : (before after : Portions) (bytes : List ℕ) → TakesAllBut before after bytes []
-    → (TakesWhole before → 0 < length bytes → length bytes ≤ page_bytes → after ≡ and_portions before (bytes ∷ []))
+    → (TakesWhole before → 0 < length bytes → length bytes ≤ buffer_bytes → after ≡ and_portions before (bytes ∷ []))
     → Takes before after bytes
 all_taken before after bytes all one =
     record {

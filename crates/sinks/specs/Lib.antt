@@ -1,6 +1,6 @@
 pub mod Portions
 pub mod Puts
-pub mod Draft
-pub mod Recording
+pub mod Pens
+pub mod MemorySinks
 pub mod Texts
 pub mod Streams

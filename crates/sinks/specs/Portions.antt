@@ -3,8 +3,8 @@ use Rattle.std.specs.Prelude.{◌≡◌, ℕ, ◌<◌, ◌≤◌, Bool, true, Li
 use Rattle.std.specs.List.{concat}
 
 -- the most bytes of a text that is put by one call: those of a pen's page
-abbrev pub page_bytes : ℕ
-page_bytes = 512
+abbrev pub buffer_bytes : ℕ
+buffer_bytes = 512
 
 -- the portions that a sink took so far, and whether it takes each put whole: all bytes of a call, if it succeeds
 pub record Contents : Type 0 where
@@ -36,7 +36,8 @@ pub record Takes (before after : Portions) (bytes : List ℕ) : Type 0 where
   pub portions : List (List ℕ)
   pub told : after ≡ and_portions before portions
   pub joined : concat portions ≡ bytes
-  pub one : TakesWhole before → 0 < length bytes → length bytes ≤ page_bytes → after ≡ and_portions before (bytes ∷ [])
+  pub one : TakesWhole before → 0 < length bytes → length bytes ≤ buffer_bytes →
+      after ≡ and_portions before (bytes ∷ [])
 
 -- it took these bytes but for the ones that are left at their end
 pub record TakesAllBut (before after : Portions) (bytes left : List ℕ) : Type 0 where

@@ -8,6 +8,6 @@ abbrev pub real_stream : ℕ → Written
 real_stream failures = record { portions = None; failures = failures }
 
 -- A write added the bytes that it took to those of the writer. A write that failed added none.
-pub record AddsTo {E : Type 0} (result : Result ℕ E) (bytes : List ℕ) (before after : Option (List ℕ)) : Type 0 where
+pub record AddsBytes {E : Type 0} (result : Result ℕ E) (bytes : List ℕ) (before after : Option (List ℕ)) : Type 0 where
   pub added : IfOk result (λ n. Appends before after (take n bytes))
   pub kept : OnErr result (Keeps before after)

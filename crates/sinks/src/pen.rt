@@ -3,7 +3,7 @@
 ghost use Rattle.std.specs.Prelude.{◌≡◌, ℕ, ◌+◌, ◌-◌, ◌^◌, ◌<◌, ◌≤◌, List, [], ◌∷◌, ◌++◌, length, OnOk, OnErr, true, false};
 ghost use Rattle.sinks.specs.Portions.{Written};
 ghost use Rattle.sinks.specs.Puts.{Puts};
-ghost use Rattle.sinks.specs.Draft.{Draft, blank, MayFail, PutsSoFar, WritesSoFar, Adds};
+ghost use Rattle.sinks.specs.Pens.{Pen, new_pen, MayFail, PutsSoFar, WritesSoFar, Adds};
 
 use crate::sink::{Sink, put_all};
 use arrayvec::ArrayVec;
@@ -11,31 +11,31 @@ use std::marker::Model;
 use tokens::DeviceFault;
 
 /// The bytes of a pen's page.
-pub const PAGE: usize = 512;
+pub const BUFFER_BYTES: usize = 512;
 
 /// Gathers the fragments of one piece on a page and puts the page on a sink when it is full.
 ///
-/// A failure is kept until `done` answers it: from then on nothing more is put. The page ends with the piece, so no
+/// A failure is kept until `finish` answers it: from then on nothing more is put. The page ends with the piece, so no
 /// write mixes two pieces. Each call takes the same sink.
 pub struct Pen {
-    page: ArrayVec<u8, PAGE>,
+    buffer: ArrayVec<u8, BUFFER_BYTES>,
     failed: bool,
 }
 
 impl Model for Pen {
-    ghost Value = { Draft };
+    ghost Value = { Pen };
 
-    ghost view = { λ pen. record { page = pen.page.items; failed = pen.failed } };
+    ghost view = { λ pen. record { buffer = pen.buffer.items; failed = pen.failed } };
 }
 
 impl Pen {
     /// Makes a pen at the begin of a piece.
     pub fn new() -> Pen
-        ensures blank { result ≡ blank }
+        ensures blank { result ≡ new_pen }
         ensures text { (now : Written) → WritesSoFar now now result [] }
     {
         Pen {
-            page: ArrayVec::new(),
+            buffer: ArrayVec::new(),
             failed: false,
         }
     }
@@ -46,50 +46,50 @@ impl Pen {
         ensures countable { MayFail self.new (S.written sink.new) }
         ensures text { Adds (S.written sink.old) self.old (S.written sink.new) self.new bytes.now }
     {
-        if bytes.len() > self.page.remaining_capacity() {
-            self.turn(sink);
+        if bytes.len() > self.buffer.remaining_capacity() {
+            self.flush_buffer(sink);
         }
-        if bytes.len() > PAGE {
-            self.put(sink, bytes);
+        if bytes.len() > BUFFER_BYTES {
+            self.put_unbuffered(sink, bytes);
         } else if !self.failed {
-            let _ = self.page.try_extend_from_slice(bytes);
+            let _ = self.buffer.try_extend_from_slice(bytes);
         }
     }
 
     /// Adds a byte to the piece.
     #[inline(always)]
-    pub fn push<S: Sink>(&mut self, sink: &mut S, byte: u8)
+    pub fn add_byte<S: Sink>(&mut self, sink: &mut S, byte: u8)
         requires { MayFail self.old (S.written sink.old) }
         ensures countable { MayFail self.new (S.written sink.new) }
         ensures text { Adds (S.written sink.old) self.old (S.written sink.new) self.new (byte ∷ []) }
     {
-        if self.page.remaining_capacity() == 0 {
-            self.turn(sink);
+        if self.buffer.remaining_capacity() == 0 {
+            self.flush_buffer(sink);
         }
         if !self.failed {
-            self.page.push(byte);
+            self.buffer.push(byte);
         }
     }
 
     /// Puts the page and begins a new one.
-    fn turn<S: Sink>(&mut self, sink: &mut S)
+    fn flush_buffer<S: Sink>(&mut self, sink: &mut S)
         requires { MayFail self.old (S.written sink.old) }
         ensures countable { MayFail self.new (S.written sink.new) }
         ensures text { (before : Written) (text : List ℕ)
             → PutsSoFar before (S.written sink.old) self.old text
             → PutsSoFar before (S.written sink.new) self.new text }
-        ensures empty { self.new.failed ≡ false → self.new.page ≡ [] }
+        ensures empty { self.new.failed ≡ false → self.new.buffer ≡ [] }
     {
         if !self.failed {
-            self.failed = put_all(sink, self.page.as_slice()).is_err();
-            self.page.clear();
+            self.failed = put_all(sink, self.buffer.as_slice()).is_err();
+            self.buffer.clear();
         }
     }
 
     /// Puts a fragment after an empty page.
-    fn put<S: Sink>(&mut self, sink: &mut S, bytes: &[u8])
+    fn put_unbuffered<S: Sink>(&mut self, sink: &mut S, bytes: &[u8])
         requires countable { MayFail self.old (S.written sink.old) }
-        requires empty { self.old.failed ≡ false → self.old.page ≡ [] }
+        requires empty { self.old.failed ≡ false → self.old.buffer ≡ [] }
         ensures countable { MayFail self.new (S.written sink.new) }
         ensures text { (before : Written) (text : List ℕ)
             → PutsSoFar before (S.written sink.old) self.old text
@@ -101,16 +101,16 @@ impl Pen {
     }
 
     /// Ends the piece: puts what is on the page, and answers whether the sink took the whole piece.
-    pub fn done<S: Sink>(self, sink: &mut S) -> Result<(), DeviceFault>
+    pub fn finish<S: Sink>(self, sink: &mut S) -> Result<(), DeviceFault>
         requires { MayFail self (S.written sink.old) }
         ensures { (before : Written) (text : List ℕ)
             → WritesSoFar before (S.written sink.old) self text
             → Puts result before (S.written sink.new) text }
     {
-        let Pen { page, failed } = self;
+        let Pen { buffer, failed } = self;
         if failed {
             return Err(DeviceFault);
         }
-        put_all(sink, page.as_slice())
+        put_all(sink, buffer.as_slice())
     }
 }

@@ -2,7 +2,7 @@
 
 ghost use Rattle.std.specs.Prelude.{◌≡◌, ◌<◌, length, IfOk};
 ghost use Rattle.sinks.specs.Puts.{CanFail, CountsSink, TakesPortion};
-ghost use Rattle.sinks.specs.Streams.{AddsTo, real_stream};
+ghost use Rattle.sinks.specs.Streams.{AddsBytes, real_stream};
 
 use crate::sink::Sink;
 use std::io::Write;
@@ -36,7 +36,7 @@ impl<W: Write> Sink for StreamSink<W> {
         ensures takes { IfOk result (TakesPortion (real_stream self.old.failures) (real_stream self.new.failures)
             bytes.now) }
         ensures count { CountsSink result (real_stream self.old.failures) (real_stream self.new.failures) }
-        ensures bytes { AddsTo result bytes.now (W.contents self.old.stream) (W.contents self.new.stream) }
+        ensures bytes { AddsBytes result bytes.now (W.contents self.old.stream) (W.contents self.new.stream) }
     {
         match self.stream.write(bytes) {
             Ok(n) if n > 0 => Ok(n),

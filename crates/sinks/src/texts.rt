@@ -2,7 +2,7 @@
 
 ghost use Rattle.std.specs.Prelude.{◌≡◌, ℕ, ◌+◌, ◌-◌, ◌^◌, ◌<◌, ◌≤◌, List, [], ◌∷◌, ◌++◌, length, OnOk, OnErr, decimal, replicate};
 ghost use Rattle.sinks.specs.Puts.{CanFail, Puts};
-ghost use Rattle.sinks.specs.Draft.{Draft, MayFail, Adds};
+ghost use Rattle.sinks.specs.Pens.{Pen, MayFail, Adds};
 ghost use Rattle.sinks.specs.Texts.{file_name, column, diagnostic_line};
 
 use crate::pen::Pen;
@@ -11,45 +11,45 @@ use tokens::DeviceFault;
 
 impl Pen {
     /// Adds a number in decimal.
-    pub fn number<S: Sink>(&mut self, sink: &mut S, n: u32)
+    pub fn add_number<S: Sink>(&mut self, sink: &mut S, n: u32)
         requires { MayFail self.old (S.written sink.old) }
         ensures countable { MayFail self.new (S.written sink.new) }
         ensures text { Adds (S.written sink.old) self.old (S.written sink.new) self.new (decimal n) }
     {
         if n >= 10 {
-            self.number(sink, n / 10);
+            self.add_number(sink, n / 10);
         }
-        self.push(sink, b'0' + (n % 10) as u8);
+        self.add_byte(sink, b'0' + (n % 10) as u8);
     }
 
     /// Adds a number in decimal, and spaces before it up to the width.
-    pub fn column<S: Sink>(&mut self, sink: &mut S, width: usize, n: u32)
+    pub fn add_column<S: Sink>(&mut self, sink: &mut S, width: usize, n: u32)
         requires { MayFail self.old (S.written sink.old) }
         ensures countable { MayFail self.new (S.written sink.new) }
         ensures text { Adds (S.written sink.old) self.old (S.written sink.new) self.new (column width n) }
     {
         if n >= 10 {
-            self.column(sink, width.saturating_sub(1), n / 10);
+            self.add_column(sink, width.saturating_sub(1), n / 10);
         } else {
-            self.spaces(sink, width.saturating_sub(1));
+            self.add_spaces(sink, width.saturating_sub(1));
         }
-        self.push(sink, b'0' + (n % 10) as u8);
+        self.add_byte(sink, b'0' + (n % 10) as u8);
     }
 
     /// Adds so many spaces.
-    fn spaces<S: Sink>(&mut self, sink: &mut S, count: usize)
+    fn add_spaces<S: Sink>(&mut self, sink: &mut S, count: usize)
         requires { MayFail self.old (S.written sink.old) }
         ensures countable { MayFail self.new (S.written sink.new) }
         ensures text { Adds (S.written sink.old) self.old (S.written sink.new) self.new (replicate count 32) }
     {
         for _ in 0..count {
-            self.push(sink, b' ');
+            self.add_byte(sink, b' ');
         }
     }
 }
 
 /// Returns the name that texts give the file of this word: the word after its last `/`.
-pub fn name_of(word: &[u8]) -> &[u8]
+pub fn file_name(word: &[u8]) -> &[u8]
     ensures { result.now ≡ file_name word.now }
 {
     let mut start = word.len();
@@ -73,9 +73,9 @@ pub fn put_diagnostic<S: Sink>(
     let mut pen = Pen::new();
     pen.add(sink, name);
     pen.add(sink, b":");
-    pen.number(sink, line);
+    pen.add_number(sink, line);
     pen.add(sink, b": ");
     pen.add(sink, text);
     pen.add(sink, b"\n");
-    pen.done(sink)
+    pen.finish(sink)
 }

@@ -5,7 +5,7 @@ use facts::Facts;
 use grammar::{Diagnostic, ParseFault, Pools};
 use parser::parse;
 use std::alloc::{AllocError, Global};
-use tokens::{DeviceFault, Pieces, WINDOW};
+use tokens::{DeviceFault, MemoryFeed, WINDOW_BYTES};
 use tools::{Compiled, compile};
 use trees::TreeMaker;
 
@@ -31,7 +31,7 @@ impl From<AllocError> for CompileFault {
 
 /// Compiles a source by a profile. A source in memory never fails to be read.
 pub fn compiled(source: &[u8], profile: Profile) -> Result<Compiled, CompileFault> {
-    match compile(profile, &mut Pieces::new(source, WINDOW)) {
+    match compile(profile, &mut MemoryFeed::new(source, WINDOW_BYTES)) {
         Ok(Ok(made)) => Ok(made),
         Ok(Err(diagnostic)) => Err(CompileFault::Source(diagnostic)),
         Err(DeviceFault) => Err(CompileFault::Memory),
@@ -50,7 +50,7 @@ pub struct FileTrees {
 /// Makes the trees of a source by a profile.
 pub fn grown(alloc: Global, source: &[u8], profile: Profile) -> Result<FileTrees, CompileFault> {
     let mut maker = TreeMaker::new(alloc, profile);
-    match parse(&mut Pieces::new(source, WINDOW), &mut maker) {
+    match parse(&mut MemoryFeed::new(source, WINDOW_BYTES), &mut maker) {
         Ok(names) => Ok(FileTrees { maker, names }),
         Err(fault) => Err(fault_of(fault)),
     }

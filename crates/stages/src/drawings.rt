@@ -1,11 +1,11 @@
 //! Trees as text: indented, and as a graph in the language of Graphviz.
 
-use crate::nodes::Nodes;
+use crate::nodes::TreeNodes;
 use std::alloc::{AllocError, Global};
 use tools::{Draft, Text};
 
 /// Returns a line for each node, indented by two blanks for each node above it.
-pub fn indented(alloc: Global, nodes: &Nodes) -> Result<String, AllocError> {
+pub fn indented(alloc: Global, nodes: &TreeNodes) -> Result<String, AllocError> {
     let mut text = Draft::new(alloc);
     for node in nodes.as_slice() {
         for _ in 0..node.depth {
@@ -18,7 +18,7 @@ pub fn indented(alloc: Global, nodes: &Nodes) -> Result<String, AllocError> {
 }
 
 /// Returns a graph of the nodes, in the language of Graphviz. No label has a quote or a backslash.
-pub fn graph(alloc: Global, nodes: &Nodes) -> Result<String, AllocError> {
+pub fn graph(alloc: Global, nodes: &TreeNodes) -> Result<String, AllocError> {
     let mut text = Draft::new(alloc);
     text.add("digraph tree {\n  node [shape=box, fontname=\"monospace\"];\n");
     for (index, node) in nodes.as_slice().iter().enumerate() {

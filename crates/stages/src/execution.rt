@@ -1,6 +1,6 @@
 //! The cycles of a program's machine.
 
-ghost use Rattle.code.specs.Standing.{FitsProgram};
+ghost use Rattle.code.specs.ReachedMachines.{FitsProgram};
 
 use crate::spelling::{instruction_at, name_at};
 use crate::texts::ascii;
@@ -135,10 +135,10 @@ fn add_question(text: &mut Draft, intrinsic: Intrinsic, arguments: [i32; 2]) {
     text.add(intrinsic.name());
     text.add("(");
     let [first, second] = arguments;
-    if intrinsic.arguments() > 0 {
+    if intrinsic.argument_count() > 0 {
         add_signed(text, i64::from(first));
     }
-    if intrinsic.arguments() > 1 {
+    if intrinsic.argument_count() > 1 {
         text.add(", ");
         add_signed(text, i64::from(second));
     }

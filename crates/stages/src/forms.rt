@@ -1,7 +1,7 @@
 //! What is asked for by the words of the command line.
 
 use grammar::Profile;
-use settings::number;
+use settings::value_number;
 use std::alloc::Global;
 use tools::{Fault, Known, Options, number_of, profile};
 
@@ -122,8 +122,8 @@ fn replies_of(alloc: Global, options: &Options<'_>) -> Result<Vec<i32>, Fault> {
 /// Reads a reply: one or more digits, maybe with a `-` before them.
 fn reply_of(word: &str) -> Option<i32> {
     let value = match word.strip_prefix('-') {
-        Some(digits) => -i64::try_from(number(digits, 0, 2_147_483_648)?).ok()?,
-        None => i64::try_from(number(word, 0, 2_147_483_647)?).ok()?,
+        Some(digits) => -i64::try_from(value_number(digits, 0, 2_147_483_648)?).ok()?,
+        None => i64::try_from(value_number(word, 0, 2_147_483_647)?).ok()?,
     };
     i32::try_from(value).ok()
 }

@@ -1,21 +1,23 @@
 //! What the nodes of a tree are called: names stand beside their numbers.
 
 use crate::texts::text_of;
-use grammar::{Callee, Function, Name, Pools, StoreOp, Var, operator_punctuator, store_punctuator};
+use grammar::{
+    Callee, FunctionNames, Name, Pools, StoreOp, Var, operator_punctuator, store_punctuator,
+};
 use tools::{Draft, Text, add_signed};
 use trees::{Expr, Statement};
 
 /// The names that a function's tree speaks of by number.
 #[derive(Clone, Copy)]
-pub struct Scope<'a> {
+pub struct FunctionLabels<'a> {
     names: &'a Pools,
     variables: &'a [Name],
 }
 
-impl<'a> Scope<'a> {
+impl<'a> FunctionLabels<'a> {
     /// Makes the scope of a function: its names are among those of its file.
-    pub fn new(names: &'a Pools, function: &'a Function) -> Scope<'a> {
-        Scope {
+    pub fn new(names: &'a Pools, function: &'a FunctionNames) -> FunctionLabels<'a> {
+        FunctionLabels {
             names,
             variables: function.variables(),
         }
@@ -53,7 +55,7 @@ pub fn statement_label(statement: &Statement) -> &'static str {
 }
 
 /// Adds the label of an expression.
-pub fn add_expression(label: &mut Draft, scope: &Scope<'_>, expression: &Expr) {
+pub fn add_expression(label: &mut Draft, scope: &FunctionLabels<'_>, expression: &Expr) {
     match expression {
         Expr::Constant(value) => {
             label.add("constant ");
@@ -85,7 +87,7 @@ pub fn add_expression(label: &mut Draft, scope: &Scope<'_>, expression: &Expr) {
 }
 
 /// Adds words, a variable's number and its name.
-pub fn add_variable(label: &mut Draft, scope: &Scope<'_>, words: &str, variable: Var) {
+pub fn add_variable(label: &mut Draft, scope: &FunctionLabels<'_>, words: &str, variable: Var) {
     let name = scope.variable(variable);
     label.add(words);
     match variable {

@@ -21,7 +21,7 @@ use crate::compiled::{CompileFault, compiled, grown, known};
 use crate::drawings::{graph, indented};
 use crate::execution::execution;
 use crate::forms::{Form, OPTIONS, Request};
-use crate::nodes::Nodes;
+use crate::nodes::TreeNodes;
 use crate::origins::Origins;
 use crate::pages::page;
 use crate::token_rows::token_rows;
@@ -29,12 +29,12 @@ use facts::add_rows;
 use std::alloc::Global;
 use std::process::ExitCode;
 use tools::{
-    Draft, Fault, Frame, Options, PROFILE_OPTIONS, Work, name_of, source_of, tell_diagnostic,
-    write_text,
+    Draft, Fault, Options, PROFILE_OPTIONS, ProgramFrame, Work, name_of, source_of,
+    tell_diagnostic, write_text,
 };
 
 /// The program's name, its line of wrong usage, and its options.
-const FRAME: Frame = Frame {
+const FRAME: ProgramFrame = ProgramFrame {
     name: "crobots-stages",
     about: "Shows what the compiler makes of a robot, stage by stage.",
     usage: "(--tokens | --tree | --dot | --code | --bounds | --html | --run CYCLES [--replies LIST]) [-pPROFILE] FILE",
@@ -100,9 +100,9 @@ fn shown(alloc: Global, request: &Request<'_>, source: &[u8]) -> Result<String, 
 }
 
 /// Returns the nodes of a source's tree.
-fn tree(alloc: Global, request: &Request<'_>, source: &[u8]) -> Result<Nodes, CompileFault> {
+fn tree(alloc: Global, request: &Request<'_>, source: &[u8]) -> Result<TreeNodes, CompileFault> {
     let grown = grown(alloc, source, request.profile)?;
-    Ok(Nodes::of(alloc, &grown)?)
+    Ok(TreeNodes::of(alloc, &grown)?)
 }
 
 /// Returns the lines of a source's instructions.

@@ -1,7 +1,7 @@
 //! The nodes of a file's tree, from the root down.
 
 use crate::compiled::FileTrees;
-use crate::labels::{Scope, add_expression, add_named, add_variable, statement_label};
+use crate::labels::{FunctionLabels, add_expression, add_named, add_variable, statement_label};
 use crate::texts::text_of;
 use grammar::Var;
 use std::alloc::{AllocError, Global};
@@ -10,7 +10,7 @@ use trees::{Expr, Function, Statement};
 
 /// A node of a tree.
 #[derive(Drop)]
-pub struct Node {
+pub struct TreeNode {
     /// What it is.
     pub label: String,
     /// The index of the node above it. The root is above itself.
@@ -21,9 +21,9 @@ pub struct Node {
 
 /// The nodes of a tree, each below one that comes before it.
 #[derive(Drop)]
-pub struct Nodes {
+pub struct TreeNodes {
     alloc: Global,
-    nodes: Vec<Node>,
+    nodes: Vec<TreeNode>,
 }
 
 /// A part of a function's tree, which becomes a node.
@@ -44,10 +44,10 @@ struct Pending<'a> {
     parent: usize,
 }
 
-impl Nodes {
+impl TreeNodes {
     /// Makes the nodes of a file: its externals, and its functions in the order of their definitions.
-    pub fn of(alloc: Global, grown: &FileTrees) -> Result<Nodes, AllocError> {
-        let mut nodes = Nodes {
+    pub fn of(alloc: Global, grown: &FileTrees) -> Result<TreeNodes, AllocError> {
+        let mut nodes = TreeNodes {
             alloc,
             nodes: Vec::new(alloc),
         };
@@ -66,7 +66,7 @@ impl Nodes {
     }
 
     /// Returns the nodes, the root first.
-    pub fn as_slice(&self) -> &[Node] {
+    pub fn as_slice(&self) -> &[TreeNode] {
         self.nodes.as_slice()
     }
 
@@ -77,7 +77,7 @@ impl Nodes {
             None => 0,
         };
         let index = self.nodes.len();
-        self.nodes.push(Node {
+        self.nodes.push(TreeNode {
             label: label.finish()?,
             parent,
             depth,
@@ -96,7 +96,7 @@ impl Nodes {
         let Some(function) = grown.names.functions().get(usize::from(number)) else {
             return Ok(());
         };
-        let scope = Scope::new(&grown.names, function);
+        let scope = FunctionLabels::new(&grown.names, function);
         let mut label = Draft::new(self.alloc);
         add_named(
             &mut label,
@@ -122,7 +122,7 @@ impl Nodes {
     fn add_statements(
         &mut self,
         node: usize,
-        scope: &Scope<'_>,
+        scope: &FunctionLabels<'_>,
         statements: &[Statement],
     ) -> Result<(), AllocError> {
         let mut agenda = Agenda {
@@ -144,7 +144,7 @@ impl Nodes {
 }
 
 /// Adds the label of a part.
-fn add_label(label: &mut Draft, scope: &Scope<'_>, part: Part<'_>) {
+fn add_label(label: &mut Draft, scope: &FunctionLabels<'_>, part: Part<'_>) {
     match part {
         Part::Body(word, _) => label.add(word),
         Part::Statement(statement) => label.add(statement_label(statement)),

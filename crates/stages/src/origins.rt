@@ -1,6 +1,6 @@
 //! The line of a source that each instruction of its program comes from.
 
-use derivations::{Place, lines};
+use derivations::{SourcePosition, lines};
 use grammar::Profile;
 use std::alloc::{AllocError, Global};
 
@@ -27,7 +27,7 @@ impl Origins {
     }
 
     /// Adds the lines of these places, of which each is an instruction's.
-    fn add(&mut self, places: &[Place]) -> Result<(), AllocError> {
+    fn add(&mut self, places: &[SourcePosition]) -> Result<(), AllocError> {
         for (address, place) in places.iter().enumerate() {
             self.lines.push(place.line)?;
             self.by_line.push((place.line, address))?;

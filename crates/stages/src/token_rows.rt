@@ -3,7 +3,7 @@
 use derivations::{Located, locate};
 use std::alloc::{AllocError, Global};
 use std::str;
-use tokens::{Token, Word};
+use tokens::{Keyword, Token};
 use tools::{Draft, Text, add_left, add_right};
 
 /// Returns a line for each token of a source, the end among them: its line, its column in bytes, both from 1, its kind,
@@ -38,9 +38,9 @@ fn add_row(text: &mut Draft, source: &[u8], located: &Located) {
 fn kind_of(token: &Token) -> &'static str {
     match token {
         Token::Name(_) => "name",
-        Token::Word(Word::Type) => "type",
-        Token::Word(Word::Refused) => "reserved",
-        Token::Word(_) => "keyword",
+        Token::Keyword(Keyword::Type) => "type",
+        Token::Keyword(Keyword::Refused) => "reserved",
+        Token::Keyword(_) => "keyword",
         Token::Constant(_) => "constant",
         Token::Punctuator(_) => "punctuator",
         Token::End => "end",

@@ -8,21 +8,21 @@ use Rattle.std.proofs.lemmas.List.Folds.{prefix_len-append}
 use Rattle.std.proofs.lemmas.List.Sums.{sum_by-cons}
 use Rattle.tokens.specs.Characters.{is_digit, is_name_byte}
 use Rattle.tokens.specs.Front.{name_token}
-use Rattle.tokens.specs.Tokens.{line_behind, passed, placed}
-use Rattle.tokens.specs.Window.{Held, ahead, behind, later}
-use Rattle.tokens.specs.Lexing.{to_read, followed, ending, in_run, in_name, name_going_on, in_constant, constant_going_on, value_token, in_punctuator, BeginsName, BeginsConstant, EndsBefore}
+use Rattle.tokens.specs.Tokens.{line_after, ahead_after, located}
+use Rattle.tokens.specs.Window.{Window, ahead, window_after, later}
+use Rattle.tokens.specs.Lexing.{to_read, followed, token_ending, in_token_run, in_name, name_going_on, in_constant, constant_going_on, value_token, in_punctuator, BeginsName, BeginsConstant, EndsBefore}
 use Rattle.tokens.specs.declared.located_tokens.Punctuator.{Punctuator}
 use Rattle.tokens.specs.declared.located_tokens.Token.{Token}
 use Rattle.tokens.specs.declared.located_tokens.Token.TheVariants as variant
 use Rattle.tokens.specs.declared.located_tokens.LocatedToken.{LocatedToken}
 use Rattle.tokens.specs.declared.windows.Beyond.{Beyond}
-use Rattle.tokens.proofs.WindowLemmas.{held, behind-is}
-use Rattle.tokens.proofs.TokenLemmas.{chosen, no_line, punctuator-whole, punctuator-ended}
+use Rattle.tokens.proofs.WindowLemmas.{held, window_after-is}
+use Rattle.tokens.proofs.TokenLemmas.{chosen, no_line, punctuator_front-whole, punctuator_front-ended}
 
 -- a run that ends within the first bytes ends there whatever follows
-run-within : (test : ℕ → Bool) (xs ys : List ℕ) → prefix_len test xs < length xs →
+token_run-within : (test : ℕ → Bool) (xs ys : List ℕ) → prefix_len test xs < length xs →
     prefix_len test (xs ++ ys) ≡ prefix_len test xs
-run-within test xs ys h =
+token_run-within test xs ys h =
     prefix_len-append test xs ys ∙
     cond-false _ _ _ (ne_eqb (prefix_len test xs) (length xs) (λ same. omega (arith, same, h)))
 
@@ -44,43 +44,44 @@ no_lines test e (b ∷ xs) = by (test b) refl (no_lines test e xs)
     by false h f = refl
 
 -- what lies ahead behind some of the bytes at hand
-ahead-behind : (n line place taken : ℕ) (xs to_come : List ℕ) (beyond : Beyond) → n ≤ length xs →
-    ahead (behind n (held line place xs taken beyond)) to_come ≡
-    passed n (ahead (held line place xs taken beyond) to_come)
-ahead-behind zero line place taken xs to_come beyond h = refl
-ahead-behind (suc n) line place taken [] to_come beyond h = absurd (omega (arith, h))
-ahead-behind (suc n) line place taken (b ∷ xs) to_come beyond h =
-    ahead-behind n (line_behind b line) (place + 1) taken xs to_come beyond (omega (arith, h))
+ahead-window_after : (n line place taken : ℕ) (xs to_come : List ℕ) (beyond : Beyond) → n ≤ length xs →
+    ahead (window_after n (held line place xs taken beyond)) to_come ≡
+    ahead_after n (ahead (held line place xs taken beyond) to_come)
+ahead-window_after zero line place taken xs to_come beyond h = refl
+ahead-window_after (suc n) line place taken [] to_come beyond h = absurd (omega (arith, h))
+ahead-window_after (suc n) line place taken (b ∷ xs) to_come beyond h =
+    ahead-window_after n (line_after b line) (place + 1) taken xs to_come beyond (omega (arith, h))
 
 -- a run that ends at hand is passed at once
-pub run-at_hand : (test : ℕ → Bool) (token_of : List ℕ → Token) (located_token : LocatedToken) (here new : Held)
+pub token_run-at_hand : (test : ℕ → Bool) (token_of : List ℕ → Token) (located_token : LocatedToken) (here new : Window)
     (told : Option (List ℕ)) → test 10 ≡ false → prefix_len test here.at_hand < length here.at_hand →
-    new ≡ behind (prefix_len test here.at_hand) here →
+    new ≡ window_after (prefix_len test here.at_hand) here →
     located_token ≡
-    (record { token = token_of (take (prefix_len test here.at_hand) here.at_hand); line = new.line; end = new.place })
-    → to_read (followed located_token) new told ≡ to_read (in_run test token_of) here told
-unfolding to_read in_run
-run-at_hand test token_of located_token here new None n h p x = refl
-run-at_hand test token_of located_token here new (Some to_come) n h p x =
+    (record { token = token_of (take (prefix_len test here.at_hand) here.at_hand); line = new.line; end = new.offset })
+    → to_read (followed located_token) new told ≡ to_read (in_token_run test token_of) here told
+unfolding to_read in_token_run
+token_run-at_hand test token_of located_token here new None n h p x = refl
+token_run-at_hand test token_of located_token here new (Some to_come) n h p x =
     let xs = here.at_hand in
     let ys = later here.beyond here.taken to_come in
-    let at = p ∙ behind-is here.line here.place here.taken here.beyond (prefix_len test xs) xs (omega (arith, h)) in
+    let at =
+    p ∙ window_after-is here.line here.offset here.taken here.beyond (prefix_len test xs) xs (omega (arith, h)) in
     let line : new.line ≡ here.line =
     ap (λ s. s.line) at ∙ ap (λ k. here.line + k) (no_lines test n xs) ∙ omega arith in
-    let place : new.place ≡ here.place + prefix_len test xs = ap (λ s. s.place) at in
-    let run = run-within test xs ys h in
+    let place : new.offset ≡ here.offset + prefix_len test xs = ap (λ s. s.offset) at in
+    let run = token_run-within test xs ys h in
     let bytes = take-append-le (prefix_len test xs) xs ys (omega (arith, h)) in
-    let same : placed (token_of (take (prefix_len test (xs ++ ys)) (xs ++ ys))) (prefix_len test (xs ++ ys))
+    let same : located (token_of (take (prefix_len test (xs ++ ys)) (xs ++ ys))) (prefix_len test (xs ++ ys))
     (ahead here to_come) ≡ located_token =
     rw (x, run, bytes, line, place) refl in
-    let behind =
+    let window_after =
     ap (λ s. ahead s to_come) p ∙
-    ahead-behind (prefix_len test xs) here.line here.place here.taken xs to_come here.beyond (omega (arith, h)) ∙
-    ap (λ k. passed k (ahead here to_come)) (sym run) in
-    ap₂ (λ l a. Some (followed l a)) (sym same) behind
+    ahead-window_after (prefix_len test xs) here.line here.offset here.taken xs to_come here.beyond (omega (arith, h)) ∙
+    ap (λ k. ahead_after k (ahead here to_come)) (sym run) in
+    ap₂ (λ l a. Some (followed l a)) (sym same) window_after
 
-abbrev at : Token → Held → LocatedToken
-at token new = record { token = token; line = new.line; end = new.place }
+abbrev at : Token → Window → LocatedToken
+at token new = record { token = token; line = new.line; end = new.offset }
 
 name-count : (first len : ℕ) (xs name : List ℕ) → len ≡ length name → BeginsName first xs name →
     len - 1 ≡ prefix_len is_name_byte xs
@@ -89,31 +90,32 @@ name-count first len xs name l n =
     omega (arith, l, ap length n.is, whole)
 
 -- a name that ends at hand
-pub name-in_line : (first len : ℕ) (rest name : List ℕ) (here : Held) → rest ≡ here.at_hand → len ≡ length name →
+pub name-in_line : (first len : ℕ) (rest name : List ℕ) (here : Window) → rest ≡ here.at_hand → len ≡ length name →
     BeginsName first rest name → count_by (λ b. eqb b 10) (take (len - 1) here.at_hand) ≡ 0
 name-in_line first len rest name here r l n =
     let count = name-count first len here.at_hand name l (subst (λ (xs : List ℕ). BeginsName first xs name) r n) in
     ap (λ k. count_by (λ b. eqb b 10) (take k here.at_hand)) count ∙ no_lines is_name_byte refl here.at_hand
 
-pub name-at_hand : (first len : ℕ) (rest name : List ℕ) (located_token : LocatedToken) (here new : Held)
+pub name-at_hand : (first len : ℕ) (rest name : List ℕ) (located_token : LocatedToken) (here new : Window)
     (told : Option (List ℕ)) → rest ≡ here.at_hand → len ≡ length name → BeginsName first rest name →
-    new ≡ behind (len - 1) here → located_token ≡ at (name_going_on name false []) new →
+    new ≡ window_after (len - 1) here → located_token ≡ at (name_going_on name false []) new →
     to_read (followed located_token) new told ≡ to_read (in_name (first ∷ []) false) here told
 name-at_hand first len rest name located_token here new told r l n p x =
     let run = subst (λ (xs : List ℕ). BeginsName first xs name) r n in
     let count = name-count first len here.at_hand name l run in
-    run-at_hand is_name_byte (name_going_on (first ∷ []) false) located_token here new told refl run.ended
-    (p ∙ ap (λ k. behind k here) count) (x ∙ ap (λ bytes. at (name_token bytes) new) (append-nil name ∙ run.is))
+    token_run-at_hand is_name_byte (name_going_on (first ∷ []) false) located_token here new told refl run.ended
+    (p ∙ ap (λ k. window_after k here) count) (x ∙ ap (λ bytes. at (name_token bytes) new) (append-nil name ∙ run.is))
 
 -- a constant that ends at hand
-pub constant-in_line : (first value count : ℕ) (rest : List ℕ) (here : Held) → rest ≡ here.at_hand →
+pub constant-in_line : (first value count : ℕ) (rest : List ℕ) (here : Window) → rest ≡ here.at_hand →
     BeginsConstant first rest value count → count_by (λ b. eqb b 10) (take count here.at_hand) ≡ 0
 constant-in_line first value count rest here r n =
     let run = subst (λ (xs : List ℕ). BeginsConstant first xs value count) r n in
     ap (λ k. count_by (λ b. eqb b 10) (take k here.at_hand)) run.digits ∙ no_lines is_digit refl here.at_hand
 
-pub constant-at_hand : (first value count : ℕ) (rest : List ℕ) (located_token : LocatedToken) (here new : Held)
-    (told : Option (List ℕ)) → rest ≡ here.at_hand → BeginsConstant first rest value count → new ≡ behind count here →
+pub constant-at_hand : (first value count : ℕ) (rest : List ℕ) (located_token : LocatedToken) (here new : Window)
+    (told : Option (List ℕ)) → rest ≡ here.at_hand → BeginsConstant first rest value count →
+    new ≡ window_after count here →
     located_token ≡ at (variant.Constant value) new →
     to_read (followed located_token) new told ≡ to_read (in_constant (first - 48)) here told
 constant-at_hand first value count rest located_token here new told r n p x =
@@ -122,15 +124,15 @@ constant-at_hand first value count rest located_token here new told r n p x =
     let token : variant.Constant value ≡
     constant_going_on (first - 48) (take (prefix_len is_digit here.at_hand) here.at_hand) =
     sym fits ∙ ap value_token run.is ∙ ap (λ k. constant_going_on (first - 48) (take k here.at_hand)) run.digits in
-    run-at_hand is_digit (constant_going_on (first - 48)) located_token here new told refl
-    (omega (arith, run.digits, run.ended)) (p ∙ ap (λ k. behind k here) run.digits) (x ∙ ap (λ t. at t new) token)
+    token_run-at_hand is_digit (constant_going_on (first - 48)) located_token here new told refl
+    (omega (arith, run.digits, run.ended)) (p ∙ ap (λ k. window_after k here) run.digits) (x ∙ ap (λ t. at t new) token)
 
 -- a punctuator ends before this byte, or before any
-pub punctuator-ends_before : (punctuator : Punctuator) (located_token : LocatedToken) (here : Held)
+pub punctuator_front-ends_before : (punctuator : Punctuator) (located_token : LocatedToken) (here : Window)
     (told : Option (List ℕ)) (first : Option ℕ) → first ≡ slice_get here.at_hand 0 → EndsBefore punctuator first →
-    ((to_come : List ℕ) → located_token ≡ ending (variant.Punctuator punctuator) (ahead here to_come)) →
+    ((to_come : List ℕ) → located_token ≡ token_ending (variant.Punctuator punctuator) (ahead here to_come)) →
     to_read (followed located_token) here told ≡ to_read (in_punctuator punctuator) here told
-punctuator-ends_before punctuator located_token here told None f ends x =
-    punctuator-whole punctuator located_token here told ends x
-punctuator-ends_before punctuator located_token here told (Some b) f ends x =
-    punctuator-ended punctuator located_token here told b f ends x
+punctuator_front-ends_before punctuator located_token here told None f ends x =
+    punctuator_front-whole punctuator located_token here told ends x
+punctuator_front-ends_before punctuator located_token here told (Some b) f ends x =
+    punctuator_front-ended punctuator located_token here told b f ends x

@@ -5,10 +5,10 @@ use Rattle.std.specs.Option.{option_or, option_eq}
 use Rattle.std.proofs.lemmas.Bool.{eqb-true, ne_eqb}
 use Rattle.tokens.specs.Characters.{is_blank, is_letter, is_digit, is_name_byte}
 use Rattle.tokens.specs.Punctuators.{longest_punctuator, spelling, punctuator_of}
-use Rattle.tokens.specs.Front.{Front, run, comment, punctuator, up_to_close, begins_with, name_token, constant_token, front}
-use Rattle.tokens.specs.Tokens.{FitsToken, Ahead, behind_byte, line_behind, passed, last_located_token, followed_by, is_last, cut_front, located_tokens}
-use Rattle.tokens.specs.Window.{Held, ahead, IsAtHandOrEnd}
-use Rattle.tokens.specs.Lexing.{to_read, followed, ending, in_run, in_name, name_going_on, in_constant, constant_going_on, in_punctuator, grown, in_comment, closed_at}
+use Rattle.tokens.specs.Front.{Front, token_run, comment_front, punctuator_front, up_to_close, begins_with, name_token, constant_token, front}
+use Rattle.tokens.specs.Tokens.{FitsToken, Ahead, ahead_after_byte, line_after, ahead_after, last_located_token, followed_by, is_last, tokens_of_front, located_tokens}
+use Rattle.tokens.specs.Window.{Window, ahead, IsAtHandOrEnd}
+use Rattle.tokens.specs.Lexing.{to_read, followed, token_ending, in_token_run, in_name, name_going_on, in_constant, constant_going_on, in_punctuator, extended, in_comment, closed_at}
 use Rattle.tokens.specs.declared.located_tokens.Punctuator.{Punctuator}
 use Rattle.tokens.specs.declared.located_tokens.Punctuator.TheVariants.{Slash}
 use Rattle.tokens.specs.declared.located_tokens.LexicalError.TheVariants.{BadCharacter}
@@ -16,78 +16,83 @@ use Rattle.tokens.specs.declared.located_tokens.Token.{Token}
 use Rattle.tokens.specs.declared.located_tokens.Token.TheVariants as variant
 use Rattle.tokens.specs.declared.located_tokens.LocatedToken.{LocatedToken}
 use Rattle.tokens.proofs.LocatedTokensLemmas.{located_tokens-front, letter-is_name_byte, here}
-use Rattle.tokens.proofs.TokenLemmas.{chosen, other, run-takes, no_line}
-use Rattle.tokens.proofs.PunctuatorLemmas.{punctuator_of-spelled, punctuator-located_token, none-of-two, none-of-three, none-of-four}
+use Rattle.tokens.proofs.TokenLemmas.{chosen, other, token_run-takes, no_line}
+use Rattle.tokens.proofs.PunctuatorLemmas.{punctuator_of-spelled, punctuator_front-located_token, none-of-two, none-of-three, none-of-four}
 use Rattle.tokens.proofs.ToRead.{to_read-here, first-ahead, none-ahead}
 
 located_tokens-by : (b : ℕ) (f : Front) (a : Ahead) (rest : List ℕ) → a.bytes ≡ b ∷ rest → front (b ∷ rest) ≡ f →
-    located_tokens a ≡ cut_front f a located_tokens
-located_tokens-by b f a rest e h = located_tokens-front a ∙ ap (λ x. cut_front x a located_tokens) (ap front e ∙ h)
+    located_tokens a ≡ tokens_of_front f a located_tokens
+located_tokens-by b f a rest e h =
+    located_tokens-front a ∙ ap (λ x. tokens_of_front x a located_tokens) (ap front e ∙ h)
 
-in_run-is : (test : ℕ → Bool) (token_of : List ℕ → Token) (a : Ahead) →
-    cut_front (run test token_of a.bytes) a located_tokens ≡ in_run test token_of a
-unfolding in_run followed
-in_run-is test token_of a = refl
+in_token_run-is : (test : ℕ → Bool) (token_of : List ℕ → Token) (a : Ahead) →
+    tokens_of_front (token_run test token_of a.bytes) a located_tokens ≡ in_token_run test token_of a
+unfolding in_token_run followed
+in_token_run-is test token_of a = refl
 
-run-begins : (test : ℕ → Bool) (token_of going_on : List ℕ → Token) (b : ℕ) → test 10 ≡ false → test b ≡ true →
-    ((rest : List ℕ) → front (b ∷ rest) ≡ run test token_of (b ∷ rest)) →
+token_run-begins : (test : ℕ → Bool) (token_of going_on : List ℕ → Token) (b : ℕ) → test 10 ≡ false → test b ≡ true →
+    ((rest : List ℕ) → front (b ∷ rest) ≡ token_run test token_of (b ∷ rest)) →
     ((more : List ℕ) → going_on more ≡ token_of (b ∷ more)) → (a : Ahead) (rest : List ℕ) → a.bytes ≡ b ∷ rest →
-    in_run test going_on (behind_byte a) ≡ located_tokens a
-run-begins test token_of going_on b n h f s a rest e =
-    run-takes test token_of going_on b n h s a rest e
-    ∙ sym (located_tokens-by b (run test token_of (b ∷ rest)) a rest e (f rest)
-    ∙ ap (λ bytes. cut_front (run test token_of bytes) a located_tokens) (sym e) ∙ in_run-is test token_of a)
+    in_token_run test going_on (ahead_after_byte a) ≡ located_tokens a
+token_run-begins test token_of going_on b n h f s a rest e =
+    token_run-takes test token_of going_on b n h s a rest e
+    ∙ sym (located_tokens-by b (token_run test token_of (b ∷ rest)) a rest e (f rest)
+    ∙ ap (λ bytes. tokens_of_front (token_run test token_of bytes) a located_tokens) (sym e) ∙
+    in_token_run-is test token_of a)
 
 -- a letter begins a name
 pub name-begins : (b : ℕ) → is_blank b ≡ false → is_letter b ≡ true → (a : Ahead) (rest : List ℕ) → a.bytes ≡ b ∷ rest →
-    in_name (b ∷ []) false (behind_byte a) ≡ located_tokens a
+    in_name (b ∷ []) false (ahead_after_byte a) ≡ located_tokens a
 name-begins b no_blank letter =
-    run-begins is_name_byte name_token (name_going_on (b ∷ []) false) b refl (letter-is_name_byte b letter)
+    token_run-begins is_name_byte name_token (name_going_on (b ∷ []) false) b refl (letter-is_name_byte b letter)
     (λ rest. other (is_blank b) _ _ no_blank ∙ chosen (is_letter b) _ _ letter) (λ more. refl)
 
 -- a digit begins a constant
 pub constant-begins : (b : ℕ) → is_blank b ≡ false → is_letter b ≡ false → is_digit b ≡ true →
-    (a : Ahead) (rest : List ℕ) → a.bytes ≡ b ∷ rest → in_constant (b - 48) (behind_byte a) ≡ located_tokens a
+    (a : Ahead) (rest : List ℕ) → a.bytes ≡ b ∷ rest → in_constant (b - 48) (ahead_after_byte a) ≡ located_tokens a
 constant-begins b no_blank no_letter digit =
-    run-begins is_digit constant_token (constant_going_on (b - 48)) b refl digit
+    token_run-begins is_digit constant_token (constant_going_on (b - 48)) b refl digit
     (λ rest. other (is_blank b) _ _ no_blank ∙ (other (is_letter b) _ _ no_letter ∙ chosen (is_digit b) _ _ digit))
     (λ more. let d : b - 48 ≡ 10 * 0 + (b - 48) = omega arith in ap (λ v. constant_going_on v more) d)
 
-chosen-punctuator : (m : Punctuator) (a : Ahead) (bytes rest : List ℕ) (n : ℕ) → punctuator_of bytes ≡ Some m →
+chosen-punctuator_front : (m : Punctuator) (a : Ahead) (bytes rest : List ℕ) (n : ℕ) → punctuator_of bytes ≡ Some m →
     a.bytes ≡ bytes ++ rest → length bytes ≡ n →
-    cut_front (punctuator (Some m)) a located_tokens ≡
-    followed (ending (variant.Punctuator m) (passed n a)) (passed n a)
+    tokens_of_front (punctuator_front (Some m)) a located_tokens ≡
+    followed (token_ending (variant.Punctuator m) (ahead_after n a)) (ahead_after n a)
 unfolding followed
-chosen-punctuator m a bytes rest n h e l =
+chosen-punctuator_front m a bytes rest n h e l =
     let s = punctuator_of-spelled bytes m h in
     let k : length (spelling m) ≡ n = ap length (sym s) ∙ l in
-    ap (λ x. followed_by x (located_tokens (passed (length (spelling m)) a)))
-    (punctuator-located_token m a rest (e ∙ ap (λ xs. xs ++ rest) s))
-    ∙ ap (λ j. followed_by (ending (variant.Punctuator m) (passed j a)) (located_tokens (passed j a))) k
+    ap (λ x. followed_by x (located_tokens (ahead_after (length (spelling m)) a)))
+    (punctuator_front-located_token m a rest (e ∙ ap (λ xs. xs ++ rest) s))
+    ∙ ap (λ j. followed_by (token_ending (variant.Punctuator m) (ahead_after j a)) (located_tokens (ahead_after j a))) k
 
 grow_by : Option Punctuator → Punctuator → List ℕ → Ahead → List LocatedToken
-grow_by None m rest a = followed (ending (variant.Punctuator m) a) a
-grow_by (Some longer) m rest a = grown longer rest (behind_byte a)
+grow_by None m rest a = followed (token_ending (variant.Punctuator m) a) a
+grow_by (Some longer) m rest a = extended longer rest (ahead_after_byte a)
 
-grown-step : (m : Punctuator) (bytes : List ℕ) (c : ℕ) (rest : List ℕ) (a : Ahead) (o : Option Punctuator) →
-    punctuator_of bytes ≡ Some m → punctuator_of (bytes ++ c ∷ []) ≡ o → grown m (c ∷ rest) a ≡ grow_by o m rest a
+extended-step : (m : Punctuator) (bytes : List ℕ) (c : ℕ) (rest : List ℕ) (a : Ahead) (o : Option Punctuator) →
+    punctuator_of bytes ≡ Some m → punctuator_of (bytes ++ c ∷ []) ≡ o → extended m (c ∷ rest) a ≡ grow_by o m rest a
 unfolding grow_by
-grown-step m bytes c rest a o h e =
+extended-step m bytes c rest a o h e =
     by (punctuator_of (spelling m ++ c ∷ [])) o
     (ap (λ s. punctuator_of (s ++ c ∷ [])) (sym (punctuator_of-spelled bytes m h)) ∙ e)
   where
     by : (x o : Option Punctuator) → x ≡ o →
-        elim x [ None ↦ followed (ending (variant.Punctuator m) a) a | Some longer ↦ grown longer rest (behind_byte a) ]
+        elim x [
+          | None ↦ followed (token_ending (variant.Punctuator m) a) a
+          | Some longer ↦ extended longer rest (ahead_after_byte a)
+        ]
         ≡ grow_by o m rest a
     by None None e = refl
     by None (Some k) e = absurd cc
     by (Some x) None e = absurd cc
-    by (Some x) (Some k) e = let d : x ≡ k = cc in ap (λ k. grown k rest (behind_byte a)) d
+    by (Some x) (Some k) e = let d : x ≡ k = cc in ap (λ k. extended k rest (ahead_after_byte a)) d
 
 by-longest : (m : Punctuator) (b : ℕ) (rest : List ℕ) (a : Ahead) → longest_punctuator (b ∷ rest) ≡ Some m →
-    cut_front (punctuator (longest_punctuator (b ∷ rest))) a located_tokens ≡
-    cut_front (punctuator (Some m)) a located_tokens
-by-longest m b rest a e = ap (λ o. cut_front (punctuator o) a located_tokens) e
+    tokens_of_front (punctuator_front (longest_punctuator (b ∷ rest))) a located_tokens ≡
+    tokens_of_front (punctuator_front (Some m)) a located_tokens
+by-longest m b rest a e = ap (λ o. tokens_of_front (punctuator_front o) a located_tokens) e
 
 or-first : (x y : Option Punctuator) (m : Punctuator) → x ≡ Some m → option_or x y ≡ Some m
 or-first None y m e = absurd cc
@@ -102,91 +107,96 @@ longest-one : (m : Punctuator) (b c : ℕ) (rest : List ℕ) → punctuator_of (
 longest-one m b c [] h e = or-second _ _ e ∙ (or-second _ _ e ∙ h)
 longest-one m b c (d ∷ rest) h e = or-second _ _ (none-of-three b c d e) ∙ (or-second _ _ e ∙ h)
 
-grown-three : (m : Punctuator) (b c d : ℕ) (rest : List ℕ) (a : Ahead) → punctuator_of (b ∷ c ∷ d ∷ []) ≡ Some m →
-    grown m rest a ≡ followed (ending (variant.Punctuator m) a) a
+extended-three : (m : Punctuator) (b c d : ℕ) (rest : List ℕ) (a : Ahead) → punctuator_of (b ∷ c ∷ d ∷ []) ≡ Some m →
+    extended m rest a ≡ followed (token_ending (variant.Punctuator m) a) a
 unfolding grow_by
-grown-three m b c d [] a h = refl
-grown-three m b c d (x ∷ rest) a h = grown-step m (b ∷ c ∷ d ∷ []) x rest a None h (none-of-four b c d x)
+extended-three m b c d [] a h = refl
+extended-three m b c d (x ∷ rest) a h = extended-step m (b ∷ c ∷ d ∷ []) x rest a None h (none-of-four b c d x)
 
-punctuator-here : (m : Punctuator) (b line place : ℕ) (rest : List ℕ) (too_long : Bool) →
+punctuator_front-here : (m : Punctuator) (b line place : ℕ) (rest : List ℕ) (too_long : Bool) →
     punctuator_of (b ∷ []) ≡ Some m →
-    cut_front (punctuator (longest_punctuator (b ∷ rest))) (here line place (b ∷ rest) too_long) located_tokens ≡
-    grown m rest (behind_byte (here line place (b ∷ rest) too_long))
+    tokens_of_front (punctuator_front (longest_punctuator (b ∷ rest))) (here line place (b ∷ rest) too_long)
+    located_tokens ≡
+    extended m rest (ahead_after_byte (here line place (b ∷ rest) too_long))
 unfolding grow_by
-punctuator-here m b line place [] t h =
+punctuator_front-here m b line place [] t h =
     let a = here line place (b ∷ []) t in
-    by-longest m b [] a (or-first _ _ m h) ∙ chosen-punctuator m a (b ∷ []) [] 1 h refl refl
-punctuator-here m b line place (c ∷ []) t h = by (punctuator_of (b ∷ c ∷ [])) refl
+    by-longest m b [] a (or-first _ _ m h) ∙ chosen-punctuator_front m a (b ∷ []) [] 1 h refl refl
+punctuator_front-here m b line place (c ∷ []) t h = by (punctuator_of (b ∷ c ∷ [])) refl
   where
     a : Ahead
     a = here line place (b ∷ c ∷ []) t
 
     by : (o : Option Punctuator) → punctuator_of (b ∷ c ∷ []) ≡ o →
-        cut_front (punctuator (longest_punctuator (b ∷ c ∷ []))) a located_tokens ≡ grown m (c ∷ []) (behind_byte a)
+        tokens_of_front (punctuator_front (longest_punctuator (b ∷ c ∷ []))) a located_tokens ≡
+        extended m (c ∷ []) (ahead_after_byte a)
     by None e =
         by-longest m b (c ∷ []) a (longest-one m b c [] h e) ∙
-        (chosen-punctuator m a (b ∷ []) (c ∷ []) 1 h refl refl ∙
-        sym (grown-step m (b ∷ []) c [] (behind_byte a) None h e))
+        (chosen-punctuator_front m a (b ∷ []) (c ∷ []) 1 h refl refl ∙
+        sym (extended-step m (b ∷ []) c [] (ahead_after_byte a) None h e))
     by (Some k) e =
         by-longest k b (c ∷ []) a (or-first _ _ k e) ∙
-        (chosen-punctuator k a (b ∷ c ∷ []) [] 2 e refl refl ∙
-        sym (grown-step m (b ∷ []) c [] (behind_byte a) (Some k) h e))
-punctuator-here m b line place (c ∷ d ∷ rest) t h = by (punctuator_of (b ∷ c ∷ [])) refl
+        (chosen-punctuator_front k a (b ∷ c ∷ []) [] 2 e refl refl ∙
+        sym (extended-step m (b ∷ []) c [] (ahead_after_byte a) (Some k) h e))
+punctuator_front-here m b line place (c ∷ d ∷ rest) t h = by (punctuator_of (b ∷ c ∷ [])) refl
   where
     a : Ahead
     a = here line place (b ∷ c ∷ d ∷ rest) t
 
     three : (k : Punctuator) (o : Option Punctuator) → punctuator_of (b ∷ c ∷ []) ≡ Some k →
         punctuator_of (b ∷ c ∷ d ∷ []) ≡ o →
-        cut_front (punctuator (longest_punctuator (b ∷ c ∷ d ∷ rest))) a located_tokens ≡
-        grown k (d ∷ rest) (behind_byte (behind_byte a))
+        tokens_of_front (punctuator_front (longest_punctuator (b ∷ c ∷ d ∷ rest))) a located_tokens ≡
+        extended k (d ∷ rest) (ahead_after_byte (ahead_after_byte a))
     three k None e f =
         by-longest k b (c ∷ d ∷ rest) a (or-second _ _ f ∙ or-first _ _ k e) ∙
-        (chosen-punctuator k a (b ∷ c ∷ []) (d ∷ rest) 2 e refl refl ∙
-        sym (grown-step k (b ∷ c ∷ []) d rest (behind_byte (behind_byte a)) None e f))
+        (chosen-punctuator_front k a (b ∷ c ∷ []) (d ∷ rest) 2 e refl refl ∙
+        sym (extended-step k (b ∷ c ∷ []) d rest (ahead_after_byte (ahead_after_byte a)) None e f))
     three k (Some x) e f =
-        by-longest x b (c ∷ d ∷ rest) a (or-first _ _ x f) ∙ (chosen-punctuator x a (b ∷ c ∷ d ∷ []) rest 3 f refl refl
+        by-longest x b (c ∷ d ∷ rest) a (or-first _ _ x f) ∙
+        (chosen-punctuator_front x a (b ∷ c ∷ d ∷ []) rest 3 f refl refl
         ∙
-        (sym (grown-three x b c d rest (behind_byte (behind_byte (behind_byte a))) f) ∙
-        sym (grown-step k (b ∷ c ∷ []) d rest (behind_byte (behind_byte a)) (Some x) e f)))
+        (sym (extended-three x b c d rest (ahead_after_byte (ahead_after_byte (ahead_after_byte a))) f) ∙
+        sym (extended-step k (b ∷ c ∷ []) d rest (ahead_after_byte (ahead_after_byte a)) (Some x) e f)))
 
     by : (o : Option Punctuator) → punctuator_of (b ∷ c ∷ []) ≡ o →
-        cut_front (punctuator (longest_punctuator (b ∷ c ∷ d ∷ rest))) a located_tokens ≡
-        grown m (c ∷ d ∷ rest) (behind_byte a)
+        tokens_of_front (punctuator_front (longest_punctuator (b ∷ c ∷ d ∷ rest))) a located_tokens ≡
+        extended m (c ∷ d ∷ rest) (ahead_after_byte a)
     by None e =
         by-longest m b (c ∷ d ∷ rest) a (longest-one m b c (d ∷ rest) h e) ∙
-        (chosen-punctuator m a (b ∷ []) (c ∷ d ∷ rest) 1 h refl refl ∙
-        sym (grown-step m (b ∷ []) c (d ∷ rest) (behind_byte a) None h e))
+        (chosen-punctuator_front m a (b ∷ []) (c ∷ d ∷ rest) 1 h refl refl ∙
+        sym (extended-step m (b ∷ []) c (d ∷ rest) (ahead_after_byte a) None h e))
     by (Some k) e =
         three k (punctuator_of (b ∷ c ∷ d ∷ [])) e refl ∙
-        sym (grown-step m (b ∷ []) c (d ∷ rest) (behind_byte a) (Some k) h e)
+        sym (extended-step m (b ∷ []) c (d ∷ rest) (ahead_after_byte a) (Some k) h e)
 
 -- a punctuator of one byte begins a punctuator, where the rest begins as no other piece
-pub punctuator-begins : (m : Punctuator) (b : ℕ) → punctuator_of (b ∷ []) ≡ Some m → (a : Ahead) (rest : List ℕ) →
-    a.bytes ≡ b ∷ rest → front (b ∷ rest) ≡ punctuator (longest_punctuator (b ∷ rest)) →
-    in_punctuator m (behind_byte a) ≡ located_tokens a
+pub punctuator_front-begins : (m : Punctuator) (b : ℕ) → punctuator_of (b ∷ []) ≡ Some m → (a : Ahead) (rest : List ℕ) →
+    a.bytes ≡ b ∷ rest → front (b ∷ rest) ≡ punctuator_front (longest_punctuator (b ∷ rest)) →
+    in_punctuator m (ahead_after_byte a) ≡ located_tokens a
 unfolding in_punctuator
-punctuator-begins m b h a rest e f =
-    sym (located_tokens-by b (punctuator (longest_punctuator (b ∷ rest))) a rest e f
+punctuator_front-begins m b h a rest e f =
+    sym (located_tokens-by b (punctuator_front (longest_punctuator (b ∷ rest))) a rest e f
     ∙
     subst
     (λ (xs : List ℕ).
-    cut_front (punctuator (longest_punctuator (b ∷ rest))) (here a.line a.place xs a.too_long) located_tokens ≡
-    in_punctuator m (behind_byte (here a.line a.place xs a.too_long))) (sym e)
-    (punctuator-here m b a.line a.place rest a.too_long h))
+    tokens_of_front (punctuator_front (longest_punctuator (b ∷ rest))) (here a.line a.offset xs a.too_long)
+    located_tokens ≡
+    in_punctuator m (ahead_after_byte (here a.line a.offset xs a.too_long))) (sym e)
+    (punctuator_front-here m b a.line a.offset rest a.too_long h))
 
-front-punctuator : (b : ℕ) (rest : List ℕ) → is_blank b ≡ false → is_letter b ≡ false → is_digit b ≡ false → b ≢ 47 →
-    front (b ∷ rest) ≡ punctuator (longest_punctuator (b ∷ rest))
-front-punctuator b rest no_blank no_letter no_digit no_slash =
+front-punctuator_front : (b : ℕ) (rest : List ℕ) → is_blank b ≡ false → is_letter b ≡ false → is_digit b ≡ false →
+    b ≢ 47 →
+    front (b ∷ rest) ≡ punctuator_front (longest_punctuator (b ∷ rest))
+front-punctuator_front b rest no_blank no_letter no_digit no_slash =
     other (is_blank b) _ _ no_blank ∙ (other (is_letter b) _ _ no_letter ∙ (other (is_digit b) _ _ no_digit
     ∙ other (eqb b 47 && begins_with 42 rest) _ _ (ap (λ t. t && begins_with 42 rest) (ne_eqb b 47 no_slash))))
 
 -- a byte that is a punctuator begins one
 pub other-begins : (m : Punctuator) (b : ℕ) → is_blank b ≡ false → is_letter b ≡ false → is_digit b ≡ false → b ≢ 47 →
     punctuator_of (b ∷ []) ≡ Some m → (a : Ahead) (rest : List ℕ) → a.bytes ≡ b ∷ rest →
-    in_punctuator m (behind_byte a) ≡ located_tokens a
+    in_punctuator m (ahead_after_byte a) ≡ located_tokens a
 other-begins m b no_blank no_letter no_digit no_slash h a rest e =
-    punctuator-begins m b h a rest e (front-punctuator b rest no_blank no_letter no_digit no_slash)
+    punctuator_front-begins m b h a rest e (front-punctuator_front b rest no_blank no_letter no_digit no_slash)
 
 longest-none : (b : ℕ) (rest : List ℕ) → punctuator_of (b ∷ []) ≡ None → longest_punctuator (b ∷ rest) ≡ None
 longest-none b [] h = or-second _ _ h ∙ (or-second _ _ h ∙ h)
@@ -199,88 +209,90 @@ blank_line : (b : ℕ) → is_blank b ≡ false → eqb b 10 ≡ false
 blank_line b h = no_line (λ c. not (is_blank c)) b refl (ap not h)
 
 bad-here : (b line place : ℕ) (rest : List ℕ) (too_long : Bool) → eqb b 10 ≡ false →
-    followed (ending (variant.Fault BadCharacter) (behind_byte (here line place (b ∷ rest) too_long)))
-    (behind_byte (here line place (b ∷ rest) too_long)) ≡
-    cut_front (punctuator None) (here line place (b ∷ rest) too_long) located_tokens
+    followed (token_ending (variant.Fault BadCharacter) (ahead_after_byte (here line place (b ∷ rest) too_long)))
+    (ahead_after_byte (here line place (b ∷ rest) too_long)) ≡
+    tokens_of_front (punctuator_front None) (here line place (b ∷ rest) too_long) located_tokens
 unfolding followed
 bad-here b line place rest t h =
-    let l : line_behind b line ≡ line = other (eqb b 10) _ _ h in
+    let l : line_after b line ≡ line = other (eqb b 10) _ _ h in
     ap (λ n. let x : LocatedToken = record { token = variant.Fault BadCharacter; line = n; end = place + 1 } in x ∷ [])
     l
 
 -- any other byte is a bad character
 pub bad-begins : (b : ℕ) → is_blank b ≡ false → is_letter b ≡ false → is_digit b ≡ false → b ≢ 47 →
     punctuator_of (b ∷ []) ≡ None → (a : Ahead) (rest : List ℕ) → a.bytes ≡ b ∷ rest →
-    followed (ending (variant.Fault BadCharacter) (behind_byte a)) (behind_byte a) ≡ located_tokens a
+    followed (token_ending (variant.Fault BadCharacter) (ahead_after_byte a)) (ahead_after_byte a) ≡ located_tokens a
 bad-begins b no_blank no_letter no_digit no_slash h a rest e =
     subst
     (λ (xs : List ℕ).
-    let x = here a.line a.place xs a.too_long in
-    followed (ending (variant.Fault BadCharacter) (behind_byte x)) (behind_byte x) ≡
-    cut_front (punctuator None) x located_tokens) (sym e)
-    (bad-here b a.line a.place rest a.too_long (blank_line b no_blank))
+    let x = here a.line a.offset xs a.too_long in
+    followed (token_ending (variant.Fault BadCharacter) (ahead_after_byte x)) (ahead_after_byte x) ≡
+    tokens_of_front (punctuator_front None) x located_tokens) (sym e)
+    (bad-here b a.line a.offset rest a.too_long (blank_line b no_blank))
     ∙
     sym
-    (located_tokens-by b (punctuator None) a rest e
-    (front-punctuator b rest no_blank no_letter no_digit no_slash ∙ ap punctuator (longest-none b rest h)))
+    (located_tokens-by b (punctuator_front None) a rest e
+    (front-punctuator_front b rest no_blank no_letter no_digit no_slash ∙ ap punctuator_front (longest-none b rest h)))
 
 -- behind a `/` on this line
 unfoldable pub in_slash : ℕ → Ahead → List LocatedToken
-in_slash line a = cond (begins_with 42 a.bytes) (in_comment line (behind_byte a)) (in_punctuator Slash a)
+in_slash line a = cond (begins_with 42 a.bytes) (in_comment line (ahead_after_byte a)) (in_punctuator Slash a)
 
 slash-star : (line place : ℕ) (rest : List ℕ) (too_long : Bool) →
-    cut_front (comment (up_to_close rest)) (here line place (47 ∷ 42 ∷ rest) too_long) located_tokens ≡
-    in_comment line (behind_byte (behind_byte (here line place (47 ∷ 42 ∷ rest) too_long)))
+    tokens_of_front (comment_front (up_to_close rest)) (here line place (47 ∷ 42 ∷ rest) too_long) located_tokens ≡
+    in_comment line (ahead_after_byte (ahead_after_byte (here line place (47 ∷ 42 ∷ rest) too_long)))
 unfolding in_comment
 slash-star line place rest t = by (up_to_close rest)
   where
     by : (o : Option ℕ) →
-        cut_front (comment o) (here line place (47 ∷ 42 ∷ rest) t) located_tokens ≡
-        closed_at o line (behind_byte (behind_byte (here line place (47 ∷ 42 ∷ rest) t)))
+        tokens_of_front (comment_front o) (here line place (47 ∷ 42 ∷ rest) t) located_tokens ≡
+        closed_at o line (ahead_after_byte (ahead_after_byte (here line place (47 ∷ 42 ∷ rest) t)))
     by None = refl
     by (Some n) = refl
 
 slash-here : (line place : ℕ) (rest : List ℕ) (too_long : Bool) →
-    in_slash line (behind_byte (here line place (47 ∷ rest) too_long)) ≡
+    in_slash line (ahead_after_byte (here line place (47 ∷ rest) too_long)) ≡
     located_tokens (here line place (47 ∷ rest) too_long)
 unfolding in_slash punctuator_of
-slash-here line place [] t = punctuator-begins Slash 47 refl (here line place (47 ∷ []) t) [] refl refl
+slash-here line place [] t = punctuator_front-begins Slash 47 refl (here line place (47 ∷ []) t) [] refl refl
 slash-here line place (b ∷ rest) t = by (eqb b 42) refl
   where
     a : Ahead
     a = here line place (47 ∷ b ∷ rest) t
 
     by : (s : Bool) → eqb b 42 ≡ s →
-        cond s (in_comment line (behind_byte (behind_byte a))) (in_punctuator Slash (behind_byte a)) ≡ located_tokens a
+        cond s (in_comment line (ahead_after_byte (ahead_after_byte a))) (in_punctuator Slash (ahead_after_byte a)) ≡
+        located_tokens a
     by true e =
         subst
-        (λ (x : ℕ). in_comment line (behind_byte (behind_byte (here line place (47 ∷ x ∷ rest) t))) ≡
+        (λ (x : ℕ). in_comment line (ahead_after_byte (ahead_after_byte (here line place (47 ∷ x ∷ rest) t))) ≡
         located_tokens (here line place (47 ∷ x ∷ rest) t)) (sym (eqb-true b 42 e))
         (sym (located_tokens-front (here line place (47 ∷ 42 ∷ rest) t) ∙ slash-star line place rest t))
     by false e =
-        punctuator-begins Slash 47 refl a (b ∷ rest) refl
+        punctuator_front-begins Slash 47 refl a (b ∷ rest) refl
         (ap
-        (λ s. cond s (comment (up_to_close (drop 1 (b ∷ rest)))) (punctuator (longest_punctuator (47 ∷ b ∷ rest))))
+        (λ s. cond s (comment_front (up_to_close (drop 1 (b ∷ rest))))
+        (punctuator_front (longest_punctuator (47 ∷ b ∷ rest))))
         e)
 
 -- a `/` begins a comment or a punctuator
 pub slash-begins : (line : ℕ) (a : Ahead) (rest : List ℕ) → a.bytes ≡ 47 ∷ rest → a.line ≡ line →
-    in_slash line (behind_byte a) ≡ located_tokens a
+    in_slash line (ahead_after_byte a) ≡ located_tokens a
 slash-begins line a rest e l =
-    subst (λ (n : ℕ). in_slash n (behind_byte a) ≡ located_tokens a) l
+    subst (λ (n : ℕ). in_slash n (ahead_after_byte a) ≡ located_tokens a) l
     (subst
-    (λ (xs : List ℕ). in_slash a.line (behind_byte (here a.line a.place xs a.too_long)) ≡
-    located_tokens (here a.line a.place xs a.too_long)) (sym e) (slash-here a.line a.place rest a.too_long))
+    (λ (xs : List ℕ). in_slash a.line (ahead_after_byte (here a.line a.offset xs a.too_long)) ≡
+    located_tokens (here a.line a.offset xs a.too_long)) (sym e) (slash-here a.line a.offset rest a.too_long))
 
 -- a `*` behind it begins a comment
 pub star-begins : (line : ℕ) (a : Ahead) (rest : List ℕ) → a.bytes ≡ 42 ∷ rest →
-    in_comment line (behind_byte a) ≡ in_slash line a
+    in_comment line (ahead_after_byte a) ≡ in_slash line a
 unfolding in_slash
 star-begins line a rest e =
-    sym (ap (λ s. cond s (in_comment line (behind_byte a)) (in_punctuator Slash a)) (ap (begins_with 42) e))
+    sym (ap (λ s. cond s (in_comment line (ahead_after_byte a)) (in_punctuator Slash a)) (ap (begins_with 42) e))
 
 -- and nothing else does
-pub slash-stays : (line : ℕ) (here : Held) (told : Option (List ℕ)) (first : Option ℕ) → IsAtHandOrEnd here →
+pub slash-stays : (line : ℕ) (here : Window) (told : Option (List ℕ)) (first : Option ℕ) → IsAtHandOrEnd here →
     first ≡ slice_get here.at_hand 0 → option_eq eqb first (Some 42) ≡ false →
     to_read (in_punctuator Slash) here told ≡ to_read (in_slash line) here told
 unfolding in_slash
@@ -288,7 +300,7 @@ slash-stays line here told first ready f e =
     to_read-here (in_punctuator Slash) (in_slash line) here told
     (λ to_come. sym
     (ap
-    (λ s. cond s (in_comment line (behind_byte (ahead here to_come)))
+    (λ s. cond s (in_comment line (ahead_after_byte (ahead here to_come)))
     (in_punctuator Slash (ahead here to_come))) (by first f e to_come)))
   where
     by : (o : Option ℕ) → o ≡ slice_get here.at_hand 0 → option_eq eqb o (Some 42) ≡ false → (to_come : List ℕ) →
@@ -315,19 +327,19 @@ unfolding followed
 last-followed token line a h = by a.too_long
   where
     by : (t : Bool) →
-        followed_by (last_located_token token line (here a.line a.place a.bytes t)) (located_tokens a) ≡
-        last_located_token token line (here a.line a.place a.bytes t) ∷ []
+        followed_by (last_located_token token line (here a.line a.offset a.bytes t)) (located_tokens a) ≡
+        last_located_token token line (here a.line a.offset a.bytes t) ∷ []
     by true = refl
     by false =
         ap
-        (λ s. (let x : LocatedToken = record { token = token; line = line; end = a.place } in x) ∷
+        (λ s. (let x : LocatedToken = record { token = token; line = line; end = a.offset } in x) ∷
         cond s [] (located_tokens a)) h
 
 pub last-is_last : (token : Token) (line : ℕ) (a : Ahead) → is_last token ≡ true →
     is_last (last_located_token token line a).token ≡ true
 last-is_last token line a h = by a.too_long
   where
-    by : (t : Bool) → is_last (last_located_token token line (here a.line a.place a.bytes t)).token ≡ true
+    by : (t : Bool) → is_last (last_located_token token line (here a.line a.offset a.bytes t)).token ≡ true
     by true = refl
     by false = h
 
@@ -336,6 +348,6 @@ pub last-fits : (token : Token) (line : ℕ) (a : Ahead) → FitsToken token →
     FitsToken (last_located_token token line a).token
 last-fits token line a h = by a.too_long
   where
-    by : (t : Bool) → FitsToken (last_located_token token line (here a.line a.place a.bytes t)).token
+    by : (t : Bool) → FitsToken (last_located_token token line (here a.line a.offset a.bytes t)).token
     by true = tt
     by false = h

@@ -7,8 +7,8 @@ use Rattle.std.proofs.lemmas.Bool.{ltb-true}
 use Rattle.tokens.specs.Source.{source}
 use Rattle.tokens.specs.Characters.{is_blank, is_letter, is_digit, is_name_byte}
 use Rattle.tokens.specs.Punctuators.{punctuator_of, spelling, longest_punctuator}
-use Rattle.tokens.specs.Front.{Front, Nothing, Space, Unclosed, Sign, front, comment, punctuator, up_to_close, begins_with}
-use Rattle.tokens.specs.Tokens.{Ahead, behind_byte, passed, at_end, last_located_token, is_last, cut, cut_front, located_tokens, from_start, tokens}
+use Rattle.tokens.specs.Front.{Front, Nothing, Space, Unclosed, Lexeme, front, comment_front, punctuator_front, up_to_close, begins_with}
+use Rattle.tokens.specs.Tokens.{Ahead, ahead_after_byte, ahead_after, at_end, last_located_token, is_last, tokens_within, tokens_of_front, located_tokens, ahead_of_source, tokens}
 use Rattle.tokens.specs.Ends.{IsRising, AllEndBy, StaysUndecided}
 use Rattle.tokens.specs.declared.located_tokens.Punctuator.{Punctuator}
 use Rattle.tokens.specs.declared.located_tokens.LexicalError.TheVariants.{CommentNotClosed}
@@ -16,24 +16,24 @@ use Rattle.tokens.specs.declared.located_tokens.Token.{Token}
 use Rattle.tokens.specs.declared.located_tokens.Token.TheVariants as variant
 use Rattle.tokens.specs.declared.located_tokens.LocatedToken.{LocatedToken}
 use Rattle.tokens.proofs.PunctuatorLemmas.{punctuator_of-spelled}
-use Rattle.tokens.proofs.LocatedTokensLemmas.{IsPiece, front-is_piece, length-passed, here}
-use Rattle.tokens.proofs.TakenLemmas.{open-placed, place-passed, last-behind, last-open}
+use Rattle.tokens.proofs.LocatedTokensLemmas.{IsPiece, front-is_piece, length-ahead_after, here}
+use Rattle.tokens.proofs.TakenLemmas.{open-located, place-ahead_after, last-window_after, last-open}
 
 -- a token lies within the bytes that it is the front of
 abbrev pub IsInside : List ℕ → Front → Type 0
 IsInside bytes Nothing = Unit {0}
 IsInside bytes Unclosed = Unit {0}
 IsInside bytes (Space count) = Unit {0}
-IsInside bytes (Sign sign count) = count ≤ length bytes
+IsInside bytes (Lexeme sign count) = count ≤ length bytes
 
 either-inside : (t : Bool) (bytes : List ℕ) (x y : Front) → IsInside bytes x → IsInside bytes y →
     IsInside bytes (cond t x y)
 either-inside true bytes x y f g = f
 either-inside false bytes x y f g = g
 
-comment-inside : (bytes : List ℕ) (n : Option ℕ) → IsInside bytes (comment n)
-comment-inside bytes None = tt
-comment-inside bytes (Some n) = tt
+comment_front-inside : (bytes : List ℕ) (n : Option ℕ) → IsInside bytes (comment_front n)
+comment_front-inside bytes None = tt
+comment_front-inside bytes (Some n) = tt
 
 spelling-inside : (n : ℕ) (bytes : List ℕ) (m : Punctuator) → punctuator_of (take n bytes) ≡ Some m →
     length (spelling m) ≤ length bytes
@@ -46,10 +46,10 @@ or-inside : (bytes : List ℕ) (x y : Option Punctuator) →
 or-inside bytes None y f g m e = g m e
 or-inside bytes (Some x) y f g m e = f m e
 
-punctuator-inside : (b : ℕ) (rest : List ℕ) (o : Option Punctuator) →
-    ((m : Punctuator) → o ≡ Some m → length (spelling m) ≤ length (b ∷ rest)) → IsInside (b ∷ rest) (punctuator o)
-punctuator-inside b rest None f = omega arith
-punctuator-inside b rest (Some m) f = f m refl
+punctuator_front-inside : (b : ℕ) (rest : List ℕ) (o : Option Punctuator) →
+    ((m : Punctuator) → o ≡ Some m → length (spelling m) ≤ length (b ∷ rest)) → IsInside (b ∷ rest) (punctuator_front o)
+punctuator_front-inside b rest None f = omega arith
+punctuator_front-inside b rest (Some m) f = f m refl
 
 pub front-inside : (bytes : List ℕ) → IsInside bytes (front bytes)
 front-inside [] = tt
@@ -58,76 +58,85 @@ front-inside (b ∷ rest) =
     either-inside (is_blank b) xs _ _ tt (
     either-inside (is_letter b) xs _ _ (prefix_len-le-length is_name_byte xs) (
     either-inside (is_digit b) xs _ _ (prefix_len-le-length is_digit xs) (
-    either-inside (eqb b 47 && begins_with 42 rest) xs _ _ (comment-inside xs (up_to_close (drop 1 rest)))
-    (punctuator-inside b rest (longest_punctuator xs)
+    either-inside (eqb b 47 && begins_with 42 rest) xs _ _ (comment_front-inside xs (up_to_close (drop 1 rest)))
+    (punctuator_front-inside b rest (longest_punctuator xs)
     (or-inside xs _ _ (spelling-inside 3 xs) (or-inside xs _ _ (spelling-inside 2 xs) (spelling-inside 1 xs)))))))
 
 place-here : (n line place : ℕ) (bytes : List ℕ) (too_long : Bool) → n ≤ length bytes →
-    (passed n (here line place bytes too_long)).place ≡ place + n
+    (ahead_after n (here line place bytes too_long)).offset ≡ place + n
 place-here zero line place xs t h = omega arith
 place-here (suc n) line place [] t h = absurd (omega (arith, h))
 place-here (suc n) line place (x ∷ xs) t h =
-    let b = behind_byte (here line place (x ∷ xs) t) in
-    omega (arith, place-here n b.line b.place b.bytes b.too_long (omega (arith, h)))
+    let b = ahead_after_byte (here line place (x ∷ xs) t) in
+    omega (arith, place-here n b.line b.offset b.bytes b.too_long (omega (arith, h)))
 
-pub place-inside : (n : ℕ) (a : Ahead) → n ≤ length a.bytes → (passed n a).place ≡ a.place + n
-place-inside n a h = place-here n a.line a.place a.bytes a.too_long h
+pub place-inside : (n : ℕ) (a : Ahead) → n ≤ length a.bytes → (ahead_after n a).offset ≡ a.offset + n
+place-inside n a h = place-here n a.line a.offset a.bytes a.too_long h
 
-long-behind_byte : (a : Ahead) → (behind_byte a).too_long ≡ a.too_long
-long-behind_byte a = by a.line a.place a.bytes a.too_long
+long-ahead_after_byte : (a : Ahead) → (ahead_after_byte a).too_long ≡ a.too_long
+long-ahead_after_byte a = by a.line a.offset a.bytes a.too_long
   where
-    by : (line place : ℕ) (xs : List ℕ) (t : Bool) → (behind_byte (here line place xs t)).too_long ≡ t
+    by : (line place : ℕ) (xs : List ℕ) (t : Bool) → (ahead_after_byte (here line place xs t)).too_long ≡ t
     by line place [] t = refl
     by line place (x ∷ xs) t = refl
 
-long-passed : (n : ℕ) (a : Ahead) → (passed n a).too_long ≡ a.too_long
-long-passed zero a = refl
-long-passed (suc n) a = long-passed n (behind_byte a) ∙ long-behind_byte a
+long-ahead_after : (n : ℕ) (a : Ahead) → (ahead_after n a).too_long ≡ a.too_long
+long-ahead_after zero a = refl
+long-ahead_after (suc n) a = long-ahead_after n (ahead_after_byte a) ∙ long-ahead_after_byte a
 
-sum-behind_byte : (a : Ahead) → (behind_byte a).place + length (behind_byte a).bytes ≡ a.place + length a.bytes
-sum-behind_byte a = by a.line a.place a.bytes a.too_long
+sum-ahead_after_byte : (a : Ahead) →
+    (ahead_after_byte a).offset + length (ahead_after_byte a).bytes ≡ a.offset + length a.bytes
+sum-ahead_after_byte a = by a.line a.offset a.bytes a.too_long
   where
     by : (line place : ℕ) (xs : List ℕ) (t : Bool) →
-        (behind_byte (here line place xs t)).place + length (behind_byte (here line place xs t)).bytes ≡
+        (ahead_after_byte (here line place xs t)).offset + length (ahead_after_byte (here line place xs t)).bytes ≡
         place + length xs
     by line place [] t = refl
     by line place (x ∷ xs) t = omega arith
 
-sum-passed : (n : ℕ) (a : Ahead) → (passed n a).place + length (passed n a).bytes ≡ a.place + length a.bytes
-sum-passed zero a = refl
-sum-passed (suc n) a = sum-passed n (behind_byte a) ∙ sum-behind_byte a
+sum-ahead_after : (n : ℕ) (a : Ahead) →
+    (ahead_after n a).offset + length (ahead_after n a).bytes ≡ a.offset + length a.bytes
+sum-ahead_after zero a = refl
+sum-ahead_after (suc n) a = sum-ahead_after n (ahead_after_byte a) ∙ sum-ahead_after_byte a
 
 rising-sooner : (p q : ℕ) (xs : List LocatedToken) → q ≤ p → IsRising p xs → IsRising q xs
 rising-sooner p q [] h r = tt
 rising-sooner p q (x ∷ xs) h r = (omega (arith, h, r.0), r.1)
 
-cut-rising : (n : ℕ) (a : Ahead) → IsRising a.place (cut n a)
-cut-rising zero a = tt
-cut-rising (suc n) a = by (front a.bytes) (front-inside a.bytes) (λ count. cut-rising n (passed count a))
+tokens_within-rising : (n : ℕ) (a : Ahead) → IsRising a.offset (tokens_within n a)
+tokens_within-rising zero a = tt
+tokens_within-rising (suc n) a =
+    by (front a.bytes) (front-inside a.bytes) (λ count. tokens_within-rising n (ahead_after count a))
   where
     rest : (t : Bool) (p : ℕ) (xs : List LocatedToken) → IsRising p xs → IsRising p (cond t [] xs)
     rest true p xs r = tt
     rest false p xs r = r
 
-    by : (f : Front) → IsInside a.bytes f → ((count : ℕ) → IsRising (passed count a).place (cut n (passed count a))) →
-        IsRising a.place (cut_front f a (cut n))
-    by Nothing i h = (omega (arith, last-behind variant.End a.line (at_end a), place-passed (length a.bytes) a), tt)
+    by : (f : Front) → IsInside a.bytes f →
+        ((count : ℕ) → IsRising (ahead_after count a).offset (tokens_within n (ahead_after count a))) →
+        IsRising a.offset (tokens_of_front f a (tokens_within n))
+    by Nothing i h =
+        (omega (arith, last-window_after variant.End a.line (at_end a), place-ahead_after (length a.bytes) a), tt)
     by Unclosed i h = (
-      omega
-          (arith, last-behind (variant.Fault CommentNotClosed) a.line (at_end a), place-passed (length a.bytes) a),
+      omega (
+        arith,
+        last-window_after (variant.Fault CommentNotClosed) a.line (at_end a),
+        place-ahead_after (length a.bytes) a,
+      ),
       tt,
     )
-    by (Space count) i h = rising-sooner _ _ _ (place-passed count a) (h count)
-    by (Sign sign count) i h = (
+    by (Space count) i h = rising-sooner _ _ _ (place-ahead_after count a) (h count)
+    by (Lexeme sign count) i h = (
       omega arith,
-      rest (is_last sign) (a.place + count) _
-          (subst (λ (p : ℕ). IsRising p (cut n (passed count a))) (place-inside count a i) (h count)),
+      rest (is_last sign) (a.offset + count) _
+          (subst (λ (p : ℕ). IsRising p (tokens_within n (ahead_after count a))) (place-inside count a i) (h count)),
     )
 
-cut-open : (n : ℕ) (a : Ahead) → StaysUndecided a.place (cut n a)
-cut-open zero a = tt
-cut-open (suc n) a =
-    by (front a.bytes) (front-inside a.bytes) (front-is_piece a.bytes) (λ count. cut-open n (passed count a))
+tokens_within-open : (n : ℕ) (a : Ahead) → StaysUndecided a.offset (tokens_within n a)
+tokens_within-open zero a = tt
+tokens_within-open (suc n) a =
+    by (front a.bytes) (front-inside a.bytes) (front-is_piece a.bytes)
+    (λ count. tokens_within-open n (ahead_after count a))
   where
     sooner : (p q : ℕ) (xs : List LocatedToken) → q ≤ p → StaysUndecided p xs → StaysUndecided q xs
     sooner p q [] h r = tt
@@ -138,104 +147,114 @@ cut-open (suc n) a =
     rest false p xs r = r
 
     by : (f : Front) → IsInside a.bytes f → IsPiece f →
-        ((count : ℕ) → StaysUndecided (passed count a).place (cut n (passed count a))) →
-        StaysUndecided a.place (cut_front f a (cut n))
+        ((count : ℕ) → StaysUndecided (ahead_after count a).offset (tokens_within n (ahead_after count a))) →
+        StaysUndecided a.offset (tokens_of_front f a (tokens_within n))
     by Nothing i p h =
-        (omega (arith, last-open variant.End a.line (at_end a) refl, place-passed (length a.bytes) a), tt)
+        (omega (arith, last-open variant.End a.line (at_end a) refl, place-ahead_after (length a.bytes) a), tt)
     by Unclosed i p h = (
-      omega
-          (arith, last-open (variant.Fault CommentNotClosed) a.line (at_end a) refl, place-passed (length a.bytes) a),
+      omega (
+        arith,
+        last-open (variant.Fault CommentNotClosed) a.line (at_end a) refl,
+        place-ahead_after (length a.bytes) a,
+      ),
       tt,
     )
-    by (Space count) i p h = sooner _ _ _ (place-passed count a) (h count)
-    by (Sign sign count) i p h = (
-      open-placed sign count a p,
-      rest (is_last sign) (a.place + count) _
-          (subst (λ (p : ℕ). StaysUndecided p (cut n (passed count a))) (place-inside count a i) (h count)),
+    by (Space count) i p h = sooner _ _ _ (place-ahead_after count a) (h count)
+    by (Lexeme sign count) i p h = (
+      open-located sign count a p,
+      rest (is_last sign) (a.offset + count) _
+          (subst (λ (p : ℕ). StaysUndecided p (tokens_within n (ahead_after count a))) (place-inside count a i)
+          (h count)),
     )
 
 abbrev pub over : Bool → ℕ
 over true = 1
 over false = 0
 
-last-by : (limit line : ℕ) (token : Token) (a : Ahead) → a.place + length a.bytes + over a.too_long ≤ limit →
+last-by : (limit line : ℕ) (token : Token) (a : Ahead) → a.offset + length a.bytes + over a.too_long ≤ limit →
     (last_located_token token line (at_end a)).end ≤ limit
-last-by limit line token a h = by (at_end a).too_long (long-passed (length a.bytes) a)
+last-by limit line token a h = by (at_end a).too_long (long-ahead_after (length a.bytes) a)
   where
     by : (t : Bool) → t ≡ a.too_long →
-        (last_located_token token line (here (at_end a).line (at_end a).place (at_end a).bytes t)).end ≤ limit
+        (last_located_token token line (here (at_end a).line (at_end a).offset (at_end a).bytes t)).end ≤ limit
     by true e = omega (arith, place-inside (length a.bytes) a (omega arith), ap over e, h)
     by false e = omega (arith, place-inside (length a.bytes) a (omega arith), h)
 
-pub cut-by : (n limit : ℕ) (a : Ahead) → a.place + length a.bytes + over a.too_long ≤ limit → AllEndBy limit (cut n a)
-cut-by zero limit a h = tt
-cut-by (suc n) limit a h =
-    by (front a.bytes) (front-inside a.bytes) (λ count further. cut-by n limit (passed count a) further)
+pub tokens_within-by : (n limit : ℕ) (a : Ahead) → a.offset + length a.bytes + over a.too_long ≤ limit →
+    AllEndBy limit (tokens_within n a)
+tokens_within-by zero limit a h = tt
+tokens_within-by (suc n) limit a h =
+    by (front a.bytes) (front-inside a.bytes) (λ count further. tokens_within-by n limit (ahead_after count a) further)
   where
     rest : (t : Bool) (xs : List LocatedToken) → AllEndBy limit xs → AllEndBy limit (cond t [] xs)
     rest true xs r = tt
     rest false xs r = r
 
     further : (count : ℕ) →
-        (passed count a).place + length (passed count a).bytes + over (passed count a).too_long ≤ limit
-    further count = omega (arith, h, sum-passed count a, ap over (long-passed count a))
+        (ahead_after count a).offset + length (ahead_after count a).bytes + over (ahead_after count a).too_long ≤ limit
+    further count = omega (arith, h, sum-ahead_after count a, ap over (long-ahead_after count a))
 
     by : (f : Front) → IsInside a.bytes f →
         ((count : ℕ) →
-        (passed count a).place + length (passed count a).bytes + over (passed count a).too_long ≤ limit →
-        AllEndBy limit (cut n (passed count a))) → AllEndBy limit (cut_front f a (cut n))
+        (ahead_after count a).offset + length (ahead_after count a).bytes + over (ahead_after count a).too_long ≤
+        limit →
+        AllEndBy limit (tokens_within n (ahead_after count a))) → AllEndBy limit (tokens_of_front f a (tokens_within n))
     by Nothing i g = (last-by limit a.line variant.End a h, tt)
     by Unclosed i g = (last-by limit a.line (variant.Fault CommentNotClosed) a h, tt)
     by (Space count) i g = g count (further count)
-    by (Sign sign count) i g = (omega (arith, h, i), rest (is_last sign) _ (g count (further count)))
+    by (Lexeme sign count) i g = (omega (arith, h, i), rest (is_last sign) _ (g count (further count)))
 
 -- there is a first token
-cut-nonempty : (n line place : ℕ) (bytes : List ℕ) (too_long : Bool) → length bytes < n →
-    (first : LocatedToken) × (others : List LocatedToken) × (cut n (here line place bytes too_long) ≡ first ∷ others)
-cut-nonempty zero line place xs t h = absurd (omega (arith, h))
-cut-nonempty (suc n) line place [] t h = (_, _, refl)
-cut-nonempty (suc n) line place (b ∷ xs) t h = by (front (b ∷ xs)) (front-is_piece (b ∷ xs)) (λ count c.
-    let p = passed count (here line place (b ∷ xs) t) in
-    let e = length-passed count (here line place (b ∷ xs) t) in
-    cut-nonempty n p.line p.place p.bytes p.too_long (omega (arith, e, h, c)))
+tokens_within-nonempty : (n line place : ℕ) (bytes : List ℕ) (too_long : Bool) → length bytes < n →
+    (first : LocatedToken) × (others : List LocatedToken) ×
+    (tokens_within n (here line place bytes too_long) ≡ first ∷ others)
+tokens_within-nonempty zero line place xs t h = absurd (omega (arith, h))
+tokens_within-nonempty (suc n) line place [] t h = (_, _, refl)
+tokens_within-nonempty (suc n) line place (b ∷ xs) t h = by (front (b ∷ xs)) (front-is_piece (b ∷ xs)) (λ count c.
+    let p = ahead_after count (here line place (b ∷ xs) t) in
+    let e = length-ahead_after count (here line place (b ∷ xs) t) in
+    tokens_within-nonempty n p.line p.offset p.bytes p.too_long (omega (arith, e, h, c)))
   where
     a : Ahead
     a = here line place (b ∷ xs) t
 
     by : (f : Front) → IsPiece f →
         ((count : ℕ) → 0 < count →
-        (first : LocatedToken) × (others : List LocatedToken) × (cut n (passed count a) ≡ first ∷ others)) →
-        (first : LocatedToken) × (others : List LocatedToken) × (cut_front f a (cut n) ≡ first ∷ others)
+        (first : LocatedToken) × (others : List LocatedToken) ×
+        (tokens_within n (ahead_after count a) ≡ first ∷ others)) →
+        (first : LocatedToken) × (others : List LocatedToken) × (tokens_of_front f a (tokens_within n) ≡ first ∷ others)
     by Nothing p g = (_, _, refl)
     by Unclosed p g = (_, _, refl)
     by (Space count) p g = g count p
-    by (Sign sign count) p g = (_, _, refl)
+    by (Lexeme sign count) p g = (_, _, refl)
 
 pub located_tokens-nonempty : (a : Ahead) →
     (first : LocatedToken) × (others : List LocatedToken) × (located_tokens a ≡ first ∷ others)
 unfolding located_tokens
-located_tokens-nonempty a = cut-nonempty (suc (length a.bytes)) a.line a.place a.bytes a.too_long (omega arith)
+located_tokens-nonempty a =
+    tokens_within-nonempty (suc (length a.bytes)) a.line a.offset a.bytes a.too_long (omega arith)
 
-pub located_tokens-rising : (a : Ahead) → IsRising a.place (located_tokens a)
+pub located_tokens-rising : (a : Ahead) → IsRising a.offset (located_tokens a)
 unfolding located_tokens
-located_tokens-rising a = cut-rising (suc (length a.bytes)) a
+located_tokens-rising a = tokens_within-rising (suc (length a.bytes)) a
 
-pub located_tokens-open : (a : Ahead) → StaysUndecided a.place (located_tokens a)
+pub located_tokens-open : (a : Ahead) → StaysUndecided a.offset (located_tokens a)
 unfolding located_tokens
-located_tokens-open a = cut-open (suc (length a.bytes)) a
+located_tokens-open a = tokens_within-open (suc (length a.bytes)) a
 
 pub tokens-open : (bytes : List ℕ) → StaysUndecided 0 (tokens bytes)
 unfolding tokens
-tokens-open bytes = located_tokens-open (from_start (source bytes))
+tokens-open bytes = located_tokens-open (ahead_of_source (source bytes))
 
 pub tokens-rising : (bytes : List ℕ) → IsRising 0 (tokens bytes)
 unfolding tokens
-tokens-rising bytes = located_tokens-rising (from_start (source bytes))
+tokens-rising bytes = located_tokens-rising (ahead_of_source (source bytes))
 
 pub tokens-by : (bytes : List ℕ) → AllEndBy (length (source bytes)) (tokens bytes)
 unfolding tokens located_tokens
 tokens-by bytes =
-    cut-by (suc (length (take 1048576 (source bytes)))) (length (source bytes)) (from_start (source bytes))
+    tokens_within-by (suc (length (take 1048576 (source bytes)))) (length (source bytes))
+    (ahead_of_source (source bytes))
     (by (ltb 1048576 (length (source bytes))) refl)
   where
     by : (t : Bool) → ltb 1048576 (length (source bytes)) ≡ t →

@@ -3,10 +3,10 @@ use Rattle.std.proofs.Common.{refl}
 use Rattle.tokens.specs.KnownTokens.{KnownTokens}
 use Rattle.tokens.specs.Punctuators.{punctuator_of}
 use Rattle.tokens.specs.Tokens.{located_tokens, tokens}
-use Rattle.tokens.specs.Words.{word_of}
+use Rattle.tokens.specs.Keywords.{keyword_of}
 
 pub known : KnownTokens
-unfolding tokens located_tokens word_of punctuator_of
+unfolding tokens located_tokens keyword_of punctuator_of
 known = record {
   nothing = refl;
   longest_match = refl;

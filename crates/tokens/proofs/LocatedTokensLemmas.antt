@@ -4,34 +4,34 @@ use Rattle.std.specs.Prelude.{◌||◌}
 use Rattle.std.specs.List.{prefix_len}
 use Rattle.tokens.specs.Characters.{is_blank, is_letter, is_digit, is_name_byte}
 use Rattle.tokens.specs.Punctuators.{longest_punctuator}
-use Rattle.tokens.specs.Front.{Front, Nothing, Space, Unclosed, Sign, front, run, comment, punctuator, up_to_close, name_token, constant_token}
-use Rattle.tokens.specs.Tokens.{Ahead, behind_byte, passed, placed, followed_by, cut, cut_front, located_tokens}
+use Rattle.tokens.specs.Front.{Front, Nothing, Space, Unclosed, Lexeme, front, token_run, comment_front, punctuator_front, up_to_close, name_token, constant_token}
+use Rattle.tokens.specs.Tokens.{Ahead, ahead_after_byte, ahead_after, located, followed_by, tokens_within, tokens_of_front, located_tokens}
 use Rattle.tokens.specs.declared.located_tokens.Punctuator.{Punctuator}
 use Rattle.tokens.specs.declared.located_tokens.Token.{Token}
 use Rattle.tokens.specs.declared.located_tokens.LocatedToken.{LocatedToken}
 use Rattle.tokens.proofs.PunctuatorLemmas.{spelling-nonempty}
 
 abbrev pub here : ℕ → ℕ → List ℕ → Bool → Ahead
-here line place bytes too_long = record { line = line; place = place; bytes = bytes; too_long = too_long }
+here line place bytes too_long = record { line = line; offset = place; bytes = bytes; too_long = too_long }
 
 -- a piece has at least one byte
 abbrev pub IsPiece : Front → Type 0
 IsPiece Nothing = Unit {0}
 IsPiece Unclosed = Unit {0}
 IsPiece (Space count) = 0 < count
-IsPiece (Sign sign count) = 0 < count
+IsPiece (Lexeme sign count) = 0 < count
 
-punctuator-is_piece : (m : Option Punctuator) → IsPiece (punctuator m)
-punctuator-is_piece None = lit< tt
-punctuator-is_piece (Some m) = spelling-nonempty m
+punctuator_front-is_piece : (m : Option Punctuator) → IsPiece (punctuator_front m)
+punctuator_front-is_piece None = lit< tt
+punctuator_front-is_piece (Some m) = spelling-nonempty m
 
-comment-is_piece : (n : Option ℕ) → IsPiece (comment n)
-comment-is_piece None = tt
-comment-is_piece (Some n) = omega arith
+comment_front-is_piece : (n : Option ℕ) → IsPiece (comment_front n)
+comment_front-is_piece None = tt
+comment_front-is_piece (Some n) = omega arith
 
-run-is_piece : (test : ℕ → Bool) (f : List ℕ → Token) (b : ℕ) (rest : List ℕ) → test b ≡ true →
-    IsPiece (run test f (b ∷ rest))
-run-is_piece test f b rest e = by (test b) e
+token_run-is_piece : (test : ℕ → Bool) (f : List ℕ → Token) (b : ℕ) (rest : List ℕ) → test b ≡ true →
+    IsPiece (token_run test f (b ∷ rest))
+token_run-is_piece test f b rest e = by (test b) e
   where
     by : (t : Bool) → t ≡ true → 0 < cond t (1 + prefix_len test rest) 0
     by true e = omega arith
@@ -52,55 +52,59 @@ pub front-is_piece : (bytes : List ℕ) → IsPiece (front bytes)
 front-is_piece [] = tt
 front-is_piece (b ∷ rest) =
     either-is_piece (is_blank b) _ _ (λ e. lit< tt) (λ n.
-    either-is_piece (is_letter b) _ _ (λ e. run-is_piece is_name_byte name_token b rest (letter-is_name_byte b e)) (λ n.
-    either-is_piece (is_digit b) _ _ (λ e. run-is_piece is_digit constant_token b rest e) (λ n.
-    either-is_piece _ _ _ (λ e. comment-is_piece (up_to_close (drop 1 rest)))
-    (λ n. punctuator-is_piece (longest_punctuator (b ∷ rest))))))
+    either-is_piece (is_letter b) _ _ (λ e. token_run-is_piece is_name_byte name_token b rest (letter-is_name_byte b e))
+    (λ n.
+    either-is_piece (is_digit b) _ _ (λ e. token_run-is_piece is_digit constant_token b rest e) (λ n.
+    either-is_piece _ _ _ (λ e. comment_front-is_piece (up_to_close (drop 1 rest)))
+    (λ n. punctuator_front-is_piece (longest_punctuator (b ∷ rest))))))
 
-length-behind_byte : (a : Ahead) → length (behind_byte a).bytes ≡ length a.bytes - 1
-length-behind_byte a = by a.line a.place a.bytes a.too_long
+length-ahead_after_byte : (a : Ahead) → length (ahead_after_byte a).bytes ≡ length a.bytes - 1
+length-ahead_after_byte a = by a.line a.offset a.bytes a.too_long
   where
-    by : (line place : ℕ) (xs : List ℕ) (t : Bool) → length (behind_byte (here line place xs t)).bytes ≡ length xs - 1
+    by : (line place : ℕ) (xs : List ℕ) (t : Bool) →
+        length (ahead_after_byte (here line place xs t)).bytes ≡ length xs - 1
     by line place [] t = omega arith
     by line place (x ∷ xs) t = omega arith
 
-pub length-passed : (n : ℕ) (a : Ahead) → length (passed n a).bytes ≡ length a.bytes - n
-length-passed zero a = omega arith
-length-passed (suc n) a = omega (arith, length-passed n (behind_byte a), length-behind_byte a)
+pub length-ahead_after : (n : ℕ) (a : Ahead) → length (ahead_after n a).bytes ≡ length a.bytes - n
+length-ahead_after zero a = omega arith
+length-ahead_after (suc n) a = omega (arith, length-ahead_after n (ahead_after_byte a), length-ahead_after_byte a)
 
-cut_front-same : (f : Front) (a : Ahead) (others others' : Ahead → List LocatedToken) → IsPiece f →
-    ((count : ℕ) → 0 < count → others (passed count a) ≡ others' (passed count a)) →
-    cut_front f a others ≡ cut_front f a others'
-cut_front-same Nothing a others others' p h = refl
-cut_front-same Unclosed a others others' p h = refl
-cut_front-same (Space count) a others others' p h = h count p
-cut_front-same (Sign sign count) a others others' p h = ap (followed_by (placed sign count a)) (h count p)
+tokens_of_front-same : (f : Front) (a : Ahead) (others others' : Ahead → List LocatedToken) → IsPiece f →
+    ((count : ℕ) → 0 < count → others (ahead_after count a) ≡ others' (ahead_after count a)) →
+    tokens_of_front f a others ≡ tokens_of_front f a others'
+tokens_of_front-same Nothing a others others' p h = refl
+tokens_of_front-same Unclosed a others others' p h = refl
+tokens_of_front-same (Space count) a others others' p h = h count p
+tokens_of_front-same (Lexeme sign count) a others others' p h = ap (followed_by (located sign count a)) (h count p)
 
 -- more pieces than bytes make no difference
-cut-enough : (m n line place : ℕ) (bytes : List ℕ) (too_long : Bool) → length bytes < m → length bytes < n →
-    cut m (here line place bytes too_long) ≡ cut n (here line place bytes too_long)
-cut-enough zero n line place xs t h k = absurd (omega (arith, h))
-cut-enough (suc m) zero line place xs t h k = absurd (omega (arith, k))
-cut-enough (suc m) (suc n) line place [] t h k = refl
-cut-enough (suc m) (suc n) line place (b ∷ xs) t h k =
-    cut_front-same (front (b ∷ xs)) (here line place (b ∷ xs) t) (cut m) (cut n) (front-is_piece (b ∷ xs)) (λ count c.
-    let p = passed count (here line place (b ∷ xs) t) in
-    let e = length-passed count (here line place (b ∷ xs) t) in
-    cut-enough m n p.line p.place p.bytes p.too_long (omega (arith, e, h, c)) (omega (arith, e, k, c)))
+tokens_within-enough : (m n line place : ℕ) (bytes : List ℕ) (too_long : Bool) → length bytes < m → length bytes < n →
+    tokens_within m (here line place bytes too_long) ≡ tokens_within n (here line place bytes too_long)
+tokens_within-enough zero n line place xs t h k = absurd (omega (arith, h))
+tokens_within-enough (suc m) zero line place xs t h k = absurd (omega (arith, k))
+tokens_within-enough (suc m) (suc n) line place [] t h k = refl
+tokens_within-enough (suc m) (suc n) line place (b ∷ xs) t h k =
+    tokens_of_front-same (front (b ∷ xs)) (here line place (b ∷ xs) t) (tokens_within m) (tokens_within n)
+    (front-is_piece (b ∷ xs)) (λ count c.
+    let p = ahead_after count (here line place (b ∷ xs) t) in
+    let e = length-ahead_after count (here line place (b ∷ xs) t) in
+    tokens_within-enough m n p.line p.offset p.bytes p.too_long (omega (arith, e, h, c)) (omega (arith, e, k, c)))
 
 located_tokens-here : (line place : ℕ) (bytes : List ℕ) (too_long : Bool) →
     located_tokens (here line place bytes too_long) ≡
-    cut_front (front bytes) (here line place bytes too_long) located_tokens
+    tokens_of_front (front bytes) (here line place bytes too_long) located_tokens
 unfolding located_tokens
 located_tokens-here line place [] t = refl
 located_tokens-here line place (b ∷ xs) t =
-    cut_front-same (front (b ∷ xs)) (here line place (b ∷ xs) t) (cut (length (b ∷ xs))) located_tokens
+    tokens_of_front-same (front (b ∷ xs)) (here line place (b ∷ xs) t) (tokens_within (length (b ∷ xs))) located_tokens
     (front-is_piece (b ∷ xs)) (λ count c.
-    let p = passed count (here line place (b ∷ xs) t) in
-    let e = length-passed count (here line place (b ∷ xs) t) in
-    cut-enough (length (b ∷ xs)) (suc (length p.bytes)) p.line p.place p.bytes p.too_long (omega (arith, e, c))
+    let p = ahead_after count (here line place (b ∷ xs) t) in
+    let e = length-ahead_after count (here line place (b ∷ xs) t) in
+    tokens_within-enough (length (b ∷ xs)) (suc (length p.bytes)) p.line p.offset p.bytes p.too_long
+    (omega (arith, e, c))
     (omega arith))
 
 -- the law of which all others are cases
-pub located_tokens-front : (a : Ahead) → located_tokens a ≡ cut_front (front a.bytes) a located_tokens
-located_tokens-front a = located_tokens-here a.line a.place a.bytes a.too_long
+pub located_tokens-front : (a : Ahead) → located_tokens a ≡ tokens_of_front (front a.bytes) a located_tokens
+located_tokens-front a = located_tokens-here a.line a.offset a.bytes a.too_long

@@ -5,8 +5,8 @@ use Rattle.std.proofs.lemmas.Slice.Eq.{bytes_eq-Decides}
 use Rattle.std.proofs.lemmas.Bool.{agree_below_at, lt-leb}
 use Rattle.std.specs.Prelude.{◌&&◌, is_some, nat_le, slice_index}
 use Rattle.tokens.specs.Punctuators.{spelling, row, entry, all_punctuators, punctuator_of}
-use Rattle.tokens.specs.Tokens.{Ahead, placed, passed}
-use Rattle.tokens.specs.Lexing.{ending, IsWhole}
+use Rattle.tokens.specs.Tokens.{Ahead, located, ahead_after}
+use Rattle.tokens.specs.Lexing.{token_ending, IsOfSingleByte}
 use Rattle.tokens.specs.Characters.{is_digit}
 use Rattle.tokens.proofs.CharacterLemmas.{kinds, punctuator_bytes, by_kind}
 use Rattle.tokens.specs.declared.located_tokens.Token.TheVariants as variant
@@ -238,8 +238,9 @@ further3 place = omega arith
 
 -- no punctuator has the byte that ends a line
 located_token-here : (m : Punctuator) (line place : ℕ) (rest : List ℕ) (too_long : Bool) → let a : Ahead =
-    record { line = line; place = place; bytes = spelling m ++ rest; too_long = too_long } in placed
-    (variant.Punctuator m) (length (spelling m)) a ≡ ending (variant.Punctuator m) (passed (length (spelling m)) a)
+    record { line = line; offset = place; bytes = spelling m ++ rest; too_long = too_long } in located
+    (variant.Punctuator m) (length (spelling m)) a ≡
+    token_ending (variant.Punctuator m) (ahead_after (length (spelling m)) a)
 located_token-here Plus line place rest t = refl
 located_token-here Minus line place rest t = refl
 located_token-here Star line place rest t = refl
@@ -300,16 +301,16 @@ located_token-here CloseCurly line place rest t = refl
 located_token-here Comma line place rest t = refl
 located_token-here Semicolon line place rest t = refl
 
-pub punctuator-located_token : (m : Punctuator) (a : Ahead) (rest : List ℕ) → a.bytes ≡ spelling m ++ rest →
-    placed (variant.Punctuator m) (length (spelling m)) a ≡
-    ending (variant.Punctuator m) (passed (length (spelling m)) a)
-punctuator-located_token m a rest e =
+pub punctuator_front-located_token : (m : Punctuator) (a : Ahead) (rest : List ℕ) → a.bytes ≡ spelling m ++ rest →
+    located (variant.Punctuator m) (length (spelling m)) a ≡
+    token_ending (variant.Punctuator m) (ahead_after (length (spelling m)) a)
+punctuator_front-located_token m a rest e =
     subst
     (λ (xs : List ℕ).
-    let b : Ahead = record { line = a.line; place = a.place; bytes = xs; too_long = a.too_long } in
-    placed (variant.Punctuator m) (length (spelling m)) b ≡
-    ending (variant.Punctuator m) (passed (length (spelling m)) b)) (sym e)
-    (located_token-here m a.line a.place rest a.too_long)
+    let b : Ahead = record { line = a.line; offset = a.offset; bytes = xs; too_long = a.too_long } in
+    located (variant.Punctuator m) (length (spelling m)) b ≡
+    token_ending (variant.Punctuator m) (ahead_after (length (spelling m)) b)) (sym e)
+    (located_token-here m a.line a.offset rest a.too_long)
 
 -- the punctuator of a byte, by its kind
 of_kind : (kind c : ℕ) (o : Option Punctuator) → nat_le kind 2 ≡ false → slice_index punctuator_bytes kind ≡ c →
@@ -317,7 +318,7 @@ of_kind : (kind c : ℕ) (o : Option Punctuator) → nat_le kind 2 ≡ false →
 of_kind kind c o high at is b h e = sym (ap (λ x. punctuator_of (x ∷ [])) (by_kind kind c high at b h e) ∙ is)
 
 as_whole : (b : ℕ) (m : Punctuator) → Some m ≡ punctuator_of (b ∷ []) →
-    ((n : ℕ) → punctuator_of (spelling m ++ n ∷ []) ≡ None) → IsWhole b m
+    ((n : ℕ) → punctuator_of (spelling m ++ n ∷ []) ≡ None) → IsOfSingleByte b m
 as_whole b m is ends = record { is = sym is; ends = ends }
 
 pub kind-open_round : (b : ℕ) → b < 256 → slice_index kinds b ≡ 3 → Some OpenRound ≡ punctuator_of (b ∷ [])
@@ -396,27 +397,27 @@ pub kind-equals : (b : ℕ) → b < 256 → slice_index kinds b ≡ 21 → Some 
 unfolding punctuator_of
 kind-equals = of_kind 21 61 (Some Equals) refl refl refl
 
-pub whole-open_round : (b : ℕ) → b < 256 → slice_index kinds b ≡ 3 → IsWhole b OpenRound
+pub whole-open_round : (b : ℕ) → b < 256 → slice_index kinds b ≡ 3 → IsOfSingleByte b OpenRound
 unfolding punctuator_of
 whole-open_round b h e = as_whole b OpenRound (kind-open_round b h e) (λ n. refl)
 
-pub whole-close_round : (b : ℕ) → b < 256 → slice_index kinds b ≡ 4 → IsWhole b CloseRound
+pub whole-close_round : (b : ℕ) → b < 256 → slice_index kinds b ≡ 4 → IsOfSingleByte b CloseRound
 unfolding punctuator_of
 whole-close_round b h e = as_whole b CloseRound (kind-close_round b h e) (λ n. refl)
 
-pub whole-open_curly : (b : ℕ) → b < 256 → slice_index kinds b ≡ 5 → IsWhole b OpenCurly
+pub whole-open_curly : (b : ℕ) → b < 256 → slice_index kinds b ≡ 5 → IsOfSingleByte b OpenCurly
 unfolding punctuator_of
 whole-open_curly b h e = as_whole b OpenCurly (kind-open_curly b h e) (λ n. refl)
 
-pub whole-close_curly : (b : ℕ) → b < 256 → slice_index kinds b ≡ 6 → IsWhole b CloseCurly
+pub whole-close_curly : (b : ℕ) → b < 256 → slice_index kinds b ≡ 6 → IsOfSingleByte b CloseCurly
 unfolding punctuator_of
 whole-close_curly b h e = as_whole b CloseCurly (kind-close_curly b h e) (λ n. refl)
 
-pub whole-comma : (b : ℕ) → b < 256 → slice_index kinds b ≡ 7 → IsWhole b Comma
+pub whole-comma : (b : ℕ) → b < 256 → slice_index kinds b ≡ 7 → IsOfSingleByte b Comma
 unfolding punctuator_of
 whole-comma b h e = as_whole b Comma (kind-comma b h e) (λ n. refl)
 
-pub whole-semicolon : (b : ℕ) → b < 256 → slice_index kinds b ≡ 8 → IsWhole b Semicolon
+pub whole-semicolon : (b : ℕ) → b < 256 → slice_index kinds b ≡ 8 → IsOfSingleByte b Semicolon
 unfolding punctuator_of
 whole-semicolon b h e = as_whole b Semicolon (kind-semicolon b h e) (λ n. refl)
 

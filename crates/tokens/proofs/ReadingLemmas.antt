@@ -3,19 +3,19 @@ use Rattle.std.proofs.Common.{◌≡◌, ℕ, ◌+◌, ◌-◌, ◌<◌, ◌≤�
 use Rattle.std.specs.Option.{option_map}
 use Rattle.std.proofs.lemmas.Option.{same_Some}
 use Rattle.tokens.specs.Source.{source}
-use Rattle.tokens.specs.Tokens.{is_last, followed_by, located_tokens, from_start, tokens}
+use Rattle.tokens.specs.Tokens.{is_last, followed_by, located_tokens, ahead_of_source, tokens}
 use Rattle.tokens.specs.Ends.{StaysUndecided, is_decided_by_last_byte, last_undecided_until, undecided_until}
-use Rattle.tokens.specs.Window.{Held, ahead, untouched}
+use Rattle.tokens.specs.Window.{Window, ahead, untouched}
 use Rattle.tokens.specs.Lexing.{to_read, followed}
-use Rattle.tokens.specs.Reading.{Reading, shown, unread, remaining, undecided_reach_of, reach_of}
+use Rattle.tokens.specs.Cursors.{Cursor, shown, unread, most_left, undecided_reach_of, reach_of}
 use Rattle.tokens.specs.declared.located_tokens.LocatedToken.{LocatedToken}
 use Rattle.tokens.proofs.EndLemmas.{located_tokens-nonempty, located_tokens-open, tokens-open}
 
-abbrev reading : LocatedToken → LocatedToken → Held → Reading
-reading next after behind = record { next = next; after = after; behind = behind }
+abbrev reading : LocatedToken → LocatedToken → Window → Cursor
+reading next after behind = record { next = next; after = after; window = behind }
 
 -- the token behind the next one was read
-pub shown-read : (next after : LocatedToken) (new old : Held) (told' told : Option (List ℕ)) →
+pub shown-read : (next after : LocatedToken) (new old : Window) (told' told : Option (List ℕ)) →
     to_read (followed after) new told' ≡ to_read located_tokens old told →
     shown (reading next after new) told' ≡ to_read (followed next) old told
 unfolding to_read followed unread
@@ -27,7 +27,7 @@ shown-read next after new old (Some t') (Some t) e =
     (same_Some (followed_by after (located_tokens (ahead new t'))) (located_tokens (ahead old t)) e)
 
 -- there is none
-pub shown-last : (next after : LocatedToken) (behind : Held) (told : Option (List ℕ)) → is_last next.token ≡ true →
+pub shown-last : (next after : LocatedToken) (behind : Window) (told : Option (List ℕ)) → is_last next.token ≡ true →
     shown (reading next after behind) told ≡ to_read (followed next) behind told
 unfolding to_read followed unread
 shown-last next after behind None e = refl
@@ -42,7 +42,7 @@ shown-opened None = refl
 shown-opened (Some bytes) = refl
 
 -- behind the next token
-pub shown-advanced : (next after located_token : LocatedToken) (new old : Held) (told' told : Option (List ℕ)) →
+pub shown-advanced : (next after located_token : LocatedToken) (new old : Window) (told' told : Option (List ℕ)) →
     is_last next.token ≡ false → to_read (followed located_token) new told' ≡ to_read located_tokens old told →
     shown (reading after located_token new) told' ≡ option_map (drop 1) (shown (reading next after old) told)
 unfolding to_read followed unread
@@ -57,35 +57,36 @@ shown-advanced next after located_token new old told' told not_last e =
 abbrev left : Bool → Bool → ℕ → ℕ
 left next_last after_last place = cond next_last 0 (cond after_last 1 (2 + (1048576 - place)))
 
-pub remaining-bounded : (r : Reading) → remaining r ≤ 1048578
-unfolding remaining
-remaining-bounded r = by (is_last r.next.token) (is_last r.after.token)
+pub most_left-bounded : (r : Cursor) → most_left r ≤ 1048578
+unfolding most_left
+most_left-bounded r = by (is_last r.next.token) (is_last r.after.token)
   where
-    by : (s t : Bool) → left s t r.behind.place ≤ 1048578
+    by : (s t : Bool) → left s t r.window.offset ≤ 1048578
     by true t = omega arith
     by false true = omega arith
     by false false = omega arith
 
-pub remaining-advanced : (next after located_token : LocatedToken) (new old : Held) → is_last next.token ≡ false →
-    is_last after.token ≡ false → (is_last located_token.token ≡ false → old.place < new.place) → new.place ≤ 1048576 →
-    remaining (reading after located_token new) < remaining (reading next after old)
-unfolding remaining
-remaining-advanced next after located_token new old n a further within =
+pub most_left-advanced : (next after located_token : LocatedToken) (new old : Window) → is_last next.token ≡ false →
+    is_last after.token ≡ false → (is_last located_token.token ≡ false → old.offset < new.offset) →
+    new.offset ≤ 1048576 →
+    most_left (reading after located_token new) < most_left (reading next after old)
+unfolding most_left
+most_left-advanced next after located_token new old n a further within =
     by (is_last next.token) (is_last after.token) (is_last located_token.token) n a further
   where
-    by : (s t u : Bool) → s ≡ false → t ≡ false → (u ≡ false → old.place < new.place) →
-        left t u new.place < left s t old.place
+    by : (s t u : Bool) → s ≡ false → t ≡ false → (u ≡ false → old.offset < new.offset) →
+        left t u new.offset < left s t old.offset
     by true t u n a f = absurd cc
     by false true u n a f = absurd cc
     by false false true n a f = omega arith
     by false false false n a f = omega (arith, f refl)
 
-pub remaining-ended : (next after after' : LocatedToken) (new old : Held) → is_last next.token ≡ false →
-    is_last after.token ≡ true → remaining (reading after after' new) < remaining (reading next after old)
-unfolding remaining
-remaining-ended next after after' new old n a = by (is_last next.token) (is_last after.token) n a
+pub most_left-ended : (next after after' : LocatedToken) (new old : Window) → is_last next.token ≡ false →
+    is_last after.token ≡ true → most_left (reading after after' new) < most_left (reading next after old)
+unfolding most_left
+most_left-ended next after after' new old n a = by (is_last next.token) (is_last after.token) n a
   where
-    by : (s t : Bool) → s ≡ false → t ≡ true → left t (is_last after'.token) new.place < left s t old.place
+    by : (s t : Bool) → s ≡ false → t ≡ true → left t (is_last after'.token) new.offset < left s t old.offset
     by true t n a = absurd cc
     by false true n a = omega arith
     by false false n a = absurd cc
@@ -103,20 +104,21 @@ reach-first : (place : ℕ) (first : LocatedToken) (others : List LocatedToken) 
 reach-first place first [] r = omega arith
 reach-first place first (x ∷ others) r = omega (arith, r.1.0, open-end first)
 
-pub opened-stopped : (bytes : List ℕ) (n : ℕ) (window : Held) (told : Option (List ℕ)) → window ≡ untouched →
+pub opened-stopped : (bytes : List ℕ) (n : ℕ) (window : Window) (told : Option (List ℕ)) → window ≡ untouched →
     told ≡ Some bytes →
     ((first : LocatedToken) (others : List LocatedToken) → to_read located_tokens window told ≡ Some (first ∷ others) →
     n ≤ undecided_until first) → n ≤ undecided_reach_of (tokens bytes)
 unfolding tokens
 opened-stopped bytes n window told w t f =
-    let some = located_tokens-nonempty (from_start (source bytes)) in
+    let some = located_tokens-nonempty (ahead_of_source (source bytes)) in
     let here =
     ap (λ h. to_read located_tokens h told) w ∙ ap (to_read located_tokens untouched) t ∙ shown-opened (Some bytes) in
-    let rising = subst (StaysUndecided 0) some.2 (located_tokens-open (from_start (source bytes))) in
+    let rising = subst (StaysUndecided 0) some.2 (located_tokens-open (ahead_of_source (source bytes))) in
     subst (λ (xs : List LocatedToken). n ≤ undecided_reach_of xs) (sym some.2)
     (omega (arith, f some.0 some.1 (here ∙ ap Some some.2), reach-first 0 some.0 some.1 rising))
 
-pub second-stopped : (bytes : List ℕ) (n : ℕ) (next : LocatedToken) (first second : Held) (told told' : Option (List ℕ))
+pub second-stopped : (bytes : List ℕ) (n : ℕ) (next : LocatedToken) (first second : Window)
+    (told told' : Option (List ℕ))
     → first ≡ untouched → told ≡ Some bytes → is_last next.token ≡ false →
     to_read (followed next) second told' ≡ to_read located_tokens first told →
     ((x : LocatedToken) (others : List LocatedToken) → to_read located_tokens second told' ≡ Some (x ∷ others) →
@@ -138,7 +140,7 @@ second-stopped bytes n next first second told told' w t last e f =
         ap (λ xs. next ∷ xs) some.2 in
         subst (λ (xs : List LocatedToken). n ≤ undecided_reach_of xs) (sym is) (f some.0 some.1 (ap Some some.2))
 
-pub advanced-stopped : (n : ℕ) (next after : LocatedToken) (window : Held) (told : Option (List ℕ)) →
+pub advanced-stopped : (n : ℕ) (next after : LocatedToken) (window : Window) (told : Option (List ℕ)) →
     is_last next.token ≡ false → is_last after.token ≡ false →
     ((first : LocatedToken) (others : List LocatedToken) → to_read located_tokens window told ≡ Some (first ∷ others) →
     n ≤ undecided_until first) → (x : LocatedToken) (others : List LocatedToken) →
@@ -174,15 +176,15 @@ reach-last place [] s = omega arith
 reach-last place (x ∷ []) s = omega arith
 reach-last place (x ∷ y ∷ others) s = first-last x.end y others s.1
 
-last-behind : (x : LocatedToken) (others : List LocatedToken) →
+last-window_after : (x : LocatedToken) (others : List LocatedToken) →
     last_undecided_until others ≤ last_undecided_until (x ∷ others)
-last-behind x [] = omega arith
-last-behind x (y ∷ others) = omega arith
+last-window_after x [] = omega arith
+last-window_after x (y ∷ others) = omega arith
 
 all-last : (place : ℕ) (passed rest : List LocatedToken) → StaysUndecided place (passed ++ rest) →
     undecided_reach_of rest ≤ last_undecided_until (passed ++ rest)
 all-last place [] rest s = reach-last place rest s
-all-last place (x ∷ passed) rest s = omega (arith, last-behind x (passed ++ rest), all-last x.end passed rest s.1)
+all-last place (x ∷ passed) rest s = omega (arith, last-window_after x (passed ++ rest), all-last x.end passed rest s.1)
 
 -- what leaves the second of these tokens open ends by its end, and leaves the last token of the source open
 pub open-within : (rest : List LocatedToken) (n : ℕ) → n ≤ undecided_reach_of rest → n ≤ reach_of rest

@@ -5,18 +5,18 @@ use Rattle.std.specs.List.{prefix_len}
 use Rattle.std.proofs.lemmas.Option.{same_Some}
 use Rattle.tokens.specs.Feed.{Account, failed_again}
 use Rattle.tokens.specs.Punctuators.{punctuator_of, spelling}
-use Rattle.tokens.specs.Words.{word_of}
+use Rattle.tokens.specs.Keywords.{keyword_of}
 use Rattle.tokens.specs.Ends.{is_decided_by_last_byte, undecided_until}
-use Rattle.tokens.specs.Front.{Front, Nothing, Space, Unclosed, Sign, front, up_to_close, begins_with, name_or}
-use Rattle.tokens.specs.Tokens.{Ahead, behind_byte, passed, at_end, placed, last_located_token, cut, cut_front, located_tokens}
-use Rattle.tokens.specs.Window.{LeavesAsked, Held, TakesBytes, WentOn, ahead}
-use Rattle.tokens.specs.Lexing.{to_read, followed, ending, in_run, name_going_on, constant_going_on, value_token, in_punctuator, grown, in_comment, closed_at, Fails, StopsWithin}
+use Rattle.tokens.specs.Front.{Front, Nothing, Space, Unclosed, Lexeme, front, up_to_close, begins_with, name_or}
+use Rattle.tokens.specs.Tokens.{Ahead, ahead_after_byte, ahead_after, at_end, located, last_located_token, tokens_within, tokens_of_front, located_tokens}
+use Rattle.tokens.specs.Window.{LeavesAsked, Window, TakesBytes, HasReadOn, ahead}
+use Rattle.tokens.specs.Lexing.{to_read, followed, token_ending, in_token_run, name_going_on, constant_going_on, value_token, in_punctuator, extended, in_comment, closed_at, LeavesUnread, StopsWithin}
 use Rattle.tokens.specs.declared.devices.DeviceFault.{DeviceFault}
 use Rattle.tokens.specs.declared.located_tokens.Punctuator.{Punctuator}
 use Rattle.tokens.specs.declared.located_tokens.Punctuator.TheVariants.{Slash}
 use Rattle.tokens.specs.declared.located_tokens.LexicalError.TheVariants.{CommentNotClosed, ConstantTooLarge, NameTooLong, SourceTooLong}
 use Rattle.tokens.specs.declared.located_tokens.Token.{Token}
-use Rattle.tokens.specs.declared.located_tokens.Word.{Word}
+use Rattle.tokens.specs.declared.located_tokens.Keyword.{Keyword}
 use Rattle.tokens.specs.declared.located_tokens.Token.TheVariants as variant
 use Rattle.tokens.specs.declared.located_tokens.LocatedToken.{LocatedToken}
 use Rattle.tokens.proofs.LocatedTokensLemmas.{IsPiece, front-is_piece}
@@ -33,9 +33,9 @@ pub TakesBytes-pass : {old mid new : ℕ} {told told' : Option (List ℕ)} → n
 TakesBytes-pass {old} {mid} {new} {told} {told'} e f = subst (λ (n : ℕ). TakesBytes old n told told') (sym e) f
 
 -- a window that went on goes on
-goes_on : (counted counted' : Account) (old mid new : Held) (told told' told'' : Option (List ℕ)) (after : Account)
-    (ended : Bool) → TakesBytes old.taken mid.taken told told' → old.place ≤ mid.place → counted' ≡ counted →
-    WentOn mid new told' told'' counted' after ended → WentOn old new told told'' counted after ended
+goes_on : (counted counted' : Account) (old mid new : Window) (told told' told'' : Option (List ℕ)) (after : Account)
+    (ended : Bool) → TakesBytes old.taken mid.taken told told' → old.offset ≤ mid.offset → counted' ≡ counted →
+    HasReadOn mid new told' told'' counted' after ended → HasReadOn old new told told'' counted after ended
 goes_on counted counted' old mid new told told' told'' after ended took forward count asks = record {
   took = TakesBytes-then took asks.took;
   forward = omega (arith, forward, asks.forward);
@@ -46,9 +46,9 @@ goes_on counted counted' old mid new told told' told'' after ended took forward 
   known = asks.known;
 }
 
-pub then-asks : {T : Type 0} (r : Result T DeviceFault) (old mid new : Held) (told told' told'' : Option (List ℕ))
+pub then-asks : {T : Type 0} (r : Result T DeviceFault) (old mid new : Window) (told told' told'' : Option (List ℕ))
     (before between after : Account) (ended : Bool) → TakesBytes old.taken mid.taken told told' →
-    old.place ≤ mid.place → between ≡ before → LeavesAsked r mid new told' told'' between after ended →
+    old.offset ≤ mid.offset → between ≡ before → LeavesAsked r mid new told' told'' between after ended →
     LeavesAsked r old new told told'' before after ended
 then-asks (Ok x) old mid new told told' told'' before between after ended took forward count asks =
     goes_on before between old mid new told told' told'' after ended took forward count asks
@@ -58,9 +58,9 @@ then-asks (Err x) old mid new told told' told'' before between after ended took 
 
 -- and may fail then
 pub then-fails : {T : Type 0} (r : Result T DeviceFault) (P : DeviceFault → Type 0) → IsErrAnd r P →
-    (old mid new : Held) (told told' told'' : Option (List ℕ)) (before between after : Account) (ended : Bool) →
-    TakesBytes old.taken mid.taken told told' → old.place ≤ mid.place → between ≡ before →
-    WentOn mid new told' told'' (failed_again between) after ended →
+    (old mid new : Window) (told told' told'' : Option (List ℕ)) (before between after : Account) (ended : Bool) →
+    TakesBytes old.taken mid.taken told told' → old.offset ≤ mid.offset → between ≡ before →
+    HasReadOn mid new told' told'' (failed_again between) after ended →
     LeavesAsked r old new told told'' before after ended
 then-fails (Ok x) P h old mid new told told' told'' before between after ended took forward count asks = absurd h
 then-fails (Err x) P h old mid new told told' told'' before between after ended took forward count asks =
@@ -80,7 +80,7 @@ on_err-from (Err x) p = p
 -- the first token is open where it begins
 pub record EndsBehind (made : Ahead → List LocatedToken) : Type 0 where
   pub ends : (a : Ahead) (first : LocatedToken) (others : List LocatedToken) → made a ≡ first ∷ others →
-      a.place ≤ undecided_until first
+      a.offset ≤ undecided_until first
 
 same_first : (x first : LocatedToken) (xs others : List LocatedToken) → x ∷ xs ≡ first ∷ others → x ≡ first
 same_first x first xs others e = cc
@@ -90,96 +90,100 @@ at_most : (place : ℕ) (x first : LocatedToken) (xs others : List LocatedToken)
 at_most place x first xs others h e = omega (arith, h, ap undecided_until (same_first x first xs others e))
 
 -- a token of more than no bytes is open where it begins, and any other that isn't decided by its last byte
-pub open-placed : (token : Token) (count : ℕ) (a : Ahead) → 0 < count → a.place ≤ undecided_until (placed token count a)
-open-placed token count a h = by (is_decided_by_last_byte token)
+pub open-located : (token : Token) (count : ℕ) (a : Ahead) → 0 < count →
+    a.offset ≤ undecided_until (located token count a)
+open-located token count a h = by (is_decided_by_last_byte token)
   where
-    by : (t : Bool) → a.place ≤ cond t (a.place + count - 1) (a.place + count)
+    by : (t : Bool) → a.offset ≤ cond t (a.offset + count - 1) (a.offset + count)
     by true = omega (arith, h)
     by false = omega arith
 
 open-undecided : (token : Token) (count : ℕ) (a : Ahead) → is_decided_by_last_byte token ≡ false →
-    a.place ≤ undecided_until (placed token count a)
+    a.offset ≤ undecided_until (located token count a)
 open-undecided token count a h = by (is_decided_by_last_byte token) h
   where
-    by : (t : Bool) → t ≡ false → a.place ≤ cond t (a.place + count - 1) (a.place + count)
+    by : (t : Bool) → t ≡ false → a.offset ≤ cond t (a.offset + count - 1) (a.offset + count)
     by true h = absurd cc
     by false h = omega arith
 
-place-behind_byte : (a : Ahead) → a.place ≤ (behind_byte a).place
-place-behind_byte a = by a.line a.place a.bytes a.too_long
+place-ahead_after_byte : (a : Ahead) → a.offset ≤ (ahead_after_byte a).offset
+place-ahead_after_byte a = by a.line a.offset a.bytes a.too_long
   where
     by : (line place : ℕ) (xs : List ℕ) (t : Bool) → let b : Ahead =
-        record { line = line; place = place; bytes = xs; too_long = t } in place ≤ (behind_byte b).place
+        record { line = line; offset = place; bytes = xs; too_long = t } in place ≤ (ahead_after_byte b).offset
     by line place [] t = omega arith
     by line place (x ∷ xs) t = omega arith
 
-pub place-passed : (n : ℕ) (a : Ahead) → a.place ≤ (passed n a).place
-place-passed zero a = omega arith
-place-passed (suc n) a = omega (arith, place-behind_byte a, place-passed n (behind_byte a))
+pub place-ahead_after : (n : ℕ) (a : Ahead) → a.offset ≤ (ahead_after n a).offset
+place-ahead_after zero a = omega arith
+place-ahead_after (suc n) a = omega (arith, place-ahead_after_byte a, place-ahead_after n (ahead_after_byte a))
 
 pub last-open : (token : Token) (line : ℕ) (end : Ahead) → is_decided_by_last_byte token ≡ false →
-    end.place ≤ undecided_until (last_located_token token line end)
+    end.offset ≤ undecided_until (last_located_token token line end)
 last-open token line end h = by end.too_long
   where
-    here : (u : Bool) → u ≡ false → end.place ≤ cond u (end.place - 1) end.place
+    here : (u : Bool) → u ≡ false → end.offset ≤ cond u (end.offset - 1) end.offset
     here true h = absurd cc
     here false h = omega arith
 
     by : (t : Bool) →
-        end.place ≤
+        end.offset ≤
         undecided_until
         (cond t
         (let x : LocatedToken =
-        record { token = variant.Fault SourceTooLong; line = end.line; end = end.place + 1 } in
-        x) (let x : LocatedToken = record { token = token; line = line; end = end.place } in x))
+        record { token = variant.Fault SourceTooLong; line = end.line; end = end.offset + 1 } in
+        x) (let x : LocatedToken = record { token = token; line = line; end = end.offset } in x))
     by true = omega arith
     by false = here (is_decided_by_last_byte token) h
 
-pub last-behind : (token : Token) (line : ℕ) (end : Ahead) → end.place ≤ (last_located_token token line end).end
-last-behind token line end = by end.too_long
+pub last-window_after : (token : Token) (line : ℕ) (end : Ahead) → end.offset ≤ (last_located_token token line end).end
+last-window_after token line end = by end.too_long
   where
     by : (t : Bool) →
-        end.place ≤
+        end.offset ≤
         (cond t
         (let x : LocatedToken =
-        record { token = variant.Fault SourceTooLong; line = end.line; end = end.place + 1 } in
-        x) (let x : LocatedToken = record { token = token; line = line; end = end.place } in x)).end
+        record { token = variant.Fault SourceTooLong; line = end.line; end = end.offset + 1 } in
+        x) (let x : LocatedToken = record { token = token; line = line; end = end.offset } in x)).end
     by true = omega arith
     by false = omega arith
 
 last-ends : (place : ℕ) (token : Token) (line : ℕ) (a : Ahead) (first : LocatedToken) (others : List LocatedToken) →
-    is_decided_by_last_byte token ≡ false → place ≤ a.place →
+    is_decided_by_last_byte token ≡ false → place ≤ a.offset →
     last_located_token token line (at_end a) ∷ [] ≡ first ∷ others → place ≤ undecided_until first
 last-ends place token line a first others u h e =
     at_most place _ first [] others
-    (omega (arith, h, last-open token line (at_end a) u, place-passed (length a.bytes) a)) e
+    (omega (arith, h, last-open token line (at_end a) u, place-ahead_after (length a.bytes) a)) e
 
-cut-ends : (n : ℕ) (a : Ahead) (first : LocatedToken) (others : List LocatedToken) → cut n a ≡ first ∷ others →
-    a.place ≤ undecided_until first
-cut-ends zero a first others e = absurd cc
-cut-ends (suc n) a first others e =
-    by (front a.bytes) (front-is_piece a.bytes) (λ count. cut-ends n (passed count a) first others) e
+tokens_within-ends : (n : ℕ) (a : Ahead) (first : LocatedToken) (others : List LocatedToken) →
+    tokens_within n a ≡ first ∷ others →
+    a.offset ≤ undecided_until first
+tokens_within-ends zero a first others e = absurd cc
+tokens_within-ends (suc n) a first others e =
+    by (front a.bytes) (front-is_piece a.bytes) (λ count. tokens_within-ends n (ahead_after count a) first others) e
   where
     by : (f : Front) → IsPiece f →
-        ((count : ℕ) → cut n (passed count a) ≡ first ∷ others → (passed count a).place ≤ undecided_until first) →
-        cut_front f a (cut n) ≡ first ∷ others → a.place ≤ undecided_until first
-    by Nothing p h e = last-ends a.place variant.End a.line a first others refl (omega arith) e
-    by Unclosed p h e = last-ends a.place (variant.Fault CommentNotClosed) a.line a first others refl (omega arith) e
-    by (Space count) p h e = omega (arith, h count e, place-passed count a)
-    by (Sign sign count) p h e = at_most a.place (placed sign count a) first _ others (open-placed sign count a p) e
+        ((count : ℕ) → tokens_within n (ahead_after count a) ≡ first ∷ others →
+        (ahead_after count a).offset ≤ undecided_until first) →
+        tokens_of_front f a (tokens_within n) ≡ first ∷ others → a.offset ≤ undecided_until first
+    by Nothing p h e = last-ends a.offset variant.End a.line a first others refl (omega arith) e
+    by Unclosed p h e = last-ends a.offset (variant.Fault CommentNotClosed) a.line a first others refl (omega arith) e
+    by (Space count) p h e = omega (arith, h count e, place-ahead_after count a)
+    by (Lexeme sign count) p h e =
+        at_most a.offset (located sign count a) first _ others (open-located sign count a p) e
 
 pub located_tokens-end : EndsBehind located_tokens
 unfolding located_tokens
-located_tokens-end = record { ends = λ a. cut-ends (suc (length a.bytes)) a }
+located_tokens-end = record { ends = λ a. tokens_within-ends (suc (length a.bytes)) a }
 
-pub in_run-ends : (test : ℕ → Bool) (token_of : List ℕ → Token) →
-    ((bytes : List ℕ) → is_decided_by_last_byte (token_of bytes) ≡ false) → EndsBehind (in_run test token_of)
-unfolding in_run followed
-in_run-ends test token_of u =
+pub in_token_run-ends : (test : ℕ → Bool) (token_of : List ℕ → Token) →
+    ((bytes : List ℕ) → is_decided_by_last_byte (token_of bytes) ≡ false) → EndsBehind (in_token_run test token_of)
+unfolding in_token_run followed
+in_token_run-ends test token_of u =
     record {
       ends =
-          λ a first others e. at_most a.place
-          (placed (token_of (take (prefix_len test a.bytes) a.bytes)) (prefix_len test a.bytes) a) first _ others
+          λ a first others e. at_most a.offset
+          (located (token_of (take (prefix_len test a.bytes) a.bytes)) (prefix_len test a.bytes) a) first _ others
           (open-undecided _ (prefix_len test a.bytes) a (u (take (prefix_len test a.bytes) a.bytes))) e;
     }
 
@@ -187,9 +191,9 @@ in_run-ends test token_of u =
 pub name-undecided : (name : List ℕ) (too_long : Bool) (more : List ℕ) →
     is_decided_by_last_byte (name_going_on name too_long more) ≡ false
 name-undecided name true more = refl
-name-undecided name false more = by (nat_le (length (name ++ more)) 31) (word_of (name ++ more))
+name-undecided name false more = by (nat_le (length (name ++ more)) 31) (keyword_of (name ++ more))
   where
-    by : (t : Bool) (w : Option Word) →
+    by : (t : Bool) (w : Option Keyword) →
         is_decided_by_last_byte (cond t (name_or (name ++ more) w) (variant.Fault NameTooLong)) ≡ false
     by true None = refl
     by true (Some word) = refl
@@ -206,38 +210,40 @@ constant-undecided value more = by (fold (λ value digit. 10 * value + (digit - 
         either true = refl
         either false = refl
 
-grown-ends : (punctuator : Punctuator) (bytes : List ℕ) (a : Ahead) (first : LocatedToken) (others : List LocatedToken)
-    → grown punctuator bytes a ≡ first ∷ others → a.place ≤ undecided_until first
+extended-ends : (punctuator : Punctuator) (bytes : List ℕ) (a : Ahead) (first : LocatedToken)
+    (others : List LocatedToken)
+    → extended punctuator bytes a ≡ first ∷ others → a.offset ≤ undecided_until first
 unfolding followed
-grown-ends punctuator [] a first others e =
-    at_most a.place (ending (variant.Punctuator punctuator) a) first _ others (omega arith) e
-grown-ends punctuator (b ∷ rest) a first others e =
-    by (punctuator_of (spelling punctuator ++ b ∷ [])) (λ longer. grown-ends longer rest (behind_byte a) first others) e
+extended-ends punctuator [] a first others e =
+    at_most a.offset (token_ending (variant.Punctuator punctuator) a) first _ others (omega arith) e
+extended-ends punctuator (b ∷ rest) a first others e =
+    by (punctuator_of (spelling punctuator ++ b ∷ []))
+    (λ longer. extended-ends longer rest (ahead_after_byte a) first others) e
   where
     by : (o : Option Punctuator) →
-        ((longer : Punctuator) → grown longer rest (behind_byte a) ≡ first ∷ others →
-        (behind_byte a).place ≤ undecided_until first) →
+        ((longer : Punctuator) → extended longer rest (ahead_after_byte a) ≡ first ∷ others →
+        (ahead_after_byte a).offset ≤ undecided_until first) →
         elim o [
-          | None ↦ followed (ending (variant.Punctuator punctuator) a) a
-          | Some longer ↦ grown longer rest (behind_byte a)
-        ] ≡ first ∷ others → a.place ≤ undecided_until first
-    by None h e = at_most a.place (ending (variant.Punctuator punctuator) a) first _ others (omega arith) e
-    by (Some longer) h e = omega (arith, h longer e, place-behind_byte a)
+          | None ↦ followed (token_ending (variant.Punctuator punctuator) a) a
+          | Some longer ↦ extended longer rest (ahead_after_byte a)
+        ] ≡ first ∷ others → a.offset ≤ undecided_until first
+    by None h e = at_most a.offset (token_ending (variant.Punctuator punctuator) a) first _ others (omega arith) e
+    by (Some longer) h e = omega (arith, h longer e, place-ahead_after_byte a)
 
 pub in_punctuator-ends : (punctuator : Punctuator) → EndsBehind (in_punctuator punctuator)
 unfolding in_punctuator
-in_punctuator-ends punctuator = record { ends = λ a. grown-ends punctuator a.bytes a }
+in_punctuator-ends punctuator = record { ends = λ a. extended-ends punctuator a.bytes a }
 
 pub in_comment-ends : (line : ℕ) → EndsBehind (in_comment line)
 unfolding in_comment
 in_comment-ends line = record { ends = λ a first others. by a first others (up_to_close a.bytes) }
   where
     by : (a : Ahead) (first : LocatedToken) (others : List LocatedToken) (o : Option ℕ) →
-        closed_at o line a ≡ first ∷ others → a.place ≤ undecided_until first
+        closed_at o line a ≡ first ∷ others → a.offset ≤ undecided_until first
     by a first others None e =
-        last-ends a.place (variant.Fault CommentNotClosed) line a first others refl (omega arith) e
+        last-ends a.offset (variant.Fault CommentNotClosed) line a first others refl (omega arith) e
     by a first others (Some count) e =
-        omega (arith, located_tokens-end.ends (passed count a) first others e, place-passed count a)
+        omega (arith, located_tokens-end.ends (ahead_after count a) first others e, place-ahead_after count a)
 
 either-ends : (t : Bool) (place : ℕ) (xs ys : List LocatedToken) (first : LocatedToken) (others : List LocatedToken) →
     (xs ≡ first ∷ others → place ≤ undecided_until first) → (ys ≡ first ∷ others → place ≤ undecided_until first) →
@@ -248,35 +254,35 @@ either-ends false place xs ys first others f g e = g e
 pub in_star-ends : (line : ℕ) → EndsBehind (in_star line)
 unfolding in_star
 in_star-ends line = record {
-  ends = λ a first others. either-ends (begins_with 47 a.bytes) a.place _ _ first others
-      (λ e. omega (arith, located_tokens-end.ends (behind_byte a) first others e, place-behind_byte a))
+  ends = λ a first others. either-ends (begins_with 47 a.bytes) a.offset _ _ first others
+      (λ e. omega (arith, located_tokens-end.ends (ahead_after_byte a) first others e, place-ahead_after_byte a))
       ((in_comment-ends line).ends a first others);
 }
 
 pub in_slash-ends : (line : ℕ) → EndsBehind (in_slash line)
 unfolding in_slash
 in_slash-ends line = record {
-  ends = λ a first others. either-ends (begins_with 42 a.bytes) a.place _ _ first others
-      (λ e. omega (arith, (in_comment-ends line).ends (behind_byte a) first others e, place-behind_byte a))
+  ends = λ a first others. either-ends (begins_with 42 a.bytes) a.offset _ _ first others
+      (λ e. omega (arith, (in_comment-ends line).ends (ahead_after_byte a) first others e, place-ahead_after_byte a))
       ((in_punctuator-ends Slash).ends a first others);
 }
 
 -- a read that failed took nothing behind the place that was reached
-pub stops : (made : Ahead → List LocatedToken) → EndsBehind made → (here new : Held) (told : Option (List ℕ)) →
-    new.taken ≡ new.place → new.place ≡ here.place → StopsWithin made here new told
+pub stops : (made : Ahead → List LocatedToken) → EndsBehind made → (here new : Window) (told : Option (List ℕ)) →
+    new.taken ≡ new.offset → new.offset ≡ here.offset → StopsWithin made here new told
 unfolding to_read
 stops made ends here new None t p = λ first others e. absurd cc
 stops made ends here new (Some to_come) t p =
     λ first others e. omega (arith, ends.ends (ahead here to_come) first others (same_Some _ _ e))
 
-pub stops-from : (made made' : Ahead → List LocatedToken) (here old new : Held) (told told' : Option (List ℕ)) →
+pub stops-from : (made made' : Ahead → List LocatedToken) (here old new : Window) (told told' : Option (List ℕ)) →
     to_read made here told' ≡ to_read made' old told → StopsWithin made here new told' → StopsWithin made' old new told
 stops-from made made' here old new told told' s f = λ first others e. f first others (s ∙ e)
 
 -- nor did it put a token
-pub fails-from : (made made' : Ahead → List LocatedToken) (here old new : Held) (told told' : Option (List ℕ))
+pub fails-from : (made made' : Ahead → List LocatedToken) (here old new : Window) (told told' : Option (List ℕ))
     {located_token mid_token new_token : LocatedToken} → to_read made here told' ≡ to_read made' old told →
-    mid_token ≡ located_token → Fails made here new told' mid_token new_token →
-    Fails made' old new told located_token new_token
+    mid_token ≡ located_token → LeavesUnread made here new told' mid_token new_token →
+    LeavesUnread made' old new told located_token new_token
 fails-from made made' here old new told told' s h f =
     record { within = stops-from made made' here old new told told' s f.within; unread = f.unread ∙ h }

@@ -2,21 +2,21 @@
 use Rattle.std.proofs.Common.{◌≡◌, ℕ, Option, Some, None, List, [], ◌∷◌, ◌++◌, refl, sym, ap, ◌∙◌, ◌≢◌}
 use Rattle.std.specs.Prelude.{slice_get}
 use Rattle.std.specs.List.{prefix_len}
-use Rattle.tokens.specs.Tokens.{Ahead, behind_byte}
-use Rattle.tokens.specs.Window.{Held, seen, ahead, behind_first, later, IsAtHandOrEnd}
+use Rattle.tokens.specs.Tokens.{Ahead, ahead_after_byte}
+use Rattle.tokens.specs.Window.{Window, seen, ahead, window_after_byte, later, IsAtHandOrEnd}
 use Rattle.tokens.specs.Lexing.{to_read}
 use Rattle.tokens.specs.declared.located_tokens.LocatedToken.{LocatedToken}
 use Rattle.tokens.specs.declared.windows.Beyond.{Beyond}
 use Rattle.tokens.specs.declared.windows.Beyond.TheVariants.{Unread, Nothing, TooMuch}
 
 -- the same is seen, so the same is to be read
-pub to_read-seen : (made : Ahead → List LocatedToken) (new old : Held) (told' told : Option (List ℕ)) →
+pub to_read-seen : (made : Ahead → List LocatedToken) (new old : Window) (told' told : Option (List ℕ)) →
     seen new told' ≡ seen old told → to_read made new told' ≡ to_read made old told
 unfolding to_read
 to_read-seen made new old told' told e = ap (Rattle.std.specs.Option.option_map made) e
 
 -- where the window stays
-pub to_read-here : (made made' : Ahead → List LocatedToken) (here : Held) (told : Option (List ℕ)) →
+pub to_read-here : (made made' : Ahead → List LocatedToken) (here : Window) (told : Option (List ℕ)) →
     ((to_come : List ℕ) → made (ahead here to_come) ≡ made' (ahead here to_come)) →
     to_read made here told ≡ to_read made' here told
 unfolding to_read
@@ -24,7 +24,7 @@ to_read-here made made' here None f = refl
 to_read-here made made' here (Some to_come) f = ap Some (f to_come)
 
 -- what begins the bytes at hand begins those ahead
-pub first-ahead : (here : Held) (b : ℕ) (to_come : List ℕ) → slice_get here.at_hand 0 ≡ Some b →
+pub first-ahead : (here : Window) (b : ℕ) (to_come : List ℕ) → slice_get here.at_hand 0 ≡ Some b →
     (rest : List ℕ) × ((ahead here to_come).bytes ≡ b ∷ rest)
 first-ahead here b to_come e = by here.at_hand e
   where
@@ -36,7 +36,7 @@ first-ahead here b to_come e = by here.at_hand e
         (xs ++ later here.beyond here.taken to_come, ap (λ y. y ∷ (xs ++ later here.beyond here.taken to_come)) d)
 
 -- at the end nothing is ahead
-pub none-ahead : (here : Held) (to_come : List ℕ) → IsAtHandOrEnd here → slice_get here.at_hand 0 ≡ None →
+pub none-ahead : (here : Window) (to_come : List ℕ) → IsAtHandOrEnd here → slice_get here.at_hand 0 ≡ None →
     (ahead here to_come).bytes ≡ []
 none-ahead here to_come h e = by here.at_hand here.beyond h e
   where
@@ -48,7 +48,7 @@ none-ahead here to_come h e = by here.at_hand here.beyond h e
     by (x ∷ xs) beyond h e = absurd cc
 
 -- a byte is at hand
-pub is-at_hand : (here : Held) (b : ℕ) → Some b ≡ slice_get here.at_hand 0 → IsAtHandOrEnd here
+pub is-at_hand : (here : Window) (b : ℕ) → Some b ≡ slice_get here.at_hand 0 → IsAtHandOrEnd here
 is-at_hand here b f e = by here.at_hand f e
   where
     by : (xs : List ℕ) → Some b ≡ slice_get xs 0 → xs ≡ [] → here.beyond ≢ Unread
@@ -56,42 +56,43 @@ is-at_hand here b f e = by here.at_hand f e
     by (x ∷ xs) f e = absurd cc
 
 -- one byte further on
-pub ahead-behind_first : (here : Held) (b : ℕ) (to_come : List ℕ) → slice_get here.at_hand 0 ≡ Some b →
-    ahead (behind_first here) to_come ≡ behind_byte (ahead here to_come)
-ahead-behind_first here b to_come e = by here.at_hand e
+pub ahead-window_after_byte : (here : Window) (b : ℕ) (to_come : List ℕ) → slice_get here.at_hand 0 ≡ Some b →
+    ahead (window_after_byte here) to_come ≡ ahead_after_byte (ahead here to_come)
+ahead-window_after_byte here b to_come e = by here.at_hand e
   where
     by : (xs : List ℕ) → slice_get xs 0 ≡ Some b →
-        ahead (behind_first (record here { at_hand = xs })) to_come ≡
-        behind_byte (ahead (record here { at_hand = xs }) to_come)
+        ahead (window_after_byte (record here { at_hand = xs })) to_come ≡
+        ahead_after_byte (ahead (record here { at_hand = xs }) to_come)
     by [] e = absurd cc
     by (x ∷ xs) e = refl
 
-to_read-step : (made made' : Ahead → List LocatedToken) (here : Held) (told : Option (List ℕ)) (b : ℕ) →
+to_read-step : (made made' : Ahead → List LocatedToken) (here : Window) (told : Option (List ℕ)) (b : ℕ) →
     slice_get here.at_hand 0 ≡ Some b →
-    ((a : Ahead) (rest : List ℕ) → a.bytes ≡ b ∷ rest → made (behind_byte a) ≡ made' a) →
-    to_read made (behind_first here) told ≡ to_read made' here told
+    ((a : Ahead) (rest : List ℕ) → a.bytes ≡ b ∷ rest → made (ahead_after_byte a) ≡ made' a) →
+    to_read made (window_after_byte here) told ≡ to_read made' here told
 unfolding to_read
 to_read-step made made' here None b e f = refl
 to_read-step made made' here (Some to_come) b e f =
     let r = first-ahead here b to_come e in
-    ap (λ a. Some (made a)) (ahead-behind_first here b to_come e) ∙ ap Some (f (ahead here to_come) r.0 r.1)
+    ap (λ a. Some (made a)) (ahead-window_after_byte here b to_come e) ∙ ap Some (f (ahead here to_come) r.0 r.1)
 
-pub to_read-pass : (made made' : Ahead → List LocatedToken) (new here : Held) (told : Option (List ℕ))
-    (first : Option ℕ) (b : ℕ) → new ≡ behind_first here → first ≡ slice_get here.at_hand 0 → first ≡ Some b →
-    ((a : Ahead) (rest : List ℕ) → a.bytes ≡ b ∷ rest → made (behind_byte a) ≡ made' a) →
+pub to_read-pass : (made made' : Ahead → List LocatedToken) (new here : Window) (told : Option (List ℕ))
+    (first : Option ℕ) (b : ℕ) → new ≡ window_after_byte here → first ≡ slice_get here.at_hand 0 → first ≡ Some b →
+    ((a : Ahead) (rest : List ℕ) → a.bytes ≡ b ∷ rest → made (ahead_after_byte a) ≡ made' a) →
     to_read made new told ≡ to_read made' here told
 to_read-pass made made' new here told first b n o e f =
     ap (λ h. to_read made h told) n ∙ to_read-step made made' here told b (sym o ∙ e) f
 
 -- the same, by the line
-pub to_read-pass_line : (made made' : Ahead → List LocatedToken) (new here : Held) (told : Option (List ℕ)) (b line : ℕ)
-    → new ≡ behind_first here → slice_get here.at_hand 0 ≡ Some b → line ≡ here.line →
-    ((a : Ahead) (rest : List ℕ) → a.bytes ≡ b ∷ rest → a.line ≡ line → made (behind_byte a) ≡ made' a) →
+pub to_read-pass_line : (made made' : Ahead → List LocatedToken) (new here : Window) (told : Option (List ℕ))
+    (b line : ℕ)
+    → new ≡ window_after_byte here → slice_get here.at_hand 0 ≡ Some b → line ≡ here.line →
+    ((a : Ahead) (rest : List ℕ) → a.bytes ≡ b ∷ rest → a.line ≡ line → made (ahead_after_byte a) ≡ made' a) →
     to_read made new told ≡ to_read made' here told
 unfolding to_read
 to_read-pass_line made made' new here None b line n e l f = refl
 to_read-pass_line made made' new here (Some to_come) b line n e l f =
     let r = first-ahead here b to_come e in
     ap (λ h. Some (made (ahead h to_come))) n ∙
-    (ap (λ a. Some (made a)) (ahead-behind_first here b to_come e) ∙
+    (ap (λ a. Some (made a)) (ahead-window_after_byte here b to_come e) ∙
     ap Some (f (ahead here to_come) r.0 r.1 (sym l)))

@@ -10,19 +10,19 @@ use Rattle.std.proofs.Math.Seq.{take-append-add}
 use Rattle.std.specs.List.{count_by, between, prefix_len}
 use Rattle.tokens.specs.Feed.{Gives}
 use Rattle.tokens.specs.Source.{source}
-use Rattle.tokens.specs.Tokens.{line_behind}
-use Rattle.tokens.specs.Window.{Held, seen, behind, later, goes_on, Cuts}
+use Rattle.tokens.specs.Tokens.{line_after}
+use Rattle.tokens.specs.Window.{Window, seen, window_after, later, goes_on, Splits}
 use Rattle.tokens.specs.declared.windows.Beyond.{Beyond}
 use Rattle.tokens.specs.declared.windows.Beyond.TheVariants.{Unread, Nothing, TooMuch}
 use Rattle.tokens.proofs.SourceLemmas.{source-append, source-ended, take-source, length-source-le}
 
-abbrev pub held : ℕ → ℕ → List ℕ → ℕ → Beyond → Held
+abbrev pub held : ℕ → ℕ → List ℕ → ℕ → Beyond → Window
 held line place at_hand taken beyond =
-    record { line = line; place = place; at_hand = at_hand; taken = taken; beyond = beyond }
+    record { line = line; offset = place; at_hand = at_hand; taken = taken; beyond = beyond }
 
 -- the lines behind a byte and some more
 lines-cons : (line b : ℕ) (xs : List ℕ) →
-    line_behind b line + count_by (λ b. eqb b 10) xs ≡ line + count_by (λ b. eqb b 10) (b ∷ xs)
+    line_after b line + count_by (λ b. eqb b 10) xs ≡ line + count_by (λ b. eqb b 10) (b ∷ xs)
 lines-cons line b xs =
     let e : count_by (λ b. eqb b 10) (b ∷ xs) ≡ cond (eqb b 10) 1 0 + count_by (λ b. eqb b 10) xs =
     sum_by-cons (λ b. cond (eqb b 10) 1 0) b xs in
@@ -34,33 +34,34 @@ lines-cons line b xs =
     by false = omega arith
 
 -- so many bytes further on: the lines among them are counted
-pub behind-is : (line place taken : ℕ) (beyond : Beyond) (n : ℕ) (xs : List ℕ) → n ≤ length xs →
-    behind n (held line place xs taken beyond) ≡
+pub window_after-is : (line place taken : ℕ) (beyond : Beyond) (n : ℕ) (xs : List ℕ) → n ≤ length xs →
+    window_after n (held line place xs taken beyond) ≡
     held (line + count_by (λ b. eqb b 10) (take n xs)) (place + n) (drop n xs) taken beyond
-behind-is line place taken beyond zero xs h =
+window_after-is line place taken beyond zero xs h =
     let e : line + 0 ≡ line = omega arith in let f : place + 0 ≡ place = omega arith in cc
-behind-is line place taken beyond (suc n) [] h = absurd (omega (arith, h))
-behind-is line place taken beyond (suc n) (b ∷ xs) h =
+window_after-is line place taken beyond (suc n) [] h = absurd (omega (arith, h))
+window_after-is line place taken beyond (suc n) (b ∷ xs) h =
     let e = lines-cons line b (take n xs) in
     let f : place + 1 + n ≡ place + suc n = omega arith in
-    behind-is (line_behind b line) (place + 1) taken beyond n xs (omega (arith, h)) ∙ cc
+    window_after-is (line_after b line) (place + 1) taken beyond n xs (omega (arith, h)) ∙ cc
 
 -- the bytes at hand, so many further on
 pub between-further : (xs : List ℕ) (i n j : ℕ) → between (i + n) j xs ≡ drop n (between i j xs)
 between-further xs i n j = rw (between_is, between_is, drop-drop) refl
 
 -- behind a run of the bytes at hand
-pub run-passed : (q : ℕ → Bool) (line start taken next filled count lines : ℕ) (beyond : Beyond) (bytes : List ℕ) →
+pub token_run-ahead_after : (q : ℕ → Bool) (line start taken next filled count lines : ℕ) (beyond : Beyond)
+    (bytes : List ℕ) →
     count ≡ prefix_len q (between next filled bytes) →
     lines ≡ count_by (λ b. eqb b 10) (take count (between next filled bytes))
     →
     held (line + lines) (start + (next + count)) (between (next + count) filled bytes) taken beyond ≡
-    behind (prefix_len q (between next filled bytes))
+    window_after (prefix_len q (between next filled bytes))
     (held line (start + next) (between next filled bytes) taken beyond)
-run-passed q line start taken next filled count lines beyond bytes e f =
+token_run-ahead_after q line start taken next filled count lines beyond bytes e f =
     let at_hand = between next filled bytes in
     let within : count ≤ length at_hand = rw e (prefix_len-le-length q at_hand) in
-    let b = behind-is line (start + next) taken beyond count at_hand within in
+    let b = window_after-is line (start + next) taken beyond count at_hand within in
     let d = between-further bytes next count filled in
     let p : start + (next + count) ≡ start + next + count = omega arith in
     rw (← e) (rw b (rw (d, p, f) refl))
@@ -70,9 +71,9 @@ pub in_line : (line start taken next filled count : ℕ) (beyond : Beyond) (byte
     count ≤ length (between next filled bytes) → count_by (λ b. eqb b 10) (take count (between next filled bytes)) ≡ 0
     →
     held line (start + (next + count)) (between (next + count) filled bytes) taken beyond ≡
-    behind count (held line (start + next) (between next filled bytes) taken beyond)
+    window_after count (held line (start + next) (between next filled bytes) taken beyond)
 in_line line start taken next filled count beyond bytes h z =
-    let b = behind-is line (start + next) taken beyond count (between next filled bytes) h in
+    let b = window_after-is line (start + next) taken beyond count (between next filled bytes) h in
     let d = between-further bytes next count filled in
     let p : start + (next + count) ≡ start + next + count = omega arith in
     let l : line + 0 ≡ line = omega arith in
@@ -87,7 +88,7 @@ pub record IsSame (buffer to_come rest : List ℕ) (taken n kept : ℕ) (beyond 
   pub over : goes_on beyond (taken + n) rest ≡ goes_on Unread taken to_come
 
 pub filled-same : (beyond : Beyond) (buffer front rest : List ℕ) (taken n kept : ℕ) →
-    Cuts front (1048576 - taken) kept beyond → take n buffer ≡ front → length front ≡ n → (n ≡ 0 → rest ≡ []) →
+    Splits front (1048576 - taken) kept beyond → take n buffer ≡ front → length front ≡ n → (n ≡ 0 → rest ≡ []) →
     IsSame buffer (front ++ rest) rest taken n kept beyond
 filled-same Unread buffer front rest taken n kept h e l z =
     let whole = source-append front rest (omega (arith, ap length h.0)) in
@@ -129,7 +130,7 @@ filled-same Nothing buffer front rest taken n kept h e l z =
 -- an empty window was filled
 pub refilled : (before after : Option (List ℕ)) (beyond : Beyond) (at_hand buffer bytes : List ℕ)
     (line place new_place taken n kept : ℕ) → at_hand ≡ [] → new_place ≡ place →
-    Cuts (take n bytes) (1048576 - taken) kept beyond → take n bytes ≡ take n buffer → Gives before after buffer n →
+    Splits (take n bytes) (1048576 - taken) kept beyond → take n bytes ≡ take n buffer → Gives before after buffer n →
     seen (held line new_place (between 0 kept bytes) (taken + n) beyond) after ≡
     seen (held line place at_hand taken Unread) before
 refilled None after beyond at_hand buffer bytes line place new_place taken n kept e p h f w = rw w refl

@@ -29,7 +29,7 @@ ends_itself error.ConstantTooLarge = false
 abbrev pub is_decided_by_last_byte : Token → Bool
 is_decided_by_last_byte (variant.Fault lexical_error) = ends_itself lexical_error
 is_decided_by_last_byte (variant.Name name) = false
-is_decided_by_last_byte (variant.Word word) = false
+is_decided_by_last_byte (variant.Keyword word) = false
 is_decided_by_last_byte (variant.Constant value) = false
 is_decided_by_last_byte (variant.Punctuator punctuator) = false
 is_decided_by_last_byte variant.End = false

@@ -4,10 +4,10 @@ use Rattle.std.specs.Prelude.{None, if◌then◌else◌, ◌==◌, ◌&&◌, nat
 use Rattle.std.specs.List.{prefix_len}
 use Rattle.std.specs.Option.{option_map}
 use Rattle.tokens.specs.Characters.{is_blank, is_letter, is_digit, is_name_byte}
-use Rattle.tokens.specs.Limits.{name_bytes}
-use Rattle.tokens.specs.Words.{word_of}
+use Rattle.tokens.specs.TokenLimits.{most_name_bytes}
+use Rattle.tokens.specs.Keywords.{keyword_of}
 use Rattle.tokens.specs.Punctuators.{longest_punctuator, spelling}
-use Rattle.tokens.specs.declared.located_tokens.Word.{Word}
+use Rattle.tokens.specs.declared.located_tokens.Keyword.{Keyword}
 use Rattle.tokens.specs.declared.located_tokens.Punctuator.{Punctuator}
 use Rattle.tokens.specs.declared.located_tokens.LexicalError.TheVariants.{BadCharacter, NameTooLong, ConstantTooLarge}
 use Rattle.tokens.specs.declared.located_tokens.Token.{Token}
@@ -18,7 +18,7 @@ pub data Front : Type 0 where
   Nothing : Front
   Space : (count : ℕ) → Front
   Unclosed : Front
-  Sign : (sign : Token) (count : ℕ) → Front
+  Lexeme : (sign : Token) (count : ℕ) → Front
 
 -- whether the first byte is this one
 abbrev pub begins_with : ℕ → List ℕ → Bool
@@ -31,40 +31,42 @@ up_to_close [] = None
 up_to_close (b ∷ rest) = if (b == 42) && begins_with 47 rest then Some 2 else option_map suc (up_to_close rest)
 
 -- a comment, by where the bytes behind its `/*` close it
-abbrev pub comment : Option ℕ → Front
-comment None = Unclosed
-comment (Some count) = Space (suc (suc count))
+abbrev pub comment_front : Option ℕ → Front
+comment_front None = Unclosed
+comment_front (Some count) = Space (suc (suc count))
 
 -- a name, unless the language keeps it for itself
-abbrev pub name_or : List ℕ → Option Word → Token
+abbrev pub name_or : List ℕ → Option Keyword → Token
 name_or name None = variant.Name name
-name_or name (Some word) = variant.Word word
+name_or name (Some word) = variant.Keyword word
 
 abbrev pub name_token : List ℕ → Token
-name_token name = if nat_le (length name) name_bytes then name_or name (word_of name) else variant.Fault NameTooLong
+name_token name =
+    if nat_le (length name) most_name_bytes then name_or name (keyword_of name) else variant.Fault NameTooLong
 
 -- the value of decimal digits
-abbrev pub number : List ℕ → ℕ
-number digits = fold (λ value digit. 10 * value + (digit - 48)) 0 digits
+abbrev pub value_of_digits : List ℕ → ℕ
+value_of_digits digits = fold (λ value digit. 10 * value + (digit - 48)) 0 digits
 
 abbrev pub constant_token : List ℕ → Token
-constant_token digits = if nat_le (number digits) 2147483647 then variant.Constant (number digits) else variant.Fault
+constant_token digits =
+    if nat_le (value_of_digits digits) 2147483647 then variant.Constant (value_of_digits digits) else variant.Fault
     ConstantTooLarge
 
 -- the longest punctuator, or else a byte that no token begins with
-abbrev pub punctuator : Option Punctuator → Front
-punctuator None = Sign (variant.Fault BadCharacter) 1
-punctuator (Some m) = Sign (variant.Punctuator m) (length (spelling m))
+abbrev pub punctuator_front : Option Punctuator → Front
+punctuator_front None = Lexeme (variant.Fault BadCharacter) 1
+punctuator_front (Some m) = Lexeme (variant.Punctuator m) (length (spelling m))
 
 -- the longest run of bytes at the front that pass a test, as a token
-abbrev pub run : (ℕ → Bool) → (List ℕ → Token) → List ℕ → Front
-run test token_of bytes = Sign (token_of (take (prefix_len test bytes) bytes)) (prefix_len test bytes)
+abbrev pub token_run : (ℕ → Bool) → (List ℕ → Token) → List ℕ → Front
+token_run test token_of bytes = Lexeme (token_of (take (prefix_len test bytes) bytes)) (prefix_len test bytes)
 
 abbrev pub front : List ℕ → Front
 front [] = Nothing
 front (b ∷ rest) =
     if is_blank b then Space 1
-    else (if is_letter b then run is_name_byte name_token (b ∷ rest)
-    else (if is_digit b then run is_digit constant_token (b ∷ rest)
-    else (if (b == 47) && begins_with 42 rest then comment (up_to_close (drop 1 rest))
-    else punctuator (longest_punctuator (b ∷ rest)))))
+    else (if is_letter b then token_run is_name_byte name_token (b ∷ rest)
+    else (if is_digit b then token_run is_digit constant_token (b ∷ rest)
+    else (if (b == 47) && begins_with 42 rest then comment_front (up_to_close (drop 1 rest))
+    else punctuator_front (longest_punctuator (b ∷ rest)))))

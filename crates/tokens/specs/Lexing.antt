@@ -6,10 +6,10 @@ use Rattle.std.specs.Option.{option_map}
 use Rattle.tokens.specs.Characters.{is_blank, is_name_byte, is_digit}
 use Rattle.tokens.specs.Punctuators.{punctuator_of, spelling}
 use Rattle.tokens.specs.Front.{up_to_close, name_token}
-use Rattle.tokens.specs.Tokens.{Ahead, FitsToken, is_last, behind_byte, passed, at_end, placed, last_located_token}
+use Rattle.tokens.specs.Tokens.{Ahead, FitsToken, is_last, ahead_after_byte, ahead_after, at_end, located, last_located_token}
 use Rattle.tokens.specs.Tokens.{followed_by, located_tokens}
 use Rattle.tokens.specs.Ends.{undecided_until}
-use Rattle.tokens.specs.Window.{Held, seen}
+use Rattle.tokens.specs.Window.{Window, seen}
 use Rattle.tokens.specs.declared.located_tokens.Punctuator.{Punctuator}
 use Rattle.tokens.specs.declared.located_tokens.LexicalError.TheVariants.{CommentNotClosed, NameTooLong}
 use Rattle.tokens.specs.declared.located_tokens.LexicalError.TheVariants.{ConstantTooLarge}
@@ -18,8 +18,8 @@ use Rattle.tokens.specs.declared.located_tokens.Token.TheVariants as variant
 use Rattle.tokens.specs.declared.located_tokens.LocatedToken.{LocatedToken}
 
 -- what is made of what a window shows, where the device tells its bytes to come
-unfoldable pub to_read : (Ahead → List LocatedToken) → Held → Option (List ℕ) → Option (List LocatedToken)
-to_read made held told = option_map made (seen held told)
+unfoldable pub to_read : (Ahead → List LocatedToken) → Window → Option (List ℕ) → Option (List LocatedToken)
+to_read made window told = option_map made (seen window told)
 
 -- a token, and those that lie ahead behind it
 unfoldable pub followed : LocatedToken → Ahead → List LocatedToken
@@ -31,21 +31,21 @@ after_slash true located_token ahead = followed located_token ahead
 after_slash false located_token ahead = located_tokens ahead
 
 -- a token that ends here
-abbrev pub ending : Token → Ahead → LocatedToken
-ending token ahead = record { token = token; line = ahead.line; end = ahead.place }
+abbrev pub token_ending : Token → Ahead → LocatedToken
+token_ending token ahead = record { token = token; line = ahead.line; end = ahead.offset }
 
 -- inside a run of bytes that pass a test: the token is made of those ahead
-unfoldable pub in_run : (ℕ → Bool) → (List ℕ → Token) → Ahead → List LocatedToken
-in_run test token_of ahead =
-    followed (placed (token_of (take (prefix_len test ahead.bytes) ahead.bytes)) (prefix_len test ahead.bytes) ahead)
-    (passed (prefix_len test ahead.bytes) ahead)
+unfoldable pub in_token_run : (ℕ → Bool) → (List ℕ → Token) → Ahead → List LocatedToken
+in_token_run test token_of ahead =
+    followed (located (token_of (take (prefix_len test ahead.bytes) ahead.bytes)) (prefix_len test ahead.bytes) ahead)
+    (ahead_after (prefix_len test ahead.bytes) ahead)
 
 -- the token of a name that goes on, of which these bytes were read and perhaps others left out
 abbrev pub name_going_on : List ℕ → Bool → List ℕ → Token
 name_going_on name too_long more = if too_long then variant.Fault NameTooLong else name_token (name ++ more)
 
 abbrev pub in_name : List ℕ → Bool → Ahead → List LocatedToken
-in_name name too_long = in_run is_name_byte (name_going_on name too_long)
+in_name name too_long = in_token_run is_name_byte (name_going_on name too_long)
 
 -- the token of a constant of this value
 abbrev pub value_token : ℕ → Token
@@ -56,24 +56,24 @@ abbrev pub constant_going_on : ℕ → List ℕ → Token
 constant_going_on value more = value_token (fold (λ value digit. 10 * value + (digit - 48)) value more)
 
 abbrev pub in_constant : ℕ → Ahead → List LocatedToken
-in_constant value = in_run is_digit (constant_going_on value)
+in_constant value = in_token_run is_digit (constant_going_on value)
 
 -- inside a punctuator, which may grow by the bytes ahead
-abbrev pub grown : Punctuator → List ℕ → Ahead → List LocatedToken
-grown punctuator [] ahead = followed (ending (variant.Punctuator punctuator) ahead) ahead
-grown punctuator (b ∷ rest) ahead = elim (punctuator_of (spelling punctuator ++ b ∷ [])) [
-  | None ↦ followed (ending (variant.Punctuator punctuator) ahead) ahead
-  | Some longer ↦ grown longer rest
-      (behind_byte ahead)
+abbrev pub extended : Punctuator → List ℕ → Ahead → List LocatedToken
+extended punctuator [] ahead = followed (token_ending (variant.Punctuator punctuator) ahead) ahead
+extended punctuator (b ∷ rest) ahead = elim (punctuator_of (spelling punctuator ++ b ∷ [])) [
+  | None ↦ followed (token_ending (variant.Punctuator punctuator) ahead) ahead
+  | Some longer ↦ extended longer rest
+      (ahead_after_byte ahead)
 ]
 
 unfoldable pub in_punctuator : Punctuator → Ahead → List LocatedToken
-in_punctuator punctuator ahead = grown punctuator ahead.bytes ahead
+in_punctuator punctuator ahead = extended punctuator ahead.bytes ahead
 
 -- inside a comment that began on this line
 abbrev pub closed_at : Option ℕ → ℕ → Ahead → List LocatedToken
 closed_at None line ahead = last_located_token (variant.Fault CommentNotClosed) line (at_end ahead) ∷ []
-closed_at (Some count) line ahead = located_tokens (passed count ahead)
+closed_at (Some count) line ahead = located_tokens (ahead_after count ahead)
 
 unfoldable pub in_comment : ℕ → Ahead → List LocatedToken
 in_comment line ahead = closed_at (up_to_close ahead.bytes) line ahead
@@ -84,40 +84,41 @@ after_comment true line ahead = located_tokens ahead
 after_comment false line ahead = last_located_token (variant.Fault CommentNotClosed) line ahead ∷ []
 
 -- no more was taken than may leave the first token open that is to be read
-abbrev pub StopsWithin : (Ahead → List LocatedToken) → Held → Held → Option (List ℕ) → Type 0
+abbrev pub StopsWithin : (Ahead → List LocatedToken) → Window → Window → Option (List ℕ) → Type 0
 StopsWithin made old new told = (first : LocatedToken) (others : List LocatedToken)
     → to_read made old told ≡ Some (first ∷ others) → new.taken ≤ undecided_until first
 
 -- what a call leaves that failed: that, and no token was put in the place of the old one
-pub record Fails (made : Ahead → List LocatedToken) (old new : Held) (told : Option (List ℕ))
+pub record LeavesUnread (made : Ahead → List LocatedToken) (old new : Window) (told : Option (List ℕ))
     (here here' : LocatedToken) : Type 0 where
   pub within : StopsWithin made old new told
   pub unread : here' ≡ here
 
 -- the next byte is a blank
-pub record BeginsBlank (byte : ℕ) (held : Held) : Type 0 where
-  pub first : slice_get held.at_hand 0 ≡ Some byte
+pub record BeginsBlank (byte : ℕ) (window : Window) : Type 0 where
+  pub first : slice_get window.at_hand 0 ≡ Some byte
   pub blank : is_blank byte ≡ true
 
 -- the next byte begins a token, and no comment
-pub record BeginsToken (byte : ℕ) (held : Held) : Type 0 where
-  pub first : slice_get held.at_hand 0 ≡ Some byte
+pub record BeginsToken (byte : ℕ) (window : Window) : Type 0 where
+  pub first : slice_get window.at_hand 0 ≡ Some byte
   pub no_blank : is_blank byte ≡ false
   pub no_slash : byte ≢ 47
 
 -- a token ends where the window is or behind, and fits
-pub record IsFound (located_token : LocatedToken) (new : Held) : Type 0 where
-  pub reached : new.place ≤ located_token.end
+pub record IsFound (located_token : LocatedToken) (new : Window) : Type 0 where
+  pub reached : new.offset ≤ located_token.end
   pub fits : FitsToken located_token.token
 
 -- the same, and the window went on if this is not the last token
-pub record IsRead (located_token : LocatedToken) (old new : Held) : Type 0 where
-  pub progress : is_last located_token.token ≡ false → old.place < new.place
-  pub reached : new.place ≤ located_token.end
+pub record IsRead (located_token : LocatedToken) (old new : Window) : Type 0 where
+  pub progress : is_last located_token.token ≡ false → old.offset < new.offset
+  pub reached : new.offset ≤ located_token.end
   pub fits : FitsToken located_token.token
 
 -- A call that was at a `/`: it found a token, or went past a comment and put none.
-pub record Slashes (found : Bool) (old new : Held) (told told' : Option (List ℕ)) (here here' : LocatedToken) : Type 0
+pub record ReadsSlash (found : Bool) (old new : Window) (told told' : Option (List ℕ)) (here here' : LocatedToken) :
+    Type 0
   where
     pub tokens : to_read (after_slash found here') new told' ≡ to_read located_tokens old told
     pub token : found ≡ true → IsFound here' new
@@ -136,7 +137,7 @@ pub record BeginsConstant (first : ℕ) (rest : List ℕ) (value count : ℕ) : 
   pub ended : count < length rest
 
 -- the punctuator of a byte, with which no longer one begins
-pub record IsWhole (b : ℕ) (punctuator : Punctuator) : Type 0 where
+pub record IsOfSingleByte (b : ℕ) (punctuator : Punctuator) : Type 0 where
   pub is : punctuator_of (b ∷ []) ≡ Some punctuator
   pub ends : (next : ℕ) → punctuator_of (spelling punctuator ++ next ∷ []) ≡ None
 

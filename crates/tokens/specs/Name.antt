@@ -2,15 +2,15 @@
 use Rattle.std.specs.Prelude.{◌≡◌, ℕ, ◌-◌, ◌≤◌, List, ◌++◌, length, take, replicate}
 use Rattle.std.proofs.Common.{sym, ap, arith, length-append, length-take}
 use Rattle.std.proofs.lemmas.List.{length-replicate}
-use Rattle.tokens.specs.Limits.{name_bytes}
+use Rattle.tokens.specs.TokenLimits.{most_name_bytes}
 
 -- a name's bytes, filled up with zeros
 abbrev pub padded : List ℕ → List ℕ
-padded name = name ++ replicate (name_bytes - length name) 0
+padded name = name ++ replicate (most_name_bytes - length name) 0
 
 -- the field holds a name of this length, and zeros behind it
 pub record IsPadded (bytes : List ℕ) (len : ℕ) : Type 0 where
-  pub within : len ≤ name_bytes
+  pub within : len ≤ most_name_bytes
   pub filled : bytes ≡ padded (take len bytes)
 
 -- the bytes and the length are those of the name that is kept

@@ -3,99 +3,99 @@ use Rattle.std.specs.Prelude.{◌≡◌, ◌≢◌, ℕ, zero, suc, ◌+◌, ◌
 use Rattle.std.specs.Prelude.{false, not, List, [], ◌∷◌, ◌++◌, length, take, drop, Option, nat_lt, ◌==◌}
 use Rattle.std.specs.List.{prefix_len}
 use Rattle.std.specs.Option.{option_map}
-use Rattle.tokens.specs.Limits.{source_bytes}
-use Rattle.tokens.specs.ReadLimits.{most_bytes, window_bytes}
+use Rattle.tokens.specs.TokenLimits.{most_source_bytes}
+use Rattle.tokens.specs.WindowLimits.{most_taken_bytes, window_bytes}
 use Rattle.tokens.specs.Characters.{is_blank}
 use Rattle.tokens.specs.Feed.{Account, Device, failed_again}
 use Rattle.tokens.specs.Source.{source}
-use Rattle.tokens.specs.Tokens.{Ahead, line_behind}
+use Rattle.tokens.specs.Tokens.{Ahead, line_after}
 use Rattle.tokens.specs.declared.devices.DeviceFault.{DeviceFault}
 use Rattle.tokens.specs.declared.windows.Beyond.{Beyond}
 use Rattle.tokens.specs.declared.windows.Beyond.TheVariants.{Unread, Nothing, TooMuch}
 
 -- the line and the place of the next byte, the bytes at hand, how many were taken from the device,
 -- and what is known of the source behind those at hand
-pub record Held : Type 0 where
+pub record Window : Type 0 where
   pub line : ℕ
-  pub place : ℕ
+  pub offset : ℕ
   pub at_hand : List ℕ
   pub taken : ℕ
   pub beyond : Beyond
 
 -- a window of this line, this place, these bytes at hand, so many bytes taken, and this beyond
-abbrev pub held_of : ℕ → ℕ → List ℕ → ℕ → Beyond → Held
-held_of line place at_hand taken beyond =
-    record { line = line; place = place; at_hand = at_hand; taken = taken; beyond = beyond }
+abbrev pub window_of : ℕ → ℕ → List ℕ → ℕ → Beyond → Window
+window_of line place at_hand taken beyond =
+    record { line = line; offset = place; at_hand = at_hand; taken = taken; beyond = beyond }
 
 -- the bytes behind those at hand, up to the limit, by the device's bytes to come
 abbrev pub later : Beyond → ℕ → List ℕ → List ℕ
-later Unread taken to_come = take (source_bytes - taken) (source to_come)
+later Unread taken to_come = take (most_source_bytes - taken) (source to_come)
 later Nothing taken to_come = []
 later TooMuch taken to_come = []
 
 -- whether the source goes on behind the limit
 abbrev pub goes_on : Beyond → ℕ → List ℕ → Bool
-goes_on Unread taken to_come = nat_lt (source_bytes - taken) (length (source to_come))
+goes_on Unread taken to_come = nat_lt (most_source_bytes - taken) (length (source to_come))
 goes_on Nothing taken to_come = false
 goes_on TooMuch taken to_come = true
 
 -- what lies ahead
-abbrev pub ahead : Held → List ℕ → Ahead
-ahead held to_come = record {
-  line = held.line;
-  place = held.place;
-  bytes = held.at_hand ++ later held.beyond held.taken to_come;
-  too_long = goes_on held.beyond held.taken to_come;
+abbrev pub ahead : Window → List ℕ → Ahead
+ahead window to_come = record {
+  line = window.line;
+  offset = window.offset;
+  bytes = window.at_hand ++ later window.beyond window.taken to_come;
+  too_long = goes_on window.beyond window.taken to_come;
 }
 
 -- the same, where the device tells its bytes to come
-abbrev pub seen : Held → Option (List ℕ) → Option Ahead
-seen held told = option_map (ahead held) told
+abbrev pub seen : Window → Option (List ℕ) → Option Ahead
+seen window told = option_map (ahead window) told
 
 -- a source of which nothing was read
-abbrev pub untouched : Held
-untouched = record { line = 1; place = 0; at_hand = []; taken = 0; beyond = Unread }
+abbrev pub untouched : Window
+untouched = record { line = 1; offset = 0; at_hand = []; taken = 0; beyond = Unread }
 
 -- behind the first byte at hand
-abbrev pub behind_first : Held → Held
-behind_first held = go held.at_hand
+abbrev pub window_after_byte : Window → Window
+window_after_byte window = go window.at_hand
   where
-    go : List ℕ → Held
-    go [] = held
-    go (b ∷ rest) = record held { line = line_behind b held.line; place = held.place + 1; at_hand = rest }
+    go : List ℕ → Window
+    go [] = window
+    go (b ∷ rest) = record window { line = line_after b window.line; offset = window.offset + 1; at_hand = rest }
 
 -- behind so many bytes at hand
-abbrev pub behind : ℕ → Held → Held
-behind zero held = held
-behind (suc n) held = behind n (behind_first held)
+abbrev pub window_after : ℕ → Window → Window
+window_after zero window = window
+window_after (suc n) window = window_after n (window_after_byte window)
 
 -- behind the bytes at hand that stand before the next `*`
-abbrev pub behind_plain : Held → Held
-behind_plain held = behind (prefix_len (λ b. not (b == 42)) held.at_hand) held
+abbrev pub window_after_plain : Window → Window
+window_after_plain window = window_after (prefix_len (λ b. not (b == 42)) window.at_hand) window
 
 -- behind the blanks at hand
-abbrev pub behind_blanks : Held → Held
-behind_blanks held = behind (prefix_len is_blank held.at_hand) held
+abbrev pub window_after_blanks : Window → Window
+window_after_blanks window = window_after (prefix_len is_blank window.at_hand) window
 
 -- how many of these bytes belong to a source for which there is so much room, and what follows them
-abbrev pub Cuts : List ℕ → ℕ → ℕ → Beyond → Type 0
-Cuts bytes room kept Unread = (source bytes ≡ bytes) × (kept ≡ length bytes) × (0 < length bytes)
+abbrev pub Splits : List ℕ → ℕ → ℕ → Beyond → Type 0
+Splits bytes room kept Unread = (source bytes ≡ bytes) × (kept ≡ length bytes) × (0 < length bytes)
     × (length bytes ≤ room)
-Cuts bytes room kept TooMuch = (source bytes ≡ bytes) × (kept ≡ room) × (room < length bytes)
-Cuts bytes room kept Nothing = (kept ≡ length (source bytes)) × (length (source bytes) ≤ room)
+Splits bytes room kept TooMuch = (source bytes ≡ bytes) × (kept ≡ room) × (room < length bytes)
+Splits bytes room kept Nothing = (kept ≡ length (source bytes)) × (length (source bytes) ≤ room)
     × (0 < length bytes → length (source bytes) < length bytes)
 
 -- the same line and place
-pub record IsAtSamePlace (old new : Held) : Type 0 where
+pub record IsAtSameOffset (old new : Window) : Type 0 where
   pub line : new.line ≡ old.line
-  pub place : new.place ≡ old.place
+  pub offset : new.offset ≡ old.offset
 
 -- a byte is at hand, or what is beyond is known
-abbrev pub IsAtHandOrEnd : Held → Type 0
-IsAtHandOrEnd held = held.at_hand ≡ [] → held.beyond ≢ Unread
+abbrev pub IsAtHandOrEnd : Window → Type 0
+IsAtHandOrEnd window = window.at_hand ≡ [] → window.beyond ≢ Unread
 
 -- a window shows the same source as before; a byte of it is at hand, or what is beyond is known
-pub record Shows (old new : Held) (told told' : Option (List ℕ)) : Type 0 where
+pub record Shows (old new : Window) (told told' : Option (List ℕ)) : Type 0 where
   pub seen : seen new told' ≡ seen old told
   pub ready : IsAtHandOrEnd new
 
@@ -107,10 +107,10 @@ KnowsEnd beyond ended = beyond ≡ Unread → ended ≡ false
 pub record IsWindow (next filled start taken line : ℕ) (beyond : Beyond) : Type 0 where
   pub ordered : next ≤ filled
   pub fits : filled ≤ window_bytes
-  pub within : start + filled ≤ source_bytes
+  pub within : start + filled ≤ most_source_bytes
   pub lines : line ≤ start + next + 1
   pub all_taken : beyond ≡ Unread → start + filled ≡ taken
-  pub bounded : taken ≤ most_bytes
+  pub bounded : taken ≤ most_taken_bytes
   pub near : taken ≤ start + window_bytes
 
 -- what a device has still to give is all but the bytes taken, of which there were so many before and are so many now
@@ -120,49 +120,49 @@ pub record TakesBytes (before now : ℕ) (told told' : Option (List ℕ)) : Type
 -- What each call on a window needs and keeps. Every contract of the lexer cites these facts.
 
 -- every window: it took no more bytes than a window past its place, and than the most, and its place is in the source
-pub record IsBounded (held : Held) : Type 0 where
-  pub near : held.taken ≤ held.place + window_bytes
-  pub limited : held.taken ≤ most_bytes
-  pub within : held.place ≤ source_bytes
+pub record IsBounded (window : Window) : Type 0 where
+  pub near : window.taken ≤ window.offset + window_bytes
+  pub limited : window.taken ≤ most_taken_bytes
+  pub within : window.offset ≤ most_source_bytes
 
 -- a window may ask its device: a further failure can be counted, and it knows if the device has ended
-pub record MayAsk (held : Held) (device : Device) : Type 0 where
+pub record MayAsk (window : Window) (device : Device) : Type 0 where
   pub countable : device.account.failures < 2 ^ 64 - 1
-  pub known : KnowsEnd held.beyond device.ended
+  pub known : KnowsEnd window.beyond device.ended
 
 -- A window went on, or stayed: its device has still to give all but the bytes taken, and failed so often. The window is
 -- as every window is, and knows if the device has ended.
-pub record WentOn (old new : Held) (told told' : Option (List ℕ)) (counted account : Account) (ended : Bool)
+pub record HasReadOn (old new : Window) (told told' : Option (List ℕ)) (counted account : Account) (ended : Bool)
     : Type 0 where
   pub took : TakesBytes old.taken new.taken told told'
-  pub forward : old.place ≤ new.place
-  pub near : new.taken ≤ new.place + window_bytes
-  pub limited : new.taken ≤ most_bytes
-  pub within : new.place ≤ source_bytes
+  pub forward : old.offset ≤ new.offset
+  pub near : new.taken ≤ new.offset + window_bytes
+  pub limited : new.taken ≤ most_taken_bytes
+  pub within : new.offset ≤ most_source_bytes
   pub count : account ≡ counted
   pub known : KnowsEnd new.beyond ended
 
 -- what a call leaves that may ask the device, which fails once more if the call fails
-abbrev pub LeavesAsked : {T : Type 0} → Result T DeviceFault → Held → Held → Option (List ℕ) → Option (List ℕ)
+abbrev pub LeavesAsked : {T : Type 0} → Result T DeviceFault → Window → Window → Option (List ℕ) → Option (List ℕ)
     → Account → Account → Bool → Type 0
-LeavesAsked (Ok x) old new told told' before after ended = WentOn old new told told' before after ended
+LeavesAsked (Ok x) old new told told' before after ended = HasReadOn old new told told' before after ended
 LeavesAsked (Err e) old new told told' before after ended =
-    WentOn old new told told' (failed_again before) after ended
+    HasReadOn old new told told' (failed_again before) after ended
 
-abbrev pub Asks : {T : Type 0} → Result T DeviceFault → Held → Held → (before after : Device) → Type 0
-Asks result old new before after =
+abbrev pub MayHaveAsked : {T : Type 0} → Result T DeviceFault → Window → Window → (before after : Device) → Type 0
+MayHaveAsked result old new before after =
     LeavesAsked result old new before.to_come after.to_come before.account after.account after.ended
 
 -- a window passed bytes at hand, and asked nothing
-pub record Passes (old new : Held) : Type 0 where
-  pub forward : old.place ≤ new.place
+pub record SkipsBytes (old new : Window) : Type 0 where
+  pub forward : old.offset ≤ new.offset
   pub taken : new.taken ≡ old.taken
   pub beyond : new.beyond ≡ old.beyond
-  pub near : new.taken ≤ new.place + window_bytes
-  pub limited : new.taken ≤ most_bytes
-  pub within : new.place ≤ source_bytes
+  pub near : new.taken ≤ new.offset + window_bytes
+  pub limited : new.taken ≤ most_taken_bytes
+  pub within : new.offset ≤ most_source_bytes
 
 -- the next byte, or none at the end
-pub record IsNext (byte : Option ℕ) (held : Held) : Type 0 where
-  pub first : byte ≡ slice_get held.at_hand 0
-  pub ready : IsAtHandOrEnd held
+pub record IsNextByte (byte : Option ℕ) (window : Window) : Type 0 where
+  pub first : byte ≡ slice_get window.at_hand 0
+  pub ready : IsAtHandOrEnd window

@@ -3,16 +3,16 @@
 ghost use Rattle.std.specs.Prelude.{◌≡◌, ◌-◌, ◌^◌, ◌<◌, ◌≤◌, ◌∷◌, ℕ, List, Some, drop, false, IfOk, OnOk, OnErr};
 ghost use Rattle.tokens.specs.Feed.{Counts};
 ghost use Rattle.tokens.specs.Tokens.{FitsToken, tokens, is_last};
-ghost use Rattle.tokens.specs.Window.{Asks, MayAsk};
+ghost use Rattle.tokens.specs.Window.{MayHaveAsked, MayAsk};
 ghost use Rattle.tokens.specs.declared.located_tokens.LocatedToken.{LocatedToken};
-ghost use Rattle.tokens.specs.Reading.{Opens, Steps, shown, taken, undecided_reach_of};
+ghost use Rattle.tokens.specs.Cursors.{OpensCursor, AdvancesCursor, shown, bytes_taken, undecided_reach_of};
 
 use crate::devices::{DeviceFault, Feed};
 use crate::lexer::Lexer;
 use crate::located_tokens::LocatedToken;
 use std::marker::Model;
 
-/// Reads the tokens of a device through a window of `WINDOW` bytes. It holds the next token and the one
+/// Reads the tokens of a device through a window of `WINDOW_BYTES` bytes. It holds the next token and the one
 /// behind it, and nothing more. The device is passed beside it at each call, and is asked for bytes only
 /// where one of these two needs them.
 #[derive(Drop)]
@@ -23,13 +23,13 @@ pub struct Cursor {
 }
 
 impl Model for Cursor {
-    ghost use Rattle.tokens.specs.Reading.{Reading};
+    ghost use Rattle.tokens.specs.Cursors.{Cursor};
     ghost use Rattle.tokens.specs.Tokens.{FitsToken};
     ghost use Rattle.tokens.specs.Window.{IsBounded};
 
-    ghost Value = { Reading };
+    ghost Value = { Cursor };
 
-    ghost view = { λ c. record { next = c.next; after = c.after; behind = c.lexer.window } };
+    ghost view = { λ c. record { next = c.next; after = c.after; window = c.lexer.window } };
 
     ghost invariant = { λ c. FitsToken c.next.token × FitsToken c.after.token × IsBounded c.lexer.window };
 }
@@ -40,17 +40,17 @@ impl Cursor {
         requires countable { (F.device feed.old).account.failures < 2 ^ 64 - 1 }
         requires not_ended { (F.device feed.old).ended ≡ false }
         ensures opens { IfOk result (λ cursor.
-            Opens cursor (F.device feed.old).to_come (F.device feed.new).to_come (F.device feed.new).ended) }
+            OpensCursor cursor (F.device feed.old).to_come (F.device feed.new).to_come (F.device feed.new).ended) }
         ensures stopped { OnErr result ((bytes : List ℕ) → (F.device feed.old).to_come ≡ Some bytes → (count : ℕ)
             × ((F.device feed.new).to_come ≡ Some (drop count bytes)) × (count ≤ undecided_reach_of (tokens bytes))) }
         ensures count { Counts result (F.device feed.old).account (F.device feed.new).account }
     {
         let mut lexer = Lexer::new();
-        let mut next = LocatedToken::none();
-        lexer.read(&mut next, feed)?;
+        let mut next = LocatedToken::placeholder();
+        lexer.read_token(&mut next, feed)?;
         let mut after = next;
         if !next.token.is_last() {
-            lexer.read(&mut after, feed)?;
+            lexer.read_token(&mut after, feed)?;
         }
         Ok(Cursor { lexer, next, after })
     }
@@ -74,17 +74,17 @@ impl Cursor {
     /// Goes past the next token. After an `Err`, which is the device's, the cursor is of no more use.
     pub fn advance<F: Feed>(&mut self, feed: &mut F) -> Result<(), DeviceFault>
         requires not_last { is_last self.old.next.token ≡ false }
-        requires ready { MayAsk self.old.behind (F.device feed.old) }
+        requires ready { MayAsk self.old.window (F.device feed.old) }
         ensures next { self.new.next ≡ self.old.after }
-        ensures steps { OnOk result (Steps self.old self.new (F.device feed.old).to_come (F.device feed.new).to_come) }
+        ensures steps { OnOk result (AdvancesCursor self.old self.new (F.device feed.old).to_come (F.device feed.new).to_come) }
         ensures stopped { OnErr result ((next : LocatedToken) (others : List LocatedToken)
             → shown self.old (F.device feed.old).to_come ≡ Some (next ∷ others) →
-            taken self.new ≤ undecided_reach_of others) }
-        ensures kept { Asks result self.old.behind self.new.behind (F.device feed.old) (F.device feed.new) }
+            bytes_taken self.new ≤ undecided_reach_of others) }
+        ensures kept { MayHaveAsked result self.old.window self.new.window (F.device feed.old) (F.device feed.new) }
     {
         self.next = self.after;
         if !self.next.token.is_last() {
-            self.lexer.read(&mut self.after, feed)?;
+            self.lexer.read_token(&mut self.after, feed)?;
         }
         Ok(())
     }

@@ -5,16 +5,16 @@ ghost use Rattle.std.specs.Prelude.{IfOk, IfSome, OnOk, OnErr};
 ghost use Rattle.tokens.specs.Characters.{is_blank, is_digit};
 ghost use Rattle.tokens.specs.Front.{name_token};
 ghost use Rattle.tokens.specs.Tokens.{FitsToken, located_tokens, last_located_token};
-ghost use Rattle.tokens.specs.Window.{Asks, IsNext, MayAsk, ahead, untouched};
-ghost use Rattle.tokens.specs.Lexing.{BeginsBlank, BeginsConstant, BeginsToken, Fails, IsFound, IsRead, Slashes};
+ghost use Rattle.tokens.specs.Window.{MayHaveAsked, IsNextByte, MayAsk, ahead, untouched};
+ghost use Rattle.tokens.specs.Lexing.{BeginsBlank, BeginsConstant, BeginsToken, LeavesUnread, IsFound, IsRead, ReadsSlash};
 ghost use Rattle.tokens.specs.Lexing.{StopsWithin, after_comment, followed, in_comment, in_constant, in_name};
 ghost use Rattle.tokens.specs.Lexing.{in_punctuator, name_going_on, to_read, value_token};
 
 use crate::characters::{is_blank, is_digit, is_letter, is_name_byte};
 use crate::devices::{DeviceFault, Feed};
-use crate::limits::CONSTANT_MAX;
-use crate::located_tokens::{LexicalError, LocatedToken, Punctuator, Token, Word};
+use crate::located_tokens::{Keyword, LexicalError, LocatedToken, Punctuator, Token};
 use crate::names::Name;
+use crate::token_limits::MOST_CONSTANT_VALUE;
 use crate::windows::{Beyond, Window};
 
 /// Reads the tokens of a source, through a window over its bytes.
@@ -23,9 +23,9 @@ pub struct Lexer {
     window: Window,
 }
 
-// Each call here that has the device as an argument may ask it: it needs `MayAsk`, and `Asks` says what it leaves.
+// Each call here that has the device as an argument may ask it: it needs `MayAsk`, and `MayHaveAsked` says what it leaves.
 // Beside that a call that reads a token has three clauses: which tokens are still to be read, what is known of the one
-// that was read, and what a call leaves that failed (`Fails`). A byte that was seen takes one more.
+// that was read, and what a call leaves that failed (`LeavesUnread`). A byte that was seen takes one more.
 impl Lexer {
     /// Makes a lexer of a source of which nothing was read.
     pub fn new() -> Self
@@ -38,7 +38,7 @@ impl Lexer {
 
     /// Puts the next token here. After an `Err` what stood here stays.
     #[inline(never)]
-    pub fn read<F: Feed>(
+    pub fn read_token<F: Feed>(
         &mut self,
         here: &mut LocatedToken,
         feed: &mut F,
@@ -47,19 +47,19 @@ impl Lexer {
         ensures tokens { OnOk result (to_read (followed here.new) self.new.window (F.device feed.new).to_come
             ≡ to_read located_tokens self.old.window (F.device feed.old).to_come) }
         ensures read { OnOk result (IsRead here.new self.old.window self.new.window) }
-        ensures stopped { OnErr result (Fails located_tokens self.old.window self.new.window
+        ensures stopped { OnErr result (LeavesUnread located_tokens self.old.window self.new.window
             (F.device feed.old).to_come here.old here.new) }
-        ensures kept { Asks result self.old.window self.new.window (F.device feed.old) (F.device feed.new) }
+        ensures kept { MayHaveAsked result self.old.window self.new.window (F.device feed.old) (F.device feed.new) }
     {
-        match self.window.first() {
-            Some(b) if !is_blank(b) && b != b'/' => self.token(b, here, feed),
-            _ => self.read_past(here, feed),
+        match self.window.first_at_hand() {
+            Some(b) if !is_blank(b) && b != b'/' => self.read_begun_token(b, here, feed),
+            _ => self.read_from_blank_or_slash(here, feed),
         }
     }
 
     /// Does the same if the next byte begins no token, or is a `/`.
     #[inline(never)]
-    fn read_past<F: Feed>(
+    fn read_from_blank_or_slash<F: Feed>(
         &mut self,
         here: &mut LocatedToken,
         feed: &mut F,
@@ -68,19 +68,19 @@ impl Lexer {
         ensures tokens { OnOk result (to_read (followed here.new) self.new.window (F.device feed.new).to_come
             ≡ to_read located_tokens self.old.window (F.device feed.old).to_come) }
         ensures read { OnOk result (IsRead here.new self.old.window self.new.window) }
-        ensures stopped { OnErr result (Fails located_tokens self.old.window self.new.window
+        ensures stopped { OnErr result (LeavesUnread located_tokens self.old.window self.new.window
             (F.device feed.old).to_come here.old here.new) }
-        ensures kept { Asks result self.old.window self.new.window (F.device feed.old) (F.device feed.new) }
+        ensures kept { MayHaveAsked result self.old.window self.new.window (F.device feed.old) (F.device feed.new) }
     {
-        match self.window.first() {
-            Some(b) if is_blank(b) => self.read_behind(b, here, feed),
-            _ => self.read_on(here, feed),
+        match self.window.first_at_hand() {
+            Some(b) if is_blank(b) => self.read_after_one_blank(b, here, feed),
+            _ => self.read_after_blanks(here, feed),
         }
     }
 
     /// Does the same at a blank, which is the next byte. Most blanks stand alone.
     #[inline(always)]
-    fn read_behind<F: Feed>(
+    fn read_after_one_blank<F: Feed>(
         &mut self,
         blank: u8,
         here: &mut LocatedToken,
@@ -91,40 +91,44 @@ impl Lexer {
         ensures tokens { OnOk result (to_read (followed here.new) self.new.window (F.device feed.new).to_come
             ≡ to_read located_tokens self.old.window (F.device feed.old).to_come) }
         ensures read { OnOk result (IsRead here.new self.old.window self.new.window) }
-        ensures stopped { OnErr result (Fails located_tokens self.old.window self.new.window
+        ensures stopped { OnErr result (LeavesUnread located_tokens self.old.window self.new.window
             (F.device feed.old).to_come here.old here.new) }
-        ensures kept { Asks result self.old.window self.new.window (F.device feed.old) (F.device feed.new) }
+        ensures kept { MayHaveAsked result self.old.window self.new.window (F.device feed.old) (F.device feed.new) }
     {
-        self.window.pass();
-        match self.window.first() {
-            Some(b) if !is_blank(b) && b != b'/' => self.token(b, here, feed),
-            _ => self.read_on(here, feed),
+        self.window.skip_byte();
+        match self.window.first_at_hand() {
+            Some(b) if !is_blank(b) && b != b'/' => self.read_begun_token(b, here, feed),
+            _ => self.read_after_blanks(here, feed),
         }
     }
 
     /// Does the same after blanks and comments.
     #[inline(never)]
-    fn read_on<F: Feed>(&mut self, here: &mut LocatedToken, feed: &mut F) -> Result<(), DeviceFault>
+    fn read_after_blanks<F: Feed>(
+        &mut self,
+        here: &mut LocatedToken,
+        feed: &mut F,
+    ) -> Result<(), DeviceFault>
         requires ready { MayAsk self.old.window (F.device feed.old) }
         ensures tokens { OnOk result (to_read (followed here.new) self.new.window (F.device feed.new).to_come
             ≡ to_read located_tokens self.old.window (F.device feed.old).to_come) }
         ensures read { OnOk result (IsRead here.new self.old.window self.new.window) }
-        ensures stopped { OnErr result (Fails located_tokens self.old.window self.new.window
+        ensures stopped { OnErr result (LeavesUnread located_tokens self.old.window self.new.window
             (F.device feed.old).to_come here.old here.new) }
-        ensures kept { Asks result self.old.window self.new.window (F.device feed.old) (F.device feed.new) }
+        ensures kept { MayHaveAsked result self.old.window self.new.window (F.device feed.old) (F.device feed.new) }
     {
         loop {
             match self.skip_blanks(feed)? {
                 None => {
-                    self.put_end(here);
+                    self.put_source_end(here);
                     return Ok(());
                 }
                 Some(b'/') => {
-                    if self.slash(here, feed)? {
+                    if self.read_slash_or_comment(here, feed)? {
                         return Ok(());
                     }
                 }
-                Some(b) => return self.token(b, here, feed),
+                Some(b) => return self.read_begun_token(b, here, feed),
             }
         }
     }
@@ -135,45 +139,49 @@ impl Lexer {
         requires ready { MayAsk self.old.window (F.device feed.old) }
         ensures tokens { OnOk result (to_read located_tokens self.new.window (F.device feed.new).to_come
             ≡ to_read located_tokens self.old.window (F.device feed.old).to_come) }
-        ensures next { IfOk result (λ first. IsNext first self.new.window) }
+        ensures next { IfOk result (λ first. IsNextByte first self.new.window) }
         ensures no_blank { IfOk result (λ first. IfSome first (λ b. is_blank b ≡ false)) }
         ensures stopped { OnErr result (StopsWithin located_tokens self.old.window
             self.new.window (F.device feed.old).to_come) }
-        ensures kept { Asks result self.old.window self.new.window (F.device feed.old) (F.device feed.new) }
+        ensures kept { MayHaveAsked result self.old.window self.new.window (F.device feed.old) (F.device feed.new) }
     {
         loop {
-            self.window.pass_blanks();
+            self.window.skip_blanks_at_hand();
             match self.window.peek(feed)? {
                 // The first test alone shows that most bytes are no blank.
-                Some(b) if b <= b' ' && is_blank(b) => self.window.pass(),
+                Some(b) if b <= b' ' && is_blank(b) => self.window.skip_byte(),
                 first => return Ok(first),
             }
         }
     }
 
     /// Skips a comment at a `/`, or puts the token that begins there here. Answers whether there was one.
-    fn slash<F: Feed>(&mut self, here: &mut LocatedToken, feed: &mut F) -> Result<bool, DeviceFault>
+    fn read_slash_or_comment<F: Feed>(
+        &mut self,
+        here: &mut LocatedToken,
+        feed: &mut F,
+    ) -> Result<bool, DeviceFault>
         requires ready { MayAsk self.old.window (F.device feed.old) }
         requires slash { slice_get self.old.window.at_hand 0 ≡ Some 47 }
-        ensures past { IfOk result (λ found. Slashes found self.old.window
+        ensures past { IfOk result (λ found. ReadsSlash found self.old.window
             self.new.window (F.device feed.old).to_come (F.device feed.new).to_come
             here.old here.new) }
-        ensures forward { self.old.window.place < self.new.window.place }
-        ensures stopped { OnErr result (Fails located_tokens self.old.window self.new.window
+        ensures forward { self.old.window.offset < self.new.window.offset }
+        ensures stopped { OnErr result (LeavesUnread located_tokens self.old.window self.new.window
             (F.device feed.old).to_come here.old here.new) }
-        ensures kept { Asks result self.old.window self.new.window (F.device feed.old) (F.device feed.new) }
+        ensures kept { MayHaveAsked result self.old.window self.new.window (F.device feed.old) (F.device feed.new) }
     {
         let line = self.window.line();
-        self.window.pass();
+        self.window.skip_byte();
         if self.window.peek(feed)? != Some(b'*') {
-            self.punctuator(here, feed, Punctuator::Slash)?;
+            self.read_punctuator(here, feed, Punctuator::Slash)?;
             return Ok(true);
         }
-        self.window.pass();
+        self.window.skip_byte();
         if self.skip_comment(feed)? {
             Ok(false)
         } else {
-            self.put_open_comment(line, here);
+            self.put_unclosed_comment(line, here);
             Ok(true)
         }
     }
@@ -187,27 +195,27 @@ impl Lexer {
         ensures ended { IfOk result (λ closed. closed ≡ false → self.new.window.beyond ≢ Beyond.Unread) }
         ensures stopped { OnErr result ((line : ℕ)
             → StopsWithin (in_comment line) self.old.window self.new.window (F.device feed.old).to_come) }
-        ensures kept { Asks result self.old.window self.new.window (F.device feed.old) (F.device feed.new) }
+        ensures kept { MayHaveAsked result self.old.window self.new.window (F.device feed.old) (F.device feed.new) }
     {
         loop {
-            self.window.pass_plain();
+            self.window.skip_to_star();
             match self.window.peek(feed)? {
                 None => return Ok(false),
                 Some(b'*') => {
-                    self.window.pass();
+                    self.window.skip_byte();
                     if self.window.peek(feed)? == Some(b'/') {
-                        self.window.pass();
+                        self.window.skip_byte();
                         return Ok(true);
                     }
                 }
-                Some(_) => self.window.pass(),
+                Some(_) => self.window.skip_byte(),
             }
         }
     }
 
     /// Puts the token here that begins with this byte, which is the next one, no blank and no `/`.
     #[inline(always)]
-    fn token<F: Feed>(
+    fn read_begun_token<F: Feed>(
         &mut self,
         first: u8,
         here: &mut LocatedToken,
@@ -218,33 +226,33 @@ impl Lexer {
         ensures tokens { OnOk result (to_read (followed here.new) self.new.window (F.device feed.new).to_come
             ≡ to_read located_tokens self.old.window (F.device feed.old).to_come) }
         ensures read { OnOk result (IsRead here.new self.old.window self.new.window) }
-        ensures stopped { OnErr result (Fails located_tokens self.old.window self.new.window
+        ensures stopped { OnErr result (LeavesUnread located_tokens self.old.window self.new.window
             (F.device feed.old).to_come here.old here.new) }
-        ensures kept { Asks result self.old.window self.new.window (F.device feed.old) (F.device feed.new) }
+        ensures kept { MayHaveAsked result self.old.window self.new.window (F.device feed.old) (F.device feed.new) }
     {
-        self.window.pass();
+        self.window.skip_byte();
         if is_letter(first) {
-            self.name(here, feed, first)
-        } else if let Some(punctuator) = Punctuator::whole(first) {
-            *here = self.ending(Token::Punctuator(punctuator));
+            self.read_name(here, feed, first)
+        } else if let Some(punctuator) = Punctuator::of_single_byte(first) {
+            *here = self.token_ending_here(Token::Punctuator(punctuator));
             Ok(())
         } else if is_digit(first) {
-            self.constant(here, feed, first)
+            self.read_constant(here, feed, first)
         } else if let Some(punctuator) = Punctuator::of_byte(first) {
-            if punctuator.ends_before(self.window.first()) {
-                *here = self.ending(Token::Punctuator(punctuator));
+            if punctuator.ends_before(self.window.first_at_hand()) {
+                *here = self.token_ending_here(Token::Punctuator(punctuator));
                 return Ok(());
             }
-            self.punctuator(here, feed, punctuator)
+            self.read_punctuator(here, feed, punctuator)
         } else {
-            *here = self.ending(Token::Fault(LexicalError::BadCharacter));
+            *here = self.token_ending_here(Token::Fault(LexicalError::BadCharacter));
             Ok(())
         }
     }
 
     /// Puts the name here of which the first byte was passed. Many names are a letter.
     #[inline(always)]
-    fn name<F: Feed>(
+    fn read_name<F: Feed>(
         &mut self,
         here: &mut LocatedToken,
         feed: &mut F,
@@ -254,22 +262,22 @@ impl Lexer {
         ensures tokens { OnOk result (to_read (followed here.new) self.new.window (F.device feed.new).to_come
             ≡ to_read (in_name (first ∷ []) false) self.old.window (F.device feed.old).to_come) }
         ensures found { OnOk result (IsFound here.new self.new.window) }
-        ensures stopped { OnErr result (Fails (in_name (first ∷ []) false) self.old.window self.new.window
+        ensures stopped { OnErr result (LeavesUnread (in_name (first ∷ []) false) self.old.window self.new.window
             (F.device feed.old).to_come here.old here.new) }
-        ensures kept { Asks result self.old.window self.new.window (F.device feed.old) (F.device feed.new) }
+        ensures kept { MayHaveAsked result self.old.window self.new.window (F.device feed.old) (F.device feed.new) }
     {
-        match self.window.first() {
+        match self.window.first_at_hand() {
             Some(b) if !is_name_byte(b) => {
-                self.end_name(&Name::of_byte(first), false, here);
+                self.put_name_token(&Name::from_byte(first), false, here);
                 Ok(())
             }
-            _ => self.longer_name(here, feed, first),
+            _ => self.read_longer_name(here, feed, first),
         }
     }
 
     /// Does the same for a name of more than a byte, or one that is not all at hand.
     #[inline(never)]
-    fn longer_name<F: Feed>(
+    fn read_longer_name<F: Feed>(
         &mut self,
         here: &mut LocatedToken,
         feed: &mut F,
@@ -279,22 +287,22 @@ impl Lexer {
         ensures tokens { OnOk result (to_read (followed here.new) self.new.window (F.device feed.new).to_come
             ≡ to_read (in_name (first ∷ []) false) self.old.window (F.device feed.old).to_come) }
         ensures found { OnOk result (IsFound here.new self.new.window) }
-        ensures stopped { OnErr result (Fails (in_name (first ∷ []) false) self.old.window self.new.window
+        ensures stopped { OnErr result (LeavesUnread (in_name (first ∷ []) false) self.old.window self.new.window
             (F.device feed.old).to_come here.old here.new) }
-        ensures kept { Asks result self.old.window self.new.window (F.device feed.old) (F.device feed.new) }
+        ensures kept { MayHaveAsked result self.old.window self.new.window (F.device feed.old) (F.device feed.new) }
     {
         let mut name = Name::new();
-        if name.begin(first, self.window.at_hand()) {
-            self.window.pass_in_line(name.len() - 1);
-            self.end_name(&name, false, here);
+        if name.take_bytes(first, self.window.at_hand()) {
+            self.window.skip_in_line(name.len() - 1);
+            self.put_name_token(&name, false, here);
             return Ok(());
         }
-        self.name_in_pieces(here, feed, first)
+        self.read_name_bytewise(here, feed, first)
     }
 
     /// Does the same for a name that is not all at hand, or long.
     #[inline(never)]
-    fn name_in_pieces<F: Feed>(
+    fn read_name_bytewise<F: Feed>(
         &mut self,
         here: &mut LocatedToken,
         feed: &mut F,
@@ -304,9 +312,9 @@ impl Lexer {
         ensures tokens { OnOk result (to_read (followed here.new) self.new.window (F.device feed.new).to_come
             ≡ to_read (in_name (first ∷ []) false) self.old.window (F.device feed.old).to_come) }
         ensures found { OnOk result (IsFound here.new self.new.window) }
-        ensures stopped { OnErr result (Fails (in_name (first ∷ []) false) self.old.window self.new.window
+        ensures stopped { OnErr result (LeavesUnread (in_name (first ∷ []) false) self.old.window self.new.window
             (F.device feed.old).to_come here.old here.new) }
-        ensures kept { Asks result self.old.window self.new.window (F.device feed.old) (F.device feed.new) }
+        ensures kept { MayHaveAsked result self.old.window self.new.window (F.device feed.old) (F.device feed.new) }
     {
         let mut name = Name::new();
         name.push(first);
@@ -319,10 +327,10 @@ impl Lexer {
                     } else {
                         name.push(b);
                     }
-                    self.window.pass();
+                    self.window.skip_byte();
                 }
                 _ => {
-                    self.end_name(&name, too_long, here);
+                    self.put_name_token(&name, too_long, here);
                     return Ok(());
                 }
             }
@@ -331,7 +339,7 @@ impl Lexer {
 
     /// Puts the constant here of which the first digit was passed.
     #[inline(never)]
-    fn constant<F: Feed>(
+    fn read_constant<F: Feed>(
         &mut self,
         here: &mut LocatedToken,
         feed: &mut F,
@@ -342,21 +350,21 @@ impl Lexer {
         ensures tokens { OnOk result (to_read (followed here.new) self.new.window (F.device feed.new).to_come
             ≡ to_read (in_constant (first - 48)) self.old.window (F.device feed.old).to_come) }
         ensures found { OnOk result (IsFound here.new self.new.window) }
-        ensures stopped { OnErr result (Fails (in_constant (first - 48)) self.old.window self.new.window
+        ensures stopped { OnErr result (LeavesUnread (in_constant (first - 48)) self.old.window self.new.window
             (F.device feed.old).to_come here.old here.new) }
-        ensures kept { Asks result self.old.window self.new.window (F.device feed.old) (F.device feed.new) }
+        ensures kept { MayHaveAsked result self.old.window self.new.window (F.device feed.old) (F.device feed.new) }
     {
-        if let Some((value, count)) = constant_begun(first, self.window.at_hand()) {
-            self.window.pass_in_line(count);
-            *here = self.ending(Token::Constant(value));
+        if let Some((value, count)) = short_constant(first, self.window.at_hand()) {
+            self.window.skip_in_line(count);
+            *here = self.token_ending_here(Token::Constant(value));
             return Ok(());
         }
-        self.constant_in_pieces(here, feed, first)
+        self.read_constant_bytewise(here, feed, first)
     }
 
     /// Does the same for a constant that is not all at hand, or large.
     #[inline(never)]
-    fn constant_in_pieces<F: Feed>(
+    fn read_constant_bytewise<F: Feed>(
         &mut self,
         here: &mut LocatedToken,
         feed: &mut F,
@@ -367,19 +375,19 @@ impl Lexer {
         ensures tokens { OnOk result (to_read (followed here.new) self.new.window (F.device feed.new).to_come
             ≡ to_read (in_constant (first - 48)) self.old.window (F.device feed.old).to_come) }
         ensures found { OnOk result (IsFound here.new self.new.window) }
-        ensures stopped { OnErr result (Fails (in_constant (first - 48)) self.old.window self.new.window
+        ensures stopped { OnErr result (LeavesUnread (in_constant (first - 48)) self.old.window self.new.window
             (F.device feed.old).to_come here.old here.new) }
-        ensures kept { Asks result self.old.window self.new.window (F.device feed.old) (F.device feed.new) }
+        ensures kept { MayHaveAsked result self.old.window self.new.window (F.device feed.old) (F.device feed.new) }
     {
         let mut value = u64::from(first - b'0');
         loop {
             match self.window.peek(feed)? {
                 Some(b) if is_digit(b) => {
                     value = (10 * value + u64::from(b - b'0')).min(TOO_LARGE);
-                    self.window.pass();
+                    self.window.skip_byte();
                 }
                 _ => {
-                    *here = self.ending(constant_token(value));
+                    *here = self.token_ending_here(constant_token(value));
                     return Ok(());
                 }
             }
@@ -388,7 +396,7 @@ impl Lexer {
 
     /// Puts the longest punctuator here that begins with this one, which was passed.
     #[inline(never)]
-    fn punctuator<F: Feed>(
+    fn read_punctuator<F: Feed>(
         &mut self,
         here: &mut LocatedToken,
         feed: &mut F,
@@ -398,19 +406,19 @@ impl Lexer {
         ensures tokens { OnOk result (to_read (followed here.new) self.new.window (F.device feed.new).to_come
             ≡ to_read (in_punctuator punctuator) self.old.window (F.device feed.old).to_come) }
         ensures found { OnOk result (IsFound here.new self.new.window) }
-        ensures stopped { OnErr result (Fails (in_punctuator punctuator) self.old.window self.new.window
+        ensures stopped { OnErr result (LeavesUnread (in_punctuator punctuator) self.old.window self.new.window
             (F.device feed.old).to_come here.old here.new) }
-        ensures kept { Asks result self.old.window self.new.window (F.device feed.old) (F.device feed.new) }
+        ensures kept { MayHaveAsked result self.old.window self.new.window (F.device feed.old) (F.device feed.new) }
     {
         loop {
             let next = self.window.peek(feed)?;
-            match punctuator.longer(next) {
+            match punctuator.extended(next) {
                 Some(longer) => {
                     punctuator = longer;
-                    self.window.pass();
+                    self.window.skip_byte();
                 }
                 None => {
-                    *here = self.ending(Token::Punctuator(punctuator));
+                    *here = self.token_ending_here(Token::Punctuator(punctuator));
                     return Ok(());
                 }
             }
@@ -419,20 +427,20 @@ impl Lexer {
 
     /// Puts the token of a whole name here, of which some bytes may have been left out.
     #[inline(always)]
-    fn end_name(&self, name: &Name, is_too_long: bool, here: &mut LocatedToken)
+    fn put_name_token(&self, name: &Name, is_too_long: bool, here: &mut LocatedToken)
         ensures value { here.new ≡ record {
           token = name_going_on name.now is_too_long [];
           line = self.now.window.line;
-          end = self.now.window.place;
+          end = self.now.window.offset;
         } }
         ensures fits { FitsToken here.new.token }
     {
         if is_too_long {
-            *here = self.ending(Token::Fault(LexicalError::NameTooLong));
-        } else if Word::may_be(name.as_bytes()) {
+            *here = self.token_ending_here(Token::Fault(LexicalError::NameTooLong));
+        } else if Keyword::may_be(name.as_bytes()) {
             self.put_name_or_word(name, here);
         } else {
-            *here = self.ending(Token::Name(*name));
+            *here = self.token_ending_here(Token::Name(*name));
         }
     }
 
@@ -442,68 +450,68 @@ impl Lexer {
         ensures value { here.new ≡ record {
           token = name_token name.now;
           line = self.now.window.line;
-          end = self.now.window.place;
+          end = self.now.window.offset;
         } }
         ensures fits { FitsToken here.new.token }
     {
-        if let Some(word) = Word::of_name(name.as_bytes()) {
-            *here = self.ending(Token::Word(word));
+        if let Some(word) = Keyword::of_name(name.as_bytes()) {
+            *here = self.token_ending_here(Token::Keyword(word));
         } else {
-            *here = self.ending(Token::Name(*name));
+            *here = self.token_ending_here(Token::Name(*name));
         }
     }
 
     /// Makes a token that ends before the next byte, on the same line.
     #[inline(always)]
-    fn ending(&self, token: Token) -> LocatedToken
-        ensures { result ≡ record { token = token; line = self.now.window.line; end = self.now.window.place } }
+    fn token_ending_here(&self, token: Token) -> LocatedToken
+        ensures { result ≡ record { token = token; line = self.now.window.line; end = self.now.window.offset } }
     {
         LocatedToken {
             token,
             line: self.window.line(),
-            end: self.window.place(),
+            end: self.window.offset(),
         }
     }
 
     /// Puts the end of the source here.
     #[inline(never)]
-    fn put_end(&self, here: &mut LocatedToken)
+    fn put_source_end(&self, here: &mut LocatedToken)
         requires { self.now.window.beyond ≢ Beyond.Unread }
         ensures value { (to_come : List ℕ) → here.new
             ≡ last_located_token Token.End self.now.window.line (ahead self.now.window to_come) }
-        ensures reached { self.now.window.place ≤ here.new.end }
+        ensures reached { self.now.window.offset ≤ here.new.end }
     {
-        *here = self.last(Token::End, self.window.line());
+        *here = self.last_token(Token::End, self.window.line());
     }
 
     /// Puts the fault of a comment here that began on this line and is not closed.
     #[inline(never)]
-    fn put_open_comment(&self, line: u32, here: &mut LocatedToken)
+    fn put_unclosed_comment(&self, line: u32, here: &mut LocatedToken)
         requires { self.now.window.beyond ≢ Beyond.Unread }
         ensures value { (to_come : List ℕ) → here.new
             ≡ last_located_token (Token.Fault LexicalError.CommentNotClosed) line (ahead self.now.window to_come) }
-        ensures reached { self.now.window.place ≤ here.new.end }
+        ensures reached { self.now.window.offset ≤ here.new.end }
     {
-        *here = self.last(Token::Fault(LexicalError::CommentNotClosed), line);
+        *here = self.last_token(Token::Fault(LexicalError::CommentNotClosed), line);
     }
 
     /// Makes the last token, at the end of what can be read: this one, unless the source is too long.
-    fn last(&self, token: Token, line: u32) -> LocatedToken
+    fn last_token(&self, token: Token, line: u32) -> LocatedToken
         requires { self.now.window.beyond ≢ Beyond.Unread }
         ensures value { (to_come : List ℕ) → result ≡ last_located_token token line (ahead self.now.window to_come) }
-        ensures reached { self.now.window.place ≤ result.end }
+        ensures reached { self.now.window.offset ≤ result.end }
     {
         if self.window.beyond() == Beyond::TooMuch {
             LocatedToken {
                 token: Token::Fault(LexicalError::SourceTooLong),
                 line: self.window.line(),
-                end: self.window.place() + 1,
+                end: self.window.offset() + 1,
             }
         } else {
             LocatedToken {
                 token,
                 line,
-                end: self.window.place(),
+                end: self.window.offset(),
             }
         }
     }
@@ -513,12 +521,12 @@ impl Lexer {
 const LARGEST_OF_EIGHT_DIGITS: u32 = 99_999_999;
 
 /// A value above the greatest constant, in place of all such values.
-const TOO_LARGE: u64 = CONSTANT_MAX as u64 + 1;
+const TOO_LARGE: u64 = MOST_CONSTANT_VALUE as u64 + 1;
 
 /// Returns the value of a constant of at most nine digits that ends within these bytes, and how many of its digits they
 /// begin with.
 #[inline(always)]
-fn constant_begun(first: u8, rest: &[u8]) -> Option<(u32, usize)>
+fn short_constant(first: u8, rest: &[u8]) -> Option<(u32, usize)>
     requires digit { is_digit first ≡ true }
     ensures { IfSome result (λ begun. BeginsConstant first rest.now begun.0 begun.1) }
 {

@@ -1,25 +1,25 @@
 //! Reads the bytes of a source from a device and gives its tokens one by one, through a window of fixed size.
 #![tactic(auto)]
 
+mod byte_runs;
 mod characters;
 mod cursors;
 mod devices;
-mod files;
+mod file_feeds;
+mod keywords;
 pub mod laws;
 mod lexer;
-mod limits;
 mod located_tokens;
-mod memory;
+mod memory_feeds;
 mod names;
 mod punctuators;
-mod runs;
+mod token_limits;
 mod windows;
-mod words;
 
 pub use cursors::Cursor;
 pub use devices::{DeviceFault, Feed};
-pub use files::{FileFeed, KnownFeed};
-pub use limits::{CONSTANT_MAX, NAME_BYTES, SOURCE_BYTES, WINDOW};
-pub use located_tokens::{LexicalError, LocatedToken, Punctuator, Token, Word};
-pub use memory::Pieces;
+pub use file_feeds::{FileFeed, KnownFeed};
+pub use located_tokens::{Keyword, LexicalError, LocatedToken, Punctuator, Token};
+pub use memory_feeds::MemoryFeed;
 pub use names::Name;
+pub use token_limits::{MOST_CONSTANT_VALUE, MOST_NAME_BYTES, MOST_SOURCE_BYTES, WINDOW_BYTES};

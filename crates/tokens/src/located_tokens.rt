@@ -89,7 +89,7 @@ pub enum Punctuator {
 
 /// A name that the language keeps for itself.
 #[derive(Clone, Copy, Debug, PartialEq, Eq)]
-pub enum Word {
+pub enum Keyword {
     /// `if`
     If,
     /// `else`
@@ -111,22 +111,22 @@ pub enum LexicalError {
     BadCharacter,
     /// A `/*` with no `*/` behind it.
     CommentNotClosed,
-    /// A name of more than `NAME_BYTES` bytes.
+    /// A name of more than `MOST_NAME_BYTES` bytes.
     NameTooLong,
-    /// A constant above `CONSTANT_MAX`.
+    /// A constant above `MOST_CONSTANT_VALUE`.
     ConstantTooLarge,
-    /// A source of more than `SOURCE_BYTES` bytes.
+    /// A source of more than `MOST_SOURCE_BYTES` bytes.
     SourceTooLong,
 }
 
 /// A token.
 #[derive(Clone, Copy, Debug, PartialEq, Eq)]
 pub enum Token {
-    /// A name that isn't a `Word`.
+    /// A name that isn't a `Keyword`.
     Name(Name),
     /// A keyword, a type word or a refused word.
-    Word(Word),
-    /// A constant, at most `CONSTANT_MAX`.
+    Keyword(Keyword),
+    /// A constant, at most `MOST_CONSTANT_VALUE`.
     Constant(u32),
     /// An operator or a punctuation mark.
     Punctuator(Punctuator),
@@ -160,7 +160,7 @@ impl Token {
 
 impl LocatedToken {
     /// Makes what fills the place of a token before one is read.
-    pub(crate) fn none() -> LocatedToken {
+    pub(crate) fn placeholder() -> LocatedToken {
         LocatedToken {
             token: Token::End,
             line: 0,

@@ -2,17 +2,17 @@
 
 ghost use Rattle.std.specs.Prelude.{◌≡◌, ◌∷◌, [], ◌++◌, ◌<◌, ◌≤◌, ◌↔◌, IsTrue, true, length};
 ghost use Rattle.std.specs.Str.{bytes_eq};
-ghost use Rattle.tokens.specs.Limits.{name_bytes};
+ghost use Rattle.tokens.specs.TokenLimits.{most_name_bytes};
 ghost use Rattle.tokens.specs.Lexing.{BeginsName};
 
 use crate::characters::is_name_byte;
-use crate::limits::NAME_BYTES;
+use crate::token_limits::MOST_NAME_BYTES;
 use std::marker::Model;
 
-/// A name of at most `NAME_BYTES` bytes. Its value is the list of its bytes.
+/// A name of at most `MOST_NAME_BYTES` bytes. Its value is the list of its bytes.
 #[derive(Clone, Copy, Debug, PartialEq, Eq)]
 pub struct Name {
-    bytes: [u8; NAME_BYTES],
+    bytes: [u8; MOST_NAME_BYTES],
     len: u8,
 }
 
@@ -45,17 +45,17 @@ impl Name {
         ensures { result ≡ [] }
     {
         Name {
-            bytes: [0; NAME_BYTES],
+            bytes: [0; MOST_NAME_BYTES],
             len: 0,
         }
     }
 
     /// Makes the name of this byte.
     #[inline(always)]
-    pub(crate) fn of_byte(byte: u8) -> Self
+    pub(crate) fn from_byte(byte: u8) -> Self
         ensures { result ≡ byte ∷ [] }
     {
-        let mut bytes = [0; NAME_BYTES];
+        let mut bytes = [0; MOST_NAME_BYTES];
         bytes[0] = byte;
         Name { bytes, len: 1 }
     }
@@ -63,12 +63,12 @@ impl Name {
     /// Takes the bytes of a name that begins with this one and goes on with the rest, as far as there is room. Answers
     /// whether it ends within the rest.
     #[inline(always)]
-    pub(crate) fn begin(&mut self, first: u8, rest: &[u8]) -> bool
+    pub(crate) fn take_bytes(&mut self, first: u8, rest: &[u8]) -> bool
         requires { self.old ≡ [] }
         ensures { result ≡ true → BeginsName first rest.now self.new }
     {
         self.bytes[0] = first;
-        let most = rest.len().min(NAME_BYTES - 1);
+        let most = rest.len().min(MOST_NAME_BYTES - 1);
         for i in 0..most {
             if !is_name_byte(rest[i]) {
                 self.len = i as u8 + 1;
@@ -83,7 +83,7 @@ impl Name {
     /// Returns how many bytes it has.
     pub fn len(&self) -> usize
         ensures value { result ≡ length self.now }
-        ensures bounded { result ≤ name_bytes }
+        ensures bounded { result ≤ most_name_bytes }
     {
         self.len as usize
     }
@@ -97,14 +97,14 @@ impl Name {
 
     /// Reports whether it can take no further byte.
     pub fn is_full(&self) -> bool
-        ensures { IsTrue result ↔ (name_bytes ≤ length self.now) }
+        ensures { IsTrue result ↔ (most_name_bytes ≤ length self.now) }
     {
-        self.len() == NAME_BYTES
+        self.len() == MOST_NAME_BYTES
     }
 
     /// Adds a byte at its end.
     pub fn push(&mut self, byte: u8)
-        requires { length self.old < name_bytes }
+        requires { length self.old < most_name_bytes }
         ensures { self.new ≡ self.old ++ byte ∷ [] }
     {
         self.bytes[self.len as usize] = byte;
@@ -114,7 +114,7 @@ impl Name {
     /// Returns its bytes.
     pub fn as_bytes(&self) -> &[u8]
         ensures value { result.now ≡ self.now }
-        ensures bounded { length result.now ≤ name_bytes }
+        ensures bounded { length result.now ≤ most_name_bytes }
     {
         &self.bytes[..self.len as usize]
     }
@@ -122,23 +122,23 @@ impl Name {
     /// Reports whether it is this name. Most others differ in their length or in one of their first bytes.
     #[inline(always)]
     #[tactic(auto, using(crate::proofs::NameLemmas::other_name))]
-    pub fn same(&self, other: &Name) -> bool
+    pub fn is_same(&self, other: &Name) -> bool
         ensures { result ≡ bytes_eq self.now other.now }
     {
-        self.begins_as(other) && self.as_bytes() == other.as_bytes()
+        self.has_same_front(other) && self.as_bytes() == other.as_bytes()
     }
 
     /// Reports whether the length and the first two bytes are those of a name: a short name has zeros there.
     #[inline(always)]
     #[tactic(auto, using(crate::proofs::NameLemmas::same_kept))]
-    fn begins_as(&self, other: &Name) -> bool
+    fn has_same_front(&self, other: &Name) -> bool
         ensures { self.now ≡ other.now → result ≡ true }
     {
         self.len == other.len && self.bytes[0] == other.bytes[0] && self.bytes[1] == other.bytes[1]
     }
 
     /// Reports whether it has these bytes.
-    pub fn is(&self, bytes: &[u8]) -> bool
+    pub fn has_bytes(&self, bytes: &[u8]) -> bool
         ensures { result ≡ bytes_eq self.now bytes.now }
     {
         self.as_bytes() == bytes

@@ -3,7 +3,7 @@
 ghost use Rattle.std.specs.Prelude.{◌≡◌, ℕ, [], ◌∷◌, ◌++◌, IfSome, None, true, false};
 ghost use Rattle.std.specs.Option.{option_and_then};
 ghost use Rattle.tokens.specs.Punctuators.{punctuator_of, spelling};
-ghost use Rattle.tokens.specs.Lexing.{EndsBefore, IsWhole};
+ghost use Rattle.tokens.specs.Lexing.{EndsBefore, IsOfSingleByte};
 
 use crate::characters::{
     AND, CLOSE_CURLY, CLOSE_ROUND, COMMA, EQUALS, GREATER, KINDS, LESS, MINUS, NOT, OPEN_CURLY,
@@ -47,7 +47,7 @@ impl Punctuator {
         ensures { result ≡ true → EndsBefore self next }
     {
         match next {
-            Some(b) => !self.may_grow_by(b),
+            Some(b) => !self.may_extend_by(b),
             None => false,
         }
     }
@@ -55,7 +55,7 @@ impl Punctuator {
     /// Reports whether the byte is the last of a punctuator of more than one byte.
     #[inline(always)]
     #[tactic(auto, unfolding(crate::specs::Punctuators::punctuator_of))]
-    fn may_grow_by(self, b: u8) -> bool
+    fn may_extend_by(self, b: u8) -> bool
         ensures { result ≡ false → punctuator_of (spelling self ++ b ∷ []) ≡ None }
     {
         matches!(b, b'=' | b'+' | b'-' | b'&' | b'|' | b'<' | b'>')
@@ -63,8 +63,8 @@ impl Punctuator {
 
     /// Returns the punctuator of a byte with which no longer one begins, so that the next byte is of no account.
     #[inline(always)]
-    pub(crate) fn whole(b: u8) -> Option<Punctuator>
-        ensures { IfSome result (IsWhole b) }
+    pub(crate) fn of_single_byte(b: u8) -> Option<Punctuator>
+        ensures { IfSome result (IsOfSingleByte b) }
     {
         let kind = KINDS[usize::from(b)];
         if kind <= OTHER {
@@ -83,20 +83,20 @@ impl Punctuator {
 
     /// Returns the punctuator that is spelled as this one and the next byte, if there is one.
     #[inline(always)]
-    pub(crate) fn longer(self, next: Option<u8>) -> Option<Punctuator>
+    pub(crate) fn extended(self, next: Option<u8>) -> Option<Punctuator>
         ensures { result ≡ option_and_then (λ b. punctuator_of (spelling self ++ b ∷ [])) next }
     {
-        self.with_byte(next?)
+        self.extended_by(next?)
     }
 
     /// Returns the punctuator that is spelled as this one and then the byte.
     #[inline(always)]
     #[tactic(auto, unfolding(crate::specs::Punctuators::punctuator_of))]
-    fn with_byte(self, b: u8) -> Option<Punctuator>
+    fn extended_by(self, b: u8) -> Option<Punctuator>
         ensures { result ≡ punctuator_of (spelling self ++ b ∷ []) }
     {
         match b {
-            b'=' => self.with_equals(),
+            b'=' => self.extended_by_equals(),
             b'+' if self == Punctuator::Plus => Some(Punctuator::PlusPlus),
             b'-' if self == Punctuator::Minus => Some(Punctuator::MinusMinus),
             b'&' if self == Punctuator::And => Some(Punctuator::AndAnd),
@@ -109,7 +109,7 @@ impl Punctuator {
 
     /// Returns the punctuator that is spelled as this one and then `=`.
     #[tactic(auto, unfolding(crate::specs::Punctuators::punctuator_of))]
-    fn with_equals(self) -> Option<Punctuator>
+    fn extended_by_equals(self) -> Option<Punctuator>
         ensures { result ≡ punctuator_of (spelling self ++ 61 ∷ []) }
     {
         Some(match self {

@@ -2,16 +2,16 @@
 
 ghost use Rattle.std.specs.Prelude.{◌≡◌, ◌+◌, ◌<◌, ◌≤◌, [], ◌==◌, length, take, slice_get, OnOk, OnErr, IfOk};
 ghost use Rattle.std.specs.List.{count_by};
-ghost use Rattle.tokens.specs.Limits.{source_bytes};
-ghost use Rattle.tokens.specs.ReadLimits.{window_bytes};
+ghost use Rattle.tokens.specs.TokenLimits.{most_source_bytes};
+ghost use Rattle.tokens.specs.WindowLimits.{window_bytes};
 ghost use Rattle.tokens.specs.Source.{source};
-ghost use Rattle.tokens.specs.Window.{Asks, Cuts, IsAtSamePlace, IsBounded, IsNext, MayAsk, Passes, Shows};
-ghost use Rattle.tokens.specs.Window.{behind, behind_blanks, behind_first, behind_plain, seen, untouched};
+ghost use Rattle.tokens.specs.Window.{MayHaveAsked, Splits, IsAtSameOffset, IsBounded, IsNextByte, MayAsk, SkipsBytes, Shows};
+ghost use Rattle.tokens.specs.Window.{window_after, window_after_blanks, window_after_byte, window_after_plain, seen, untouched};
 
+use crate::byte_runs::{LINE_FEED, NonBlankByte, StarByte, run_before, run_before_end};
 use crate::characters::is_blank;
 use crate::devices::{DeviceFault, Feed};
-use crate::limits::{SOURCE_BYTES, WINDOW};
-use crate::runs::{Ink, LINE_FEED, Star, run_before, run_before_end};
+use crate::token_limits::{MOST_SOURCE_BYTES, WINDOW_BYTES};
 use std::marker::Model;
 
 /// What is known of the source behind the bytes at hand.
@@ -28,7 +28,7 @@ pub enum Beyond {
 /// The bytes at hand of a source that is read from a device, in an array that is filled again once it is read out.
 #[derive(Drop)]
 pub struct Window {
-    bytes: [u8; WINDOW],
+    bytes: [u8; WINDOW_BYTES],
     next: usize,
     filled: usize,
     start: u32,
@@ -39,11 +39,11 @@ pub struct Window {
 
 impl Model for Window {
     ghost use Rattle.std.specs.Prelude.{◌+◌, slice_range};
-    ghost use Rattle.tokens.specs.Window.{Held, IsWindow, held_of};
+    ghost use Rattle.tokens.specs.Window.{Window, IsWindow, window_of};
 
-    ghost Value = { Held };
+    ghost Value = { Window };
 
-    ghost view = { λ w. held_of w.line (w.start + w.next) (slice_range w.bytes w.next w.filled) w.taken w.beyond };
+    ghost view = { λ w. window_of w.line (w.start + w.next) (slice_range w.bytes w.next w.filled) w.taken w.beyond };
 
     ghost invariant = { λ w. IsWindow w.next w.filled w.start w.taken w.line w.beyond };
 }
@@ -54,7 +54,7 @@ impl Window {
         ensures { result ≡ untouched }
     {
         Window {
-            bytes: [0; WINDOW],
+            bytes: [0; WINDOW_BYTES],
             next: 0,
             filled: 0,
             start: 0,
@@ -72,9 +72,9 @@ impl Window {
     }
 
     /// Returns how many bytes of the source are before the next one.
-    pub fn place(&self) -> u32
-        ensures value { result ≡ self.now.place }
-        ensures within { result ≤ source_bytes }
+    pub fn offset(&self) -> u32
+        ensures value { result ≡ self.now.offset }
+        ensures within { result ≤ most_source_bytes }
     {
         self.start + self.next as u32
     }
@@ -90,26 +90,26 @@ impl Window {
     #[inline(always)]
     pub fn peek<F: Feed>(&mut self, feed: &mut F) -> Result<Option<u8>, DeviceFault>
         requires ready { MayAsk self.old (F.device feed.old) }
-        ensures next { IfOk result (λ first. IsNext first self.new) }
+        ensures next { IfOk result (λ first. IsNextByte first self.new) }
         ensures seen { OnOk result (seen self.new (F.device feed.new).to_come ≡ seen self.old (F.device feed.old).to_come) }
-        ensures place { IsAtSamePlace self.old self.new }
-        ensures failed { OnErr result (self.new.taken ≡ self.new.place) }
-        ensures kept { Asks result self.old self.new (F.device feed.old) (F.device feed.new) }
+        ensures place { IsAtSameOffset self.old self.new }
+        ensures failed { OnErr result (self.new.taken ≡ self.new.offset) }
+        ensures kept { MayHaveAsked result self.old self.new (F.device feed.old) (F.device feed.new) }
     {
         if self.next < self.filled {
             return Ok(Some(self.bytes[self.next]));
         }
         self.refill(feed)?;
-        Ok(self.first())
+        Ok(self.first_at_hand())
     }
 
     /// Goes past the next byte.
     #[inline(always)]
-    pub fn pass(&mut self)
+    pub fn skip_byte(&mut self)
         requires { 0 < length self.old.at_hand }
-        ensures value { self.new ≡ behind_first self.old }
-        ensures forward { self.new.place ≡ self.old.place + 1 }
-        ensures kept { Passes self.old self.new }
+        ensures value { self.new ≡ window_after_byte self.old }
+        ensures forward { self.new.offset ≡ self.old.offset + 1 }
+        ensures kept { SkipsBytes self.old self.new }
     {
         if self.bytes[self.next] == LINE_FEED {
             self.line += 1;
@@ -128,43 +128,43 @@ impl Window {
 
     /// Goes past so many bytes at hand, none of which ends a line.
     #[inline(always)]
-    pub fn pass_in_line(&mut self, count: usize)
+    pub fn skip_in_line(&mut self, count: usize)
         requires within { count ≤ length self.old.at_hand }
         requires in_line { count_by (λ b. b == 10) (take count self.old.at_hand) ≡ 0 }
-        ensures value { self.new ≡ behind count self.old }
-        ensures forward { self.new.place ≡ self.old.place + count }
-        ensures kept { Passes self.old self.new }
+        ensures value { self.new ≡ window_after count self.old }
+        ensures forward { self.new.offset ≡ self.old.offset + count }
+        ensures kept { SkipsBytes self.old self.new }
     {
         self.next += count;
     }
 
     /// Goes past the bytes at hand that are before the next `*`.
-    pub fn pass_plain(&mut self)
-        ensures value { self.new ≡ behind_plain self.old }
-        ensures kept { Passes self.old self.new }
+    pub fn skip_to_star(&mut self)
+        ensures value { self.new ≡ window_after_plain self.old }
+        ensures kept { SkipsBytes self.old self.new }
     {
-        let (count, lines) = run_before::<Star>(&self.bytes[self.next..self.filled]);
+        let (count, lines) = run_before::<StarByte>(&self.bytes[self.next..self.filled]);
         self.next += count;
         self.line += lines;
     }
 
     /// Goes past the blanks at hand.
-    pub fn pass_blanks(&mut self)
-        ensures value { self.new ≡ behind_blanks self.old }
-        ensures kept { Passes self.old self.new }
+    pub fn skip_blanks_at_hand(&mut self)
+        ensures value { self.new ≡ window_after_blanks self.old }
+        ensures kept { SkipsBytes self.old self.new }
     {
-        match self.first() {
+        match self.first_at_hand() {
             Some(b) if is_blank(b) => {}
             _ => return,
         }
-        let (count, lines) = run_before::<Ink>(&self.bytes[self.next..self.filled]);
+        let (count, lines) = run_before::<NonBlankByte>(&self.bytes[self.next..self.filled]);
         self.next += count;
         self.line += lines;
     }
 
     /// Returns the next byte, if one is at hand.
     #[inline(always)]
-    pub fn first(&self) -> Option<u8>
+    pub fn first_at_hand(&self) -> Option<u8>
         ensures value { result ≡ slice_get self.now.at_hand 0 }
         ensures bounded { IsBounded self.now }
     {
@@ -181,17 +181,17 @@ impl Window {
         requires empty { self.old.at_hand ≡ [] }
         requires ready { MayAsk self.old (F.device feed.old) }
         ensures shows { OnOk result (Shows self.old self.new (F.device feed.old).to_come (F.device feed.new).to_come) }
-        ensures place { IsAtSamePlace self.old self.new }
-        ensures failed { OnErr result (self.new.taken ≡ self.new.place) }
-        ensures kept { Asks result self.old self.new (F.device feed.old) (F.device feed.new) }
+        ensures place { IsAtSameOffset self.old self.new }
+        ensures failed { OnErr result (self.new.taken ≡ self.new.offset) }
+        ensures kept { MayHaveAsked result self.old self.new (F.device feed.old) (F.device feed.new) }
     {
         if self.beyond != Beyond::Unread {
             return Ok(());
         }
-        let room = (SOURCE_BYTES - self.taken) as usize;
-        let size = WINDOW.min(room + 1);
+        let room = (MOST_SOURCE_BYTES - self.taken) as usize;
+        let size = WINDOW_BYTES.min(room + 1);
         let count = feed.fill(&mut self.bytes[..size])?;
-        let (kept, beyond) = cut(&self.bytes[..count], room);
+        let (kept, beyond) = split_source(&self.bytes[..count], room);
         self.start += self.filled as u32;
         self.taken += count as u32;
         self.next = 0;
@@ -203,10 +203,10 @@ impl Window {
 
 /// Returns how many of these bytes belong to the source, of which there is room for so many, and what follows them.
 #[tactic(auto, using(crate::proofs::SourceLemmas::cutting))]
-fn cut(bytes: &[u8], room: usize) -> (usize, Beyond)
+fn split_source(bytes: &[u8], room: usize) -> (usize, Beyond)
     requires room { length bytes.now ≤ room + 1 }
     requires few { length bytes.now ≤ window_bytes }
-    ensures { Cuts bytes.now room result.0 result.1 }
+    ensures { Splits bytes.now room result.0 result.1 }
 {
     let length = source_len(bytes);
     if length < bytes.len() {

@@ -3,7 +3,7 @@ use Rattle.std.specs.Prelude.{◌≡◌, ℕ, List, Result, Ok, Err}
 use Rattle.code.specs.Generation.{IsProgramOf}
 use Rattle.grammar.specs.declared.diagnostics.Diagnostic.{Diagnostic}
 use Rattle.grammar.specs.Compiled.{compiled}
-use Rattle.grammar.specs.Pools.{names_of}
+use Rattle.grammar.specs.Pools.{pools_of}
 use Rattle.grammar.specs.Profile.{Profile}
 use Rattle.grammar.specs.Tree.{File}
 use Rattle.tools.specs.declared.compiling.Compiled.{Compiled}
@@ -13,7 +13,7 @@ pub record IsCompiled (profile : Profile) (bytes : List ℕ) (made : Compiled) :
   pub file : File
   pub is : compiled profile bytes ≡ Ok file
   pub program : IsProgramOf made.program profile file
-  pub names : made.names ≡ names_of file
+  pub names : made.names ≡ pools_of file
 
 -- that, or their first fault
 abbrev pub CompilesTo : Profile → List ℕ → Result Compiled Diagnostic → Type 0

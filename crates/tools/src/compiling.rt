@@ -10,7 +10,7 @@ use crate::shown::Plain;
 use code::{Maker, Profile, Program};
 use grammar::{Diagnostic, ParseFault, Pools};
 use parser::parse;
-use settings::{FILES_MAX, Settings};
+use settings::{MOST_FILES, Settings};
 use tokens::{DeviceFault, Feed, FileFeed};
 
 /// Compiles the files of a match. Writes the diagnostic of each faulty one, or a line about the first that can't be opened
@@ -18,11 +18,11 @@ use tokens::{DeviceFault, Feed, FileFeed};
 pub fn programs(rt: &HostRuntime, program: &str, wish: &Settings<'_>) -> Result<Vec<Program>, Fault>
     ensures each { IfOk result (λ programs. length programs.items ≡ length wish.now.words) }
     ensures some { IfOk result (λ programs. 0 < length programs.items) }
-    ensures most { IfOk result (λ programs. length programs.items ≤ FILES_MAX) }
+    ensures most { IfOk result (λ programs. length programs.items ≤ MOST_FILES) }
 {
     let mut programs = Vec::new(rt.alloc());
     let mut is_faulty = false;
-    for word in wish.words() {
+    for word in wish.file_words() {
         let file = opened(rt, program, word)?;
         match compile(wish.profile(), &mut FileFeed::new(file)) {
             Ok(Ok(made)) => programs.push(made.program).map_err(|_| Fault::Memory)?,

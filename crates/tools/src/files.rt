@@ -5,7 +5,7 @@ use crate::shown::Plain;
 use std::alloc::Global;
 use std::fs::File;
 use std::io::{ErrorKind, Read};
-use tokens::{SOURCE_BYTES, WINDOW};
+use tokens::{MOST_SOURCE_BYTES, WINDOW_BYTES};
 
 /// Opens the file of a word. If it can't be opened, a line with the program's name and the word is written.
 pub fn opened(rt: &HostRuntime, program: &str, word: &str) -> Result<File, Fault> {
@@ -33,13 +33,13 @@ pub fn source_of(rt: &HostRuntime, program: &str, word: &str) -> Result<Vec<u8>,
 /// Reads bytes until there are none, or more than a source may have.
 fn read_whole<F: Read>(alloc: Global, file: &mut F) -> Result<Vec<u8>, Fault> {
     let mut source = Vec::new(alloc);
-    let mut window = [0; WINDOW];
-    for _ in 0..=SOURCE_BYTES {
+    let mut window = [0; WINDOW_BYTES];
+    for _ in 0..=MOST_SOURCE_BYTES {
         let Ok(count) = file.read(&mut window) else {
             return Err(Fault::Read);
         };
         source.extend_from_slice(window.get(..count).unwrap_or(&[]))?;
-        if count == 0 || source.len() > SOURCE_BYTES as usize {
+        if count == 0 || source.len() > MOST_SOURCE_BYTES as usize {
             break;
         }
     }

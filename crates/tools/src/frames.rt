@@ -18,7 +18,7 @@ pub trait Work {
 
 /// What a program is called, what it does, and which options it knows.
 #[derive(Clone, Copy)]
-pub struct Frame {
+pub struct ProgramFrame {
     /// Its name, as its lines begin.
     pub name: &'static str,
     /// What it does, in a sentence.
@@ -29,7 +29,7 @@ pub struct Frame {
     pub known: &'static [&'static [Known]],
 }
 
-impl Frame {
+impl ProgramFrame {
     /// Runs a program: reads the words of the command line, and does the work with the options that they give, or writes
     /// its page of help or its version if these are asked for. If that has a fault, writes its lines on standard error.
     /// Returns the status of the fault, 0 if there is none.

@@ -1,6 +1,6 @@
 //! The page of help of a program.
 
-use crate::frames::Frame;
+use crate::frames::ProgramFrame;
 use crate::known::{COMMON_OPTIONS, Known};
 use crate::shown::Dashed;
 use crate::texts::{Draft, Text};
@@ -10,7 +10,7 @@ use std::alloc::{AllocError, Global};
 const COLUMN: usize = 20;
 
 /// Returns the page of help of a program: its usage, what it does, and its options, in the order of its lists.
-pub fn help_page(alloc: Global, frame: &Frame) -> Result<String, AllocError> {
+pub fn help_page(alloc: Global, frame: &ProgramFrame) -> Result<String, AllocError> {
     let mut page = Draft::new(alloc);
     page.add("usage: ");
     page.add(frame.name);

@@ -21,7 +21,7 @@ mod wishes;
 pub use compiling::{Compiled, compile, name_of, programs, tell_diagnostic};
 pub use faults::{Fault, Wrong};
 pub use files::{opened, source_of};
-pub use frames::{Frame, Work};
+pub use frames::{ProgramFrame, Work};
 pub use known::{COMMON_OPTIONS, Known, OUTPUT_OPTIONS};
 pub use options::{Misread, Options, read_options};
 pub use outputs::{Output, write_text, write_to};

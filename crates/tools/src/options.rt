@@ -7,13 +7,13 @@ use std::alloc::Global;
 /// What the words of a command line gave: options, each at most once, and files, in order.
 #[derive(Drop)]
 pub struct Options<'a> {
-    given: Vec<Given<'a>>,
+    given: Vec<GivenOption<'a>>,
     files: Vec<&'a str>,
 }
 
 /// An option that was given, and its value: the empty text if it has none.
 #[derive(Clone, Copy)]
-struct Given<'a> {
+struct GivenOption<'a> {
     name: &'static str,
     value: &'a str,
 }
@@ -67,7 +67,7 @@ impl<'a> Options<'a> {
         if self.has(name) {
             return Err(Misread::Twice(name));
         }
-        match self.given.push(Given { name, value }) {
+        match self.given.push(GivenOption { name, value }) {
             Ok(()) => Ok(()),
             Err(_) => Err(Misread::Memory),
         }

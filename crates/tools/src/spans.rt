@@ -7,7 +7,7 @@ use crate::faults::{Fault, Wrong};
 use crate::known::Known;
 use crate::options::Options;
 use crate::wishes::number_of;
-use settings::{CYCLES_MAX, number};
+use settings::{MOST_CYCLES, value_number};
 
 /// The options that a span is asked for by: the only robot, the first cycle, the last cycle.
 pub const SPAN_OPTIONS: [Known; 3] = [
@@ -42,9 +42,9 @@ impl Span {
     pub fn read(options: &Options<'_>, robots: usize) -> Result<Span, Fault>
         ensures robot { IfOk result (λ span. IsOfRobots span.robot robots) }
         ensures cycles { IfOk result (λ span. span.from ≤ span.to) }
-        ensures most { IfOk result (λ span. span.to ≤ CYCLES_MAX) }
+        ensures most { IfOk result (λ span. span.to ≤ MOST_CYCLES) }
     {
-        let last = u64::from(CYCLES_MAX);
+        let last = u64::from(MOST_CYCLES);
         let from = number_of(options, "from", 0, last, 0)? as u32;
         let to = number_of(options, "to", 0, last, last)? as u32;
         if to < from {
@@ -93,7 +93,7 @@ fn robot_of(options: &Options<'_>, robots: usize) -> Result<Option<usize>, Fault
     let Some(text) = options.value("robot") else {
         return Ok(None);
     };
-    match number(text, 1, robots as u64) {
+    match value_number(text, 1, robots as u64) {
         Some(number) => Ok(Some(number as usize - 1)),
         None => Err(Fault::Wrong(Wrong::Robot(robots))),
     }

@@ -6,7 +6,10 @@ use crate::faults::{Fault, Wrong};
 use crate::known::Known;
 use crate::options::Options;
 use grammar::{MOST_PROFILE, Profile};
-use settings::{CYCLES_MAX, FIRST_MAX, Given, PROFILE_DEFAULT, Settings, UseFault, number, settle};
+use settings::{
+    Given, MOST_CYCLES, MOST_FIRST_MATCH, PROFILE_DEFAULT, Settings, UseFault, settings_given,
+    value_number,
+};
 
 /// The option of the language profile.
 pub const PROFILE_OPTIONS: [Known; 1] = [PROFILE];
@@ -25,8 +28,8 @@ pub const MATCH_OPTIONS: [Known; 5] = [
 
 /// The numbers that these options may give: the least and the most.
 const LIMITS: [(&str, u64, u64); 4] = [
-    ("k", 1, FIRST_MAX as u64),
-    ("l", 1, CYCLES_MAX as u64),
+    ("k", 1, MOST_FIRST_MATCH as u64),
+    ("l", 1, MOST_CYCLES as u64),
     ("s", 0, u64::MAX),
     ("p", 1, MOST_PROFILE as u64),
 ];
@@ -46,9 +49,9 @@ pub fn wish<'a>(options: &Options<'a>) -> Result<Settings<'a>, Fault> {
         seed: options.value("s"),
         profile: options.value("p"),
         first: options.value("k"),
-        files,
+        file_words: files,
     };
-    match settle(given) {
+    match settings_given(given) {
         Ok(wish) => Ok(wish),
         Err(UseFault::Number) => Err(wrong_number(options)),
         Err(UseFault::TooMany) => Err(Fault::Wrong(Wrong::Files)),
@@ -61,7 +64,7 @@ pub fn wish<'a>(options: &Options<'a>) -> Result<Settings<'a>, Fault> {
 fn wrong_number(options: &Options<'_>) -> Fault {
     for (name, least, most) in LIMITS {
         if let Some(text) = options.value(name)
-            && number(text, least, most).is_none()
+            && value_number(text, least, most).is_none()
         {
             return Fault::Wrong(Wrong::Number(name, least, most));
         }
@@ -71,7 +74,7 @@ fn wrong_number(options: &Options<'_>) -> Fault {
 
 /// Returns the word of the file that a robot of this number, from 0, comes from: a single file is both robots'.
 pub fn file_of<'a>(wish: &Settings<'a>, robot: usize) -> &'a str {
-    match wish.words() {
+    match wish.file_words() {
         [word] => word,
         words => words.get(robot).copied().unwrap_or(""),
     }
@@ -92,7 +95,7 @@ pub fn number_of(
     match options.value(name) {
         Some(text) => {
             let wrong = Fault::Wrong(Wrong::Number(name, least, most));
-            number(text, least, most).ok_or(wrong)
+            value_number(text, least, most).ok_or(wrong)
         }
         None => Ok(default),
     }

@@ -2,7 +2,7 @@
 
 use crate::notes::{Note, place_of};
 use crate::rows::add_turn;
-use playing::{Pilot, Question, Turn};
+use playing::{Exchange, Pilot, Turn};
 use tools::{Draft, Text, add_signed};
 
 /// The names of the columns.
@@ -14,7 +14,7 @@ pub fn add_ask(
     notes: &[Note],
     turn: Turn,
     pilot: &Pilot<'_>,
-    question: &Question,
+    question: &Exchange,
 ) {
     let address = pilot.machine().address();
     let (line, function) = place_of(notes, turn.robot, pilot.program(), address);
@@ -30,9 +30,9 @@ pub fn add_ask(
 }
 
 /// Adds a call with the arguments that are used.
-fn add_call(text: &mut Draft, question: &Question) {
+fn add_call(text: &mut Draft, question: &Exchange) {
     let [first, second] = question.arguments;
-    let used = question.intrinsic.arguments();
+    let used = question.intrinsic.argument_count();
     text.add(question.intrinsic.name());
     text.add("(");
     if used > 0 {

@@ -9,7 +9,7 @@ use crate::tellers::Teller;
 use arena::{Arena, MOST_ROBOTS};
 use code::Cause;
 use findings::{Event, Field, Listener, Seen, Stance};
-use playing::{Pilot, Question, Turn, Watcher, word_of};
+use playing::{Exchange, Pilot, Turn, Watcher, word_of};
 use tools::Fault;
 
 /// The names of the columns.
@@ -138,7 +138,7 @@ impl Watcher for Events<'_> {
         self.look(0, arena);
     }
 
-    fn shot(&mut self, turn: Turn, question: Question, arena: &Arena) {
+    fn shot(&mut self, turn: Turn, question: Exchange, arena: &Arena) {
         let [degree, range] = question.arguments;
         let event = if question.reply == 0 {
             Event::of_numbers("refused", &[degree, range])
@@ -149,7 +149,7 @@ impl Watcher for Events<'_> {
         self.tell(turn.cycle, turn.robot, &event);
     }
 
-    fn scanned(&mut self, turn: Turn, question: Question) {
+    fn scanned(&mut self, turn: Turn, question: Exchange) {
         let Some(seen) = self.seen.get_mut(turn.robot) else {
             return;
         };

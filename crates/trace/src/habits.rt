@@ -2,7 +2,7 @@
 
 use crate::items::Items;
 use crate::subjects::Subject;
-use crate::tallies::{Calls, Deed, Tally};
+use crate::tallies::{Calls, Deed, RobotCounts};
 use code::Intrinsic;
 use findings::{DIRECTION_DEGREES, DIRECTIONS, Streak, largest};
 use std::alloc::AllocError;
@@ -59,7 +59,7 @@ fn add_span(text: &mut Draft, first: u32, last: u32) {
 }
 
 /// Adds a robot's calls of intrinsic functions.
-pub fn add_calls(text: &mut Draft, tally: &Tally) -> Result<(), AllocError> {
+pub fn add_calls(text: &mut Draft, tally: &RobotCounts) -> Result<(), AllocError> {
     let mut items = Items::new("calls", text);
     for calls in tally.calls.iter() {
         if let Some(intrinsic) = calls.intrinsic {
@@ -118,7 +118,7 @@ fn add_replies(text: &mut Draft, before: &str, replies: Option<[i32; 2]>) {
 }
 
 /// Adds how often a robot saw others, shot and asked to drive in each direction.
-pub fn add_directions(text: &mut Draft, tally: &Tally) {
+pub fn add_directions(text: &mut Draft, tally: &RobotCounts) {
     let mut has_head = false;
     for (deed, name) in DEEDS {
         let Some(counts) = tally.deeds.get(deed as usize) else {

@@ -30,10 +30,10 @@ use crate::turns::Turns;
 use arena::MOST_ROBOTS;
 use playing::{Pilot, pilots};
 use std::process::ExitCode;
-use tools::{Fault, Frame, MATCH_OPTIONS, Options, SPAN_OPTIONS, Work};
+use tools::{Fault, MATCH_OPTIONS, Options, ProgramFrame, SPAN_OPTIONS, Work};
 
 /// The program's name, its line of wrong usage, and its options.
-const FRAME: Frame = Frame {
+const FRAME: ProgramFrame = ProgramFrame {
     name: "crobots-trace",
     about: "Plays one match, and reports what each robot did and suffered.",
     usage: "[-kMATCH] [-lCYCLES] [-sSEED] [-pPROFILE] [--robot N] [--from CYCLE] [--to CYCLE] [--sum | --events | --asks | --steps | --film] FILE..",

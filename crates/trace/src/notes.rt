@@ -3,13 +3,13 @@
 ghost use Rattle.std.specs.Prelude.{◌<◌, ◌≤◌, IfOk, length};
 
 use code::{Profile, Program};
-use derivations::{Places, lines};
+use derivations::{SourcePositions, lines};
 use findings::function_at;
 use grammar::Pools;
-use settings::{FILES_MAX, Settings};
+use settings::{MOST_FILES, Settings};
 use std::alloc::{AllocError, Global};
 use std::str;
-use tokens::{Pieces, WINDOW};
+use tokens::{MemoryFeed, WINDOW_BYTES};
 use tools::{Compiled, Fault, compile, name_of, source_of, tell_diagnostic};
 
 /// What is known of a file beside its program.
@@ -20,7 +20,7 @@ pub struct Note {
     /// Its text.
     pub text: Vec<u8>,
     /// Where its instructions come from.
-    pub places: Places,
+    pub places: SourcePositions,
     /// The names of its functions and variables.
     pub names: Pools,
 }
@@ -108,12 +108,12 @@ pub struct Sources {
 /// opened or read, with the name of the program that asks.
 pub fn compiled(rt: &HostRuntime, program: &str, wish: &Settings<'_>) -> Result<Sources, Fault>
     ensures some { IfOk result (λ sources. 0 < length sources.programs.items) }
-    ensures most { IfOk result (λ sources. length sources.programs.items ≤ FILES_MAX) }
+    ensures most { IfOk result (λ sources. length sources.programs.items ≤ MOST_FILES) }
 {
     let mut programs = Vec::new(rt.alloc());
     let mut notes = Vec::new(rt.alloc());
     let mut is_faulty = false;
-    for word in wish.words() {
+    for word in wish.file_words() {
         match compiled_file(rt, program, wish, word)? {
             Some((made, note)) => {
                 programs.push(made).map_err(|_| Fault::Memory)?;
@@ -136,7 +136,10 @@ fn compiled_file(
     word: &str,
 ) -> Result<Option<(Program, Note)>, Fault> {
     let text = source_of(rt, program, word)?;
-    match compile(wish.profile(), &mut Pieces::new(text.as_slice(), WINDOW)) {
+    match compile(
+        wish.profile(),
+        &mut MemoryFeed::new(text.as_slice(), WINDOW_BYTES),
+    ) {
         Ok(Ok(Compiled { program, names })) => {
             let note = noted(rt.alloc(), wish.profile(), word, text, names)?;
             Ok(Some((program, note)))

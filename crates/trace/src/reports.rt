@@ -7,7 +7,7 @@ use crate::notes::{Note, note_of, plain};
 use crate::requests::Request;
 use crate::restarts::add_restarts;
 use crate::subjects::Subject;
-use crate::tallies::{Tally, add, take_largest};
+use crate::tallies::{RobotCounts, add, take_largest};
 use code::Intrinsic;
 use findings::percent;
 use playing::Pilot;
@@ -27,7 +27,7 @@ pub fn add_report(
     cycles: u32,
     notes: &[Note],
     pilots: &[Pilot<'_>],
-    tallies: &[Tally],
+    tallies: &[RobotCounts],
 ) -> Result<(), AllocError> {
     text.add("Match ");
     text.number(u64::from(request.wish.first()));
@@ -63,7 +63,7 @@ fn name_of(notes: &[Note], robot: usize) -> &str {
 }
 
 /// Adds how a robot ended.
-fn add_end(text: &mut Draft, robot: usize, tally: &Tally, name: &str) {
+fn add_end(text: &mut Draft, robot: usize, tally: &RobotCounts, name: &str) {
     text.add("  ");
     text.number(robot.saturating_add(1) as u64);
     text.add(if tally.death.is_some() {
@@ -108,7 +108,7 @@ fn add_name(text: &mut Draft, robot: usize, subject: &Subject<'_>) {
 }
 
 /// Adds what was taken from a robot, and by what.
-fn add_losses(text: &mut Draft, robot: usize, tally: &Tally) -> Result<(), AllocError> {
+fn add_losses(text: &mut Draft, robot: usize, tally: &RobotCounts) -> Result<(), AllocError> {
     let mut items = Items::new("lost", text);
     for (by, percent) in tally.shots.iter().enumerate() {
         if by == robot {
@@ -133,7 +133,7 @@ fn add_share(items: &mut Items, percent: u64, how: &str) {
 }
 
 /// Adds what a robot's shots took from others.
-fn add_taken(text: &mut Draft, tally: &Tally) -> Result<(), AllocError> {
+fn add_taken(text: &mut Draft, tally: &RobotCounts) -> Result<(), AllocError> {
     let mut items = Items::new("took", text);
     for (from, percent) in tally.taken.iter().enumerate() {
         if *percent > 0 {
@@ -147,7 +147,7 @@ fn add_taken(text: &mut Draft, tally: &Tally) -> Result<(), AllocError> {
 }
 
 /// Adds a robot's shots.
-fn add_shots(text: &mut Draft, tally: &Tally) -> Result<(), AllocError> {
+fn add_shots(text: &mut Draft, tally: &RobotCounts) -> Result<(), AllocError> {
     let mut items = Items::new("shots", text);
     let calls = tally.calls_of(Intrinsic::Cannon);
     if calls.all > 0 {
@@ -167,7 +167,7 @@ fn add_part(items: &mut Items, count: u64, what: &str) {
 }
 
 /// Adds what a robot's cycles were for.
-fn add_time(text: &mut Draft, tally: &Tally) -> Result<(), AllocError> {
+fn add_time(text: &mut Draft, tally: &RobotCounts) -> Result<(), AllocError> {
     let shares = &tally.shares;
     let all = tally.cycles();
     let others = [
@@ -224,7 +224,7 @@ fn cycles_by_function(alloc: Global, subject: &Subject<'_>) -> Result<Vec<u64>, 
 }
 
 /// Adds the lines that took most cycles.
-fn add_lines(text: &mut Draft, tally: &Tally, note: &Note) -> Result<(), AllocError> {
+fn add_lines(text: &mut Draft, tally: &RobotCounts, note: &Note) -> Result<(), AllocError> {
     let (lines, mut counts) = cycles_by_line(text.alloc(), tally, note)?;
     let all = tally.cycles();
     text.add("   line      cycles    %  text\n");
@@ -245,7 +245,7 @@ fn add_lines(text: &mut Draft, tally: &Tally, note: &Note) -> Result<(), AllocEr
 /// Returns the lines that instructions come from, and the cycles of each.
 fn cycles_by_line(
     alloc: Global,
-    tally: &Tally,
+    tally: &RobotCounts,
     note: &Note,
 ) -> Result<(Vec<u32>, Vec<u64>), AllocError> {
     let mut lines = Vec::new(alloc);

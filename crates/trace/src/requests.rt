@@ -52,7 +52,7 @@ impl<'a> Request<'a> {
     pub fn read(options: &Options<'a>) -> Result<Request<'a>, Fault> {
         let wish = wish(options)?;
         let form = options.only(&FORMS)?.unwrap_or(Form::Sum);
-        let span = Span::read(options, wish.words().len().max(2))?;
+        let span = Span::read(options, wish.file_words().len().max(2))?;
         Ok(Request { wish, form, span })
     }
 

@@ -1,7 +1,7 @@
 //! A robot that is reported.
 
 use crate::notes::Note;
-use crate::tallies::Tally;
+use crate::tallies::RobotCounts;
 use code::Program;
 use findings::function_at;
 
@@ -9,7 +9,7 @@ use findings::function_at;
 #[derive(Clone, Copy)]
 pub struct Subject<'a> {
     /// What was counted.
-    pub tally: &'a Tally,
+    pub tally: &'a RobotCounts,
     /// What is known of its file.
     pub note: &'a Note,
     /// Its program.

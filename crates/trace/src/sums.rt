@@ -5,12 +5,12 @@ ghost use Rattle.std.specs.Prelude.{◌<◌, length};
 use crate::notes::Note;
 use crate::reports::add_report;
 use crate::requests::Request;
-use crate::tallies::Tally;
+use crate::tallies::RobotCounts;
 use crate::tellers::Teller;
 use arena::Arena;
 use code::Cause;
 use findings::{Source, losses};
-use playing::{Pilot, Question, Turn, Watcher};
+use playing::{Exchange, Pilot, Turn, Watcher};
 use tools::{Draft, Fault, Span, write_text};
 
 /// What counts. The sums are written at once when the match is over.
@@ -19,7 +19,7 @@ pub struct Sums<'a> {
     rt: &'a HostRuntime,
     span: Span,
     notes: &'a [Note],
-    tallies: Vec<Tally>,
+    tallies: Vec<RobotCounts>,
 }
 
 impl<'a> Sums<'a> {
@@ -32,7 +32,7 @@ impl<'a> Sums<'a> {
     ) -> Result<Sums<'a>, Fault> {
         let mut tallies = Vec::new(rt.alloc());
         for pilot in pilots {
-            let tally = Tally::new(rt.alloc(), pilot.program())?;
+            let tally = RobotCounts::new(rt.alloc(), pilot.program())?;
             if tallies.push(tally).is_err() {
                 return Err(Fault::Memory);
             }
@@ -46,7 +46,7 @@ impl<'a> Sums<'a> {
     }
 
     /// Returns the tally of a robot, if it is looked at in a cycle.
-    fn tally(&mut self, cycle: u32, robot: usize) -> Option<&mut Tally> {
+    fn tally(&mut self, cycle: u32, robot: usize) -> Option<&mut RobotCounts> {
         if self.span.has(cycle, robot) {
             self.tallies.get_mut(robot)
         } else {
@@ -92,7 +92,7 @@ impl Watcher for Sums<'_> {
         }
     }
 
-    fn asked(&mut self, turn: Turn, pilot: &Pilot<'_>, question: Question, _arena: &Arena) {
+    fn asked(&mut self, turn: Turn, pilot: &Pilot<'_>, question: Exchange, _arena: &Arena) {
         if let Some(tally) = self.tally(turn.cycle, turn.robot) {
             tally.ask(turn.cycle, pilot.machine().address(), &question);
         }

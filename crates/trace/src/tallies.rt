@@ -6,7 +6,7 @@ use crate::restarts::{Crowd, crowd_of};
 use arena::MOST_ROBOTS;
 use code::{Cause, Frame, Intrinsic, Program};
 use findings::{Call, DIRECTIONS, Loss, Shares, Source, Streak, direction_of, largest, purpose_of};
-use playing::Question;
+use playing::Exchange;
 use std::alloc::{AllocError, Global};
 use std::mem;
 
@@ -15,7 +15,7 @@ const INTRINSICS: usize = Intrinsic::ALL.len();
 
 /// What is counted of an address.
 #[derive(Clone, Copy, Default, Drop)]
-pub struct Spot {
+pub struct AddressCounts {
     /// The cycles in which its instruction was run.
     pub cycles: u64,
     /// How often its instruction led to a restart.
@@ -41,7 +41,7 @@ pub struct Calls {
 
 impl Calls {
     /// Counts a call.
-    fn count(&mut self, question: &Question) {
+    fn count(&mut self, question: &Exchange) {
         let reply = question.reply;
         self.intrinsic = Some(question.intrinsic);
         self.all = self.all.saturating_add(1);
@@ -67,7 +67,7 @@ pub enum Deed {
 }
 
 /// Returns what a call does in the direction of its first argument, if it does.
-fn deed_of(question: &Question) -> Option<Deed> {
+fn deed_of(question: &Exchange) -> Option<Deed> {
     match question.intrinsic {
         Intrinsic::Scan if question.reply > 0 => Some(Deed::Sees),
         Intrinsic::Cannon if question.reply > 0 => Some(Deed::Shoots),
@@ -88,9 +88,9 @@ fn deed_of(question: &Question) -> Option<Deed> {
 
 /// The tally of a robot.
 #[derive(Drop)]
-pub struct Tally {
+pub struct RobotCounts {
     /// Its addresses.
-    pub spots: Vec<Spot>,
+    pub spots: Vec<AddressCounts>,
     /// What its calls and the turns of its loops took.
     pub clock: Clock,
     /// What its cycles were for.
@@ -121,14 +121,14 @@ pub struct Tally {
     pub death: Option<u32>,
 }
 
-impl Tally {
+impl RobotCounts {
     /// Makes the tally of a robot that runs a program.
-    pub fn new(alloc: Global, program: &Program) -> Result<Tally, AllocError> {
+    pub fn new(alloc: Global, program: &Program) -> Result<RobotCounts, AllocError> {
         let mut spots = Vec::new(alloc);
         for _ in program.instructions() {
-            spots.push(Spot::default())?;
+            spots.push(AddressCounts::default())?;
         }
-        Ok(Tally {
+        Ok(RobotCounts {
             spots,
             clock: Clock::new(alloc, program)?,
             shares: Shares::default(),
@@ -157,7 +157,7 @@ impl Tally {
     }
 
     /// Counts a call from an address.
-    pub fn ask(&mut self, cycle: u32, address: usize, question: &Question) {
+    pub fn ask(&mut self, cycle: u32, address: usize, question: &Exchange) {
         self.shares.settle(purpose_of(question.intrinsic));
         if let Some(calls) = self.calls.get_mut(question.intrinsic as usize) {
             calls.count(question);

@@ -7,7 +7,7 @@ use crate::rows::Rows;
 use crate::steps::{STEP_COLUMNS, add_step};
 use crate::tellers::Teller;
 use arena::Arena;
-use playing::{Pilot, Question, Turn, Watcher};
+use playing::{Exchange, Pilot, Turn, Watcher};
 use std::alloc::Global;
 use tools::Fault;
 
@@ -47,7 +47,7 @@ impl Watcher for Turns<'_> {
         }
     }
 
-    fn asked(&mut self, turn: Turn, pilot: &Pilot<'_>, question: Question, _arena: &Arena) {
+    fn asked(&mut self, turn: Turn, pilot: &Pilot<'_>, question: Exchange, _arena: &Arena) {
         if !self.is_stepwise && self.rows.span.has(turn.cycle, turn.robot) {
             add_ask(self.rows.text(), self.notes, turn, pilot, &question);
             self.rows.pass();

@@ -20,11 +20,12 @@ use crate::requests::{Request, VIEW_OPTIONS};
 use playing::pilots;
 use std::process::ExitCode;
 use tools::{
-    Fault, Frame, MATCH_OPTIONS, OUTPUT_OPTIONS, Options, SPAN_OPTIONS, Work, programs, write_to,
+    Fault, MATCH_OPTIONS, OUTPUT_OPTIONS, Options, ProgramFrame, SPAN_OPTIONS, Work, programs,
+    write_to,
 };
 
 /// The program's name, its line of wrong usage, and its options.
-const FRAME: Frame = Frame {
+const FRAME: ProgramFrame = ProgramFrame {
     name: "crobots-tracks",
     about: "Plays one match, and draws it as SVG.",
     usage: "[-kMATCH] [-lCYCLES] [-sSEED] [-pPROFILE] [--robot N] [--from CYCLE] [--to CYCLE] [--no-shots] [-o FILE] FILE..",

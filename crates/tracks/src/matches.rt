@@ -6,7 +6,7 @@ ghost use Rattle.std.specs.Option.{option_or};
 use crate::requests::View;
 use arena::{Arena, DEADLY, MOST_ROBOTS};
 use arrayvec::ArrayVec;
-use playing::{Pilot, Question, Turn, UPDATE_CYCLES, Watcher};
+use playing::{Exchange, Pilot, Turn, UPDATE_CYCLES, Watcher};
 use settings::Settings;
 use trails::{Path, Place, Shot, Shots};
 
@@ -122,7 +122,7 @@ pub fn record(pilots: &mut [Pilot<'_>], wish: &Settings<'_>, view: View) -> Reco
     requires most { length pilots.old ≤ MOST_ROBOTS }
     ensures { result.cycles ≤ wish.now.limit }
 {
-    let mut recorder = Recorder {
+    let mut recorder = MatchRecorder {
         view,
         tracks: ArrayVec::new(),
         shots: Shots::new(),
@@ -143,13 +143,13 @@ pub fn record(pilots: &mut [Pilot<'_>], wish: &Settings<'_>, view: View) -> Reco
 
 /// The watcher that makes a recording.
 #[derive(Drop)]
-struct Recorder {
+struct MatchRecorder {
     view: View,
     tracks: ArrayVec<Track, MOST_ROBOTS>,
     shots: Shots,
 }
 
-impl Recorder {
+impl MatchRecorder {
     /// Records what each robot suffered up to the update of this number, and where it is, if that is drawn.
     fn watch(&mut self, arena: &Arena, update: u32) {
         let cycle = update.saturating_mul(UPDATE_CYCLES);
@@ -180,7 +180,7 @@ impl Recorder {
     }
 }
 
-impl Watcher for Recorder {
+impl Watcher for MatchRecorder {
     fn begins(&mut self, arena: &Arena) {
         for _ in 0..arena.robot_count() {
             let _ = self.tracks.try_push(Track::default());
@@ -188,7 +188,7 @@ impl Watcher for Recorder {
         self.watch(arena, 0);
     }
 
-    fn shot(&mut self, turn: Turn, question: Question, arena: &Arena) {
+    fn shot(&mut self, turn: Turn, question: Exchange, arena: &Arena) {
         let is_drawn = self.view.has_shots && self.view.span.has(turn.cycle, turn.robot);
         if is_drawn && question.reply == 1 {
             let updates = turn.cycle.saturating_sub(1) / UPDATE_CYCLES;

@@ -19,7 +19,7 @@ impl<'a> Request<'a> {
     /// Reads what options ask for.
     pub fn read(options: &Options<'a>) -> Result<Request<'a>, Fault> {
         let wish = wish(options)?;
-        let span = Span::read(options, wish.words().len().max(2))?;
+        let span = Span::read(options, wish.file_words().len().max(2))?;
         let has_shots = !options.has("no-shots");
         let view = View { span, has_shots };
         Ok(Request { wish, view })

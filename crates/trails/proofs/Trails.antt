@@ -6,7 +6,7 @@ use Rattle.std.proofs.lemmas.List.{length-append}
 use Rattle.std.proofs.lemmas.Option.{slice_get_past}
 use Rattle.std.proofs.Math.Nat.{suc-mul, mul_assoc, mul-le-mul_right, le_of_mul-le-mul_right}
 use Rattle.trails.specs.declared.places.Place.{Place}
-use Rattle.trails.specs.Path.{Trail, Keeps}
+use Rattle.trails.specs.Path.{Path, Keeps}
 
 get_before : (xs : List Place) (x : Place) (n : ℕ) → n < length xs → slice_get (xs ++ x ∷ []) n ≡ slice_get xs n
 get_before [] x n h = absurd (omega arith)
@@ -47,7 +47,7 @@ same_multiple n k stride some e =
     omega (arith, up, down)
 
 -- a place that isn't due
-pub keeps_skipped : (t u : Trail) (ps : List Place) (p : Place) → Keeps t ps → t.skip < t.stride → u.places ≡ t.places →
+pub keeps_skipped : (t u : Path) (ps : List Place) (p : Place) → Keeps t ps → t.skip < t.stride → u.places ≡ t.places →
     u.stride ≡ t.stride
     → u.skip + 1 ≡ t.skip → Keeps u (ps ++ p ∷ [])
 keeps_skipped t u ps p k small same stride skip = record {
@@ -65,7 +65,7 @@ keeps_skipped t u ps p k small same stride skip = record {
 }
 
 -- a place that is due
-pub keeps_pushed : (t u : Trail) (ps : List Place) (p : Place) → Keeps t ps → t.skip ≡ 0 → 0 < t.stride →
+pub keeps_pushed : (t u : Path) (ps : List Place) (p : Place) → Keeps t ps → t.skip ≡ 0 → 0 < t.stride →
     u.places ≡ t.places ++ p ∷ []
     → u.stride ≡ t.stride → u.skip + 1 ≡ t.stride → Keeps u (ps ++ p ∷ [])
 keeps_pushed t u ps p k due some more stride skip =
@@ -93,7 +93,7 @@ keeps_pushed t u ps p k due some more stride skip =
     }
 
 -- a full trail of which each second place is dropped
-pub keeps_thinned : (t u : Trail) (ps : List Place) → Keeps t ps → t.skip ≡ 0 → u.skip ≡ 0 → length t.places ≡ 2000
+pub keeps_thinned : (t u : Path) (ps : List Place) → Keeps t ps → t.skip ≡ 0 → u.skip ≡ 0 → length t.places ≡ 2000
     → ((n : ℕ) → n < length t.places / 2 → slice_get u.places n ≡ slice_get t.places (2 * n)) →
     length u.places ≡ length t.places / 2
     → u.stride ≡ 2 * t.stride → Keeps u ps

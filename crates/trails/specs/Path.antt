@@ -3,12 +3,12 @@ use Rattle.std.specs.Prelude.{ℕ, ◌≡◌, ◌+◌, ◌*◌, List, length, sl
 use Rattle.trails.specs.declared.places.Place.{Place}
 
 -- each `stride`-th place is kept, and so many are dropped before the next one
-pub record Trail : Type 0 where
+pub record Path : Type 0 where
   pub places : List Place
   pub stride : ℕ
   pub skip : ℕ
 
 -- of all places, the trail keeps each `stride`-th one, from the first on
-pub record Keeps (trail : Trail) (places : List Place) : Type 0 where
+pub record Keeps (trail : Path) (places : List Place) : Type 0 where
   pub each : (n : ℕ) → slice_get trail.places n ≡ slice_get places (n * trail.stride)
   pub next : length places + trail.skip ≡ length trail.places * trail.stride

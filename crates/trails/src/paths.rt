@@ -25,9 +25,9 @@ pub struct Path {
 
 impl Model for Path {
     ghost use Rattle.std.specs.Prelude.{◌≤◌, ◌<◌, length};
-    ghost use Rattle.trails.specs.Path.{Trail};
+    ghost use Rattle.trails.specs.Path.{Path};
 
-    ghost Value = { Trail };
+    ghost Value = { Path };
 
     ghost view = { λ p. record { places = p.places.items; stride = p.stride; skip = p.skip } };
 

@@ -4,7 +4,7 @@ ghost use Rattle.std.specs.Prelude.{◌≡◌, ◌≤◌, ◌<◌, length};
 ghost use Rattle.arena.specs.Field.{Field, robot_at};
 ghost use Rattle.arena.specs.Leg.{place_x, place_y};
 ghost use Rattle.arena.specs.Rules.{last_place};
-ghost use Rattle.arena.specs.Standing.{StandsFor};
+ghost use Rattle.arena.specs.Representing.{RepresentsField};
 
 use arena::Arena;
 
@@ -29,8 +29,8 @@ impl Place {
     /// Returns where a robot of an arena is.
     pub fn of(arena: &Arena, robot: usize) -> Place
         requires { robot < length arena.now.robots }
-        ensures x { (f : Field) → StandsFor arena.now f → result.x ≡ place_x (robot_at f robot).leg }
-        ensures y { (f : Field) → StandsFor arena.now f → result.y ≡ place_y (robot_at f robot).leg }
+        ensures x { (f : Field) → RepresentsField arena.now f → result.x ≡ place_x (robot_at f robot).leg }
+        ensures y { (f : Field) → RepresentsField arena.now f → result.y ≡ place_y (robot_at f robot).leg }
     {
         let (x, y) = arena.place(robot);
         Place { x, y }

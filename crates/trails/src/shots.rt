@@ -6,7 +6,7 @@ ghost use Rattle.arena.specs.Leg.{along, clamped};
 ghost use Rattle.arena.specs.Rules.{last_place};
 ghost use Rattle.arena.specs.Collisions.{square};
 ghost use Rattle.arena.specs.Shots.{aimed_x, aimed_y, flight, ring};
-ghost use Rattle.arena.specs.Ground.{most_updates};
+ghost use Rattle.arena.specs.Arena.{most_updates};
 ghost use Rattle.trails.specs.Shots.{IsShotOf, marked};
 
 use crate::places::Place;

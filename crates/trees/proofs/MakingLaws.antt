@@ -3,30 +3,30 @@ use Rattle.std.proofs.Common.{◌≡◌, ℕ, ◌<◌, ◌↔◌, List, [], ◌�
 use Rattle.std.proofs.lemmas.List.{length-replicate}
 use Rattle.std.specs.Option.{option_to_list}
 use Rattle.std.specs.Prelude.{pos, if◌then◌else◌, Option, Some, None, IsSome, IsTrue, is_some}
-use Rattle.grammar.specs.declared.names.Callee.{Callee}
-use Rattle.grammar.specs.declared.names.Var.{Var}
+use Rattle.grammar.specs.declared.resolved_names.Callee.{Callee}
+use Rattle.grammar.specs.declared.resolved_names.Var.{Var}
 use Rattle.arith.specs.declared.operators.Op.{Op}
 use Rattle.grammar.specs.declared.operators.StoreOp.{StoreOp}
 use Rattle.grammar.specs.declared.actions.Action.{Action}
 use Rattle.grammar.specs.declared.actions.Action.TheVariants.{ApplyBinop, BeginCall, EndCall, EndIf}
 use Rattle.grammar.specs.declared.actions.Action.TheVariants.{EndWhile, GiveBack, Chop, EndFunction}
 use Rattle.grammar.specs.Actions.{body_actions, args_actions, expr_actions}
-use Rattle.grammar.specs.Following.{InFunction, AValue, BeforeRight, Opened, Origin, Computed, follow, only_on, statement_done, call_done, is_step, stored, same_op, is_callee_numbered}
+use Rattle.grammar.specs.Following.{InFunction, AValue, BeforeRight, Opened, Origin, Computed, follow, only_on, statement_done, call_done, is_increment, stored_origin, same_op, is_callee_numbered}
 use Rattle.arith.specs.Op.{is_logic}
 use Rattle.grammar.specs.Laws.Origins.{origin_of, ends_in_return}
 use Rattle.grammar.specs.Tree.{Args, Body, Done}
 use Rattle.grammar.specs.Tree as tree
 use Rattle.grammar.proofs.FollowingLaws.{same_op_is}
 use Rattle.grammar.proofs.UnfinishedSteps.{fetched_is, number_is, step_is}
-use Rattle.trees.specs.Opened.{Continues, Ends, IsAllowed, place_of, opened, open_actions, heading_actions}
-use Rattle.trees.specs.Stacks.{AddsTo, above_call, below, below_call, ends_in_value, past_middle, without_last}
+use Rattle.trees.specs.Opened.{Continues, EndsFunctionTree, IsAllowed, open_of_owner, opened_of, open_actions, heading_actions}
+use Rattle.trees.specs.TreeStacks.{AddsStatement, above_call, below_innermost, below_call, ends_in_value, past_middle, without_last}
 use Rattle.trees.specs.Trees.{arguments, expr_tree, statement_actions, body_tree}
-use Rattle.trees.specs.declared.stack.Body as body_type
-use Rattle.trees.specs.declared.stack.Heading.{Heading}
-use Rattle.trees.specs.declared.stack.Heading.TheVariants as heading
-use Rattle.trees.specs.declared.stack.Open as entry
-use Rattle.trees.specs.declared.stack.Open.TheVariants.{Value, RightSide, Call, Test}
-use Rattle.trees.specs.declared.stack.Open.TheVariants as entry_of
+use Rattle.trees.specs.declared.tree_stack.OpenBody as body_type
+use Rattle.trees.specs.declared.tree_stack.BodyOwner.{BodyOwner}
+use Rattle.trees.specs.declared.tree_stack.BodyOwner.TheVariants as heading
+use Rattle.trees.specs.declared.tree_stack.OpenItem as entry
+use Rattle.trees.specs.declared.tree_stack.OpenItem.TheVariants.{Value, RightSide, Call, Test}
+use Rattle.trees.specs.declared.tree_stack.OpenItem.TheVariants as entry_of
 use Rattle.trees.specs.declared.tree.Expr.{Expr}
 use Rattle.trees.specs.declared.tree.Expr.TheVariants as expr
 use Rattle.trees.specs.declared.tree.Statement.{Statement}
@@ -49,19 +49,20 @@ last_left (s ∷ ss) ts n None long e some = let no : false ≡ true = some.1 (o
 
 -- A statement is added to the innermost body.
 
-place_adds : (h : Heading) (ss : List Statement) (s : Statement) (o : Opened) →
-    statement_done (returns_zero s) (place_of h (body_tree ss) ∷ o) ≡ Some (place_of h (body_tree (ss ++ s ∷ [])) ∷ o)
+place_adds : (h : BodyOwner) (ss : List Statement) (s : Statement) (o : Opened) →
+    statement_done (returns_zero s) (open_of_owner h (body_tree ss) ∷ o) ≡
+    Some (open_of_owner h (body_tree (ss ++ s ∷ [])) ∷ o)
 place_adds (heading.Function n p) ss s o = ap (λ b. Some (InFunction p b ∷ o)) (sym (body_ends ss s false))
 place_adds (heading.First c) ss s o = refl
 place_adds (heading.Second c t) ss s o = refl
 place_adds (heading.Loop c) ss s o = refl
 
-pub adds_follows : (s : Statement) (xs ys : List entry.Open) → AddsTo s xs ys →
-    statement_done (returns_zero s) (opened xs) ≡ Some (opened ys)
+pub adds_follows : (s : Statement) (xs ys : List entry.OpenItem) → AddsStatement s xs ys →
+    statement_done (returns_zero s) (opened_of xs) ≡ Some (opened_of ys)
 adds_follows s xs ys a =
-    rw (a.was, a.is, a.heading, a.adds) (place_adds a.body.heading a.body.statements.items s (opened a.rest))
+    rw (a.was, a.is, a.heading, a.adds) (place_adds a.body.heading a.body.statements.items s (opened_of a.rest))
 
-pub adds_actions : (s : Statement) (xs ys : List entry.Open) → AddsTo s xs ys →
+pub adds_actions : (s : Statement) (xs ys : List entry.OpenItem) → AddsStatement s xs ys →
     open_actions xs ++ statement_actions s ≡ open_actions ys
 adds_actions s xs ys a =
     rw (a.was, a.is, a.heading, a.adds, body_adds a.body.statements.items s)
@@ -73,52 +74,52 @@ adds_actions s xs ys a =
     (statement_actions s)))
 
 -- an action that makes a statement
-statement_continues : (a : Action) (s : Statement) (before xs ys : List entry.Open) → AddsTo s xs ys →
-    follow a (opened before) ≡ statement_done (returns_zero s) (opened xs) →
+statement_continues : (a : Action) (s : Statement) (before xs ys : List entry.OpenItem) → AddsStatement s xs ys →
+    follow a (opened_of before) ≡ statement_done (returns_zero s) (opened_of xs) →
     open_actions before ++ a ∷ [] ≡ open_actions xs ++ statement_actions s → Continues a before ys
 statement_continues a s before xs ys added follows acts =
     record { follows = follows ∙ adds_follows s xs ys added; adds = acts ∙ adds_actions s xs ys added }
 
-chop_place : (h : Heading) (b : Body) (origin : Origin) (o : Opened) →
-    follow Chop (AValue origin ∷ place_of h b ∷ o) ≡ statement_done false (place_of h b ∷ o)
+chop_place : (h : BodyOwner) (b : Body) (origin : Origin) (o : Opened) →
+    follow Chop (AValue origin ∷ open_of_owner h b ∷ o) ≡ statement_done false (open_of_owner h b ∷ o)
 chop_place (heading.Function n p) b origin o = refl
 chop_place (heading.First c) b origin o = refl
 chop_place (heading.Second c t) b origin o = refl
 chop_place (heading.Loop c) b origin o = refl
 
-pub alone_continues : (e : Expr) (xs ys : List entry.Open) → AddsTo (statement.ExpressionStatement e) xs ys →
+pub alone_continues : (e : Expr) (xs ys : List entry.OpenItem) → AddsStatement (statement.ExpressionStatement e) xs ys →
     Continues Chop (Value e ∷ xs) ys
 alone_continues e xs ys a =
     statement_continues Chop (statement.ExpressionStatement e) (Value e ∷ xs) xs ys a
     (rw (a.was, tree-ExpressionStatement e)
-    (chop_place a.body.heading (body_tree a.body.statements.items) (origin_of (expr_tree e)) (opened a.rest)))
+    (chop_place a.body.heading (body_tree a.body.statements.items) (origin_of (expr_tree e)) (opened_of a.rest)))
     (rw (tree-ExpressionStatement e) (append_assoc (open_actions xs) (expr_actions (expr_tree e)) (Chop ∷ [])))
 
-pub return_continues : (e : Expr) (xs ys : List entry.Open) → AddsTo (statement.Return e) xs ys →
+pub return_continues : (e : Expr) (xs ys : List entry.OpenItem) → AddsStatement (statement.Return e) xs ys →
     Continues GiveBack (Value e ∷ xs) ys
 return_continues e xs ys a =
     statement_continues GiveBack (statement.Return e) (Value e ∷ xs) xs ys a
     (rw (tree-Return e) refl)
     (rw (tree-Return e) (append_assoc (open_actions xs) (expr_actions (expr_tree e)) (GiveBack ∷ [])))
 
-pub when_continues : (b : body_type.Body) (c : Expr) (xs ys : List entry.Open) → b.heading ≡ heading.First c →
-    AddsTo (statement.IfStatement c b.statements) xs ys →
+pub when_continues : (b : body_type.OpenBody) (c : Expr) (xs ys : List entry.OpenItem) → b.heading ≡ heading.First c →
+    AddsStatement (statement.IfStatement c b.statements) xs ys →
     Continues EndIf (entry_of.Body b ∷ xs) ys
 when_continues b c xs ys is a =
     statement_continues EndIf (statement.IfStatement c b.statements) (entry_of.Body b ∷ xs) xs ys a
     (rw (is, tree-IfStatement c b.statements) refl)
     (rw (is, tree-IfStatement c b.statements) (simp append_assoc refl))
 
-pub choose_continues : (b : body_type.Body) (c : Expr) (s : Vec Statement Global) (xs ys : List entry.Open) →
-    b.heading ≡ heading.Second c s → AddsTo (statement.IfElseStatement c s b.statements) xs ys →
+pub choose_continues : (b : body_type.OpenBody) (c : Expr) (s : Vec Statement Global) (xs ys : List entry.OpenItem) →
+    b.heading ≡ heading.Second c s → AddsStatement (statement.IfElseStatement c s b.statements) xs ys →
     Continues EndIf (entry_of.Body b ∷ xs) ys
 choose_continues b c s xs ys is a =
     statement_continues EndIf (statement.IfElseStatement c s b.statements) (entry_of.Body b ∷ xs) xs ys a
     (rw (is, tree-IfElseStatement c s b.statements) refl)
     (rw (is, tree-IfElseStatement c s b.statements) (simp append_assoc refl))
 
-pub while_continues : (b : body_type.Body) (c : Expr) (xs ys : List entry.Open) → b.heading ≡ heading.Loop c →
-    AddsTo (statement.While c b.statements) xs ys →
+pub while_continues : (b : body_type.OpenBody) (c : Expr) (xs ys : List entry.OpenItem) → b.heading ≡ heading.Loop c →
+    AddsStatement (statement.While c b.statements) xs ys →
     Continues EndWhile (entry_of.Body b ∷ xs) ys
 while_continues b c xs ys is a =
     statement_continues EndWhile (statement.While c b.statements) (entry_of.Body b ∷ xs) xs ys a
@@ -132,8 +133,8 @@ only_true true o h = refl
 only_true false o h = absurd (cc)
 
 -- below the right side is the left one, past the middle if there is one
-pub left_is : (xs : List entry.Open) → ends_in_value xs ≡ false → ends_in_value (past_middle xs) ≡ true →
-    below xs ≡ past_middle xs
+pub left_is : (xs : List entry.OpenItem) → ends_in_value xs ≡ false → ends_in_value (past_middle xs) ≡ true →
+    below_innermost xs ≡ past_middle xs
 left_is [] h k = refl
 left_is (Value e ∷ xs) h k = absurd (cc)
 left_is (RightSide o ∷ xs) h k = refl
@@ -141,7 +142,7 @@ left_is (Call ∷ xs) h k = absurd (cc)
 left_is (Test ∷ xs) h k = absurd (cc)
 left_is (entry_of.Body b ∷ xs) h k = absurd (cc)
 
-pub value_is_left : (xs : List entry.Open) → ends_in_value xs ≡ true → past_middle xs ≡ xs
+pub value_is_left : (xs : List entry.OpenItem) → ends_in_value xs ≡ true → past_middle xs ≡ xs
 value_is_left [] h = absurd (cc)
 value_is_left (Value e ∷ xs) h = refl
 value_is_left (RightSide o ∷ xs) h = absurd (cc)
@@ -150,21 +151,21 @@ value_is_left (Test ∷ xs) h = refl
 value_is_left (entry_of.Body b ∷ xs) h = refl
 
 -- no operator is applied right in a body
-apply_place : (o : Op) (origin : Origin) (g : Heading) (b : Body) (q : Opened) →
-    IsTrue (is_some (follow (ApplyBinop o) (AValue origin ∷ place_of g b ∷ q))) → ⊥
+apply_place : (o : Op) (origin : Origin) (g : BodyOwner) (b : Body) (q : Opened) →
+    IsTrue (is_some (follow (ApplyBinop o) (AValue origin ∷ open_of_owner g b ∷ q))) → ⊥
 apply_place o origin (heading.Function n p) b q k = absurd (cc)
 apply_place o origin (heading.First c) b q k = absurd (cc)
 apply_place o origin (heading.Second c t) b q k = absurd (cc)
 apply_place o origin (heading.Loop c) b q k = absurd (cc)
 
-apply_right : (o p : Op) (origin : Origin) (g : Heading) (b : Body) (q : Opened) →
-    IsTrue (is_some (follow (ApplyBinop o) (AValue origin ∷ BeforeRight p ∷ place_of g b ∷ q))) → ⊥
+apply_right : (o p : Op) (origin : Origin) (g : BodyOwner) (b : Body) (q : Opened) →
+    IsTrue (is_some (follow (ApplyBinop o) (AValue origin ∷ BeforeRight p ∷ open_of_owner g b ∷ q))) → ⊥
 apply_right o p origin (heading.Function n m) b q k = absurd (cc)
 apply_right o p origin (heading.First c) b q k = absurd (cc)
 apply_right o p origin (heading.Second c t) b q k = absurd (cc)
 apply_right o p origin (heading.Loop c) b q k = absurd (cc)
 
-pub left_allowed : (o : Op) (right : Expr) (xs : List entry.Open) → IsAllowed (ApplyBinop o) (Value right ∷ xs) →
+pub left_allowed : (o : Op) (right : Expr) (xs : List entry.OpenItem) → IsAllowed (ApplyBinop o) (Value right ∷ xs) →
     ends_in_value (past_middle xs) ≡ true
 left_allowed o right [] h = absurd (cc)
 left_allowed o right (Value left ∷ xs) h = refl
@@ -174,47 +175,47 @@ left_allowed o right (RightSide p ∷ RightSide q ∷ xs) h = absurd (cc)
 left_allowed o right (RightSide p ∷ Call ∷ xs) h = absurd (cc)
 left_allowed o right (RightSide p ∷ Test ∷ xs) h = absurd (cc)
 left_allowed o right (RightSide p ∷ entry_of.Body b ∷ xs) h =
-    absurd (apply_right o p (origin_of (expr_tree right)) b.heading (body_tree b.statements.items) (opened xs) h)
+    absurd (apply_right o p (origin_of (expr_tree right)) b.heading (body_tree b.statements.items) (opened_of xs) h)
 left_allowed o right (Call ∷ xs) h = absurd (cc)
 left_allowed o right (Test ∷ xs) h = absurd (cc)
 left_allowed o right (entry_of.Body b ∷ xs) h =
-    absurd (apply_place o (origin_of (expr_tree right)) b.heading (body_tree b.statements.items) (opened xs) h)
+    absurd (apply_place o (origin_of (expr_tree right)) b.heading (body_tree b.statements.items) (opened_of xs) h)
 
 plain_sides : (o : Op) (logic : Bool) (q : Opened) → IsTrue (is_some (if logic then None else Some q)) → logic ≡ false
 plain_sides o true q h = absurd (cc)
 plain_sides o false q h = refl
 
 -- without a middle
-plain_continues : (o : Op) (right left : Expr) (a b : Box Expr Global) (xs : List entry.Open) →
+plain_continues : (o : Op) (right left : Expr) (a b : Box Expr Global) (xs : List entry.OpenItem) →
     IsAllowed (ApplyBinop o) (Value right ∷ Value left ∷ xs) → a.value ≡ left → b.value ≡ right →
     Continues (ApplyBinop o) (Value right ∷ Value left ∷ xs) (Value (expr.Binary o a b) ∷ xs)
 plain_continues o right left a b xs h is_left is_right =
-    let plain : is_logic o ≡ false = plain_sides o (is_logic o) (AValue Computed ∷ opened xs) h in
+    let plain : is_logic o ≡ false = plain_sides o (is_logic o) (AValue Computed ∷ opened_of xs) h in
     record {
       follows = rw (plain, tree-Binary o a b) refl;
       adds = rw (tree-Binary o a b, is_left, is_right, plain) (simp append_assoc refl);
     }
 
 -- with one
-logic_continues : (o p : Op) (right left : Expr) (a b : Box Expr Global) (xs : List entry.Open) →
+logic_continues : (o p : Op) (right left : Expr) (a b : Box Expr Global) (xs : List entry.OpenItem) →
     IsAllowed (ApplyBinop o) (Value right ∷ RightSide p ∷ Value left ∷ xs) → a.value ≡ left → b.value ≡ right →
     Continues (ApplyBinop o) (Value right ∷ RightSide p ∷ Value left ∷ xs) (Value (expr.Binary o a b) ∷ xs)
 logic_continues o p right left a b xs h is_left is_right =
-    let same : same_op o p ≡ true = only_true (same_op o p) (AValue Computed ∷ opened xs) h in
+    let same : same_op o p ≡ true = only_true (same_op o p) (AValue Computed ∷ opened_of xs) h in
     let is : o ≡ p = same_op_is o p same in
     record {
       follows = rw (same, tree-Binary o a b) refl;
       adds = rw (tree-Binary o a b, is_left, is_right, is) (simp append_assoc refl);
     }
 
-pub binop_continues : (o : Op) (right left : Expr) (a b : Box Expr Global) (xs ys : List entry.Open) →
+pub binop_continues : (o : Op) (right left : Expr) (a b : Box Expr Global) (xs ys : List entry.OpenItem) →
     IsAllowed (ApplyBinop o) (Value right ∷ xs) → past_middle xs ≡ Value left ∷ ys → a.value ≡ left → b.value ≡ right →
     Continues (ApplyBinop o) (Value right ∷ xs) (Value (expr.Binary o a b) ∷ ys)
 binop_continues o right left a b [] ys h e is_left is_right = absurd (cc)
 binop_continues o right left a b (Value l ∷ xs) ys h e is_left is_right =
     let same : l ≡ left = cc in
-    let below : xs ≡ ys = cc in
-    subst (λ zs. Continues (ApplyBinop o) (Value right ∷ Value l ∷ xs) (Value (expr.Binary o a b) ∷ zs)) below
+    let below_innermost : xs ≡ ys = cc in
+    subst (λ zs. Continues (ApplyBinop o) (Value right ∷ Value l ∷ xs) (Value (expr.Binary o a b) ∷ zs)) below_innermost
     (plain_continues o right l a b xs h (is_left ∙ sym same) is_right)
 binop_continues o right left a b (RightSide p ∷ xs) ys h e is_left is_right =
     subst (λ zs. Continues (ApplyBinop o) (Value right ∷ RightSide p ∷ zs) (Value (expr.Binary o a b) ∷ ys)) (sym e)
@@ -226,15 +227,16 @@ binop_continues o right left a b (entry_of.Body c ∷ xs) ys h e is_left is_righ
 
 -- The new value of v++ and v-- is dropped.
 
-pub postfix_continues : (o : StoreOp) (v : Var) (b : Box Expr Global) (xs : List entry.Open) → ends_in_value xs ≡ true →
+pub postfix_continues : (o : StoreOp) (v : Var) (b : Box Expr Global) (xs : List entry.OpenItem) →
+    ends_in_value xs ≡ true →
     IsAllowed Chop (Value (expr.Assign o v b) ∷ xs) →
-    Continues Chop (Value (expr.Assign o v b) ∷ xs) (Value (expr.Postfix o v) ∷ below xs)
+    Continues Chop (Value (expr.Assign o v b) ∷ xs) (Value (expr.Postfix o v) ∷ below_innermost xs)
 postfix_continues o v b [] e h = absurd (cc)
 postfix_continues o v b (Value old ∷ xs) e h =
-    let step : is_step (origin_of (expr_tree (expr.Assign o v b))) (origin_of (expr_tree old)) ≡ true =
-    only_true _ (AValue Computed ∷ opened xs) h in
-    let is : is_step (stored v (origin_of (expr_tree b.value))) (origin_of (expr_tree old)) ≡ true =
-    ap (λ t. is_step (origin_of t) (origin_of (expr_tree old))) (sym (tree-Assign o v b)) ∙ step in
+    let step : is_increment (origin_of (expr_tree (expr.Assign o v b))) (origin_of (expr_tree old)) ≡ true =
+    only_true _ (AValue Computed ∷ opened_of xs) h in
+    let is : is_increment (stored_origin v (origin_of (expr_tree b.value))) (origin_of (expr_tree old)) ≡ true =
+    ap (λ t. is_increment (origin_of t) (origin_of (expr_tree old))) (sym (tree-Assign o v b)) ∙ step in
     let both = step_is v (origin_of (expr_tree b.value)) (origin_of (expr_tree old)) is in
     let one : expr_tree b.value ≡ tree.Constant (pos 1) = number_is 1 (expr_tree b.value) both.0 in
     let fetched : expr_tree old ≡ tree.Variable v = fetched_is v (expr_tree old) both.1 in
@@ -249,22 +251,22 @@ postfix_continues o v b (entry_of.Body c ∷ xs) e h = absurd (cc)
 
 -- A call ends.
 
-call_place : (g : Heading) (b : Body) (q : Opened) → IsTrue (is_some (call_done (place_of g b ∷ q))) → ⊥
+call_place : (g : BodyOwner) (b : Body) (q : Opened) → IsTrue (is_some (call_done (open_of_owner g b ∷ q))) → ⊥
 call_place (heading.Function n m) b q k = absurd (cc)
 call_place (heading.First c) b q k = absurd (cc)
 call_place (heading.Second c t) b q k = absurd (cc)
 call_place (heading.Loop c) b q k = absurd (cc)
 
-call_follows : (xs : List entry.Open) → IsTrue (is_some (call_done (opened xs))) →
-    call_done (opened xs) ≡ Some (AValue Computed ∷ opened (below_call xs))
+call_follows : (xs : List entry.OpenItem) → IsTrue (is_some (call_done (opened_of xs))) →
+    call_done (opened_of xs) ≡ Some (AValue Computed ∷ opened_of (below_call xs))
 call_follows [] h = absurd (cc)
 call_follows (Value e ∷ xs) h = call_follows xs h
 call_follows (RightSide p ∷ xs) h = absurd (cc)
 call_follows (Call ∷ xs) h = refl
 call_follows (Test ∷ xs) h = absurd (cc)
-call_follows (entry_of.Body b ∷ xs) h = absurd (call_place b.heading (body_tree b.statements.items) (opened xs) h)
+call_follows (entry_of.Body b ∷ xs) h = absurd (call_place b.heading (body_tree b.statements.items) (opened_of xs) h)
 
-call_actions : (xs : List entry.Open) → IsTrue (is_some (call_done (opened xs))) →
+call_actions : (xs : List entry.OpenItem) → IsTrue (is_some (call_done (opened_of xs))) →
     open_actions xs ≡
     open_actions (below_call xs) ++ BeginCall ∷ args_actions (arguments (map expr_tree (above_call xs)))
 call_actions [] h = absurd (cc)
@@ -275,18 +277,18 @@ call_actions (Value e ∷ xs) h =
 call_actions (RightSide p ∷ xs) h = absurd (cc)
 call_actions (Call ∷ xs) h = refl
 call_actions (Test ∷ xs) h = absurd (cc)
-call_actions (entry_of.Body b ∷ xs) h = absurd (call_place b.heading (body_tree b.statements.items) (opened xs) h)
+call_actions (entry_of.Body b ∷ xs) h = absurd (call_place b.heading (body_tree b.statements.items) (opened_of xs) h)
 
 numbered_call : (f : Bool) (o : Option Opened) → IsTrue (is_some (if f then o else None)) →
     (f ≡ true) × IsTrue (is_some o)
 numbered_call true o h = (refl, h)
 numbered_call false o h = absurd (cc)
 
-pub call_continues : (f : Callee) (es : Vec Expr Global) (xs : List entry.Open) → es.items ≡ above_call xs →
+pub call_continues : (f : Callee) (es : Vec Expr Global) (xs : List entry.OpenItem) → es.items ≡ above_call xs →
     IsAllowed (EndCall f) xs →
     Continues (EndCall f) xs (Value (expr.Call f es) ∷ below_call xs)
 call_continues f es xs is h =
-    let both = numbered_call (is_callee_numbered f) (call_done (opened xs)) h in
+    let both = numbered_call (is_callee_numbered f) (call_done (opened_of xs)) h in
     record {
       follows = rw (both.0, tree-Call f es) (call_follows xs both.1);
       adds = rw (tree-Call f es, is, call_actions xs both.1)
@@ -302,19 +304,20 @@ finish_is v p true [] h = (refl, refl)
 finish_is v p true (x ∷ o) h = absurd (cc)
 finish_is v p false o h = absurd (cc)
 
-nothing_open : (xs : List entry.Open) → opened xs ≡ [] → xs ≡ []
+nothing_open : (xs : List entry.OpenItem) → opened_of xs ≡ [] → xs ≡ []
 nothing_open [] h = refl
 nothing_open (x ∷ xs) h = absurd (cc)
 
-pub function_ends : (b : body_type.Body) (n p v : ℕ) (ts : Vec Statement Global) (xs : List entry.Open) →
+pub function_ends : (b : body_type.OpenBody) (n p v : ℕ) (ts : Vec Statement Global) (xs : List entry.OpenItem) →
     b.heading ≡ heading.Function n p → IsAllowed (EndFunction v) (entry_of.Body b ∷ xs) →
     ts.items ≡ without_last b.statements.items →
-    Ends v (entry_of.Body b ∷ xs) xs (record { number = n; parameters = p; variables = v; body = ts })
+    EndsFunctionTree v (entry_of.Body b ∷ xs) xs (record { number = n; parameters = p; variables = v; body = ts })
 function_ends b n p v ts xs is h left =
     let ss = b.statements.items in
-    let k : IsTrue (is_some (follow (EndFunction v) (InFunction p (ends_in_return false (body_tree ss)) ∷ opened xs))) =
-    subst (λ g. IsTrue (is_some (follow (EndFunction v) (place_of g (body_tree ss) ∷ opened xs)))) is h in
-    let both = finish_is v p (ends_in_return false (body_tree ss)) (opened xs) k in
+    let k : IsTrue
+    (is_some (follow (EndFunction v) (InFunction p (ends_in_return false (body_tree ss)) ∷ opened_of xs))) =
+    subst (λ g. IsTrue (is_some (follow (EndFunction v) (open_of_owner g (body_tree ss) ∷ opened_of xs)))) is h in
+    let both = finish_is v p (ends_in_return false (body_tree ss)) (opened_of xs) k in
     let empty : xs ≡ [] = nothing_open xs both.1 in
     let none : List ℕ = [] in
     record {

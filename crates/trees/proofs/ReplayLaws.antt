@@ -3,8 +3,8 @@ use Rattle.std.proofs.Common.{◌≡◌, ℕ, ◌+◌, ◌<◌, ◌≤◌, List,
 use Rattle.std.proofs.lemmas.Bool.Decides.{nat_tests}
 use Rattle.std.proofs.lemmas.List.{append-nil, drop_more, length-replicate, take_more}
 use Rattle.std.specs.Prelude.{pos, Some, nat_lt}
-use Rattle.grammar.specs.declared.names.Callee.{Callee}
-use Rattle.grammar.specs.declared.names.Var.{Var}
+use Rattle.grammar.specs.declared.resolved_names.Callee.{Callee}
+use Rattle.grammar.specs.declared.resolved_names.Var.{Var}
 use Rattle.arith.specs.declared.operators.Op.{Op}
 use Rattle.grammar.specs.declared.operators.StoreOp.{StoreOp}
 use Rattle.grammar.specs.declared.actions.Action.{Action}
@@ -14,16 +14,16 @@ use Rattle.grammar.specs.declared.actions.Action.TheVariants.{EndWhile, GiveBack
 use Rattle.grammar.specs.Actions.{last_return, args_actions, body_actions, expr_actions, function_actions, middle}
 use Rattle.grammar.specs.Actions.{code_length}
 use Rattle.grammar.specs.Beginning.{IsBeginning}
-use Rattle.grammar.specs.Building.{Meaning, MayFollow, MayFollowAll, StandsOpen, AppendsAll, Appends, IsOver}
+use Rattle.grammar.specs.Building.{Representation, MayFollow, MayFollowAll, LeavesOpen, AppendsAll, Appends, IsOver}
 use Rattle.grammar.specs.Profile.{Profile}
 use Rattle.grammar.specs.Tree.{Done}
 use Rattle.grammar.proofs.Beginnings.{follows_begins}
 use Rattle.grammar.proofs.Lengths.{code_length-append}
-use Rattle.trees.specs.Opened.{opened, open_actions}
+use Rattle.trees.specs.Opened.{opened_of, open_actions}
 use Rattle.trees.specs.Replaying.{AppendsThose, StandsForNone, IsOverWith, IsOverWithThose}
-use Rattle.trees.specs.Standing.{Kept, Fits, Builds, Passed, Stands}
+use Rattle.trees.specs.TreeMakers.{TreeMaker, FitsLimit, Builds, Passed, TreeMakerRepresents}
 use Rattle.trees.specs.Trees.{arguments, body_tree, expr_tree, function_tree, made_actions, statement_actions}
-use Rattle.trees.specs.declared.stack.Open as entry
+use Rattle.trees.specs.declared.tree_stack.OpenItem as entry
 use Rattle.trees.specs.declared.tree.Expr.{Expr}
 use Rattle.trees.specs.declared.tree.Expr.TheVariants as expr
 use Rattle.trees.specs.declared.tree.Function.{Function}
@@ -34,24 +34,25 @@ use Rattle.trees.proofs.TreeLaws.{Tells, tells_arguments, tells_functions, tells
 use Rattle.grammar.proofs.StandingLaws.{may_front, may_first, may_then, appends_both}
 
 -- the limit is passed with more actions too
-pub over_front : (before : Meaning) (xs ys : List Action) → IsOverWith before xs → IsOverWith before (xs ++ ys)
+pub over_front : (before : Representation) (xs ys : List Action) → IsOverWith before xs → IsOverWith before (xs ++ ys)
 over_front before xs ys over p acts s =
     omega (arith, over p acts s, code_length-append p (acts ++ xs) ys, ap (code_length p) (append_assoc acts xs ys))
 
-pub over_then : (before behind : Meaning) (xs ys : List Action) → AppendsAll before behind xs → IsOverWith behind ys →
+pub over_then : (before behind : Representation) (xs ys : List Action) → AppendsAll before behind xs →
+    IsOverWith behind ys →
     IsOverWith before (xs ++ ys)
 over_then before behind xs ys added over p acts s =
     subst (λ zs. p.instructions < code_length p zs + 1) (append_assoc acts xs ys) (over p (acts ++ xs) (added p acts s))
 
 -- after a call of its own the other actions may follow
-pub may_next : (before behind : Meaning) (x : Action) (xs : List Action) → Appends before behind x →
+pub may_next : (before behind : Representation) (x : Action) (xs : List Action) → Appends before behind x →
     MayFollowAll before (x ∷ xs) → MayFollowAll behind xs
 may_next before behind x xs added may = may_then before behind (x ∷ []) xs added may
 
-pub may_return : (before : Meaning) → MayFollowAll before last_return → MayFollow before (PushConstant (pos 0))
+pub may_return : (before : Representation) → MayFollowAll before last_return → MayFollow before (PushConstant (pos 0))
 may_return before may = may_first before (PushConstant (pos 0)) (GiveBack ∷ []) may
 
-pub over_finish : (before : Meaning) (v : ℕ) → IsOver before → IsOverWith before (EndFunction v ∷ [])
+pub over_finish : (before : Representation) (v : ℕ) → IsOver before → IsOverWith before (EndFunction v ∷ [])
 over_finish before v over p acts s = omega (arith, over p acts s, code_length-append p acts (EndFunction v ∷ []))
 
 -- The actions of each kind of expression and statement.
@@ -123,7 +124,7 @@ actions-Function f =
 
 -- the next item's actions may follow
 item_may : {X : Type 0} (acts : X → List Action) (told : List X → List Action) → Tells acts told →
-    (before behind : Meaning) (i : ℕ) (xs : List X) (x : X) → i < length xs → x ≡ get_or xs i x →
+    (before behind : Representation) (i : ℕ) (xs : List X) (x : X) → i < length xs → x ≡ get_or xs i x →
     AppendsAll before behind (told (take i xs)) → MayFollowAll before (told xs) →
     MayFollowAll behind (acts x)
 item_may acts told tells before behind i xs x below is added may =
@@ -136,7 +137,7 @@ item_may acts told tells before behind i xs x below is added may =
 
 -- one item more was reported
 items_more : {X : Type 0} (acts : X → List Action) (told : List X → List Action) → Tells acts told →
-    (before between behind : Meaning) (i : ℕ) (xs : List X) (x : X) → i < length xs → x ≡ get_or xs i x →
+    (before between behind : Representation) (i : ℕ) (xs : List X) (x : X) → i < length xs → x ≡ get_or xs i x →
     AppendsAll before between (told (take i xs)) → AppendsAll between behind (acts x) →
     AppendsAll before behind (told (take (i + 1) xs))
 items_more acts told tells before between behind i xs x below is first next =
@@ -145,38 +146,41 @@ items_more acts told tells before between behind i xs x below is first next =
     subst (AppendsAll before behind) (sym (ap told more ∙ tells_last acts told tells (take i xs) x))
     (appends_both before between behind (told (take i xs)) (acts x) first next)
 
-pub argument_may : (before behind : Meaning) (i : ℕ) (es : List Expr) (e : Expr) → i < length es → e ≡ get_or es i e →
+pub argument_may : (before behind : Representation) (i : ℕ) (es : List Expr) (e : Expr) → i < length es →
+    e ≡ get_or es i e →
     AppendsAll before behind (args_actions (arguments (map expr_tree (take i es)))) →
     MayFollowAll before (args_actions (arguments (map expr_tree es))) →
     MayFollowAll behind (expr_actions (expr_tree e))
 argument_may = item_may _ _ tells_arguments
 
-pub arguments_more : (before between behind : Meaning) (i : ℕ) (es : List Expr) (e : Expr) → i < length es →
+pub arguments_more : (before between behind : Representation) (i : ℕ) (es : List Expr) (e : Expr) → i < length es →
     e ≡ get_or es i e →
     AppendsAll before between (args_actions (arguments (map expr_tree (take i es)))) →
     AppendsAll between behind (expr_actions (expr_tree e)) →
     AppendsAll before behind (args_actions (arguments (map expr_tree (take (i + 1) es))))
 arguments_more = items_more _ _ tells_arguments
 
-pub statement_may : (before behind : Meaning) (i : ℕ) (ss : List Statement) (s : Statement) → i < length ss →
+pub statement_may : (before behind : Representation) (i : ℕ) (ss : List Statement) (s : Statement) → i < length ss →
     s ≡ get_or ss i s →
     AppendsAll before behind (body_actions (body_tree (take i ss))) →
     MayFollowAll before (body_actions (body_tree ss)) → MayFollowAll behind (statement_actions s)
 statement_may = item_may _ _ tells_statements
 
-pub statements_more : (before between behind : Meaning) (i : ℕ) (ss : List Statement) (s : Statement) → i < length ss →
+pub statements_more : (before between behind : Representation) (i : ℕ) (ss : List Statement) (s : Statement) →
+    i < length ss →
     s ≡ get_or ss i s →
     AppendsAll before between (body_actions (body_tree (take i ss))) → AppendsAll between behind (statement_actions s) →
     AppendsAll before behind (body_actions (body_tree (take (i + 1) ss)))
 statements_more = items_more _ _ tells_statements
 
-pub function_may : (before behind : Meaning) (i : ℕ) (fs : List Function) (f : Function) → i < length fs →
+pub function_may : (before behind : Representation) (i : ℕ) (fs : List Function) (f : Function) → i < length fs →
     f ≡ get_or fs i f →
     AppendsAll before behind (made_actions (take i fs)) → MayFollowAll before (made_actions fs) →
     MayFollowAll behind (function_actions f.number (function_tree f))
 function_may = item_may _ _ tells_functions
 
-pub functions_more : (before between behind : Meaning) (i : ℕ) (fs : List Function) (f : Function) → i < length fs →
+pub functions_more : (before between behind : Representation) (i : ℕ) (fs : List Function) (f : Function) →
+    i < length fs →
     f ≡ get_or fs i f →
     AppendsAll before between (made_actions (take i fs)) →
     AppendsAll between behind (function_actions f.number (function_tree f)) →
@@ -186,20 +190,20 @@ functions_more = items_more _ _ tells_functions
 -- A maker that leaves nothing open represents the actions of its functions.
 
 -- the actions of a maker's functions, if nothing is open in it
-pub record IsDone (m : Kept) : Type 0 where
+pub record IsDone (m : TreeMaker) : Type 0 where
   pub begins : IsBeginning (made_actions m.functions)
-  pub each : (p : Profile) (acts : List Action) → Stands m p acts → acts ≡ made_actions m.functions
+  pub each : (p : Profile) (acts : List Action) → TreeMakerRepresents m p acts → acts ≡ made_actions m.functions
 
-nothing_actions : (xs : List entry.Open) → opened xs ≡ [] → open_actions xs ≡ []
+nothing_actions : (xs : List entry.OpenItem) → opened_of xs ≡ [] → open_actions xs ≡ []
 nothing_actions [] h = refl
 nothing_actions (x ∷ xs) h = absurd (cc)
 
-is_done_at : (m : Kept) (s : StandsOpen (λ p acts. Stands m p acts) []) → Fits m → IsDone m
+is_done_at : (m : TreeMaker) (s : LeavesOpen (λ p acts. TreeMakerRepresents m p acts) []) → FitsLimit m → IsDone m
 is_done_at m s fits =
     let b : Builds m s.acts = s.stood.builds fits in
-    let same : Some (opened m.stack) ≡ Some [] = sym b.opens ∙ s.opens in
-    let none : opened m.stack ≡ [] = cc in
-    let each : (p : Profile) (acts : List Action) → Stands m p acts → acts ≡ made_actions m.functions =
+    let same : Some (opened_of m.stack) ≡ Some [] = sym b.opens ∙ s.opens in
+    let none : opened_of m.stack ≡ [] = cc in
+    let each : (p : Profile) (acts : List Action) → TreeMakerRepresents m p acts → acts ≡ made_actions m.functions =
     λ p acts t. (t.builds fits).actions ∙ ap (λ xs. made_actions m.functions ++ xs) (nothing_actions m.stack none) ∙
     append-nil (made_actions m.functions) in
     record {
@@ -207,7 +211,7 @@ is_done_at m s fits =
       each = each;
     }
 
-pub is_done : (m : Kept) → StandsOpen (λ p acts. Stands m p acts) [] → IsDone m
+pub is_done : (m : TreeMaker) → LeavesOpen (λ p acts. TreeMakerRepresents m p acts) [] → IsDone m
 is_done m s = by_code (nat_lt m.code m.profile.instructions) refl
   where
     by_code : (b : Bool) → nat_lt m.code m.profile.instructions ≡ b → IsDone m
@@ -221,20 +225,22 @@ is_done m s = by_code (nat_lt m.code m.profile.instructions) refl
         absurd (cc)
 
 -- the actions of a maker that leaves nothing open may be reported to a builder to which nothing was reported
-pub may_replay : (m : Kept) (before : Meaning) → StandsOpen (λ p acts. Stands m p acts) [] → StandsForNone before →
+pub may_replay : (m : TreeMaker) (before : Representation) → LeavesOpen (λ p acts. TreeMakerRepresents m p acts) [] →
+    StandsForNone before →
     MayFollowAll before (made_actions m.functions)
 may_replay m before closed none =
     record { profile = none.profile; acts = []; stood = none.stood; begins = (is_done m closed).begins }
 
 -- all the functions were reported
-pub appends_those : (m : Kept) (before behind : Meaning) → StandsOpen (λ p acts. Stands m p acts) [] →
+pub appends_those : (m : TreeMaker) (before behind : Representation) →
+    LeavesOpen (λ p acts. TreeMakerRepresents m p acts) [] →
     AppendsAll before behind (made_actions m.functions) → AppendsThose m before behind
 appends_those m before behind closed added p acts stands =
     subst (AppendsAll before behind) (sym ((is_done m closed).each p acts stands)) added
 
 -- the limit is passed in one of the functions
-pub over_those : (m : Kept) (before between : Meaning) (i : ℕ) (f : Function) →
-    StandsOpen (λ p acts. Stands m p acts) [] → i < length m.functions → f ≡ get_or m.functions i f →
+pub over_those : (m : TreeMaker) (before between : Representation) (i : ℕ) (f : Function) →
+    LeavesOpen (λ p acts. TreeMakerRepresents m p acts) [] → i < length m.functions → f ≡ get_or m.functions i f →
     AppendsAll before between (made_actions (take i m.functions)) →
     IsOverWith between (function_actions f.number (function_tree f)) → IsOverWithThose m before
 over_those m before between i f closed below is added over p acts stands =

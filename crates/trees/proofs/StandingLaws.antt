@@ -11,16 +11,16 @@ use Rattle.grammar.specs.declared.actions.Action.TheVariants.{BeginWhile, WhileT
 use Rattle.grammar.specs.declared.actions.Action.TheVariants.{BeginFunction, EndFunction}
 use Rattle.grammar.specs.Actions.{ends_function, instructions, code_length}
 use Rattle.grammar.specs.Building.{MayFollow, Appends, FitsWithin, IsOver}
-use Rattle.grammar.specs.Following.{Open, InFunction, AValue, BeforeRight, InCall, InBranch, InElse, BeforeTest, InTurn, Opened, Computed, few_open, follow, follow_all, then_follow, within, only_on, is_place, statement_done, call_done, is_var_numbered, is_callee_numbered}
+use Rattle.grammar.specs.Following.{Open, InFunction, AValue, BeforeRight, InCall, InBranch, InElse, BeforeTest, InTurn, Opened, Computed, few_open, follow, follow_all, then_follow, opens_within, only_on, may_take_statement, statement_done, call_done, is_var_numbered, is_callee_numbered}
 use Rattle.arith.specs.Op.{is_logic}
 use Rattle.grammar.specs.Profile.{Profile, first_profile, second_profile, IsProfile}
 use Rattle.grammar.proofs.Beginnings.{beginning_follows}
 use Rattle.grammar.proofs.FollowingLaws.{follow_append}
 use Rattle.grammar.proofs.Lengths.{code_length-last}
-use Rattle.trees.specs.Opened.{Continues, Ends, IsAllowed, opened, open_actions}
-use Rattle.trees.specs.Standing.{Kept, Fits, in_function, Builds, Passed, Stands}
+use Rattle.trees.specs.Opened.{Continues, EndsFunctionTree, IsAllowed, opened_of, open_actions}
+use Rattle.trees.specs.TreeMakers.{TreeMaker, FitsLimit, in_function, Builds, Passed, TreeMakerRepresents}
 use Rattle.trees.specs.Trees.{made_actions}
-use Rattle.trees.specs.declared.stack.Open as entry
+use Rattle.trees.specs.declared.tree_stack.OpenItem as entry
 use Rattle.trees.specs.declared.tree.Function.{Function}
 use Rattle.trees.proofs.TreeLaws.{functions_add}
 
@@ -53,15 +53,17 @@ next_one a o (Some p) e h = record { behind = p; is = e; few = guarded (few_open
     guarded true k = refl
     guarded false k = absurd (cc)
 
-next_of : (m : Kept) (a : Action) → Fits m → MayFollow (λ p acts. Stands m p acts) a → Next a (opened m.stack)
+next_of : (m : TreeMaker) (a : Action) → FitsLimit m → MayFollow (λ p acts. TreeMakerRepresents m p acts) a →
+    Next a (opened_of m.stack)
 next_of m a fits may =
     let b : Builds m may.acts = may.stood.builds fits in
-    next_one a (opened m.stack) (follow a (opened m.stack)) refl
-    (subst (λ o. IsTrue (is_some o)) (follow_append may.acts (a ∷ []) [] (opened m.stack) b.opens)
+    next_one a (opened_of m.stack) (follow a (opened_of m.stack)) refl
+    (subst (λ o. IsTrue (is_some o)) (follow_append may.acts (a ∷ []) [] (opened_of m.stack) b.opens)
     (beginning_follows (may.acts ++ a ∷ []) may.begins))
 
-pub allowed : (m : Kept) (a : Action) → Fits m → MayFollow (λ p acts. Stands m p acts) a → IsAllowed a m.stack
-allowed m a fits may = let next : Next a (opened m.stack) = next_of m a fits may in rw next.is refl
+pub allowed : (m : TreeMaker) (a : Action) → FitsLimit m → MayFollow (λ p acts. TreeMakerRepresents m p acts) a →
+    IsAllowed a m.stack
+allowed m a fits may = let next : Next a (opened_of m.stack) = next_of m a fits may in rw next.is refl
 
 -- Whether a function is open.
 
@@ -84,7 +86,7 @@ unless_is : (b : Bool) (next : Option Opened) (p : Opened) → (if b then None e
 unless_is true next p e = absurd (cc)
 unless_is false next p e = e
 
-within_open : (inner : Open) (o p : Opened) → within inner o ≡ Some p → is_open p ≡ true
+within_open : (inner : Open) (o p : Opened) → opens_within inner o ≡ Some p → is_open p ≡ true
 within_open inner [] p e = absurd (cc)
 within_open inner (x ∷ o) p e = some_open (inner ∷ x ∷ o) p e refl
 
@@ -97,7 +99,7 @@ call_open (x ∷ o) p e = absurd (cc)
 done_open : (returned : Bool) (o p : Opened) → statement_done returned o ≡ Some p → is_open p ≡ true
 done_open returned [] p e = absurd (cc)
 done_open returned (InFunction parameters before ∷ o) p e = some_open (InFunction parameters returned ∷ o) p e refl
-done_open returned (x ∷ o) p e = only_open (is_place (x ∷ o)) (x ∷ o) p e refl
+done_open returned (x ∷ o) p e = only_open (may_take_statement (x ∷ o)) (x ∷ o) p e refl
 
 -- an action that ends no function leaves one open
 stays_open : (a : Action) (o p : Opened) → in_function true (a ∷ []) ≡ true → follow a o ≡ Some p → is_open p ≡ true
@@ -192,17 +194,18 @@ one_next : (a : Action) (o p : Opened) → follow a o ≡ Some p → few_open p 
 one_next a o p e few = rw (e, few) refl
 
 -- within the limit the trees have the action
-pub goes_on : (m n : Kept) (a : Action) → n.profile ≡ m.profile → n.functions ≡ m.functions →
+pub goes_on : (m n : TreeMaker) (a : Action) → n.profile ≡ m.profile → n.functions ≡ m.functions →
     Continues a m.stack n.stack → n.code ≡ min (m.code + instructions m.profile a) 65535 →
     n.code < m.profile.instructions →
-    MayFollow (λ p acts. Stands m p acts) a → Appends (λ p acts. Stands m p acts) (λ p acts. Stands n p acts) a
+    MayFollow (λ p acts. TreeMakerRepresents m p acts) a →
+    Appends (λ p acts. TreeMakerRepresents m p acts) (λ p acts. TreeMakerRepresents n p acts) a
 goes_on m n a by same k counted fits may p acts s =
     let few_code = small m.profile s.known in
-    let before : Fits m = omega (arith, few_code, counted, fits) in
+    let before : FitsLimit m = omega (arith, few_code, counted, fits) in
     let b : Builds m acts = s.builds before in
-    let next : Next a (opened m.stack) = next_of m a before may in
-    let few : few_open (opened n.stack) ≡ true =
-    some_few next.behind (opened n.stack) (sym next.is ∙ k.follows) next.few in
+    let next : Next a (opened_of m.stack) = next_of m a before may in
+    let few : few_open (opened_of n.stack) ≡ true =
+    some_few next.behind (opened_of n.stack) (sym next.is ∙ k.follows) next.few in
     let limit = ap (λ (p : Profile). p.instructions) by in
     record {
       profile = s.profile ∙ sym by;
@@ -212,8 +215,8 @@ goes_on m n a by same k counted fits may p acts s =
             append_assoc (made_actions m.functions) (open_actions m.stack) (a ∷ []) ∙
             ap (λ xs. made_actions m.functions ++ xs) k.adds ∙
             ap (λ fs. made_actions fs ++ open_actions n.stack) (sym same);
-        opens = follow_append acts (a ∷ []) [] (opened m.stack) b.opens ∙
-            one_next a (opened m.stack) (opened n.stack) k.follows few;
+        opens = follow_append acts (a ∷ []) [] (opened_of m.stack) b.opens ∙
+            one_next a (opened_of m.stack) (opened_of n.stack) k.follows few;
         counted = ap (λ (p : Profile). code_length p (acts ++ a ∷ [])) by ∙
             omega (arith, few_code, code_length-last m.profile acts a, b.counted, counted, fits);
       };
@@ -224,25 +227,26 @@ goes_on m n a by same k counted fits may p acts s =
     some_few x y e h = let same : x ≡ y = cc in subst (λ o. few_open o ≡ true) same h
 
 -- past it the code has passed the limit in a function that is still open
-passed_by : (m n : Kept) (a : Action) (acts : List Action) (p : Profile) →
+passed_by : (m n : TreeMaker) (a : Action) (acts : List Action) (p : Profile) →
     n.code ≡ min (m.code + instructions m.profile a) 65535 → m.profile.instructions ≤ n.code →
     in_function true (a ∷ []) ≡ true →
-    MayFollow (λ p acts. Stands m p acts) a → Stands m p acts → Passed m.profile (acts ++ a ∷ [])
+    MayFollow (λ p acts. TreeMakerRepresents m p acts) a → TreeMakerRepresents m p acts →
+    Passed m.profile (acts ++ a ∷ [])
 passed_by m n a acts p counted over ends may s = by_code (nat_lt m.code m.profile.instructions) refl
   where
     by_code : (b : Bool) → nat_lt m.code m.profile.instructions ≡ b → Passed m.profile (acts ++ a ∷ [])
     by_code true h =
         let fits : m.code < m.profile.instructions = grind (arith, nat_tests, h) in
-        let before : Fits m = omega (arith, fits) in
+        let before : FitsLimit m = omega (arith, fits) in
         let b : Builds m acts = s.builds before in
-        let next : Next a (opened m.stack) = next_of m a before may in
+        let next : Next a (opened_of m.stack) = next_of m a before may in
         let opens : follow_all (acts ++ a ∷ []) [] ≡ Some next.behind =
-        follow_append acts (a ∷ []) [] (opened m.stack) b.opens ∙
-        one_next a (opened m.stack) next.behind next.is next.few in
+        follow_append acts (a ∷ []) [] (opened_of m.stack) b.opens ∙
+        one_next a (opened_of m.stack) next.behind next.is next.few in
         record {
           over = omega (arith, code_length-last m.profile acts a, b.counted, counted, over);
           inside = follow_inside (acts ++ a ∷ []) [] next.behind opens ∙
-              stays_open a (opened m.stack) next.behind ends next.is;
+              stays_open a (opened_of m.stack) next.behind ends next.is;
         }
     by_code false h =
         let past : m.profile.instructions ≤ m.code = grind (arith, nat_tests, h) in
@@ -252,9 +256,11 @@ passed_by m n a acts p counted over ends may s = by_code (nat_lt m.code m.profil
           inside = inside_append false acts (a ∷ []) ∙ ap (λ b. in_function b (a ∷ [])) q.inside ∙ ends;
         }
 
-pub stops : (m n : Kept) (a : Action) → n.profile ≡ m.profile → n.code ≡ min (m.code + instructions m.profile a) 65535 →
+pub stops : (m n : TreeMaker) (a : Action) → n.profile ≡ m.profile →
+    n.code ≡ min (m.code + instructions m.profile a) 65535 →
     m.profile.instructions ≤ n.code → in_function true (a ∷ []) ≡ true →
-    MayFollow (λ p acts. Stands m p acts) a → Appends (λ p acts. Stands m p acts) (λ p acts. Stands n p acts) a
+    MayFollow (λ p acts. TreeMakerRepresents m p acts) a →
+    Appends (λ p acts. TreeMakerRepresents m p acts) (λ p acts. TreeMakerRepresents n p acts) a
 stops m n a by counted over ends may p acts s =
     let limit = ap (λ (p : Profile). p.instructions) by in
     record {
@@ -266,25 +272,25 @@ stops m n a by counted over ends may p acts s =
 
 -- A function ends.
 
-pub ends : (m n : Kept) (v : ℕ) (f : Function) → n.profile ≡ m.profile → Ends v m.stack n.stack f →
+pub ends : (m n : TreeMaker) (v : ℕ) (f : Function) → n.profile ≡ m.profile → EndsFunctionTree v m.stack n.stack f →
     n.functions ≡ m.functions ++ f ∷ [] → n.code ≡ min (m.code + 0) 65535 → n.code < m.profile.instructions →
-    MayFollow (λ p acts. Stands m p acts) (EndFunction v) →
-    Appends (λ p acts. Stands m p acts) (λ p acts. Stands n p acts) (EndFunction v)
+    MayFollow (λ p acts. TreeMakerRepresents m p acts) (EndFunction v) →
+    Appends (λ p acts. TreeMakerRepresents m p acts) (λ p acts. TreeMakerRepresents n p acts) (EndFunction v)
 ends m n v f by k same counted fits may p acts s =
     let few_code = small m.profile s.known in
-    let before : Fits m = omega (arith, few_code, counted, fits) in
+    let before : FitsLimit m = omega (arith, few_code, counted, fits) in
     let b : Builds m acts = s.builds before in
-    let next : Next (EndFunction v) (opened m.stack) = next_of m (EndFunction v) before may in
-    let close : is_open next.behind ≡ false = closes (EndFunction v) (opened m.stack) next.behind refl next.is in
-    let nothing : next.behind ≡ opened n.stack = rw k.nothing (close_is next.behind close) in
+    let next : Next (EndFunction v) (opened_of m.stack) = next_of m (EndFunction v) before may in
+    let close : is_open next.behind ≡ false = closes (EndFunction v) (opened_of m.stack) next.behind refl next.is in
+    let nothing : next.behind ≡ opened_of n.stack = rw k.nothing (close_is next.behind close) in
     let limit = ap (λ (p : Profile). p.instructions) by in
     record {
       profile = s.profile ∙ sym by;
       known = subst IsProfile (sym by) s.known;
       builds = λ _. record {
         actions = rw (same, k.nothing, functions_add m.functions f, k.actions, b.actions) (simp append_assoc refl);
-        opens = follow_append acts (EndFunction v ∷ []) [] (opened m.stack) b.opens ∙
-            one_next (EndFunction v) (opened m.stack) next.behind next.is next.few ∙ ap Some nothing;
+        opens = follow_append acts (EndFunction v ∷ []) [] (opened_of m.stack) b.opens ∙
+            one_next (EndFunction v) (opened_of m.stack) next.behind next.is next.few ∙ ap Some nothing;
         counted = ap (λ (p : Profile). code_length p (acts ++ EndFunction v ∷ [])) by ∙
             omega (arith, few_code, code_length-last m.profile acts (EndFunction v), b.counted, counted, fits);
       };
@@ -295,22 +301,23 @@ ends m n v f by k same counted fits may p acts s =
     close_is [] h = refl
     close_is (x ∷ o) h = absurd (cc)
 
-pub fits_within : (m : Kept) → m.code < m.profile.instructions → FitsWithin (λ p acts. Stands m p acts)
+pub fits_within : (m : TreeMaker) → m.code < m.profile.instructions →
+    FitsWithin (λ p acts. TreeMakerRepresents m p acts)
 fits_within m fits p acts s =
-    let before : Fits m = omega (arith, fits) in
+    let before : FitsLimit m = omega (arith, fits) in
     let b : Builds m acts = s.builds before in
     rw s.profile (omega (arith, b.counted, fits))
 
-pub is_over : (m : Kept) → m.profile.instructions ≤ m.code → IsOver (λ p acts. Stands m p acts)
+pub is_over : (m : TreeMaker) → m.profile.instructions ≤ m.code → IsOver (λ p acts. TreeMakerRepresents m p acts)
 is_over m over p acts s =
     let q : Passed m.profile acts = s.passed (omega (arith, over)) in
     rw s.profile q.over
 
 -- What the maker's calls need: m is the maker before, q the one that has counted the action's instructions.
 
-within_limit : (m q : Kept) (a : Action) (over : Bool) → IsProfile m.profile →
+within_limit : (m q : TreeMaker) (a : Action) (over : Bool) → IsProfile m.profile →
     q.code ≡ min (m.code + instructions m.profile a) 65535 → over ≡ nat_le m.profile.instructions q.code →
-    over ≡ false → (Fits m) × (q.code < m.profile.instructions)
+    over ≡ false → (FitsLimit m) × (q.code < m.profile.instructions)
 within_limit m q a over known counted is not_over =
     let few : q.code < m.profile.instructions = grind (arith, nat_tests, is, not_over) in
     (omega (arith, small m.profile known, counted, few), few)
@@ -319,28 +326,31 @@ stays_inside : (a : Action) → ends_function a ≡ false → in_function true (
 stays_inside (EndFunction variables) e = absurd (cc)
 stays_inside a e = refl
 
-pub stopped : (m q : Kept) (a : Action) (over : Bool) → q.profile ≡ m.profile →
+pub stopped : (m q : TreeMaker) (a : Action) (over : Bool) → q.profile ≡ m.profile →
     q.code ≡ min (m.code + instructions m.profile a) 65535 → over ≡ nat_le m.profile.instructions q.code → over ≡ true →
     ends_function a ≡ false →
-    MayFollow (λ p acts. Stands m p acts) a → Appends (λ p acts. Stands m p acts) (λ p acts. Stands q p acts) a
+    MayFollow (λ p acts. TreeMakerRepresents m p acts) a →
+    Appends (λ p acts. TreeMakerRepresents m p acts) (λ p acts. TreeMakerRepresents q p acts) a
 stopped m q a over by counted is is_over goes_on may =
     stops m q a by counted (grind (arith, nat_tests, is, is_over)) (stays_inside a goes_on) may
 
-pub may_go_on : (m q : Kept) (a : Action) (over : Bool) → q.stack ≡ m.stack →
+pub may_go_on : (m q : TreeMaker) (a : Action) (over : Bool) → q.stack ≡ m.stack →
     q.code ≡ min (m.code + instructions m.profile a) 65535 → over ≡ nat_le m.profile.instructions q.code →
     over ≡ false →
-    MayFollow (λ p acts. Stands m p acts) a → IsAllowed a q.stack
+    MayFollow (λ p acts. TreeMakerRepresents m p acts) a → IsAllowed a q.stack
 may_go_on m q a over stack counted is not_over may =
     rw stack (allowed m a (within_limit m q a over may.stood.known counted is not_over).0 may)
 
-pub went_on : {A : Type 0} (m q : Kept) (xs : List entry.Open) (a : Action) (over : Bool) (r : Result A BuildFault) →
+pub went_on : {A : Type 0} (m q : TreeMaker) (xs : List entry.OpenItem) (a : Action) (over : Bool)
+    (r : Result A BuildFault) →
     q.profile ≡ m.profile → q.functions ≡ m.functions → q.stack ≡ m.stack →
     q.code ≡ min (m.code + instructions m.profile a) 65535 →
-    over ≡ nat_le m.profile.instructions q.code → over ≡ false → MayFollow (λ p acts. Stands m p acts) a →
+    over ≡ nat_le m.profile.instructions q.code → over ≡ false → MayFollow (λ p acts. TreeMakerRepresents m p acts) a →
     OnOk r (Continues a q.stack xs) →
     OnOk r
-    (Appends (λ p acts. Stands m p acts)
-    (λ p acts. Stands (record { profile = q.profile; functions = q.functions; stack = xs; code = q.code }) p
+    (Appends (λ p acts. TreeMakerRepresents m p acts)
+    (λ p acts. TreeMakerRepresents (record { profile = q.profile; functions = q.functions; stack = xs; code = q.code })
+    p
     acts) a)
 went_on m q xs a over r by functions stack counted is not_over may told =
     on_ok_weaker r
@@ -349,24 +359,26 @@ went_on m q xs a over r by functions stack counted is not_over may told =
     (within_limit m q a over may.stood.known counted is not_over).1 may)
     told
 
-pub fits_at_end : (m q : Kept) (over : Bool) → IsProfile m.profile → q.code ≡ min (m.code + 0) 65535 →
-    over ≡ nat_le m.profile.instructions q.code → over ≡ false → FitsWithin (λ p acts. Stands m p acts)
+pub fits_at_end : (m q : TreeMaker) (over : Bool) → IsProfile m.profile → q.code ≡ min (m.code + 0) 65535 →
+    over ≡ nat_le m.profile.instructions q.code → over ≡ false → FitsWithin (λ p acts. TreeMakerRepresents m p acts)
 fits_at_end m q over known counted is passed =
     let few : q.code < m.profile.instructions = grind (arith, nat_tests, is, passed) in
     fits_within m (omega (arith, small m.profile known, counted, few))
 
-pub ended : {A : Type 0} (m q : Kept) (fs : List Function) (xs : List entry.Open) (v : ℕ) (f : Function) (over : Bool)
+pub ended : {A : Type 0} (m q : TreeMaker) (fs : List Function) (xs : List entry.OpenItem) (v : ℕ) (f : Function)
+    (over : Bool)
     (r : Result A BuildFault) → q.profile ≡ m.profile → q.functions ≡ m.functions → q.stack ≡ m.stack →
     q.code ≡ min (m.code + 0) 65535 →
-    over ≡ nat_le m.profile.instructions q.code → over ≡ false → MayFollow (λ p acts. Stands m p acts) (EndFunction v) →
-    Ends v q.stack xs f → OnOk r (fs ≡ q.functions ++ f ∷ []) →
+    over ≡ nat_le m.profile.instructions q.code → over ≡ false →
+    MayFollow (λ p acts. TreeMakerRepresents m p acts) (EndFunction v) →
+    EndsFunctionTree v q.stack xs f → OnOk r (fs ≡ q.functions ++ f ∷ []) →
     OnOk r
-    (Appends (λ p acts. Stands m p acts)
-    (λ p acts. Stands (record { profile = q.profile; functions = fs; stack = xs; code = q.code }) p acts)
+    (Appends (λ p acts. TreeMakerRepresents m p acts)
+    (λ p acts. TreeMakerRepresents (record { profile = q.profile; functions = fs; stack = xs; code = q.code }) p acts)
     (EndFunction v))
 ended m q fs xs v f over r by functions stack counted is not_over may ends_at longer =
     on_ok_weaker r
     (λ k. ends m (record { profile = q.profile; functions = fs; stack = xs; code = q.code }) v f by
-    (subst (λ ys. Ends v ys xs f) stack ends_at) (k ∙ ap (λ gs. gs ++ f ∷ []) functions) counted
+    (subst (λ ys. EndsFunctionTree v ys xs f) stack ends_at) (k ∙ ap (λ gs. gs ++ f ∷ []) functions) counted
     (within_limit m q (EndFunction v) over may.stood.known counted is not_over).1 may)
     longer

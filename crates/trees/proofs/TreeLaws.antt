@@ -1,8 +1,8 @@
 -- The trees of each kind of expression and statement, and the actions of lists of them.
 use Rattle.std.proofs.Common.{◌≡◌, ℕ, zero, suc, List, [], ◌∷◌, ◌++◌, Bool, true, false, map, take, drop, Vec, Box, Global, sym, ap, ◌∙◌, refl, append_assoc}
 use Rattle.std.proofs.lemmas.List.{append-nil}
-use Rattle.grammar.specs.declared.names.Callee.{Callee}
-use Rattle.grammar.specs.declared.names.Var.{Var}
+use Rattle.grammar.specs.declared.resolved_names.Callee.{Callee}
+use Rattle.grammar.specs.declared.resolved_names.Var.{Var}
 use Rattle.arith.specs.declared.operators.Op.{Op}
 use Rattle.grammar.specs.declared.operators.StoreOp.{StoreOp}
 use Rattle.grammar.specs.declared.actions.Action.{Action}
@@ -12,7 +12,7 @@ use Rattle.grammar.specs.Laws.Origins.{ends_in_return}
 use Rattle.grammar.specs.Tree.{Args, Body, Done}
 use Rattle.grammar.specs.Tree as tree
 use Rattle.grammar.proofs.UnfinishedSteps.{number_is}
-use Rattle.trees.specs.Stacks.{without_last}
+use Rattle.trees.specs.TreeStacks.{without_last}
 use Rattle.trees.specs.Trees.{arguments, expr_node, expr_tree, statement_node, statement_tree, statement_actions, body_tree, function_tree, made_actions}
 use Rattle.trees.specs.declared.tree.Expr.{Expr, Expr-F, fold-roll-Expr}
 use Rattle.trees.specs.declared.tree.Expr.TheVariants as expr

@@ -1,6 +1,6 @@
 pub mod Trees
-pub mod Stacks
+pub mod TreeStacks
 pub mod Opened
-pub mod Standing
+pub mod TreeMakers
 pub mod Replaying
 pub mod Laws

@@ -2,26 +2,26 @@
 use Rattle.std.specs.Prelude.{◌+◌, ◌<◌, List, [], ◌++◌}
 use Rattle.grammar.specs.declared.actions.Action.{Action}
 use Rattle.grammar.specs.Actions.{code_length}
-use Rattle.grammar.specs.Building.{Meaning, AppendsAll}
+use Rattle.grammar.specs.Building.{Representation, AppendsAll}
 use Rattle.grammar.specs.Profile.{Profile}
-use Rattle.trees.specs.Standing.{Kept, Stands}
+use Rattle.trees.specs.TreeMakers.{TreeMaker, TreeMakerRepresents}
 
 -- the empty list is represented
-pub record StandsForNone (before : Meaning) : Type 0 where
+pub record StandsForNone (before : Representation) : Type 0 where
   pub profile : Profile
   pub stood : before profile []
 
 -- after these actions the code and the last NOP pass the profile's limit
-abbrev pub IsOverWith : Meaning → List Action → Type 0
+abbrev pub IsOverWith : Representation → List Action → Type 0
 IsOverWith before more = (profile : Profile) (acts : List Action) → before profile acts
     → profile.instructions < code_length profile (acts ++ more) + 1
 
 -- each list represented before is represented with the actions that the maker represents
-abbrev pub AppendsThose : Kept → Meaning → Meaning → Type 0
-AppendsThose maker before behind = (profile : Profile) (acts : List Action) → Stands maker profile acts
+abbrev pub AppendsThose : TreeMaker → Representation → Representation → Type 0
+AppendsThose maker before behind = (profile : Profile) (acts : List Action) → TreeMakerRepresents maker profile acts
     → AppendsAll before behind acts
 
 -- with the actions that the maker represents, the code passes the limit
-abbrev pub IsOverWithThose : Kept → Meaning → Type 0
-IsOverWithThose maker before = (profile : Profile) (acts : List Action) → Stands maker profile acts
+abbrev pub IsOverWithThose : TreeMaker → Representation → Type 0
+IsOverWithThose maker before = (profile : Profile) (acts : List Action) → TreeMakerRepresents maker profile acts
     → IsOverWith before acts

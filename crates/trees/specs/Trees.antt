@@ -27,16 +27,16 @@ abbrev pub expr_tree : Expr → tree.Expr
 expr_tree = fold-Expr tree.Expr expr_node
 
 -- statements one after another, each of which is given those after it
-abbrev pub in_order : List (Body → Body) → Body
-in_order [] = Done
-in_order (s ∷ ss) = s (in_order ss)
+abbrev pub joined_statements : List (Body → Body) → Body
+joined_statements [] = Done
+joined_statements (s ∷ ss) = s (joined_statements ss)
 
 abbrev pub statement_node : Statement-F (Body → Body) → Body → Body
 statement_node (Statement-F.ExpressionStatement e) rest = tree.ExpressionStatement (expr_tree e) rest
-statement_node (Statement-F.IfStatement c s) rest = tree.IfStatement (expr_tree c) (in_order s.items) rest
-statement_node (Statement-F.IfElseStatement c s t) rest = tree.IfElseStatement (expr_tree c) (in_order s.items)
-    (in_order t.items) rest
-statement_node (Statement-F.While c s) rest = tree.While (expr_tree c) (in_order s.items) rest
+statement_node (Statement-F.IfStatement c s) rest = tree.IfStatement (expr_tree c) (joined_statements s.items) rest
+statement_node (Statement-F.IfElseStatement c s t) rest = tree.IfElseStatement (expr_tree c) (joined_statements s.items)
+    (joined_statements t.items) rest
+statement_node (Statement-F.While c s) rest = tree.While (expr_tree c) (joined_statements s.items) rest
 statement_node (Statement-F.Return e) rest = tree.Return (expr_tree e) rest
 
 -- a statement, and what follows it
@@ -49,7 +49,7 @@ statement_actions s = body_actions (statement_tree s Done)
 
 -- the tree of a list of statements
 abbrev pub body_tree : List Statement → Body
-body_tree ss = in_order (map statement_tree ss)
+body_tree ss = joined_statements (map statement_tree ss)
 
 -- the tree of a function, whose names aren't known
 abbrev pub function_tree : Function → tree.Function

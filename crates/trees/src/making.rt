@@ -8,15 +8,15 @@ ghost use Rattle.grammar.specs.declared.actions.Action.TheVariants.{EndWhile, Gi
 ghost use Rattle.grammar.specs.declared.actions.Action.TheVariants.{EndFunction};
 ghost use Rattle.grammar.specs.Actions.{ends_function};
 ghost use Rattle.grammar.specs.Building.{Refuses};
-ghost use Rattle.trees.specs.Opened.{Continues, Ends, IsAllowed};
-ghost use Rattle.trees.specs.Stacks.{without_last};
+ghost use Rattle.trees.specs.Opened.{Continues, EndsFunctionTree, IsAllowed};
+ghost use Rattle.trees.specs.TreeStacks.{without_last};
 
-use crate::memory::boxed;
-use crate::stack::{Heading, Open, Stack};
+use crate::allocation::boxed;
 use crate::tree::{Expr, Function, Statement};
+use crate::tree_stack::{BodyOwner, OpenItem, TreeStack};
 use grammar::{Action, BuildFault, Callee, Op, StoreOp, Var};
 
-impl Stack {
+impl TreeStack {
     /// Does an action, which ends no function.
     pub fn act(&mut self, action: Action) -> Result<(), BuildFault>
         requires allowed { IsAllowed action self.old }
@@ -51,7 +51,7 @@ impl Stack {
         ensures ok { OnOk result (Continues (PushConstant value) self.old self.new) }
         ensures memory { Refuses result ⊤ }
     {
-        self.push(Open::Value(Expr::Constant(value)))
+        self.open_item(OpenItem::Value(Expr::Constant(value)))
     }
 
     /// Takes the value of a variable as the next value.
@@ -60,7 +60,7 @@ impl Stack {
         ensures ok { OnOk result (Continues (FetchVariable var) self.old self.new) }
         ensures memory { Refuses result ⊤ }
     {
-        self.push(Open::Value(Expr::Variable(var)))
+        self.open_item(OpenItem::Value(Expr::Variable(var)))
     }
 
     /// Stores the last value in a variable.
@@ -69,9 +69,9 @@ impl Stack {
         ensures ok { OnOk result (Continues (StoreVariable var op) self.old self.new) }
         ensures memory { Refuses result ⊤ }
     {
-        let right = self.value();
+        let right = self.take_value();
         let right = boxed(self.allocator(), right)?;
-        self.push(Open::Value(Expr::Assign(op, var, right)))
+        self.open_item(OpenItem::Value(Expr::Assign(op, var, right)))
     }
 
     /// Makes the last two values the sides of an operator.
@@ -80,11 +80,11 @@ impl Stack {
         ensures ok { OnOk result (Continues (ApplyBinop op) self.old self.new) }
         ensures memory { Refuses result ⊤ }
     {
-        let right = self.value();
-        let left = self.left_side();
+        let right = self.take_value();
+        let left = self.take_left_side();
         let left = boxed(self.allocator(), left)?;
         let right = boxed(self.allocator(), right)?;
-        self.push(Open::Value(Expr::Binary(op, left, right)))
+        self.open_item(OpenItem::Value(Expr::Binary(op, left, right)))
     }
 
     /// Begins the right side of `&&` or `||`.
@@ -93,7 +93,7 @@ impl Stack {
         ensures ok { OnOk result (Continues (LogicMiddle op) self.old self.new) }
         ensures memory { Refuses result ⊤ }
     {
-        self.push(Open::RightSide(op))
+        self.open_item(OpenItem::RightSide(op))
     }
 
     /// Begins a call.
@@ -102,7 +102,7 @@ impl Stack {
         ensures ok { OnOk result (Continues BeginCall self.old self.new) }
         ensures memory { Refuses result ⊤ }
     {
-        self.push(Open::Call)
+        self.open_item(OpenItem::Call)
     }
 
     /// Ends the call's arguments.
@@ -111,8 +111,8 @@ impl Stack {
         ensures ok { OnOk result (Continues (EndCall callee) self.old self.new) }
         ensures memory { Refuses result ⊤ }
     {
-        let arguments = self.arguments()?;
-        self.push(Open::Value(Expr::Call(callee, arguments)))
+        let arguments = self.take_arguments()?;
+        self.open_item(OpenItem::Value(Expr::Call(callee, arguments)))
     }
 
     /// Ends the condition of an `if`.
@@ -121,8 +121,8 @@ impl Stack {
         ensures ok { OnOk result (Continues IfTest self.old self.new) }
         ensures memory { Refuses result ⊤ }
     {
-        let condition = self.value();
-        self.begin(Heading::First(condition))
+        let condition = self.take_value();
+        self.begin_body(BodyOwner::First(condition))
     }
 
     /// Ends the first branch, and begins a second one.
@@ -131,11 +131,11 @@ impl Stack {
         ensures ok { OnOk result (Continues ElsePart self.old self.new) }
         ensures memory { Refuses result ⊤ }
     {
-        let (heading, statements) = self.body();
-        let Heading::First(condition) = heading else {
+        let (heading, statements) = self.take_body();
+        let BodyOwner::First(condition) = heading else {
             unreachable!()
         };
-        self.begin(Heading::Second(condition, statements))
+        self.begin_body(BodyOwner::Second(condition, statements))
     }
 
     /// Ends an `if`.
@@ -144,11 +144,13 @@ impl Stack {
         ensures ok { OnOk result (Continues EndIf self.old self.new) }
         ensures memory { Refuses result ⊤ }
     {
-        let (heading, statements) = self.body();
+        let (heading, statements) = self.take_body();
         match heading {
-            Heading::First(condition) => self.add(Statement::IfStatement(condition, statements)),
-            Heading::Second(condition, first) => {
-                self.add(Statement::IfElseStatement(condition, first, statements))
+            BodyOwner::First(condition) => self.add_statement(Statement::IfStatement(
+                condition, statements,
+            )),
+            BodyOwner::Second(condition, first) => {
+                self.add_statement(Statement::IfElseStatement(condition, first, statements))
             }
             _ => unreachable!(),
         }
@@ -160,7 +162,7 @@ impl Stack {
         ensures ok { OnOk result (Continues BeginWhile self.old self.new) }
         ensures memory { Refuses result ⊤ }
     {
-        self.push(Open::Test)
+        self.open_item(OpenItem::Test)
     }
 
     /// Ends the condition of a `while`.
@@ -169,9 +171,9 @@ impl Stack {
         ensures ok { OnOk result (Continues WhileTest self.old self.new) }
         ensures memory { Refuses result ⊤ }
     {
-        let condition = self.value();
-        self.leave();
-        self.begin(Heading::Loop(condition))
+        let condition = self.take_value();
+        self.drop_innermost();
+        self.begin_body(BodyOwner::Loop(condition))
     }
 
     /// Ends a `while`.
@@ -180,11 +182,11 @@ impl Stack {
         ensures ok { OnOk result (Continues EndWhile self.old self.new) }
         ensures memory { Refuses result ⊤ }
     {
-        let (heading, statements) = self.body();
-        let Heading::Loop(condition) = heading else {
+        let (heading, statements) = self.take_body();
+        let BodyOwner::Loop(condition) = heading else {
             unreachable!()
         };
-        self.add(Statement::While(condition, statements))
+        self.add_statement(Statement::While(condition, statements))
     }
 
     /// Lets the function return the last value.
@@ -193,8 +195,8 @@ impl Stack {
         ensures ok { OnOk result (Continues GiveBack self.old self.new) }
         ensures memory { Refuses result ⊤ }
     {
-        let value = self.value();
-        self.add(Statement::Return(value))
+        let value = self.take_value();
+        self.add_statement(Statement::Return(value))
     }
 
     /// Drops the last value: that of a statement, or, if two values are open side by side, the new one of `v++` or
@@ -204,15 +206,15 @@ impl Stack {
         ensures ok { OnOk result (Continues Chop self.old self.new) }
         ensures memory { Refuses result ⊤ }
     {
-        let value = self.value();
+        let value = self.take_value();
         if !self.ends_in_value() {
-            return self.add(Statement::ExpressionStatement(value));
+            return self.add_statement(Statement::ExpressionStatement(value));
         }
         let Expr::Assign(op, var, _) = value else {
             unreachable!()
         };
-        self.leave();
-        self.push(Open::Value(Expr::Postfix(op, var)))
+        self.drop_innermost();
+        self.open_item(OpenItem::Value(Expr::Postfix(op, var)))
     }
 
     /// Begins a function.
@@ -221,16 +223,16 @@ impl Stack {
         ensures ok { OnOk result (Continues (BeginFunction number parameters) self.old self.new) }
         ensures memory { Refuses result ⊤ }
     {
-        self.begin(Heading::Function(number, parameters))
+        self.begin_body(BodyOwner::Function(number, parameters))
     }
 
     /// Ends the function, and returns it without its last `return 0;`.
     pub fn end_function(&mut self, variables: u8) -> Function
         requires { IsAllowed (EndFunction variables) self.old }
-        ensures { Ends variables self.old self.new result }
+        ensures { EndsFunctionTree variables self.old self.new result }
     {
-        let (heading, mut body) = self.body();
-        let Heading::Function(number, parameters) = heading else {
+        let (heading, mut body) = self.take_body();
+        let BodyOwner::Function(number, parameters) = heading else {
             unreachable!()
         };
         leave_last(&mut body);

@@ -5,13 +5,13 @@ ghost use Rattle.grammar.specs.declared.actions.Action.TheVariants.{BeginWhile, 
 ghost use Rattle.grammar.specs.declared.actions.Action.TheVariants.{PushConstant, StoreVariable, WhileTest};
 ghost use Rattle.grammar.specs.Actions.{args_actions, body_actions, expr_actions, function_actions, last_return};
 ghost use Rattle.grammar.specs.Actions.{middle};
-ghost use Rattle.grammar.specs.Building.{AppendsAll, MayFollowAll, Refuses, StandsOpen};
+ghost use Rattle.grammar.specs.Building.{AppendsAll, MayFollowAll, Refuses, LeavesOpen};
 ghost use Rattle.trees.specs.Replaying.{AppendsThose, IsOverWith, IsOverWithThose, StandsForNone};
-ghost use Rattle.trees.specs.Standing.{Stands};
+ghost use Rattle.trees.specs.TreeMakers.{TreeMakerRepresents};
 ghost use Rattle.trees.specs.Trees.{arguments, body_tree, expr_tree, function_tree, statement_actions};
 
-use crate::maker::TreeMaker;
 use crate::tree::{Expr, Function, Statement};
+use crate::tree_maker::TreeMaker;
 use grammar::{Action, Build, BuildFault, Op, StoreOp, Var};
 
 impl TreeMaker {
@@ -21,7 +21,7 @@ impl TreeMaker {
     ///
     /// The builder's refusal. What the builder represents is then not said.
     pub fn replay<B: Build>(&self, build: &mut B) -> Result<(), BuildFault>
-        requires closed { StandsOpen (λ p acts. Stands self.now p acts) [] }
+        requires closed { LeavesOpen (λ p acts. TreeMakerRepresents self.now p acts) [] }
         requires told_nothing { StandsForNone (B.stands build.old) }
         ensures ok { OnOk result (AppendsThose self.now (B.stands build.old) (B.stands build.new)) }
         ensures full { IsErrOf result BuildFault.Full → IsOverWithThose self.now (B.stands build.old) }

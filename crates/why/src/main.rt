@@ -9,11 +9,11 @@ use explanations::{Note, compile, explain, warnings_of};
 use grammar::{ParseFault, Profile};
 use std::process::ExitCode;
 use tools::{
-    Fault, Frame, Known, Options, Output, PROFILE_OPTIONS, Plain, Work, profile, source_of,
+    Fault, Known, Options, Output, PROFILE_OPTIONS, Plain, ProgramFrame, Work, profile, source_of,
 };
 
 /// The program's name, its line of wrong usage, and its options.
-const FRAME: Frame = Frame {
+const FRAME: ProgramFrame = ProgramFrame {
     name: "crobots-why",
     about: "Explains the first fault of each robot, or warns about code that compiles but is probably a mistake.",
     usage: "[-pPROFILE] [--lint [--strict]] FILE..",

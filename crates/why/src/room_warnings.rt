@@ -43,7 +43,7 @@ pub fn add_want_of_room(
 /// Adds the line and the column of `main`.
 fn add_place(line: &mut Draft, facts: &Facts) {
     for part in &facts.functions {
-        if part.name.is(b"main") {
+        if part.name.has_bytes(b"main") {
             line.add(":");
             line.number(u64::from(part.line));
             line.add(":");

@@ -9,12 +9,12 @@ use code::{Maker, Profile, Program};
 use operations::{Operations, translate};
 use parser::parse;
 use std::test::Fail;
-use tokens::Pieces;
+use tokens::MemoryFeed;
 
 /// Compiles a good source.
 pub fn program_of(profile: Profile, source: &[u8]) -> Result<Program, Fail> {
     let mut maker = Maker::new(profile);
-    match parse(&mut Pieces::new(source, 4096), &mut maker) {
+    match parse(&mut MemoryFeed::new(source, 4096), &mut maker) {
         Ok(names) => Ok(maker.finish(&names)),
         Err(_) => Err("the source has a fault".into()),
     }

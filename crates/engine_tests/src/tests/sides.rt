@@ -2,8 +2,8 @@
 //! are worked out by hand, from the code of its source (docs/machine.md) and from where operations give up.
 
 ghost use Rattle.std.specs.Prelude.{◌≡◌};
-ghost use Rattle.code.specs.Standing.{FitsProgram as MachineFits};
-ghost use Rattle.engine.specs.Engines.{FitsProgram, IsStopped};
+ghost use Rattle.code.specs.ReachedMachines.{FitsProgram as MachineFits};
+ghost use Rattle.engine.specs.Engines.{EngineFits, IsStopped};
 ghost use Rattle.engine.specs.Questions.{IsAsked, want_of};
 
 use crate::tests::made::{operations_of, program_of};
@@ -125,10 +125,10 @@ fn answer(
     program: &Program,
     reply: i32,
 ) -> Question
-    requires fits { FitsProgram engine.old exe.now }
+    requires fits { EngineFits engine.old exe.now }
     requires stopped { IsStopped exe.now engine.old }
     requires machine { MachineFits machine.old program.now }
-    ensures fits { FitsProgram engine.new exe.now }
+    ensures fits { EngineFits engine.new exe.now }
     ensures machine { MachineFits machine.new program.now }
 {
     let question = engine.asked(exe);
@@ -155,9 +155,9 @@ fn both_run(rt: &impl Abort, exe: &Executable<'_>, program: &Program, cycles: u1
     let mut sides = Sides::default();
     let mut left = u32::from(cycles);
     while left > 0 {
-        let quiet = engine.coast(exe, left).min(left);
+        let quiet = engine.run_quiet(exe, left).min(left);
         assert_eq!(rt;
-            machine.coast(program, quiet),
+            machine.run_quiet(program, quiet),
             quiet,
             "{left} cycles are left"
         );

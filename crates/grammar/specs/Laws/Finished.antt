@@ -5,11 +5,11 @@ use Rattle.tokens.specs.declared.located_tokens.LocatedToken.{LocatedToken}
 use Rattle.grammar.specs.declared.diagnostics.Code.TheVariants as code
 use Rattle.grammar.specs.Actions.{actions}
 use Rattle.grammar.specs.Compiled.{compiled_tokens, diagnostic, last_line, main_name}
-use Rattle.grammar.specs.Derivation.{Definition, start, state}
+use Rattle.grammar.specs.Derivation.{Definition, initial_state, state}
 use Rattle.grammar.specs.Faults.{definitions_actions}
 use Rattle.grammar.specs.Laws.Naming.{line_of_undefined}
 use Rattle.grammar.specs.Laws.Parsing.{Passes}
-use Rattle.grammar.specs.Pools.{Names, names_of}
+use Rattle.grammar.specs.Pools.{Pools, pools_of}
 use Rattle.grammar.specs.Profile.{Profile}
 use Rattle.grammar.specs.Resolved.{IsResolved}
 use Rattle.grammar.specs.Scope.{Scope, function_number}
@@ -17,10 +17,10 @@ use Rattle.grammar.specs.Tree.{File}
 
 -- the derivation leads from the first token to the end, and nothing is left to match or to do
 abbrev pub PassesAll : Profile → List LocatedToken → Scope → List Definition → Type 0
-PassesAll profile located_tokens scope ds = Passes profile (start located_tokens) (state [] [] [] scope ds)
+PassesAll profile located_tokens scope ds = Passes profile (initial_state located_tokens) (state [] [] [] scope ds)
 
 -- the names of externals and functions that are known
-abbrev pub known_names : Scope → Names
+abbrev pub known_names : Scope → Pools
 known_names scope = record { externals = scope.externals; functions = scope.functions }
 
 -- the source is a file: its names are those known, and its actions those of the functions as they were defined
@@ -29,7 +29,7 @@ pub record IsFinished (profile : Profile) (located_tokens : List LocatedToken) (
   pub file : File
   pub compiled : compiled_tokens profile located_tokens ≡ Ok file
   pub resolved : IsResolved file
-  pub named : known_names scope ≡ names_of file
+  pub named : known_names scope ≡ pools_of file
   pub main : function_number main_name scope ≡ Some file.main
   pub told : actions file ≡ definitions_actions ds
 

@@ -22,6 +22,6 @@ pub record Notes (name : List ℕ) (number : ℕ) (old new : List ℕ) : Type 0 
   pub others : (other : List ℕ) → start_of other new ≤ start_of other old
 
 -- no function before this number has the name
-pub record NoneBefore (number : ℕ) (name : List ℕ) (functions : List FunctionNames) : Type 0 where
+pub record NoFunctionBefore (number : ℕ) (name : List ℕ) (functions : List FunctionNames) : Type 0 where
   pub none : (k : ℕ) → k < number → k < length functions
       → bytes_eq name (get_or functions k (only_named [])).name ≡ false

@@ -4,15 +4,15 @@ use Rattle.std.specs.Prelude.{if◌then◌else◌}
 use Rattle.std.specs.List.{IsDistinct, list_any}
 use Rattle.tokens.specs.declared.located_tokens.LocatedToken.{LocatedToken}
 use Rattle.grammar.specs.declared.diagnostics.Code.{Code}
-use Rattle.grammar.specs.declared.limits.TheConstants.{MOST_NAMES}
+use Rattle.grammar.specs.declared.name_limits.TheConstants.{MOST_NAMES}
 use Rattle.grammar.specs.Faults.{fault, role_faults}
 use Rattle.grammar.specs.Grammar.{Role}
-use Rattle.grammar.specs.Scope.{Scope, behind_name, only_named}
+use Rattle.grammar.specs.Scope.{Scope, scope_after_name, only_named}
 
 -- the name has no fault, and the new scope is that after it
-pub record Knows (role : Role) (name : List ℕ) (line : ℕ) (old new : Scope) : Type 0 where
+pub record LearnsName (role : Role) (name : List ℕ) (line : ℕ) (old new : Scope) : Type 0 where
   pub clean : (rest : List LocatedToken) → role_faults role name old rest ≡ []
-  pub behind : new ≡ behind_name role name line old
+  pub behind : new ≡ scope_after_name role name line old
 
 -- the name has this one fault
 abbrev pub RefusesName : Role → List ℕ → Scope → Code → Type 0
@@ -27,7 +27,7 @@ with_begun number name scope = record scope {
 }
 
 -- each function that was mentioned has its line, and the definition of each begins once at most
-pub record IsKept {F : Type 0} (functions : List F) (lines begun : List ℕ) : Type 0 where
+pub record IsScopeKept {F : Type 0} (functions : List F) (lines begun : List ℕ) : Type 0 where
   pub few : length functions ≤ MOST_NAMES
   pub lined : length lines ≡ length functions
   pub once : IsDistinct eqb begun

@@ -1,6 +1,6 @@
 -- How the value of an expression came about, and whether a body ends with `return 0;`.
 use Rattle.std.specs.Prelude.{Bool, false}
-use Rattle.grammar.specs.Following.{Origin, Number, Fetched, Computed, stored, is_number}
+use Rattle.grammar.specs.Following.{Origin, Number, Fetched, Computed, stored_origin, is_number}
 use Rattle.grammar.specs.Tree.{Expr, Constant, Variable, Binary, Assign, Postfix, Call}
 use Rattle.grammar.specs.Tree.{Body, Done, ExpressionStatement, IfStatement, IfElseStatement, While, Return}
 
@@ -8,7 +8,7 @@ abbrev pub origin_of : Expr → Origin
 origin_of (Constant value) = Number value
 origin_of (Variable v) = Fetched v
 origin_of (Binary op a b) = Computed
-origin_of (Assign op v e) = stored v (origin_of e)
+origin_of (Assign op v e) = stored_origin v (origin_of e)
 origin_of (Postfix op v) = Computed
 origin_of (Call f args) = Computed
 

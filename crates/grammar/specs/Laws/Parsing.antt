@@ -1,7 +1,7 @@
 -- A segment of a derivation without a fault, and its first fault.
 use Rattle.std.specs.Prelude.{ℕ, ◌≡◌, ◌⊎◌, List, [], ◌∷◌, true}
 use Rattle.grammar.specs.declared.diagnostics.Diagnostic.{Diagnostic}
-use Rattle.grammar.specs.Derivation.{State, run, line_of}
+use Rattle.grammar.specs.Derivation.{State, derived, line_at}
 use Rattle.grammar.specs.Faults.{Fault, faults_at, faults_in, is_first}
 use Rattle.grammar.specs.Profile.{Profile}
 
@@ -13,7 +13,7 @@ IsIn f (g ∷ faults) = (g ≡ f) ⊎ IsIn f faults
 -- the fault comes somewhere in the derivation from s
 pub record IsFault (profile : Profile) (s : State) (f : Fault) : Type 0 where
   pub steps : ℕ
-  pub here : IsIn f (faults_at profile (run steps s))
+  pub here : IsIn f (faults_at profile (derived steps s))
 
 -- and no other comes before it
 pub record IsFirstFault (profile : Profile) (s : State) (f : Fault) : Type 0 where
@@ -24,11 +24,11 @@ pub record IsFirstFault (profile : Profile) (s : State) (f : Fault) : Type 0 whe
 pub record Fails (profile : Profile) (s : State) (d : Diagnostic) : Type 0 where
   pub fault : Fault
   pub first : IsFirstFault profile s fault
-  pub line : d.line ≡ line_of fault.rest
+  pub line : d.line ≡ line_at fault.rest
   pub code : d.code ≡ fault.code
 
 -- the derivation leads from s to t without a fault on the way
 pub record Passes (profile : Profile) (s t : State) : Type 0 where
   pub steps : ℕ
-  pub leads : run steps s ≡ t
+  pub leads : derived steps s ≡ t
   pub clean : faults_in profile steps s ≡ []

@@ -6,7 +6,7 @@ use lang::{BuildFault, Code, ParseFault, Profile, TreeMaker, parse};
 use std::alloc::Global;
 use std::process::Abort;
 use std::test::Fail;
-use tokens::Pieces;
+use tokens::MemoryFeed;
 
 /// Sources with each form of the language.
 const SOURCES: &[&[u8]] = &[
@@ -23,7 +23,7 @@ const SOURCES: &[&[u8]] = &[
 fn trees_are_told_to_another_builder(rt: HostRuntime) -> Result<(), Fail> {
     for source in SOURCES {
         let mut trees = TreeMaker::new(rt.alloc(), Profile::first());
-        parse(&mut Pieces::new(source, 4_096), &mut trees)?;
+        parse(&mut MemoryFeed::new(source, 4_096), &mut trees)?;
         let mut others = TreeMaker::new(rt.alloc(), Profile::first());
         trees.replay(&mut others)?;
         let made = format!(in rt.alloc(); "{:?}", trees.functions())?;
@@ -36,13 +36,13 @@ fn trees_are_told_to_another_builder(rt: HostRuntime) -> Result<(), Fail> {
 /// Returns the refusal of a parse into a builder that takes so many actions, if there is one.
 fn refusal(actions: usize) -> Option<ParseFault> {
     let mut builder = Refuser { left: actions };
-    parse(&mut Pieces::new(b"main(){1;}", 4_096), &mut builder).err()
+    parse(&mut MemoryFeed::new(b"main(){1;}", 4_096), &mut builder).err()
 }
 
 /// Does the same for the trees that are replayed to it.
 fn refusal_of_trees(alloc: Global, actions: usize) -> Result<Option<BuildFault>, ParseFault> {
     let mut trees = TreeMaker::new(alloc, Profile::first());
-    parse(&mut Pieces::new(b"main(){1;}", 4_096), &mut trees)?;
+    parse(&mut MemoryFeed::new(b"main(){1;}", 4_096), &mut trees)?;
     Ok(trees.replay(&mut Refuser { left: actions }).err())
 }
 

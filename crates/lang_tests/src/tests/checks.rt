@@ -7,7 +7,7 @@ use std::alloc::Global;
 use std::process::Abort;
 use std::str;
 use std::test::Fail;
-use tokens::{Name, Pieces};
+use tokens::{MemoryFeed, Name};
 
 /// The sizes of pieces: small ones, those about the window's size, and whole sources.
 pub const SIZES: [usize; 7] = [1, 2, 3, 4_095, 4_096, 4_097, usize::MAX];
@@ -36,7 +36,7 @@ impl Observed {
 }
 
 /// Parses what a device gives into a new builder of the first profile.
-pub fn parsed(alloc: Global, feed: Pieces) -> Observed
+pub fn parsed(alloc: Global, feed: MemoryFeed) -> Observed
     requires count { feed.failures < 2 ^ 64 - 1 }
     requires not_ended { feed.ended ≡ false }
 {
@@ -44,7 +44,7 @@ pub fn parsed(alloc: Global, feed: Pieces) -> Observed
 }
 
 /// Parses what a device gives into a new builder of this profile.
-fn parsed_by(alloc: Global, profile: Profile, mut feed: Pieces) -> Observed
+fn parsed_by(alloc: Global, profile: Profile, mut feed: MemoryFeed) -> Observed
     requires count { feed.failures < 2 ^ 64 - 1 }
     requires not_ended { feed.ended ≡ false }
 {
@@ -97,7 +97,7 @@ pub fn check_fault_by(
 {
     let wanted = wanted.map(|(line, code)| source_fault(line, code));
     let front = String::from_utf8_lossy(rt.alloc(), &source[..source.len().min(70)])?;
-    let outcome = parsed_by(rt.alloc(), profile, Pieces::new(source, most));
+    let outcome = parsed_by(rt.alloc(), profile, MemoryFeed::new(source, most));
     assert_eq!(rt; outcome.fault(), wanted, "{most} bytes at once of {front}");
     Ok(())
 }
@@ -143,7 +143,7 @@ pub fn check_trees(
 ) -> Result<(), Fail> {
     let wanted = lines.join(rt.alloc(), "\n")?;
     for most in SIZES {
-        let outcome = parsed(rt.alloc(), Pieces::new(source, most));
+        let outcome = parsed(rt.alloc(), MemoryFeed::new(source, most));
         let made = shown(rt.alloc(), &outcome)?;
         assert_eq!(rt; made.as_str(), wanted.as_str(), "{most} bytes at once");
     }

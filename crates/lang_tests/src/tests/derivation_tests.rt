@@ -1,10 +1,10 @@
 //! The token that each instruction of a small source comes from, and the tokens that fit where a statement begins.
 
-use derivations::{Fitting, Place, fitting, lines, locate};
+use derivations::{Fitting, SourcePosition, fitting, lines, locate};
 use grammar::Profile;
 use std::process::Abort;
 use std::test::Fail;
-use tokens::{Name, Punctuator, Token, Word};
+use tokens::{Keyword, Name, Punctuator, Token};
 
 /// The columns of the instructions of `SHIFTED`: of `b`, `1`, `>>`, `=` and the semicolon, of the closing brace for the
 /// last return, and of the end.
@@ -19,7 +19,7 @@ fn check(rt: &impl Abort, source: &[u8], wanted: &[u32]) -> Result<(), Fail> {
         return Err(Fail::from("no lines"));
     };
     for (address, column) in wanted.iter().enumerate() {
-        let place = Place {
+        let place = SourcePosition {
             line: 1,
             column: *column,
         };
@@ -44,9 +44,9 @@ const BEGINS: [Token; 11] = [
     Token::Punctuator(Punctuator::OpenRound),
     Token::Punctuator(Punctuator::OpenCurly),
     Token::Punctuator(Punctuator::Semicolon),
-    Token::Word(Word::If),
-    Token::Word(Word::While),
-    Token::Word(Word::Return),
+    Token::Keyword(Keyword::If),
+    Token::Keyword(Keyword::While),
+    Token::Keyword(Keyword::Return),
 ];
 
 /// Reports whether a token is among those that fit.
@@ -68,7 +68,7 @@ fn what_fits_where_a_block_begins(rt: HostRuntime) -> Result<(), Fail> {
     }
     let others = [
         Token::Punctuator(Punctuator::CloseCurly),
-        Token::Word(Word::Type),
+        Token::Keyword(Keyword::Type),
         Token::Name(Name::new()),
         Token::Constant(0),
     ];

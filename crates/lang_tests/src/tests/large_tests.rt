@@ -6,7 +6,7 @@ use crate::tests::sources::{Part, numbered, source_of};
 use lang::{BuildFault, ParseFault, Profile, TreeMaker, parse};
 use std::process::Abort;
 use std::test::Fail;
-use tokens::Pieces;
+use tokens::MemoryFeed;
 
 /// What is in the block of a large file's `main`, by its parts, each with the number of its actions.
 const LARGE: &[(&[Part], usize)] = &[
@@ -60,7 +60,7 @@ const OF_A_FUNCTION: usize = 4;
 fn check_actions(rt: &(impl Abort + AllocGlobal), source: &[u8], count: usize) -> Result<(), Fail> {
     let trees = TreeMaker::new(rt.alloc(), Profile::second());
     let mut parsed = Recorder::around(rt.alloc(), trees);
-    parse(&mut Pieces::new(source, 4_096), &mut parsed)?;
+    parse(&mut MemoryFeed::new(source, 4_096), &mut parsed)?;
     let trees = TreeMaker::new(rt.alloc(), Profile::second());
     let mut replayed = Recorder::around(rt.alloc(), trees);
     parsed.inner.replay(&mut replayed)?;

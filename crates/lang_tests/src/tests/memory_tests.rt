@@ -1,7 +1,7 @@
 //! Refused requests of memory: `rt try --test --fail-alloc N` refuses the Nth request of each test.
 
 use lang::{BuildFault, ParseFault, Profile, TreeMaker, parse};
-use tokens::Pieces;
+use tokens::MemoryFeed;
 
 /// A source with a tree of each kind that asks for memory.
 const SOURCE: &[u8] = b"f(){} main(){ x = -a && f(1); if(x) 2; else while(x) return 3; }";
@@ -10,7 +10,7 @@ const SOURCE: &[u8] = b"f(){} main(){ x = -a && f(1); if(x) 2; else while(x) ret
 #[test]
 fn a_refused_request_is_answered(rt: HostRuntime) {
     let mut trees = TreeMaker::new(rt.alloc(), Profile::first());
-    if let Err(fault) = parse(&mut Pieces::new(SOURCE, 4_096), &mut trees) {
+    if let Err(fault) = parse(&mut MemoryFeed::new(SOURCE, 4_096), &mut trees) {
         assert_eq!(rt; fault, ParseFault::Memory);
         return;
     }

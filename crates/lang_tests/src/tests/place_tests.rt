@@ -1,6 +1,6 @@
 //! The places of instructions of small sources.
 
-use derivations::{Place, fitting, lines, locate};
+use derivations::{SourcePosition, fitting, lines, locate};
 use grammar::Profile;
 use std::process::Abort;
 use std::test::Fail;
@@ -17,7 +17,7 @@ fn check(
         return Err(Fail::from("no lines"));
     };
     for (address, (line, column)) in wanted.iter().enumerate() {
-        let place = Place {
+        let place = SourcePosition {
             line: *line,
             column: *column,
         };

@@ -4,9 +4,10 @@ ghost use Rattle.std.specs.Prelude.{ℕ, Bool, List, ◌<◌, ◌≤◌, ◌-◌
 
 use std::process::Abort;
 use std::test::Fail;
-use tokens::Word::{Else, If, Refused, Return, Type, While};
+use tokens::Keyword::{Else, If, Refused, Return, Type, While};
 use tokens::{
-    Cursor, DeviceFault, Feed, LexicalError, LocatedToken, Name, Pieces, Punctuator, Token, WINDOW,
+    Cursor, DeviceFault, Feed, LexicalError, LocatedToken, MemoryFeed, Name, Punctuator, Token,
+    WINDOW_BYTES,
 };
 
 /// The bytes of the longest name.
@@ -24,7 +25,7 @@ fn name(bytes: &[u8]) -> Token {
 
 /// Compares the tokens of a source, each with its line and its end.
 fn check(rt: &impl Abort, source: &[u8], wanted: &[(Token, u32, u32)]) -> Result<(), DeviceFault> {
-    check_pieces(rt, source, WINDOW, wanted)?;
+    check_pieces(rt, source, WINDOW_BYTES, wanted)?;
     check_pieces(rt, source, 1, wanted)
 }
 
@@ -47,7 +48,7 @@ fn check_pieces(
 ) -> Result<(), DeviceFault>
     requires { 0 < most }
 {
-    let mut feed = Pieces::new(source, most);
+    let mut feed = MemoryFeed::new(source, most);
     let mut cursor = Cursor::open(&mut feed)?;
     for (i, (token, line, end)) in wanted.iter().enumerate() {
         let located_token = LocatedToken {
@@ -130,15 +131,15 @@ fn long_comment(rt: HostRuntime) -> Result<(), Fail> {
 #[test]
 fn names(rt: HostRuntime) -> Result<(), Fail> {
     let wanted = [
-        (Token::Word(If), 1, 2),
-        (Token::Word(Else), 1, 7),
-        (Token::Word(While), 1, 13),
-        (Token::Word(Return), 1, 20),
-        (Token::Word(Type), 1, 24),
-        (Token::Word(Type), 1, 29),
-        (Token::Word(Type), 1, 34),
-        (Token::Word(Type), 1, 43),
-        (Token::Word(Refused), 1, 47),
+        (Token::Keyword(If), 1, 2),
+        (Token::Keyword(Else), 1, 7),
+        (Token::Keyword(While), 1, 13),
+        (Token::Keyword(Return), 1, 20),
+        (Token::Keyword(Type), 1, 24),
+        (Token::Keyword(Type), 1, 29),
+        (Token::Keyword(Type), 1, 34),
+        (Token::Keyword(Type), 1, 43),
+        (Token::Keyword(Refused), 1, 47),
         (name(b"iff"), 1, 51),
         (Token::End, 1, 51),
     ];
@@ -283,7 +284,7 @@ fn limit(rt: HostRuntime) -> Result<(), Fail> {
 
 #[test]
 fn asks_for_two_tokens(rt: HostRuntime) -> Result<(), Fail> {
-    let mut feed = Pieces::new(b"a bc d", 1);
+    let mut feed = MemoryFeed::new(b"a bc d", 1);
     let mut cursor = Cursor::open(&mut feed)?;
     assert_eq!(rt; feed.taken(), 5);
     assert!(rt; !cursor.peek().token.is_last());
@@ -294,7 +295,7 @@ fn asks_for_two_tokens(rt: HostRuntime) -> Result<(), Fail> {
 
 #[test]
 fn asks_no_more(rt: HostRuntime) -> Result<(), Fail> {
-    let mut feed = Pieces::new(b"a\x1a b", 1);
+    let mut feed = MemoryFeed::new(b"a\x1a b", 1);
     let cursor = Cursor::open(&mut feed)?;
     assert_eq!(rt; cursor.after().token, Token::End);
     assert_eq!(rt; feed.taken(), 2);
@@ -303,7 +304,7 @@ fn asks_no_more(rt: HostRuntime) -> Result<(), Fail> {
 
 #[test]
 fn device_fails(rt: HostRuntime) -> Result<(), Fail> {
-    let mut feed = Pieces::failing_at(b"ab cd", 2, 1);
+    let mut feed = MemoryFeed::failing_at(b"ab cd", 2, 1);
     assert!(rt; Cursor::open(&mut feed).is_err());
     assert_eq!(rt; feed.failures(), 1);
     assert_eq!(rt; feed.taken(), 2);
@@ -312,7 +313,7 @@ fn device_fails(rt: HostRuntime) -> Result<(), Fail> {
 
 /// Compares the first token of a source whose device would fail at the second read, and is not asked again.
 fn check_first(rt: &impl Abort, source: &[u8], wanted: Token) -> Result<(), DeviceFault> {
-    let mut feed = Pieces::failing_at(source, WINDOW, 1);
+    let mut feed = MemoryFeed::failing_at(source, WINDOW_BYTES, 1);
     let cursor = Cursor::open(&mut feed)?;
     assert_eq!(rt; cursor.peek().token, wanted);
     assert_eq!(rt; feed.failures(), 0);

@@ -3,7 +3,7 @@
 use crate::tests::checks::{check_trees, parsed};
 use std::process::Abort;
 use std::test::Fail;
-use tokens::Pieces;
+use tokens::MemoryFeed;
 
 /// Sources, each with the statements of its first function.
 const FORMS: &[(&[u8], &str)] = &[
@@ -86,7 +86,7 @@ const FORMS: &[(&[u8], &str)] = &[
 #[test]
 fn forms_have_their_trees(rt: HostRuntime) -> Result<(), Fail> {
     for (source, body) in FORMS {
-        let outcome = parsed(rt.alloc(), Pieces::new(source, 4_096));
+        let outcome = parsed(rt.alloc(), MemoryFeed::new(source, 4_096));
         assert_eq!(rt; outcome.fault(), None, "{body}");
         let main = outcome.trees.functions().first().ok_or(*body)?;
         let made = format!(in rt.alloc(); "{:?}", main.body)?;

@@ -4,21 +4,21 @@ ghost use Rattle.std.specs.Prelude.{◌≡◌, ◌<◌, ◌≤◌, length, IfOk}
 ghost use Rattle.battles.specs.Programs.{AreOfProfile};
 ghost use Rattle.series.specs.Failures.{AreReady};
 ghost use Rattle.settings.specs.Given.{AreWithin};
-ghost use Rattle.sinks.specs.Recording.{written_of};
-ghost use Rattle.tokens.specs.Pieces.{device_of};
+ghost use Rattle.sinks.specs.MemorySinks.{written_of};
+ghost use Rattle.tokens.specs.MemoryFeeds.{device_of};
 
 use arrayvec::ArrayVec;
 use code::{Maker, Program};
 use grammar::Profile;
 use lang::parse;
 use series::{
-    CYCLES_DEFAULT, CYCLES_MAX, FILES_MAX, FIRST_MAX, MATCHES_MAX, Mode, Numbers, Programs,
-    Recorder, RunFault, SEED_DEFAULT, Settings, Status, run,
+    CYCLES_DEFAULT, MOST_CYCLES, MOST_FILES, MOST_FIRST_MATCH, MOST_MATCHES, MemorySink, Mode,
+    Numbers, Programs, RunFault, SEED_DEFAULT, Settings, Status, run,
 };
 use std::alloc::{AllocError, Global};
 use std::process::Abort;
 use std::test::Fail;
-use tokens::Pieces;
+use tokens::MemoryFeed;
 
 /// The lines of the listing of `main(){}`.
 pub const EMPTY_MAIN: &[&str] = &[
@@ -73,9 +73,9 @@ pub fn twin_report(
 }
 
 /// Makes the settings of a run that lists these files.
-pub fn listing<'a>(words: ArrayVec<&'a str, FILES_MAX>) -> Settings<'a>
+pub fn listing<'a>(words: ArrayVec<&'a str, MOST_FILES>) -> Settings<'a>
     requires some { 0 < length words.items }
-    ensures words { length result.words ≡ length words.entry.items }
+    ensures words { length result.file_words ≡ length words.entry.items }
     ensures mode { result.mode ≡ Mode.Listing }
 {
     Settings::new(Mode::Listing, numbers_of(ONE_MATCH), words)
@@ -83,7 +83,7 @@ pub fn listing<'a>(words: ArrayVec<&'a str, FILES_MAX>) -> Settings<'a>
 
 /// Makes the settings of a run that lists one file.
 pub fn listing_of_one(word: &str) -> Settings<'_>
-    ensures words { length result.words ≡ 1 }
+    ensures words { length result.file_words ≡ 1 }
     ensures mode { result.mode ≡ Mode.Listing }
 {
     let mut words = ArrayVec::new();
@@ -93,7 +93,7 @@ pub fn listing_of_one(word: &str) -> Settings<'_>
 
 /// Makes the settings of a run that lists three files.
 pub fn listing_of_three() -> Settings<'static>
-    ensures words { length result.words ≡ 3 }
+    ensures words { length result.file_words ≡ 3 }
     ensures mode { result.mode ≡ Mode.Listing }
 {
     let mut words = ArrayVec::new();
@@ -117,11 +117,11 @@ pub struct Ended {
 /// Runs what the settings ask for, over these devices and into these sinks.
 pub fn run_into(
     settings: &Settings,
-    feeds: &mut [Pieces<'_>],
-    out: &mut Recorder,
-    err: &mut Recorder,
+    feeds: &mut [MemoryFeed<'_>],
+    out: &mut MemorySink,
+    err: &mut MemorySink,
 ) -> Result<Ended, AllocError>
-    requires { AreReady device_of (length settings.now.words) feeds.old (written_of out.old) (written_of err.old) }
+    requires { AreReady device_of (length settings.now.file_words) feeds.old (written_of out.old) (written_of err.old) }
 {
     let answer = run(settings, feeds, out, err);
     Ok(Ended {
@@ -135,15 +135,15 @@ pub fn run_into(
 pub fn list(alloc: Global, word: &str, source: &[u8], most: usize) -> Result<Ended, AllocError>
     requires { 0 < most }
 {
-    let (mut out, mut err) = (Recorder::new(alloc), Recorder::new(alloc));
-    let mut feeds = [Pieces::new(source, most)];
+    let (mut out, mut err) = (MemorySink::new(alloc), MemorySink::new(alloc));
+    let mut feeds = [MemoryFeed::new(source, most)];
     run_into(&listing_of_one(word), &mut feeds, &mut out, &mut err)
 }
 
 /// Compiles a good source.
 pub fn program_of(source: &[u8]) -> Result<Program, Fail> {
     let mut maker = Maker::new(Profile::first());
-    match parse(&mut Pieces::new(source, 4096), &mut maker) {
+    match parse(&mut MemoryFeed::new(source, 4096), &mut maker) {
         Ok(names) => Ok(maker.finish(&names)),
         Err(_) => Err("the source has a fault".into()),
     }
@@ -257,25 +257,25 @@ fn numbers_of(game: Game) -> Numbers
         Profile::first()
     };
     Numbers {
-        matches: game.matches.max(1).min(MATCHES_MAX),
-        limit: game.limit.max(1).min(CYCLES_MAX),
+        matches: game.matches.max(1).min(MOST_MATCHES),
+        limit: game.limit.max(1).min(MOST_CYCLES),
         seed: SEED_DEFAULT,
         profile,
-        first: game.first.max(1).min(FIRST_MAX),
+        first: game.first.max(1).min(MOST_FIRST_MATCH),
     }
 }
 
 /// Makes the settings of a game of these files, and brings its numbers within their limits.
-pub fn game_of<'a>(game: Game, words: ArrayVec<&'a str, FILES_MAX>) -> Settings<'a>
+pub fn game_of<'a>(game: Game, words: ArrayVec<&'a str, MOST_FILES>) -> Settings<'a>
     requires some { 0 < length words.items }
-    ensures words { length result.words ≡ length words.entry.items }
+    ensures words { length result.file_words ≡ length words.entry.items }
 {
     Settings::new(Mode::Matches, numbers_of(game), words)
 }
 
 /// Makes the settings of a game of one file.
 pub fn game_of_one<'a>(game: Game, word: &'a str) -> Settings<'a>
-    ensures words { length result.words ≡ 1 }
+    ensures words { length result.file_words ≡ 1 }
 {
     let mut words = ArrayVec::new();
     words.push(word);
@@ -284,7 +284,7 @@ pub fn game_of_one<'a>(game: Game, word: &'a str) -> Settings<'a>
 
 /// Makes the settings of a game of two files, one of them in a folder.
 pub fn game_of_two(game: Game) -> Settings<'static>
-    ensures words { length result.words ≡ 2 }
+    ensures words { length result.file_words ≡ 2 }
 {
     let mut words = ArrayVec::new();
     words.push("a.r");
@@ -294,10 +294,10 @@ pub fn game_of_two(game: Game) -> Settings<'static>
 
 /// Runs what the settings ask for, over one file that is read whole.
 pub fn play_one(alloc: Global, settings: &Settings, source: &[u8]) -> Result<Ended, AllocError>
-    requires { length settings.now.words ≡ 1 }
+    requires { length settings.now.file_words ≡ 1 }
 {
-    let (mut out, mut err) = (Recorder::new(alloc), Recorder::new(alloc));
-    let mut feeds = [Pieces::new(source, 4096)];
+    let (mut out, mut err) = (MemorySink::new(alloc), MemorySink::new(alloc));
+    let mut feeds = [MemoryFeed::new(source, 4096)];
     run_into(settings, &mut feeds, &mut out, &mut err)
 }
 
@@ -308,10 +308,10 @@ pub fn play_two(
     source: &[u8],
     other: &[u8],
 ) -> Result<Ended, AllocError>
-    requires { length settings.now.words ≡ 2 }
+    requires { length settings.now.file_words ≡ 2 }
 {
-    let (mut out, mut err) = (Recorder::new(alloc), Recorder::new(alloc));
-    let mut feeds = [Pieces::new(source, 4096), Pieces::new(other, 4096)];
+    let (mut out, mut err) = (MemorySink::new(alloc), MemorySink::new(alloc));
+    let mut feeds = [MemoryFeed::new(source, 4096), MemoryFeed::new(other, 4096)];
     run_into(settings, &mut feeds, &mut out, &mut err)
 }
 

@@ -1,6 +1,6 @@
 //! Machines of whole sources: in which cycles they ask, and in which they first restart.
 
-ghost use Rattle.code.specs.Standing.{FitsProgram};
+ghost use Rattle.code.specs.ReachedMachines.{FitsProgram};
 
 use crate::tests::checks::program_of;
 use code::{Machine, Program, Want};

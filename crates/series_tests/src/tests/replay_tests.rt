@@ -5,15 +5,15 @@ use crate::tests::listing_tests::{EXTERNALS, LISTINGS, in_brackets, ones, spaced
 use code::{Maker, Program};
 use grammar::{Pools, Profile};
 use lang::{TreeMaker, parse};
-use series::{Recorder, put_listing};
+use series::{MemorySink, put_listing};
 use std::alloc::Global;
 use std::process::Abort;
 use std::test::Fail;
-use tokens::Pieces;
+use tokens::MemoryFeed;
 
 /// Lists a program with these names.
 fn listed(alloc: Global, names: &Pools, program: &Program) -> Result<Vec<u8>, Fail> {
-    let mut out = Recorder::new(alloc);
+    let mut out = MemorySink::new(alloc);
     let _ = put_listing(&mut out, b"a.r", names, program);
     Ok(out.joined()?)
 }
@@ -21,7 +21,7 @@ fn listed(alloc: Global, names: &Pools, program: &Program) -> Result<Vec<u8>, Fa
 /// Lists a good source.
 fn direct(alloc: Global, profile: Profile, source: &[u8]) -> Result<Vec<u8>, Fail> {
     let mut maker = Maker::new(profile);
-    match parse(&mut Pieces::new(source, 4096), &mut maker) {
+    match parse(&mut MemoryFeed::new(source, 4096), &mut maker) {
         Ok(names) => listed(alloc, &names, &maker.finish(&names)),
         Err(_) => Err("the source has a fault".into()),
     }
@@ -30,7 +30,7 @@ fn direct(alloc: Global, profile: Profile, source: &[u8]) -> Result<Vec<u8>, Fai
 /// Lists a good source, whose trees are made first and then replayed to the maker.
 fn replayed(alloc: Global, profile: Profile, source: &[u8]) -> Result<Vec<u8>, Fail> {
     let mut trees = TreeMaker::new(alloc, profile);
-    let Ok(names) = parse(&mut Pieces::new(source, 4096), &mut trees) else {
+    let Ok(names) = parse(&mut MemoryFeed::new(source, 4096), &mut trees) else {
         return Err("the source has a fault".into());
     };
     let mut maker = Maker::new(profile);

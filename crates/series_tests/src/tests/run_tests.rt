@@ -6,20 +6,20 @@ use crate::tests::checks::{
     EMPTY_MAIN, Ended, ONE_MATCH, check_ended, game_of_one, game_of_two, listing_of_one,
     listing_of_three, run_into, short_matches, text_of, twin_game,
 };
-use series::{Recorder, RunFault, Status, run};
+use series::{MemorySink, RunFault, Status, run};
 use std::process::Abort;
 use std::test::Fail;
-use tokens::Pieces;
+use tokens::MemoryFeed;
 
 #[test]
 fn each_file_has_its_own_piece(rt: HostRuntime) -> Result<(), Fail> {
     for most in [4096, 1] {
         let mut feeds = [
-            Pieces::new(b"main(){}", most),
-            Pieces::new(b"main(){ f(); }", most),
-            Pieces::new(b"main(){\nbreak; }", most),
+            MemoryFeed::new(b"main(){}", most),
+            MemoryFeed::new(b"main(){ f(); }", most),
+            MemoryFeed::new(b"main(){\nbreak; }", most),
         ];
-        let (mut out, mut err) = (Recorder::new(rt.alloc()), Recorder::new(rt.alloc()));
+        let (mut out, mut err) = (MemorySink::new(rt.alloc()), MemorySink::new(rt.alloc()));
         let ended = run_into(&listing_of_three(), &mut feeds, &mut out, &mut err)?;
         let faults = &["b.r:1: function not defined", "c.r:2: reserved word"];
         check_ended(&rt, &ended, Ok(Status::Faulty), EMPTY_MAIN, faults)?;
@@ -31,11 +31,11 @@ fn each_file_has_its_own_piece(rt: HostRuntime) -> Result<(), Fail> {
 #[test]
 fn a_failed_read_ends_the_run(rt: HostRuntime) -> Result<(), Fail> {
     let mut feeds = [
-        Pieces::new(b"main(){}", 4096),
-        Pieces::failing_at(b"main(){}", 4, 1),
-        Pieces::new(b"main(){ f(); }", 4096),
+        MemoryFeed::new(b"main(){}", 4096),
+        MemoryFeed::failing_at(b"main(){}", 4, 1),
+        MemoryFeed::new(b"main(){ f(); }", 4096),
     ];
-    let (mut out, mut err) = (Recorder::new(rt.alloc()), Recorder::new(rt.alloc()));
+    let (mut out, mut err) = (MemorySink::new(rt.alloc()), MemorySink::new(rt.alloc()));
     let ended = run_into(&listing_of_three(), &mut feeds, &mut out, &mut err)?;
     check_ended(&rt, &ended, Err(RunFault::Read(1)), EMPTY_MAIN, &[])?;
     assert_eq!(rt; err.portions().len(), 0);
@@ -46,9 +46,9 @@ fn a_failed_read_ends_the_run(rt: HostRuntime) -> Result<(), Fail> {
 fn a_failed_write_leaves_a_beginning(rt: HostRuntime) -> Result<(), Fail> {
     let whole = text_of(rt.alloc(), EMPTY_MAIN)?;
     for room in 0..whole.len() {
-        let mut out = Recorder::new(rt.alloc()).with_room(room);
-        let mut err = Recorder::new(rt.alloc());
-        let mut feeds = [Pieces::new(b"main(){}", 4096)];
+        let mut out = MemorySink::new(rt.alloc()).with_room(room);
+        let mut err = MemorySink::new(rt.alloc());
+        let mut feeds = [MemoryFeed::new(b"main(){}", 4096)];
         assert_eq!(rt;
             run(&listing_of_one("a.r"), &mut feeds, &mut out, &mut err),
             Err(RunFault::Write)
@@ -71,15 +71,15 @@ fn list_within(
 ) -> Result<Ended, Fail>
     requires { 0 < most }
 {
-    let mut out = Recorder::new(rt.alloc()).with_most(most).with_room(room);
-    let mut err = Recorder::new(rt.alloc())
+    let mut out = MemorySink::new(rt.alloc()).with_most(most).with_room(room);
+    let mut err = MemorySink::new(rt.alloc())
         .with_most(most)
         .with_room(faults_room);
     let [first, second, third] = GOOD_FAULTY_GOOD;
     let mut feeds = [
-        Pieces::new(first, most),
-        Pieces::new(second, most),
-        Pieces::new(third, most),
+        MemoryFeed::new(first, most),
+        MemoryFeed::new(second, most),
+        MemoryFeed::new(third, most),
     ];
     Ok(run_into(&listing_of_three(), &mut feeds, &mut out, &mut err)?)
 }
@@ -143,9 +143,9 @@ fn a_failed_write_leaves_a_beginning_of_the_reports(rt: HostRuntime) -> Result<(
     assert_eq!(rt; whole.len(), 226);
     for most in [usize::MAX, 1] {
         for room in 0..=whole.len() {
-            let mut out = Recorder::new(rt.alloc()).with_most(most).with_room(room);
-            let mut err = Recorder::new(rt.alloc());
-            let mut feeds = [Pieces::new(b"main(){}", 4096)];
+            let mut out = MemorySink::new(rt.alloc()).with_most(most).with_room(room);
+            let mut err = MemorySink::new(rt.alloc());
+            let mut feeds = [MemoryFeed::new(b"main(){}", 4096)];
             let settings = game_of_one(short_matches(2), "a.r");
             let answer = run(&settings, &mut feeds, &mut out, &mut err);
             let wanted = if room < whole.len() {
@@ -166,9 +166,9 @@ fn a_failed_write_leaves_a_beginning_of_the_reports(rt: HostRuntime) -> Result<(
 #[test]
 fn each_report_is_written_by_itself(rt: HostRuntime) -> Result<(), Fail> {
     let settings = game_of_one(short_matches(200), "a.r");
-    let mut out = Recorder::new(rt.alloc());
-    let mut err = Recorder::new(rt.alloc());
-    let mut feeds = [Pieces::new(b"main(){}", 4096)];
+    let mut out = MemorySink::new(rt.alloc());
+    let mut err = MemorySink::new(rt.alloc());
+    let mut feeds = [MemoryFeed::new(b"main(){}", 4096)];
     assert_eq!(rt;
         run(&settings, &mut feeds, &mut out, &mut err),
         Ok(Status::Done)
@@ -193,10 +193,10 @@ fn a_failed_read_leaves_the_diagnostics_before_it(rt: HostRuntime) -> Result<(),
         (b"".as_slice(), &["a.r:1: no main function"]),
     ] {
         let mut feeds = [
-            Pieces::new(first, 4096),
-            Pieces::failing_at(b"main(){}", 4096, 0),
+            MemoryFeed::new(first, 4096),
+            MemoryFeed::failing_at(b"main(){}", 4096, 0),
         ];
-        let (mut out, mut err) = (Recorder::new(rt.alloc()), Recorder::new(rt.alloc()));
+        let (mut out, mut err) = (MemorySink::new(rt.alloc()), MemorySink::new(rt.alloc()));
         let ended = run_into(&game_of_two(ONE_MATCH), &mut feeds, &mut out, &mut err)?;
         check_ended(&rt, &ended, Err(RunFault::Read(1)), &[], faults)?;
         assert_eq!(rt; out.portions().len(), 0);
@@ -210,9 +210,9 @@ fn a_fault_that_is_decided_wins(rt: HostRuntime) -> Result<(), Fail> {
         (b"main(){ break; ".as_slice(), Ok(Status::Faulty)),
         (b"main(){ break".as_slice(), Err(RunFault::Read(0))),
     ] {
-        let mut feeds = [Pieces::failing_at(source, 4096, 1)];
-        let mut out = Recorder::new(rt.alloc());
-        let mut err = Recorder::new(rt.alloc());
+        let mut feeds = [MemoryFeed::failing_at(source, 4096, 1)];
+        let mut out = MemorySink::new(rt.alloc());
+        let mut err = MemorySink::new(rt.alloc());
         let settings = game_of_one(ONE_MATCH, "a.r");
         assert_eq!(rt; run(&settings, &mut feeds, &mut out, &mut err), answer);
         assert_eq!(rt; out.portions().len(), 0);

@@ -1,16 +1,16 @@
 //! A series, match by match, and what it answers after a write has failed.
 
 use crate::tests::checks::{game_of_one, programs_of, short_matches};
-use series::{Recorder, Series, SeriesFault, Step, compile_files};
+use series::{MemorySink, Series, SeriesFault, Step, compile_files};
 use std::process::Abort;
 use std::test::Fail;
-use tokens::Pieces;
+use tokens::MemoryFeed;
 
 /// What a call for the next match answers, whether the series is over then, and how many portions were put so far.
 type Told = (Result<Step, SeriesFault>, bool, usize);
 
 /// Plays a series of two short matches call by call, and compares what each call answers.
-fn check_calls(rt: &impl Abort, out: &mut Recorder, calls: &[Told]) -> Result<(), Fail> {
+fn check_calls(rt: &impl Abort, out: &mut MemorySink, calls: &[Told]) -> Result<(), Fail> {
     let settings = game_of_one(short_matches(2), "a.r");
     let programs = programs_of(b"main(){}", &settings)?;
     let mut series = Series::new(&programs, &settings);
@@ -28,7 +28,7 @@ fn check_calls(rt: &impl Abort, out: &mut Recorder, calls: &[Told]) -> Result<()
 
 #[test]
 fn matches_are_played_one_by_one(rt: HostRuntime) -> Result<(), Fail> {
-    let mut out = Recorder::new(rt.alloc());
+    let mut out = MemorySink::new(rt.alloc());
     let calls = [
         (Ok(Step::Played(1)), false, 1),
         (Ok(Step::Played(2)), true, 2),
@@ -39,7 +39,7 @@ fn matches_are_played_one_by_one(rt: HostRuntime) -> Result<(), Fail> {
 
 #[test]
 fn a_series_stops_at_a_failed_report(rt: HostRuntime) -> Result<(), Fail> {
-    let mut out = Recorder::new(rt.alloc()).with_room(10);
+    let mut out = MemorySink::new(rt.alloc()).with_room(10);
     let stopped = (Err(SeriesFault::Write), false, 1);
     check_calls(&rt, &mut out, &[stopped, stopped])?;
     assert_eq!(rt; out.joined()?.as_slice(), b"Match 1: c".as_slice());
@@ -52,7 +52,7 @@ fn a_series_stops_at_failed_totals(rt: HostRuntime) -> Result<(), Fail> {
     let settings = game_of_one(short_matches(1), "a.r");
     let programs = programs_of(b"main(){}", &settings)?;
     let mut series = Series::new(&programs, &settings);
-    let mut out = Recorder::new(rt.alloc()).failing_after(1);
+    let mut out = MemorySink::new(rt.alloc()).failing_after(1);
     assert_eq!(rt; series.next(&mut out), Ok(Step::Played(1)));
     if !series.is_over() {
         return Err("a match is left".into());
@@ -70,9 +70,9 @@ fn a_series_stops_at_failed_totals(rt: HostRuntime) -> Result<(), Fail> {
 #[test]
 fn programs_are_kept_without_a_run(rt: HostRuntime) -> Result<(), Fail> {
     let settings = game_of_one(short_matches(2), "a.r");
-    let mut feeds = [Pieces::new(b"main(){}", 4096)];
-    let mut out = Recorder::new(rt.alloc());
-    let mut err = Recorder::new(rt.alloc());
+    let mut feeds = [MemoryFeed::new(b"main(){}", 4096)];
+    let mut out = MemorySink::new(rt.alloc());
+    let mut err = MemorySink::new(rt.alloc());
     match compile_files(&settings, &mut feeds, &mut out, &mut err) {
         Ok(Some(programs)) => assert_eq!(rt; programs.len(), 1),
         _ => return Err("it did not compile".into()),

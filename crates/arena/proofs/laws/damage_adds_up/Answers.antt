@@ -7,5 +7,5 @@ use Rattle.arena.proofs.laws.damage_adds_up.Goals as goal
 pub returns : goal.returns
 returns c = λ f s.
     adds_up f
-    (subst (λ (n : ℕ). All (λ s. s.owner < n) f.shots) (c.keeps_slots.ensures ∙ manned c.args.arena.now f s)
+    (subst (λ (n : ℕ). All (λ s. s.owner < n) f.shots) (c.prove_slots.ensures ∙ manned c.args.arena.now f s)
     s.missiles.owned)

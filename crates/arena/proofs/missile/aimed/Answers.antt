@@ -17,7 +17,7 @@ returns-clause-value c =
     let small : unsigned_abs c.from.result ≤ 9999 = rw c.from.ensures (omega (arith, range)) in
     let way =
     product_back c.from.result c.args.part small c.requires.part ∙ ap (λ (z : ℤ). z *ℤ c.args.part) c.from.ensures in
-    c.clamped.ensures.value ∙
+    c.clamped_place.ensures.value ∙
     ap (clamped last_place)
     (to_z-of_z w32 c.along.result (record { sfits = c.along.type_inv }) ∙ c.along.ensures ∙
     ap (along c.args.from) way)

@@ -3,7 +3,7 @@ use Rattle.std.proofs.lemmas.List.{length-map, take_all}
 use Rattle.arena.specs.Field.{no_robot, robot_at}
 use Rattle.arena.specs.Scan.{sees}
 use Rattle.arena.specs.Nearer.{square_to}
-use Rattle.arena.specs.Ground.{body_of}
+use Rattle.arena.specs.Arena.{robot_of}
 use Rattle.arena.proofs.Loops.{mapped_is}
 use Rattle.arena.proofs.Nearest.{none_yet, one_more, none_more}
 use Rattle.arena.proofs.scans.nearest.Goals as goal
@@ -28,15 +28,15 @@ loop-i-preserved c = record {
       let i = c.args.robot in
       let from = robot_at field i in
       let p = sees from c.args.degree c.args.resolution in
-      let size = ap length e ∙ length-map field.robots body_of in
+      let size = ap length e ∙ length-map field.robots robot_of in
       let inside : c.loop-i.i < length field.robots = omega (arith, size, c.loop-i-test.true, c.loop-i.auto.i-end) in
-      let here = mapped_is body_of _ field.robots _ _ no_robot e c.requires.inside c.index-robots-robot.is in
+      let here = mapped_is robot_of _ field.robots _ _ no_robot e c.requires.inside c.index-robots-robot.is in
       let there =
-      mapped_is body_of _ field.robots _ _ no_robot e (omega (arith, size, inside)) c.index-robots-i.is in
+      mapped_is robot_of _ field.robots _ _ no_robot e (omega (arith, size, inside)) c.index-robots-i.is in
       let so_far = c.loop-i.invariant.nearest field e in
       elim c.if-i-robot.branch [
         | then-i-robot w ↦
-            let is = c.of-from.ensures from here in
+            let is = c.of_robot-from.ensures from here in
             let arc = c.around-arc.ensures in
             let value = rw (arc.degree, arc.resolution) at (w.nearer-nearest.ensures.value from _ is there) in
             let seen = rw (arc.degree, arc.resolution) at (w.nearer-nearest.ensures.seen from _ is there) in
@@ -52,7 +52,7 @@ loop-i-preserved c = record {
 
 pub returns-clause-nearest : goal.returns-clause-nearest
 returns-clause-nearest c = λ field e.
-    let size = ap length e ∙ length-map field.robots body_of in
+    let size = ap length e ∙ length-map field.robots robot_of in
     let all =
     take_all c.loop-i.i field.robots (omega (arith, size, c.loop-i-test.false, c.loop-i.auto.i-end)) in
     rw all at (c.loop-i.invariant.nearest field e)

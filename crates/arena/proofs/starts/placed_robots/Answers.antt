@@ -5,15 +5,15 @@ use Rattle.std.proofs.lemmas.List.{take_all, map_more}
 use Rattle.std.proofs.lemmas.Simd.{map-map}
 use Rattle.arena.specs.Rules.{last_place}
 use Rattle.arena.specs.Leg.{clamped}
-use Rattle.arena.specs.Field.{Robot}
+use Rattle.arena.specs.Field.{FieldRobot}
 use Rattle.arena.specs.Start.{standing}
 use Rattle.arena.specs.Placed.{placed, IsPlace}
-use Rattle.arena.specs.Ground.{Body, body_of}
+use Rattle.arena.specs.Arena.{Robot, robot_of}
 use Rattle.arena.proofs.Sums.{coordinate_back}
 use Rattle.arena.proofs.starts.placed_robots.Goals as goal
 
 -- the robot at a given place
-abbrev robot_at_place : ℤ × ℤ → Robot
+abbrev robot_at_place : ℤ × ℤ → FieldRobot
 robot_at_place place = standing (clamped last_place place.0) (clamped last_place place.1)
 
 -- the place that is read
@@ -65,11 +65,11 @@ loop-place-preserved c = record {
       let y = simp to_z-of_z at c.coordinate-in-loop-place.ensures.value in
       let point = rw (x, y) at c.new-place.ensures in
       let body = rw point at c.standing.ensures in
-      c.push.ensures.items ∙ ap (λ (l : List Body). l ++ c.standing.result ∷ []) c.loop-place.invariant.robots ∙
-      ap (λ (b : Body). map (λ place. body_of (robot_at_place place)) (take c.loop-place.place-index items) ++ b ∷ [])
+      c.push.ensures.items ∙ ap (λ (l : List Robot). l ++ c.standing.result ∷ []) c.loop-place.invariant.robots ∙
+      ap (λ (b : Robot). map (λ place. robot_of (robot_at_place place)) (take c.loop-place.place-index items) ++ b ∷ [])
       body ∙
       sym
-      (map_more (λ place. body_of (robot_at_place place)) items c.loop-place.place-index (pos 0, pos 0)
+      (map_more (λ place. robot_of (robot_at_place place)) items c.loop-place.place-index (pos 0, pos 0)
       c.loop-place-test.true);
 }
 
@@ -78,5 +78,5 @@ unfolding placed
 returns-clause-robots c = λ seed number.
     let all = take_all c.loop-place.place-index c.as_slice-place-items.result.now c.loop-place-test.false in
     c.loop-place.invariant.robots ∙
-    ap (map (λ place. body_of (robot_at_place place))) (all ∙ c.as_slice-place-items.ensures.value) ∙
-    sym (map-map body_of robot_at_place c.args.places.now.items)
+    ap (map (λ place. robot_of (robot_at_place place))) (all ∙ c.as_slice-place-items.ensures.value) ∙
+    sym (map-map robot_of robot_at_place c.args.places.now.items)

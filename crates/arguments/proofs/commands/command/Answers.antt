@@ -2,18 +2,18 @@ use Rattle.std.proofs.Common.{◌≡◌, ◌∙◌, ap, ap₂, refl, codes, true
 use Rattle.std.proofs.lemmas.Result.{IfOk-weaker}
 use Rattle.clap.specs.Words.{App, app_of, new_app, with_rule}
 use Rattle.clap.specs.Simple.{app_of_fields, on_top}
-use Rattle.arguments.specs.CommandLine.{files_rule, flag_rule, option_rule, robots}
+use Rattle.arguments.specs.CommandLine.{files_rule, flag_rule, option_rule, crobots_app}
 use Rattle.arguments.proofs.commands.command.Goals as goal
 
 abbrev unnamed : App
 unnamed = on_top (λ top. record top { no_binary_name = true }) (new_app (codes "crobots"))
 
-in_turn : robots ≡
+in_turn : crobots_app ≡
     with_rule (with_rule (with_rule (with_rule (with_rule (with_rule (with_rule unnamed (flag_rule (codes "c") 99))
     (option_rule (codes "m") 109)) (option_rule (codes "l") 108)) (option_rule (codes "s") 115))
     (option_rule (codes "p") 112))
     (option_rule (codes "f") 102)) (files_rule (codes "FILE"))
-unfolding robots
+unfolding crobots_app
 in_turn = refl
 
 pub returns : goal.returns

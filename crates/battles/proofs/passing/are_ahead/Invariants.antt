@@ -1,4 +1,4 @@
-use Rattle.battles.specs.Windows.{AreAhead}
+use Rattle.battles.specs.Intervals.{AreAhead}
 use Rattle.battles.proofs.passing.are_ahead.Given as goal
 
 abbrev pub invariant-loop-robot : goal.invariant-loop-robot

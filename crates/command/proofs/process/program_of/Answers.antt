@@ -1,5 +1,5 @@
 use Rattle.std.proofs.Common.{refl, rules}
-use Rattle.series.specs.Pieces.{taken}
+use Rattle.series.specs.Pieces.{taken_by_sinks}
 use Rattle.command.specs.declared.endings.Ending.TheVariants.{OutOfMemory}
 use Rattle.command.specs.Files.{real_files}
 use Rattle.command.proofs.WholeLemmas.{ends_without_memory}
@@ -8,10 +8,10 @@ use Rattle.command.proofs.process.program_of.Goals as goal
 pub returns-in-Ok-clause-read : goal.returns-in-Ok-clause-read
 returns-in-Ok-clause-read g c = rw c.in-Ok.is (record {
   ending = OutOfMemory;
-  between = taken (g.O.Sink.written c.args.out.now) (g.E.Sink.written c.args.err.now);
+  between = taken_by_sinks (g.O.Sink.written c.args.out.now) (g.E.Sink.written c.args.err.now);
   ends = ends_without_memory real_files _ _;
   text_stays = refl;
   front = search rules;
   whole = search rules;
-  status = c.end.ensures.status;
+  status = c.conclude.ensures.status;
 })

@@ -1,7 +1,7 @@
 use Rattle.std.proofs.Common.{◌<◌, Ok, Err, [], List, ℕ, Bor, length, refl, ap, inl, inr, arith}
 use Rattle.std.proofs.lemmas.List.{length-map}
-use Rattle.series.specs.declared.endings.RunFault.TheVariants as fault
-use Rattle.series.specs.declared.endings.Status.TheVariants as status
+use Rattle.series.specs.declared.run_results.RunFault.TheVariants as fault
+use Rattle.series.specs.declared.run_results.Status.TheVariants as status
 use Rattle.series.specs.Failures.{Failures}
 use Rattle.command.proofs.FilesLemmas.{word_at}
 use Rattle.command.proofs.running.run_files.Goals as goal
@@ -37,17 +37,17 @@ returns-in-Ok-Faulty-clause-failures g c = (
 pub returns-in-Err-Read-clause-ran : goal.returns-in-Err-Read-clause-ran
 returns-in-Err-Read-clause-ran g c =
     let e = rw c.in-Err-Read.field-0-is at c.in-Err-Read.ensures.failures in
-    let inside : c.in-Err-Read.file < length c.words.result.now =
+    let inside : c.in-Err-Read.file < length c.file_words.result.now =
     omega (
       arith,
       e.0,
       c.requires.ready.files,
       length-map c.args.feeds.now (λ feed. (g.F.Feed.device feed).account),
-      ap length c.words.ensures.value,
-      length-map c.words.result.now (λ (word : Bor (List ℕ)). word.now),
+      ap length c.file_words.ensures.value,
+      length-map c.file_words.result.now (λ (word : Bor (List ℕ)). word.now),
     ) in
     let none : Bor (List ℕ) = record { ref_ptr = (0, 0); now = [] } in
-    let here = rw c.words.ensures.value at (word_at c.words.result.now c.in-Err-Read.file none inside) in
+    let here = rw c.file_words.ensures.value at (word_at c.file_words.result.now c.in-Err-Read.file none inside) in
     record {
       answer = Err (fault.Read c.in-Err-Read.file);
       ends = (

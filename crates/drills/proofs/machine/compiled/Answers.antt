@@ -1,11 +1,12 @@
 use Rattle.std.proofs.Common.{rules, Some}
-use Rattle.code.specs.Told.{Stands}
-use Rattle.parser.specs.Files.{IsFile}
+use Rattle.code.specs.Told.{MakerRepresents}
+use Rattle.parser.specs.ParsedFiles.{IsFile}
 use Rattle.drills.proofs.machine.compiled.Goals as goal
 
 pub finish-requires : goal.finish-requires
 finish-requires c =
-    let f : IsFile (λ p acts. Stands c.new-maker.result p acts) (λ p acts. Stands c.parse.new.build p acts)
+    let f : IsFile (λ p acts. MakerRepresents c.new-maker.result p acts)
+    (λ p acts. MakerRepresents c.parse.new.build p acts)
     (Some c.new.result.to_come) c.in_ok-names.names =
     search rules in
     record {

@@ -1,5 +1,5 @@
 use Rattle.std.proofs.Common.{◌+◌, ◌≤◌}
-use Rattle.code.specs.Standing.{FitsProgram}
+use Rattle.code.specs.ReachedMachines.{FitsProgram}
 use Rattle.drills.proofs.machine.counted.Given as goal
 
 -- the machine fits its program, and each cycle counts once at most

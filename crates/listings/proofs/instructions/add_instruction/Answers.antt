@@ -17,7 +17,7 @@ returns-in-Store-clause-text g c = λ before text so_far.
     (simp append_assoc at
     (rw (c.as_bytes.ensures.value, c.store_punctuator.ensures.punctuator) at
     (c.add-in-Store-2.ensures.text before _
-    (c.push.ensures.text before _
+    (c.add_byte.ensures.text before _
     (c.add_variable-in-Store.ensures.text before _
     (c.add-in-Store.ensures.text before text so_far)))))))
 
@@ -54,7 +54,7 @@ unfolding instr_text
 returns-in-Branch-clause-text g c = λ before text so_far.
     rw c.in-Branch.is
     (simp append_assoc at
-    (rw c.from.ensures at (c.number.ensures.text before _ (c.add-in-Branch.ensures.text before text so_far))))
+    (rw c.from.ensures at (c.add_number.ensures.text before _ (c.add-in-Branch.ensures.text before text so_far))))
 
 pub returns-in-Chop-clause-text : goal.returns-in-Chop-clause-text
 unfolding instr_text

@@ -6,7 +6,7 @@ use Rattle.listings.proofs.instructions.add_variable.Goals.{in-External, in-Loca
 pub returns-clause-text : goal.returns-clause-text
 unfolding variable_text
 returns-clause-text g c = λ before text so_far.
-    let added = c.number.ensures.text before _ (c.push.ensures.text before text so_far) in
+    let added = c.add_number.ensures.text before _ (c.add_byte.ensures.text before text so_far) in
     elim c.match-variable.branch [
       | in-External w ↦ rw w.in-External.is (simp append_assoc at (rw (c.from.ensures, w.letter-is) at added))
       | in-Local w ↦ rw w.in-Local.is (simp append_assoc at (rw (c.from.ensures, w.letter-is) at added))

@@ -8,5 +8,5 @@ returns-clause-text g c = λ before text so_far.
     simp append_assoc
     (simp append_assoc at
     (c.add_names.ensures.text before _
-    (c.push.ensures.text before _
-    (c.number.ensures.text before _ (c.add.ensures.text before text so_far)))))
+    (c.add_byte.ensures.text before _
+    (c.add_number.ensures.text before _ (c.add.ensures.text before text so_far)))))

@@ -7,6 +7,6 @@ unfolding instr_line
 returns-clause-text g c = λ before text so_far.
     simp append_assoc
     (simp append_assoc at
-    (c.push-2.ensures.text before _
+    (c.add_byte-2.ensures.text before _
     (c.add_instruction.ensures.text before _
-    (c.push.ensures.text before _ (c.column.ensures.text before text so_far)))))
+    (c.add_byte.ensures.text before _ (c.add_column.ensures.text before text so_far)))))

@@ -1,4 +1,4 @@
-use Rattle.grammar.specs.declared.names.Var.TheVariants.{External}
+use Rattle.grammar.specs.declared.resolved_names.Var.TheVariants.{External}
 use Rattle.code.specs.declared.instr.Instr.TheVariants.{Fetch}
 use Rattle.listings.specs.Listing.{instr_line}
 use Rattle.listings.proofs.Texts.{numbered_get}

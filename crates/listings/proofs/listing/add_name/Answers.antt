@@ -7,8 +7,8 @@ unfolding name_line
 returns-clause-text g c = λ before text so_far.
     simp append_assoc
     (simp append_assoc at
-    (c.push-2.ensures.text before _
+    (c.add_byte-2.ensures.text before _
     (rw c.as_bytes.ensures.value at
     (c.add-2.ensures.text before _
-    (c.push.ensures.text before _
-    (c.number.ensures.text before _ (c.add.ensures.text before text so_far)))))))
+    (c.add_byte.ensures.text before _
+    (c.add_number.ensures.text before _ (c.add.ensures.text before text so_far)))))))

@@ -1,6 +1,6 @@
 use Rattle.std.proofs.Common.{take}
 use Rattle.listings.specs.Listing.{name_line, numbered}
-use Rattle.sinks.specs.Draft.{MayFail, Adds}
+use Rattle.sinks.specs.Pens.{MayFail, Adds}
 use Rattle.listings.proofs.listing.add_names.Given as goal
 
 -- those so far are added

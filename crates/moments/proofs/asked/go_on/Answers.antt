@@ -1,8 +1,8 @@
 use Rattle.std.proofs.Common.{◌∙◌, ap, refl, w32}
 use Rattle.std.proofs.lemmas.Int.{to_z-of_z}
-use Rattle.code.specs.Machine.{State}
+use Rattle.code.specs.Machine.{Machine}
 use Rattle.playing.specs.Played.{codes_of}
-use Rattle.playing.specs.declared.games.Ending.{Ending}
+use Rattle.playing.specs.declared.games.PlayEnd.{PlayEnd}
 use Rattle.moments.specs.Moments.{asked_in, last_of}
 use Rattle.moments.proofs.Asking.{question_is, wanted_is}
 use Rattle.moments.proofs.asked.go_on.Goals as goal
@@ -17,10 +17,10 @@ returns-clause-asks c = λ robots s are come.
     c.asked_in.ensures
     ∙ ap (asked_in c.wanted-wanted.result c.ending.result.cycles)
     (to_z-of_z w32 c.top_word.result (record { sfits = c.top_word.type_inv }))
-    ∙ ap (λ (ending : Ending). asked_in c.wanted-wanted.result ending.cycles c.top_word.result)
+    ∙ ap (λ (ending : PlayEnd). asked_in c.wanted-wanted.result ending.cycles c.top_word.result)
     c.ending.ensures.ending
     ∙ ap (asked_in c.wanted-wanted.result c.cycle.new.self.ending.cycles)
-    (c.top_word.ensures ∙ ap (λ (t : State). last_of t.words) c.machine.ensures.state)
+    (c.top_word.ensures ∙ ap (λ (t : Machine). last_of t.words) c.machine.ensures.state)
     ∙ question_is codes robots s c.args.pilots.now c.cycle.new.pilots c.args.robot c.index-pilots-robot.result
     c.index-pilots-robot-2.result c.wanted-wanted.result c.args.game.now c.cycle.new.self are refl c.cycle.ensures.codes
     c.requires.inside come came c.cycle.ensures.next.cycles is

@@ -2,7 +2,7 @@ use Rattle.std.proofs.Common.{◌≡◌, List, Some, length}
 use Rattle.std.specs.Prelude.{slice_get}
 use Rattle.battles.specs.Battle.{Behaviour, Stage}
 use Rattle.battles.specs.Carrying.{AreRobotsOf}
-use Rattle.code.specs.Generation.{ObjectCode}
+use Rattle.code.specs.Generation.{Program}
 use Rattle.playing.specs.Games.{HasCome}
 use Rattle.playing.specs.Played.{codes_of, exes_of}
 use Rattle.moments.specs.Searches.{Happens}
@@ -20,7 +20,7 @@ invariant-loop l = record {
   battle : (robots : List Behaviour) (s : Stage) → AreRobotsOf (exes_of (codes_of l.initial.pilots)) robots
       → HasCome (codes_of l.initial.pilots) robots s l.initial.pilots l.initial.game
       → HasCome (codes_of l.initial.pilots) robots s l.pilots l.game;
-  last : (robots : List Behaviour) (s : Stage) (code : ObjectCode)
+  last : (robots : List Behaviour) (s : Stage) (code : Program)
       → AreRobotsOf (exes_of (codes_of l.initial.pilots)) robots
       → slice_get (codes_of l.initial.pilots) l.robot ≡ Some code
       → HasCome (codes_of l.initial.pilots) robots s l.initial.pilots l.initial.game

@@ -1,5 +1,5 @@
 use Rattle.std.proofs.Common.{◌∙◌, ap}
-use Rattle.playing.specs.declared.games.Ending.{Ending}
+use Rattle.playing.specs.declared.games.PlayEnd.{PlayEnd}
 use Rattle.moments.specs.Searches.{Happens}
 use Rattle.moments.proofs.Searching.{found_so}
 use Rattle.moments.proofs.searches.step.Goals as goal
@@ -10,6 +10,6 @@ returns-clause-found c = λ robots s code are here come.
     (found_so (Happens robots code s c.args.robot c.args.sought.now) c.args.game.now.ending.cycles
     c.ending.result.cycles
     c.args.after c.happens-happens.result
-    (ap (λ (ending : Ending). ending.cycles) c.ending.ensures.ending ∙ c.happens-happens.ensures.next.cycles)
+    (ap (λ (ending : PlayEnd). ending.cycles) c.ending.ensures.ending ∙ c.happens-happens.ensures.next.cycles)
     (c.happens-happens.ensures.yes robots s code are here come) (c.happens-happens.ensures.no robots s code are here
     come))

@@ -2,7 +2,7 @@ use Rattle.std.proofs.Common.{◌≡◌, List, ℕ, Ok, Some, map, Bor, ap, sym,
 use Rattle.series.specs.Compiling.{Source}
 use Rattle.series.specs.Pieces.{Taken, on_both}
 use Rattle.series.specs.Runs.{Compiles}
-use Rattle.settings.specs.Setup.{Setup}
+use Rattle.settings.specs.Settings.{Settings}
 use Rattle.page.specs.declared.films.Shown.TheVariants.{Faulty}
 use Rattle.page.specs.Sheets.{contents_of}
 use Rattle.page.proofs.FilmLemmas.{CompilesRobots, codes_good, films_faulty, films_good, films_taken}
@@ -16,7 +16,7 @@ returns-in-Ok-None-clause-films c =
     c.compile_feeds.new.faults
     (search rules)
     (by_robots
-    (λ (setup : Setup) (sources : List Source) (before : Taken). Compiles setup sources c.compile_feeds.result before
+    (λ (setup : Settings) (sources : List Source) (before : Taken). Compiles setup sources c.compile_feeds.result before
     (on_both (contents_of c.compile_feeds.new.text) (contents_of c.compile_feeds.new.faults)))
     c.args.order.now c.args.robots.now c.in_ok-settings.settings
     (map (λ (word : Bor (List ℕ)). word.now) c.as_slice.result.now) _ c.clear.new.self c.clear-2.new.self
@@ -34,7 +34,7 @@ returns-clause-films c =
     let good : c.compile_feeds.result ≡ Ok (Some programs) = search rules in
     let compiled : CompilesRobots order robots c.compile_feeds.result text faults =
     by_robots
-    (λ (setup : Setup) (sources : List Source) (before : Taken). Compiles setup sources c.compile_feeds.result before
+    (λ (setup : Settings) (sources : List Source) (before : Taken). Compiles setup sources c.compile_feeds.result before
     (on_both (contents_of c.compile_feeds.new.text) (contents_of c.compile_feeds.new.faults)))
     c.args.order.now c.args.robots.now c.in_ok-settings.settings
     (map (λ (word : Bor (List ℕ)). word.now) c.as_slice.result.now) _ c.clear.new.self c.clear-2.new.self
@@ -46,7 +46,7 @@ returns-clause-films c =
     (λ whole same room. elim c.match-mode.branch [
       | in-Listing w ↦
           let some : whole ≢ Faulty = λ is. absurd (cc (w.shown-is, w.list_places.ensures, same, is)) in
-          let mode = ap (λ (s : Setup). s.mode) c.in_ok-settings.ensures.value in
+          let mode = ap (λ (s : Settings). s.mode) c.in_ok-settings.ensures.value in
           films_good order robots c.args.stretch c.compile_feeds.result programs text c.taken.new.sheet faults whole
           some
           good compiled room (λ matches files found. absurd (cc (w.in-Listing.is, c.mode.ensures.value, mode, matches)))

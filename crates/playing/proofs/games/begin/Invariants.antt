@@ -1,5 +1,5 @@
 use Rattle.std.proofs.Common.{◌≡◌, [], take, replicate}
-use Rattle.battles.specs.Carrying.{EachIsAt}
+use Rattle.battles.specs.Carrying.{EachIsAheadOf}
 use Rattle.playing.specs.Played.{codes_of, exes_of, runners_of}
 use Rattle.playing.proofs.games.begin.Given as goal
 
@@ -7,6 +7,6 @@ use Rattle.playing.proofs.games.begin.Given as goal
 abbrev pub invariant-loop-robot : goal.invariant-loop-robot
 invariant-loop-robot l = record {
   codes : codes_of l.pilots ≡ codes_of l.initial.pilots;
-  begun : EachIsAt (runners_of (take l.robot l.pilots)) (take l.robot (exes_of (codes_of l.initial.pilots)))
+  begun : EachIsAheadOf (runners_of (take l.robot l.pilots)) (take l.robot (exes_of (codes_of l.initial.pilots)))
       (replicate l.robot []);
 }

@@ -1,7 +1,7 @@
 use Rattle.std.proofs.Common.{◌≡◌, ◌∙◌, ap, arith, length, refl}
 use Rattle.std.proofs.lemmas.List.{length-map, length-set}
 use Rattle.battles.proofs.Stages.{robots_length, turns_none}
-use Rattle.playing.specs.Pilot.{Seat}
+use Rattle.playing.specs.Pilot.{Pilot}
 use Rattle.playing.specs.Played.{codes_of, exes_of, plainly}
 use Rattle.playing.proofs.Playing.{codes_length, codes_stay, lives_are, one_turned}
 use Rattle.playing.proofs.games.turns.Goals as goal
@@ -30,7 +30,7 @@ loop-robot-preserved g c = record {
       (record {
         live = λ f stands. lives_are c.loop-robot.arena f c.loop-robot.robot stands;
         dead = λ dead.
-            let same = c.turn.ensures.dead dead in (ap (λ (seat : Seat). seat.state) same.0, same.1);
+            let same = c.turn.ensures.dead dead in (ap (λ (seat : Pilot). seat.state) same.0, same.1);
         lives = c.turn.ensures.lives;
       }) (c.loop-robot.invariant.stage robots s are played);
 }

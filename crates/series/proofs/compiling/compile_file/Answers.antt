@@ -8,8 +8,8 @@ finish-requires g c =
     c.new-maker.ensures c.pools-names.ensures c.in-Ok.ensures.file in
     record { profile = c.args.profile; file = good.file; told = good.told }
 
-pub take-requires-clause-keeps : goal.take-requires-clause-keeps
-take-requires-clause-keeps g c =
+pub take_program-requires-clause-keeps : goal.take_program-requires-clause-keeps
+take_program-requires-clause-keeps g c =
     let good =
     good_file c.new-maker.result c.parse_into.new.build c.args.profile _ _ c.pools-names.result.now
     c.new-maker.ensures c.pools-names.ensures c.in-Ok.ensures.file in
@@ -19,8 +19,8 @@ take-requires-clause-keeps g c =
       alike = alike c.args.profile good.file c.finish.result _ made c.requires.keeps.alike;
     }
 
-pub returns-in-Ok-take-clause-output : goal.returns-in-Ok-take-clause-output
-returns-in-Ok-take-clause-output g c = λ bytes told.
+pub returns-in-Ok-take_program-clause-output : goal.returns-in-Ok-take_program-clause-output
+returns-in-Ok-take_program-clause-output g c = λ bytes told.
     let good =
     good_file c.new-maker.result c.parse_into.new.build c.args.profile _ _ c.pools-names.result.now
     c.new-maker.ensures c.pools-names.ensures c.in-Ok.ensures.file in
@@ -29,9 +29,10 @@ returns-in-Ok-take-clause-output g c = λ bytes told.
     let code = good_code c.args.profile bytes good.file c.finish.result is made in
     record {
       output = good_put (g.K.TakesPrograms.mode c.args.keeper.now) c.args.profile c.args.name.now bytes good.file _
-          c.finish.result _ _ is good.told.named made (c.in-Ok-take.ensures.output (g.E.Sink.written c.args.err.now));
+          c.finish.result _ _ is good.told.named made
+          (c.in-Ok-take_program.ensures.output (g.E.Sink.written c.args.err.now));
       status = good_status c.args.profile bytes c.finish.result code;
-      keeps = good_kept c.args.profile bytes c.finish.result _ _ code c.in-Ok-take.ensures.kept;
+      keeps = good_kept c.args.profile bytes c.finish.result _ _ code c.in-Ok-take_program.ensures.kept;
     }
 
 pub returns-in-Err-clause-output : goal.returns-in-Err-clause-output
@@ -48,17 +49,17 @@ returns-in-Err-clause-output g c = λ bytes told.
       keeps = tt;
     }
 
-pub returns-in-Ok-take-clause-keeps : goal.returns-in-Ok-take-clause-keeps
-returns-in-Ok-take-clause-keeps g c =
+pub returns-in-Ok-take_program-clause-keeps : goal.returns-in-Ok-take_program-clause-keeps
+returns-in-Ok-take_program-clause-keeps g c =
     let good =
     good_file c.new-maker.result c.parse_into.new.build c.args.profile _ _ c.pools-names.result.now
     c.new-maker.ensures c.pools-names.ensures c.in-Ok.ensures.file in
     let made = c.finish.ensures c.args.profile good.file good.told in
     record {
-      same_mode = c.in-Ok-take.ensures.mode;
+      same_mode = c.in-Ok-take_program.ensures.mode;
       alike = alike_more c.args.profile good.file c.finish.result _ _ made c.requires.keeps.alike
-          c.in-Ok-take.ensures.kept;
-      manned = good_more c.finish.result _ _ c.in-Ok-take.ensures.kept;
+          c.in-Ok-take_program.ensures.kept;
+      manned = good_more c.finish.result _ _ c.in-Ok-take_program.ensures.kept;
     }
 
 pub returns-in-Err-clause-keeps : goal.returns-in-Err-clause-keeps

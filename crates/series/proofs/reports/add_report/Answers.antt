@@ -6,7 +6,7 @@ returns-clause-text g c = λ before text so_far.
     rw (report_added text c.args.number _ _)
     (c.add_robots.ensures.text before _
     (c.add-3.ensures.text before _
-    (rw c.cycles.ensures at (c.number-2.ensures.text before _
+    (rw c.cycles.ensures at (c.add_number-2.ensures.text before _
     (c.add-2.ensures.text before _
-    (c.number.ensures.text before _
+    (c.add_number.ensures.text before _
     (c.add.ensures.text before text so_far)))))))

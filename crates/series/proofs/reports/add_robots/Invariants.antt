@@ -1,6 +1,6 @@
 use Rattle.std.proofs.Common.{take, map}
-use Rattle.sinks.specs.Draft.{MayFail, Adds}
-use Rattle.series.specs.Names.{robot_names}
+use Rattle.sinks.specs.Pens.{MayFail, Adds}
+use Rattle.series.specs.RobotNames.{robot_names}
 use Rattle.series.specs.Reports.{robot_lines}
 use Rattle.series.specs.Lines.{lines_text}
 use Rattle.series.proofs.reports.add_robots.Given as goal
@@ -11,4 +11,4 @@ invariant-loop-robot g l =
     MayFail l.pen (g.S.Sink.written l.sink)
     × Adds (g.S.Sink.written l.fn.sink) l.fn.pen
     (g.S.Sink.written l.sink) l.pen
-    (lines_text (take l.robot (robot_lines (robot_names (map (λ word. word.now) l.words)) l.outcome)))
+    (lines_text (take l.robot (robot_lines (robot_names (map (λ word. word.now) l.file_words)) l.outcome)))

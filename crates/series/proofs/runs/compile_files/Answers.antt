@@ -1,12 +1,12 @@
 use Rattle.series.proofs.runs.compile_files.Goals as goal
 
-pub compile_into-requires-clause-ready : goal.compile_into-requires-clause-ready
-compile_into-requires-clause-ready g c = c.requires.ready
+pub compile_all-requires-clause-ready : goal.compile_all-requires-clause-ready
+compile_all-requires-clause-ready g c = c.requires.ready
 
 pub returns-in-Ok-Done-clause-output : goal.returns-in-Ok-Done-clause-output
 returns-in-Ok-Done-clause-output g c = λ sources are. (
   (c.in-Ok-Done.ensures.output sources are).output.0,
-  rw c.in-Ok-Done.field-0-is at (c.in-Ok-Done.ensures.output sources are).codes,
+  rw c.in-Ok-Done.field-0-is at (c.in-Ok-Done.ensures.output sources are).programs,
 )
 
 pub returns-in-Ok-Done-clause-manned : goal.returns-in-Ok-Done-clause-manned
@@ -24,7 +24,7 @@ returns-in-Ok-Done-clause-failures g c = c.in-Ok-Done.ensures.failures
 pub returns-in-Ok-Faulty-clause-output : goal.returns-in-Ok-Faulty-clause-output
 returns-in-Ok-Faulty-clause-output g c = λ sources are. (
   (c.in-Ok-Faulty.ensures.output sources are).output.0,
-  rw c.in-Ok-Faulty.field-0-is at (c.in-Ok-Faulty.ensures.output sources are).codes,
+  rw c.in-Ok-Faulty.field-0-is at (c.in-Ok-Faulty.ensures.output sources are).programs,
 )
 
 pub returns-in-Ok-Faulty-clause-read : goal.returns-in-Ok-Faulty-clause-read

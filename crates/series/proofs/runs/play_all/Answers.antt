@@ -1,13 +1,13 @@
 use Rattle.std.proofs.Common.{◌≡◌, ◌+◌, ◌<◌, ◌∙◌, Ok, refl, arith}
-use Rattle.settings.specs.Setup.{Setup}
-use Rattle.series.specs.Courses.{played_after}
+use Rattle.settings.specs.Settings.{Settings}
+use Rattle.series.specs.SeriesSteps.{played_after}
 use Rattle.series.proofs.CoursesLemmas.{next_report, plays}
 use Rattle.series.proofs.PlayingLemmas.{report_written, report_cut, totals_written, totals_cut}
 use Rattle.series.proofs.runs.play_all.Goals as goal
 
 pub loop-preserved : goal.loop-preserved
 loop-preserved g c =
-    let settings : Setup = c.args.settings.now in
+    let settings : Settings = c.args.settings.now in
     let standing = c.loop.invariant.standing in
     let left : c.loop.counter < settings.matches = omega (arith, c.matches-end.ensures.value) in
     let step : played_after (Ok c.in_default.field-0) c.loop.counter ≡ c.loop.counter + 1 =
@@ -24,7 +24,7 @@ loop-preserved g c =
 
 pub returns-in-Err-Write-clause-output : goal.returns-in-Err-Write-clause-output
 returns-in-Err-Write-clause-output g c = λ files faults are.
-    let settings : Setup = c.args.settings.now in
+    let settings : Settings = c.args.settings.now in
     let left : c.loop.counter < settings.matches = omega (arith, c.matches-end.ensures.value) in
     report_cut settings files c.loop.counter (settings.first + c.loop.counter) _ _ _ faults.portions refl left
     (c.loop.invariant.writes files faults are)
@@ -33,14 +33,14 @@ returns-in-Err-Write-clause-output g c = λ files faults are.
 
 pub returns-in-Ok-clause-output : goal.returns-in-Ok-clause-output
 returns-in-Ok-clause-output g c = λ files faults are.
-    let settings : Setup = c.args.settings.now in
+    let settings : Settings = c.args.settings.now in
     let all : c.loop.counter ≡ settings.matches = omega (arith, c.matches-end.ensures.value, c.loop.auto.counter-end) in
     totals_written settings files _ _ _ faults.portions (rw all at (c.loop.invariant.writes files faults are))
     ((rw c.loop.invariant.standing at c.in-Ok.ensures.text) refl files are).0
 
 pub returns-in-Err-Write-finish-clause-output : goal.returns-in-Err-Write-finish-clause-output
 returns-in-Err-Write-finish-clause-output g c = λ files faults are.
-    let settings : Setup = c.args.settings.now in
+    let settings : Settings = c.args.settings.now in
     let all : c.loop.counter ≡ settings.matches = omega (arith, c.matches-end.ensures.value, c.loop.auto.counter-end) in
     totals_cut settings files _ _ _ faults.portions (rw all at (c.loop.invariant.writes files faults are))
     ((rw c.loop.invariant.standing at c.in-Err-Write-finish.ensures.text) refl files are).0

@@ -1,5 +1,5 @@
 use Rattle.std.proofs.Common.{◌-◌, length}
-use Rattle.series.specs.Pieces.{taken}
+use Rattle.series.specs.Pieces.{taken_by_sinks}
 use Rattle.series.specs.Playing.{playing}
 use Rattle.series.proofs.OutputLemmas.{faulty_run, kept_codes, plays_run, stops_run}
 use Rattle.series.proofs.ReadingLemmas.{cut_behind, reads_played}
@@ -12,16 +12,16 @@ play_all-requires-clause-manned g c = c.in-Ok-Done.ensures.keeps.manned c.in-Ok-
 pub returns-in-Ok-Done-clause-output : goal.returns-in-Ok-Done-clause-output
 returns-in-Ok-Done-clause-output g c = λ sources are.
     let compiles = rw c.in-Ok-Done.field-0-is at (c.in-Ok-Done.ensures.output sources are).output in
-    let codes = rw c.in-Ok-Done.field-0-is at (c.in-Ok-Done.ensures.output sources are).codes in
+    let codes = rw c.in-Ok-Done.field-0-is at (c.in-Ok-Done.ensures.output sources are).programs in
     let kept =
-    kept_codes c.resolved_files.ensures c.args.settings.now.profile sources c.compile_into.new.keeper.programs codes
+    kept_codes c.resolved_files.ensures c.args.settings.now.profile sources c.compile_all.new.keeper.programs codes
     in
     plays_run c.args.settings.now sources kept.0
-    (taken (g.O.Sink.written c.args.out.now) (g.E.Sink.written c.args.err.now))
-    (taken (g.O.Sink.written c.compile_into.new.out) (g.E.Sink.written c.compile_into.new.err))
-    (taken (g.O.Sink.written c.play_all.new.out) (g.E.Sink.written c.compile_into.new.err))
+    (taken_by_sinks (g.O.Sink.written c.args.out.now) (g.E.Sink.written c.args.err.now))
+    (taken_by_sinks (g.O.Sink.written c.compile_all.new.out) (g.E.Sink.written c.compile_all.new.err))
+    (taken_by_sinks (g.O.Sink.written c.play_all.new.out) (g.E.Sink.written c.compile_all.new.err))
     c.play_all.result c.requires.matches
-    kept.1 compiles.0 (c.play_all.ensures.output kept.0 (g.E.Sink.written c.compile_into.new.err) kept.2)
+    kept.1 compiles.0 (c.play_all.ensures.output kept.0 (g.E.Sink.written c.compile_all.new.err) kept.2)
     c.play_all.ensures.answer
 
 pub returns-in-Err-clause-output : goal.returns-in-Err-clause-output
@@ -30,20 +30,20 @@ returns-in-Err-clause-output g c =
 
 pub returns-in-Ok-Done-clause-read : goal.returns-in-Ok-Done-clause-read
 returns-in-Ok-Done-clause-read g c =
-    let setup = c.args.settings.now in
+    let settings = c.args.settings.now in
     let told = told_by g.F.Feed.device c.args.feeds.now in
-    let before = taken (g.O.Sink.written c.args.out.now) (g.E.Sink.written c.args.err.now) in
-    let compiled = taken (g.O.Sink.written c.compile_into.new.out) (g.E.Sink.written c.compile_into.new.err) in
-    let after = taken (g.O.Sink.written c.play_all.new.out) (g.E.Sink.written c.compile_into.new.err) in
-    reads_played setup c.play_all.result told (told_by g.F.Feed.device c.compile_into.new.feeds) before after
+    let before = taken_by_sinks (g.O.Sink.written c.args.out.now) (g.E.Sink.written c.args.err.now) in
+    let compiled = taken_by_sinks (g.O.Sink.written c.compile_all.new.out) (g.E.Sink.written c.compile_all.new.err) in
+    let after = taken_by_sinks (g.O.Sink.written c.play_all.new.out) (g.E.Sink.written c.compile_all.new.err) in
+    reads_played settings c.play_all.result told (told_by g.F.Feed.device c.compile_all.new.feeds) before after
     c.in-Ok-Done.ensures.read c.play_all.ensures.answer
     (λ failed sources are.
     let compiles = rw c.in-Ok-Done.field-0-is at (c.in-Ok-Done.ensures.output sources are).output in
-    let codes = rw c.in-Ok-Done.field-0-is at (c.in-Ok-Done.ensures.output sources are).codes in
-    let kept = kept_codes c.resolved_files.ensures setup.profile sources c.compile_into.new.keeper.programs codes in
-    cut_behind setup.mode setup.profile sources (length told - 1) before compiled after (playing setup kept.0)
+    let codes = rw c.in-Ok-Done.field-0-is at (c.in-Ok-Done.ensures.output sources are).programs in
+    let kept = kept_codes c.resolved_files.ensures settings.profile sources c.compile_all.new.keeper.programs codes in
+    cut_behind settings.mode settings.profile sources (length told - 1) before compiled after (playing settings kept.0)
     compiles.0
-    (rw failed at (c.play_all.ensures.output kept.0 (g.E.Sink.written c.compile_into.new.err) kept.2)))
+    (rw failed at (c.play_all.ensures.output kept.0 (g.E.Sink.written c.compile_all.new.err) kept.2)))
 
 pub returns-in-Err-clause-read : goal.returns-in-Err-clause-read
 returns-in-Err-clause-read g c = c.in-Err.ensures.read
@@ -54,7 +54,7 @@ returns-in-Err-clause-failures g c = c.in-Err.ensures.failures
 pub returns-in-Ok-Faulty-clause-output : goal.returns-in-Ok-Faulty-clause-output
 returns-in-Ok-Faulty-clause-output g c = λ sources are.
     faulty_run c.args.settings.now sources
-    (taken (g.O.Sink.written c.args.out.now) (g.E.Sink.written c.args.err.now))
-    (taken (g.O.Sink.written c.compile_into.new.out) (g.E.Sink.written c.compile_into.new.err))
+    (taken_by_sinks (g.O.Sink.written c.args.out.now) (g.E.Sink.written c.args.err.now))
+    (taken_by_sinks (g.O.Sink.written c.compile_all.new.out) (g.E.Sink.written c.compile_all.new.err))
     (c.in-Ok-Faulty.ensures.output sources are).output.0
-    (rw c.in-Ok-Faulty.field-0-is at (c.in-Ok-Faulty.ensures.output sources are).codes)
+    (rw c.in-Ok-Faulty.field-0-is at (c.in-Ok-Faulty.ensures.output sources are).programs)

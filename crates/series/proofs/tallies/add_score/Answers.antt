@@ -7,11 +7,11 @@ returns-clause-text g c = λ before text so_far.
     (c.add-7.ensures.text before _
     (c.add-6.ensures.text before _
     (c.add-5.ensures.text before _
-    (c.number-4.ensures.text before _
+    (c.add_number-4.ensures.text before _
     (c.add-4.ensures.text before _
-    (c.number-3.ensures.text before _
+    (c.add_number-3.ensures.text before _
     (c.add-3.ensures.text before _
-    (c.number-2.ensures.text before _
+    (c.add_number-2.ensures.text before _
     (c.add-2.ensures.text before _
-    (c.number.ensures.text before _
+    (c.add_number.ensures.text before _
     (c.add.ensures.text before text so_far)))))))))))

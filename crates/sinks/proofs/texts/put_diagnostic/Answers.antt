@@ -2,10 +2,10 @@ use Rattle.sinks.proofs.texts.put_diagnostic.Goals as goal
 
 pub returns : goal.returns
 returns g c =
-    c.done.ensures _ _
+    c.finish.ensures _ _
     (c.add-5.ensures.text _ _
     (c.add-4.ensures.text _ _
     (c.add-3.ensures.text _ _
-    (c.number.ensures.text _ _
+    (c.add_number.ensures.text _ _
     (c.add-2.ensures.text _ _
     (c.add.ensures.text _ _ (c.new-pen.ensures.text _)))))))

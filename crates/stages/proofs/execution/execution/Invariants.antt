@@ -1,4 +1,4 @@
-use Rattle.code.specs.Standing.{FitsProgram}
+use Rattle.code.specs.ReachedMachines.{FitsProgram}
 use Rattle.stages.proofs.execution.execution.Given as goal
 
 -- the machine fits its program

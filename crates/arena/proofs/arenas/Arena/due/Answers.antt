@@ -1,7 +1,7 @@
 use Rattle.std.proofs.Common.{◌≡◌, ◌+◌, List, length, sym, ap, subst, ◌∙◌}
 use Rattle.std.specs.List.{flat_map, range_with_len}
-use Rattle.arena.specs.Ground.{Missile}
-use Rattle.arena.specs.Standing.{HoldsShots}
+use Rattle.arena.specs.Arena.{Missile}
+use Rattle.arena.specs.Representing.{HoldsShots}
 use Rattle.arena.specs.Outlook.{own_bursts, due}
 use Rattle.arena.proofs.Represents.{manned}
 use Rattle.arena.proofs.arenas.Arena.due.Goals as goal

@@ -1,8 +1,8 @@
 use Rattle.std.proofs.Common.{◌∙◌, ap}
-use Rattle.arena.specs.Ground.{Body, track_of, body_of}
+use Rattle.arena.specs.Arena.{Robot, motion_of, robot_of}
 use Rattle.arena.proofs.arenas.Arena.heading.Goals as goal
 
 pub returns-clause-stands : goal.returns-clause-stands
-unfolding body_of track_of
+unfolding robot_of motion_of
 returns-clause-stands c =
-    λ f s. c.heading.ensures.value ∙ ap (λ (b : Body). b.track.heading) (c.robot.ensures.stands f s)
+    λ f s. c.heading.ensures.value ∙ ap (λ (b : Robot). b.motion.heading) (c.robot.ensures.stands f s)

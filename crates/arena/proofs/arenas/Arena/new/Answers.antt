@@ -7,6 +7,6 @@ unfolding start
 returns-clause-stands c = record {
   updates = refl;
   robots = c.drawn_robots-robots.ensures.robots c.args.seed c.args.number c.generator-random.ensures;
-  missiles = c.none.ensures.none;
+  missiles = c.none_in_air.ensures.none;
   random = c.drawn_robots-robots.ensures.words c.args.seed c.args.number c.generator-random.ensures;
 }

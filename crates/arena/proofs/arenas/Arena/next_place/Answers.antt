@@ -4,37 +4,39 @@ use Rattle.arena.specs.Leg.{place_x, place_y}
 use Rattle.arena.specs.Field.{robot_at}
 use Rattle.arena.specs.Collisions.{touches}
 use Rattle.arena.specs.Moved.{leg_after}
-use Rattle.arena.specs.Ground.{Track, track_of}
+use Rattle.arena.specs.Arena.{Motion, motion_of}
 use Rattle.arena.specs.Outlook.{next_leg}
 use Rattle.arena.proofs.Represents.{alive_if_lives}
 use Rattle.arena.proofs.arenas.Arena.next_place.Goals as goal
 
 pub returns-clause-x : goal.returns-clause-x
-unfolding next_leg track_of
+unfolding next_leg motion_of
 returns-clause-x c = λ f s.
     let r = robot_at f c.args.robot in
     let body = c.robot.ensures.stands f s in
     let live = alive_if_lives c.args.self.now f c.args.robot s c.requires.live in
     let movers =
     c.as_slice.ensures.value ∙ c.movers-movers.ensures.movers f.robots (c.robots.ensures.value ∙ s.robots) in
-    let touched = c.touches.ensures.value ∙ ap (λ ms. touches ms c.args.robot) movers in
+    let touched = c.touched_count.ensures.value ∙ ap (λ ms. touches ms c.args.robot) movers in
     let track =
-    c.motion_after-motion.ensures r (c.drive_on-seen.ensures.ahead r body) (c.drive_on-seen.ensures.mover r body)
+    c.motion_after-motion.ensures r (c.move_ahead_as_mover-seen.ensures.ahead r body)
+    (c.move_ahead_as_mover-seen.ensures.mover r body)
     live in
-    ap (λ (p : Point). p.x) c.place.ensures ∙ ap (λ (t : Track). t.x) track ∙
+    ap (λ (p : Point). p.x) c.place.ensures ∙ ap (λ (t : Motion). t.x) track ∙
     ap (λ n. place_x (leg_after r.leg n)) touched
 
 pub returns-clause-y : goal.returns-clause-y
-unfolding next_leg track_of
+unfolding next_leg motion_of
 returns-clause-y c = λ f s.
     let r = robot_at f c.args.robot in
     let body = c.robot.ensures.stands f s in
     let live = alive_if_lives c.args.self.now f c.args.robot s c.requires.live in
     let movers =
     c.as_slice.ensures.value ∙ c.movers-movers.ensures.movers f.robots (c.robots.ensures.value ∙ s.robots) in
-    let touched = c.touches.ensures.value ∙ ap (λ ms. touches ms c.args.robot) movers in
+    let touched = c.touched_count.ensures.value ∙ ap (λ ms. touches ms c.args.robot) movers in
     let track =
-    c.motion_after-motion.ensures r (c.drive_on-seen.ensures.ahead r body) (c.drive_on-seen.ensures.mover r body)
+    c.motion_after-motion.ensures r (c.move_ahead_as_mover-seen.ensures.ahead r body)
+    (c.move_ahead_as_mover-seen.ensures.mover r body)
     live in
-    ap (λ (p : Point). p.y) c.place.ensures ∙ ap (λ (t : Track). t.y) track ∙
+    ap (λ (p : Point). p.y) c.place.ensures ∙ ap (λ (t : Motion). t.y) track ∙
     ap (λ n. place_y (leg_after r.leg n)) touched

@@ -7,6 +7,6 @@ unfolding placed
 returns-clause-stands c = record {
   updates = refl;
   robots = c.placed_robots.ensures.robots c.args.seed c.args.number;
-  missiles = c.none.ensures.none;
+  missiles = c.none_in_air.ensures.none;
   random = c.generator.ensures;
 }

@@ -1,8 +1,8 @@
 use Rattle.std.proofs.Common.{◌≤◌, List, ap, subst, sym, ◌∙◌, length, arith}
 use Rattle.std.specs.List.{All}
-use Rattle.arena.specs.Ground.{Missile}
-use Rattle.arena.specs.Still.{NoneBefore}
-use Rattle.arena.specs.Standing.{HoldsShots}
+use Rattle.arena.specs.Arena.{Missile}
+use Rattle.arena.specs.Still.{NoBurstBefore}
+use Rattle.arena.specs.Representing.{HoldsShots}
 use Rattle.arena.proofs.Represents.{refill_is}
 use Rattle.arena.proofs.SlotLaws.{sooner_all}
 use Rattle.arena.proofs.missiles.Missiles.fire.Goals as goal
@@ -11,40 +11,41 @@ pub invariant_of-self : goal.invariant_of-self
 invariant_of-self c =
     let i = c.self.invariant in
     let next = c.min-self-inside.result in
-    let len = c.fire.auto.slots ∙ ap length c.as_mut_slice.ensures.value in
+    let len = c.fire_from_slot.auto.slots ∙ ap length c.as_mut_slice.ensures.value in
     let low : next ≤ c.self.inside.next = omega (arith, c.min-self-inside.ensures) in
     let burst : next ≤ c.args.missile.burst = omega (arith, c.min-self-inside.ensures, c.burst.ensures) in
-    let before : NoneBefore next c.as_mut_slice.result.now =
-    subst (λ (slots : List (List Missile)). NoneBefore next slots) (sym c.as_mut_slice.ensures.value)
+    let before : NoBurstBefore next c.as_mut_slice.result.now =
+    subst (λ (slots : List (List Missile)). NoBurstBefore next slots) (sym c.as_mut_slice.ensures.value)
     (sooner_all c.self.inside.next next c.self.inside.slots.items low i.1) in
-    rw (refill_is c.self.inside.slots.items c.fire.new.slots len)
-    (omega (arith, len, i.0), c.fire.ensures.next next burst before)
+    rw (refill_is c.self.inside.slots.items c.fire_from_slot.new.slots len)
+    (omega (arith, len, i.0), c.fire_from_slot.ensures.next next burst before)
 
 pub returns-clause-shots : goal.returns-clause-shots
 returns-clause-shots c = λ updates shots flies holds.
-    let len = c.fire.auto.slots ∙ ap length c.as_mut_slice.ensures.value in
+    let len = c.fire_from_slot.auto.slots ∙ ap length c.as_mut_slice.ensures.value in
     let held : HoldsShots updates c.as_mut_slice.result.now shots =
     subst (λ (slots : List (List Missile)). HoldsShots updates slots shots)
     (sym (c.as_mut_slice.ensures.value ∙ c.self.view_is)) holds in
-    rw (refill_is c.self.inside.slots.items c.fire.new.slots len) (c.fire.ensures.shots updates shots flies held)
+    rw (refill_is c.self.inside.slots.items c.fire_from_slot.new.slots len)
+    (c.fire_from_slot.ensures.shots updates shots flies held)
 
-pub fire-requires-clause-inside : goal.fire-requires-clause-inside
-fire-requires-clause-inside c =
+pub fire_from_slot-requires-clause-inside : goal.fire_from_slot-requires-clause-inside
+fire_from_slot-requires-clause-inside c =
     let size = ap length (c.as_mut_slice.ensures.value ∙ c.self.view_is) in
     let inside = c.requires.inside in
     omega (arith, size, inside)
 
-pub fire-requires-clause-free : goal.fire-requires-clause-free
-fire-requires-clause-free c = rw (c.as_mut_slice.ensures.value ∙ c.self.view_is) c.requires.free
+pub fire_from_slot-requires-clause-free : goal.fire_from_slot-requires-clause-free
+fire_from_slot-requires-clause-free c = rw (c.as_mut_slice.ensures.value ∙ c.self.view_is) c.requires.free
 
 pub returns-clause-two : goal.returns-clause-two
 returns-clause-two c = λ two.
-    let len = c.fire.auto.slots ∙ ap length c.as_mut_slice.ensures.value in
+    let len = c.fire_from_slot.auto.slots ∙ ap length c.as_mut_slice.ensures.value in
     let P : List (List Missile) → Type 0 = λ slots. All (λ (own : List Missile). length own ≤ 2) slots in
-    rw (refill_is c.self.inside.slots.items c.fire.new.slots len)
-    (c.fire.ensures.two (subst P (sym (c.as_mut_slice.ensures.value ∙ c.self.view_is)) two))
+    rw (refill_is c.self.inside.slots.items c.fire_from_slot.new.slots len)
+    (c.fire_from_slot.ensures.two (subst P (sym (c.as_mut_slice.ensures.value ∙ c.self.view_is)) two))
 
 pub returns-clause-count : goal.returns-clause-count
 returns-clause-count c =
-    let len = c.fire.auto.slots ∙ ap length c.as_mut_slice.ensures.value in
-    rw (refill_is c.self.inside.slots.items c.fire.new.slots len) (len ∙ ap length c.self.view_is)
+    let len = c.fire_from_slot.auto.slots ∙ ap length c.as_mut_slice.ensures.value in
+    rw (refill_is c.self.inside.slots.items c.fire_from_slot.new.slots len) (len ∙ ap length c.self.view_is)

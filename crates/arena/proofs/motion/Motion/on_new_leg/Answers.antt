@@ -5,13 +5,13 @@ use Rattle.arena.proofs.Sums.{at_place}
 use Rattle.arena.proofs.Products.{back}
 use Rattle.arena.proofs.motion.Motion.on_new_leg.Goals as goal
 
-pub step-requires-clause-part : goal.step-requires-clause-part
-step-requires-clause-part c =
+pub sum_step-requires-clause-part : goal.sum_step-requires-clause-part
+sum_step-requires-clause-part c =
     let small = c.cosine_at-cosine.ensures.within_scale in
     rw (back c.cosine_at-cosine.result (omega (arith, small))) small
 
-pub step-requires-2-clause-part : goal.step-requires-2-clause-part
-step-requires-2-clause-part c =
+pub sum_step-requires-2-clause-part : goal.sum_step-requires-2-clause-part
+sum_step-requires-2-clause-part c =
     let small = c.sine_at-sine.ensures.within_scale in
     rw (back c.sine_at-sine.result (omega (arith, small))) small
 

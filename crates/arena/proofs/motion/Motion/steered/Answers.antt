@@ -9,7 +9,8 @@ returns-then-self-clause-leg c = λ leg e.
 
 pub returns-then-self-le-TURNING_SPEED-clause-leg : goal.returns-then-self-le-TURNING_SPEED-clause-leg
 returns-then-self-le-TURNING_SPEED-clause-leg c = λ leg e.
-    turns_is _ _ leg (c.self.view_is ∙ e) (c.turned.ensures.leg leg e) c.if-self.false c.if-self-le-TURNING_SPEED.true
+    turns_is _ _ leg (c.self.view_is ∙ e) (c.turned_to_wanted.ensures.leg leg e) c.if-self.false
+    c.if-self-le-TURNING_SPEED.true
 
 pub returns-else-self-le-TURNING_SPEED-clause-leg : goal.returns-else-self-le-TURNING_SPEED-clause-leg
 returns-else-self-le-TURNING_SPEED-clause-leg c = λ leg e.

@@ -1,7 +1,7 @@
 use Rattle.std.proofs.Common.{List, [], ◌∷◌, ◌++◌, Option, Some, length, sym, ap, subst, ◌∙◌, arith}
 use Rattle.std.specs.Prelude.{flat_map}
 use Rattle.std.specs.Option.{option_to_list}
-use Rattle.code.specs.Generation.{ObjectCode}
+use Rattle.code.specs.Generation.{Program}
 use Rattle.operations.specs.declared.labels.Operations.{Operations}
 use Rattle.battles.specs.Programs.{AllSome}
 use Rattle.battles.specs.Translated.{AreTranslated}
@@ -15,7 +15,7 @@ push-requires c =
       omega (
         arith,
         c.requires.room,
-        ap (λ (l : List ObjectCode). length l) c.self.view_is,
+        ap (λ (l : List Program). length l) c.self.view_is,
         translated_length _ _ are,
       ),
     )
@@ -27,13 +27,13 @@ invariant_of-self c =
     let codes = flat_map option_to_list kept in
     let more = kept ++ Some c.args.program ∷ [] in
     let all : AllSome c.push-2.new.self.items =
-    subst (λ (l : List (Option ObjectCode)). AllSome l) (sym c.push-2.ensures.items)
+    subst (λ (l : List (Option Program)). AllSome l) (sym c.push-2.ensures.items)
     (kept_more kept c.args.program c.self.invariant.0) in
     let are : AreTranslated (codes ++ c.args.program ∷ []) (ops ++ Some c.translate.new.operations ∷ []) =
     translated_more codes ops c.args.program c.translate.new.operations c.self.invariant.1 c.translate.ensures in
     let each : AreTranslated (flat_map option_to_list c.push-2.new.self.items) c.push.new.self.items =
     subst (λ (l : List (Option Operations)). AreTranslated (flat_map option_to_list c.push-2.new.self.items) l)
     (sym c.push.ensures.items)
-    (subst (λ (l : List ObjectCode). AreTranslated l (ops ++ Some c.translate.new.operations ∷ []))
+    (subst (λ (l : List Program). AreTranslated l (ops ++ Some c.translate.new.operations ∷ []))
     (sym (ap (flat_map option_to_list) c.push-2.ensures.items ∙ list_more kept c.args.program)) are) in
     (all, each)

@@ -1,5 +1,5 @@
 use Rattle.std.proofs.Common.{◌<◌, List, Option, length, sym, ap, subst, ◌∙◌, arith}
-use Rattle.code.specs.Generation.{ObjectCode}
+use Rattle.code.specs.Generation.{Program}
 use Rattle.operations.specs.declared.labels.Operations.{Operations}
 use Rattle.std.specs.Prelude.{flat_map, slice_get}
 use Rattle.std.specs.Option.{option_to_list}
@@ -13,7 +13,7 @@ bounds-as_slice-file c =
     omega (
       arith,
       c.requires,
-      ap (λ (l : List ObjectCode). length l) c.self.view_is,
+      ap (λ (l : List Program). length l) c.self.view_is,
       translated_length _ _ are,
       ap (λ (l : List (Option Operations)). length l) c.as_slice.ensures.value,
     )
@@ -24,7 +24,7 @@ offset_bounds-as_slice-file c =
     omega (
       arith,
       c.requires,
-      ap (λ (l : List ObjectCode). length l) c.self.view_is,
+      ap (λ (l : List Program). length l) c.self.view_is,
       translated_length _ _ are,
       ap (λ (l : List (Option Operations)). length l) c.as_slice.ensures.value,
       c.as_slice.ensures.fits,
@@ -38,7 +38,7 @@ unreachable-requires c =
     omega (
       arith,
       c.requires,
-      ap (λ (l : List ObjectCode). length l) c.self.view_is,
+      ap (λ (l : List Program). length l) c.self.view_is,
       translated_length _ _ c.self.invariant.1,
       ap (λ (l : List (Option Operations)). length l) all,
     ) in
@@ -51,4 +51,4 @@ returns c code here =
     let codes = flat_map option_to_list c.self.inside.programs.items in
     translated_at codes c.as_slice.result.now c.args.file code c.index-as_slice-file.result c.in-Some.operations
     (subst (λ (l : List (Option Operations)). AreTranslated codes l) (sym c.as_slice.ensures.value) c.self.invariant.1)
-    (ap (λ (l : List ObjectCode). slice_get l c.args.file) c.self.view_is ∙ here) c.index-as_slice-file.is c.in-Some.is
+    (ap (λ (l : List Program). slice_get l c.args.file) c.self.view_is ∙ here) c.index-as_slice-file.is c.in-Some.is

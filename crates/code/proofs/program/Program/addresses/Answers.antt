@@ -1,5 +1,5 @@
 use Rattle.std.proofs.Common.{◌∙◌, ap, length, List, ℕ}
-use Rattle.code.specs.Generation.{ObjectCode}
+use Rattle.code.specs.Generation.{Program}
 use Rattle.code.proofs.ProgramLaws.{addresses_of_file}
 use Rattle.code.proofs.program.Program.addresses.Goals as goal
 
@@ -7,4 +7,4 @@ pub returns-clause-each : goal.returns-clause-each
 returns-clause-each c =
     ap (λ (xs : List ℕ). length xs) c.as_slice.ensures.value
     ∙ addresses_of_file _ c.self.invariant.1
-    ∙ ap (λ (code : ObjectCode). length code.functions) c.self.view_is
+    ∙ ap (λ (code : Program). length code.functions) c.self.view_is

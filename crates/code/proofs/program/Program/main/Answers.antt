@@ -1,8 +1,8 @@
 use Rattle.std.proofs.Common.{arith, ap, length}
-use Rattle.code.specs.Generation.{ObjectCode}
+use Rattle.code.specs.Generation.{Program}
 use Rattle.code.proofs.ProgramLaws.{main_is_known}
 use Rattle.code.proofs.program.Program.main.Goals as goal
 
 pub returns-clause-known : goal.returns-clause-known
 returns-clause-known c =
-    omega (arith, main_is_known _ c.self.invariant.1, ap (λ (code : ObjectCode). length code.functions) c.self.view_is)
+    omega (arith, main_is_known _ c.self.invariant.1, ap (λ (code : Program). length code.functions) c.self.view_is)

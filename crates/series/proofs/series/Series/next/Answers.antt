@@ -2,10 +2,10 @@ use Rattle.std.proofs.Common.{◌≡◌, ◌∙◌, ◌+◌, ◌<◌, ℕ, List,
 use Rattle.std.proofs.lemmas.List.{length-map}
 use Rattle.std.specs.Prelude.{nat_eq}
 use Rattle.grammar.specs.Tree.{File}
-use Rattle.code.specs.Codes.{AreCodesOf}
-use Rattle.settings.specs.Setup.{Setup}
-use Rattle.series.specs.Courses.{Standing, next_text, step_of}
-use Rattle.series.specs.Names.{robot_names}
+use Rattle.code.specs.Codes.{AreProgramsOf}
+use Rattle.settings.specs.Settings.{Settings}
+use Rattle.series.specs.SeriesSteps.{Series, next_text, next_step}
+use Rattle.series.specs.RobotNames.{robot_names}
 use Rattle.series.specs.Outcomes.{outcomes}
 use Rattle.sinks.specs.Portions.{Takes, TakesFront}
 use Rattle.series.proofs.CoursesLemmas.{is_left, next_is, outcome_is, outcomes_more, step_is}
@@ -14,99 +14,101 @@ use Rattle.series.proofs.series.Series.next.Goals as goal
 
 pub invariant_of-self : goal.invariant_of-self
 invariant_of-self g c =
-    let setup : Setup = c.self.inside.settings.now in
+    let settings : Settings = c.self.inside.settings.now in
     let number : ℕ = c.first.result + c.matches.result in
-    let left : c.self.inside.tally.matches < setup.matches =
+    let left : c.self.inside.tally.matches < settings.matches =
     is_left _ _ c.self.invariant.2
-    (ap (λ (s : Standing). nat_eq s.played s.setup.matches) c.self.view_is ∙ sym c.is_over.ensures ∙
+    (ap (λ (s : Series). nat_eq s.played s.settings.matches) c.self.view_is ∙ sym c.is_over.ensures ∙
     c.if-is_over.false) in
-    let counted = c.count.ensures.matches in (
+    let counted = c.count_match.ensures.matches in (
       c.self.invariant.0,
       c.self.invariant.1,
       omega (arith, left, counted),
       λ files are.
           let ended =
-          outcome_is setup files number c.battle-outcome.result
+          outcome_is settings files number c.battle-outcome.result
           (rw (c.seed-seed.ensures.value, c.limit-limit.ensures.value) at
-          (c.battle-outcome.ensures.battle setup.profile files are))
+          (c.battle-outcome.ensures.battle settings.profile files are))
           in
           rw (
-            c.count.ensures.matches,
-            outcomes_more setup files c.self.inside.tally.matches number
+            c.count_match.ensures.matches,
+            outcomes_more settings files c.self.inside.tally.matches number
                 (omega (arith, c.first.ensures.value, c.matches.ensures)),
             ← ended,
           )
-          (c.count.ensures.tally (outcomes setup files c.self.inside.tally.matches) (c.self.invariant.3 files are)),
+          (c.count_match.ensures.tally (outcomes settings files c.self.inside.tally.matches)
+          (c.self.invariant.3 files are)),
     )
 
 pub returns-in-Ok-clause-text : goal.returns-in-Ok-clause-text
 returns-in-Ok-clause-text g c = λ going.
-    let Text : Standing → Type 0 = λ s. (files : List File) → AreCodesOf s.codes s.setup.profile files
+    let Text : Series → Type 0 = λ s. (files : List File) → AreProgramsOf s.programs s.settings.profile files
     →
     Takes (g.S.Sink.written c.args.out.now).portions (g.S.Sink.written c.put_report.new.sink).portions
-    (next_text s.setup files s.played)
+    (next_text s.settings files s.played)
     × ((g.S.Sink.written c.put_report.new.sink).failures ≡ (g.S.Sink.written c.args.out.now).failures) in
-    let setup : Setup = c.self.inside.settings.now in
+    let settings : Settings = c.self.inside.settings.now in
     let number : ℕ = c.first.result + c.matches.result in
-    let left : c.self.inside.tally.matches < setup.matches =
+    let left : c.self.inside.tally.matches < settings.matches =
     is_left _ _ c.self.invariant.2
-    (ap (λ (s : Standing). nat_eq s.played s.setup.matches) c.self.view_is ∙ sym c.is_over.ensures ∙
+    (ap (λ (s : Series). nat_eq s.played s.settings.matches) c.self.view_is ∙ sym c.is_over.ensures ∙
     c.if-is_over.false) in
     subst Text c.self.view_is (λ files are.
     let ended =
-    outcome_is setup files number c.battle-outcome.result
+    outcome_is settings files number c.battle-outcome.result
     (rw (c.seed-seed.ensures.value, c.limit-limit.ensures.value) at
-    (c.battle-outcome.ensures.battle setup.profile files are))
+    (c.battle-outcome.ensures.battle settings.profile files are))
     in
-    rw (← (next_is setup files c.self.inside.tally.matches number c.battle-outcome.result
-    (robot_names (map (λ word. word.now) c.words.result.now))
-    left (omega (arith, c.first.ensures.value, c.matches.ensures)) (ap robot_names c.words.ensures.value) ended))
+    rw (← (next_is settings files c.self.inside.tally.matches number c.battle-outcome.result
+    (robot_names (map (λ word. word.now) c.file_words.result.now))
+    left (omega (arith, c.first.ensures.value, c.matches.ensures)) (ap robot_names c.file_words.ensures.value) ended))
     c.in-Ok.ensures)
 
 pub returns-in-Err-clause-text : goal.returns-in-Err-clause-text
 returns-in-Err-clause-text g c = λ going.
-    let Text : Standing → Type 0 = λ s. (files : List File) → AreCodesOf s.codes s.setup.profile files
+    let Text : Series → Type 0 = λ s. (files : List File) → AreProgramsOf s.programs s.settings.profile files
     →
     TakesFront (g.S.Sink.written c.args.out.now).portions (g.S.Sink.written c.put_report.new.sink).portions
-    (next_text s.setup files s.played)
+    (next_text s.settings files s.played)
     × ((g.S.Sink.written c.put_report.new.sink).failures ≡ (g.S.Sink.written c.args.out.now).failures + 1) in
-    let setup : Setup = c.self.inside.settings.now in
+    let settings : Settings = c.self.inside.settings.now in
     let number : ℕ = c.first.result + c.matches.result in
-    let left : c.self.inside.tally.matches < setup.matches =
+    let left : c.self.inside.tally.matches < settings.matches =
     is_left _ _ c.self.invariant.2
-    (ap (λ (s : Standing). nat_eq s.played s.setup.matches) c.self.view_is ∙ sym c.is_over.ensures ∙
+    (ap (λ (s : Series). nat_eq s.played s.settings.matches) c.self.view_is ∙ sym c.is_over.ensures ∙
     c.if-is_over.false) in
     subst Text c.self.view_is (λ files are.
     let ended =
-    outcome_is setup files number c.battle-outcome.result
+    outcome_is settings files number c.battle-outcome.result
     (rw (c.seed-seed.ensures.value, c.limit-limit.ensures.value) at
-    (c.battle-outcome.ensures.battle setup.profile files are))
+    (c.battle-outcome.ensures.battle settings.profile files are))
     in
-    rw (← (next_is setup files c.self.inside.tally.matches number c.battle-outcome.result
-    (robot_names (map (λ word. word.now) c.words.result.now))
-    left (omega (arith, c.first.ensures.value, c.matches.ensures)) (ap robot_names c.words.ensures.value) ended))
+    rw (← (next_is settings files c.self.inside.tally.matches number c.battle-outcome.result
+    (robot_names (map (λ word. word.now) c.file_words.result.now))
+    left (omega (arith, c.first.ensures.value, c.matches.ensures)) (ap robot_names c.file_words.ensures.value) ended))
     c.in-Err.ensures)
 
 pub invariant_of-self-in-Err : goal.invariant_of-self-in-Err
 invariant_of-self-in-Err g c = c.self.invariant
 
 pub returns-in-Err-clause-after : goal.returns-in-Err-clause-after
-returns-in-Err-clause-after g c = ap (λ (s : Standing). record s { failed = true }) c.self.view_is
+returns-in-Err-clause-after g c = ap (λ (s : Series). record s { failed = true }) c.self.view_is
 
 pub returns-in-Ok-clause-step : goal.returns-in-Ok-clause-step
 returns-in-Ok-clause-step g c =
-    let setup : Setup = c.self.inside.settings.now in
-    let left : c.self.inside.tally.matches < setup.matches =
+    let settings : Settings = c.self.inside.settings.now in
+    let left : c.self.inside.tally.matches < settings.matches =
     is_left _ _ c.self.invariant.2
-    (ap (λ (s : Standing). nat_eq s.played s.setup.matches) c.self.view_is ∙ sym c.is_over.ensures ∙
+    (ap (λ (s : Series). nat_eq s.played s.settings.matches) c.self.view_is ∙ sym c.is_over.ensures ∙
     c.if-is_over.false) in
-    step_is setup c.self.inside.tally.matches (c.first.result + c.matches.result) left
+    step_is settings c.self.inside.tally.matches (c.first.result + c.matches.result) left
     (omega (arith, c.first.ensures.value, c.matches.ensures))
-    ∙ ap (λ (s : Standing). step_of s.setup s.played) c.self.view_is
+    ∙ ap (λ (s : Series). next_step s.settings s.played) c.self.view_is
 
 pub put_report-requires-clause-named : goal.put_report-requires-clause-named
 put_report-requires-clause-named g c =
     c.battle-outcome.ensures.manned
     ∙
-    length_paired c.self.inside.programs.now c.words.result.now
-    (c.self.invariant.0 ∙ sym (ap length c.words.ensures.value) ∙ length-map c.words.result.now (λ word. word.now))
+    length_paired c.self.inside.programs.now c.file_words.result.now
+    (c.self.invariant.0 ∙ sym (ap length c.file_words.ensures.value) ∙
+    length-map c.file_words.result.now (λ word. word.now))

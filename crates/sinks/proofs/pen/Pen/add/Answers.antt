@@ -1,5 +1,5 @@
 use Rattle.std.proofs.Common.{◌≡◌, ◌+◌, ◌<◌, length, true, sym, ap, ◌∙◌, arith}
-use Rattle.sinks.specs.Portions.{page_bytes}
+use Rattle.sinks.specs.Portions.{buffer_bytes}
 use Rattle.sinks.proofs.DraftLemmas.{nothing_more, not_failed, too_long}
 use Rattle.sinks.proofs.pen.Pen.add.Goals as goal
 use Rattle.sinks.proofs.pen.Pen.add.Goals.{then-bytes-remaining_capacity, else-bytes-remaining_capacity}
@@ -7,15 +7,15 @@ use Rattle.sinks.proofs.pen.Pen.add.Goals.{then-bytes-remaining_capacity, else-b
 pub returns-else-not-self-clause-text : goal.returns-else-not-self-clause-text
 returns-else-not-self-clause-text g c = λ before text so_far.
     let failed : c.if-bytes-remaining_capacity.self.failed ≡ true =
-    sym (ap (λ p. p.failed) c.self-else-bytes-gt-PAGE.view_is) ∙ c.if-not-self.false in
+    sym (ap (λ p. p.failed) c.self-else-bytes-gt-BUFFER_BYTES.view_is) ∙ c.if-not-self.false in
     elim c.if-bytes-remaining_capacity.branch [
       | then-bytes-remaining_capacity w ↦
-          let long : page_bytes < length c.args.self.now.page + length c.args.bytes.now =
+          let long : buffer_bytes < length c.args.self.now.buffer + length c.args.bytes.now =
           omega (
             arith,
             w.if-bytes-remaining_capacity.true,
             c.remaining_capacity.ensures,
-            ap (λ p. length p.page) c.self.view_is,
+            ap (λ p. length p.buffer) c.self.view_is,
           ) in
           nothing_more c.if-bytes-remaining_capacity.self text c.args.bytes.now
           (rw (w.self-is, w.sink-is) (w.turn.ensures.text before text so_far.puts)) failed

@@ -8,44 +8,49 @@ use Rattle.tokens.proofs.lexer.Lexer.skip_blanks.Goals as goal
 pub loop-b-preserved : goal.loop-b-preserved
 loop-b-preserved g c = record {
   tokens =
-      to_read-pass located_tokens located_tokens _ _ _ _ c.in-Some.b c.pass.ensures.value
+      to_read-pass located_tokens located_tokens _ _ _ _ c.in-Some.b c.skip_byte.ensures.value
       c.in_ok-first.ensures.next.first c.in-Some.is (blank-skipped c.in-Some.b (sym c.if-is_blank.ensures))
-      ∙ to_read-seen located_tokens _ _ _ _ c.in_ok-first.ensures.seen ∙ blanks-pass _ _ _ c.pass_blanks.ensures.value ∙
+      ∙ to_read-seen located_tokens _ _ _ _ c.in_ok-first.ensures.seen ∙
+      blanks-pass _ _ _ c.skip_blanks_at_hand.ensures.value ∙
       c.loop-b.invariant.tokens;
-  took = TakesBytes-pass c.pass.ensures.kept.taken
-      (TakesBytes-then (TakesBytes-pass c.pass_blanks.ensures.kept.taken c.loop-b.invariant.took)
+  took = TakesBytes-pass c.skip_byte.ensures.kept.taken
+      (TakesBytes-then (TakesBytes-pass c.skip_blanks_at_hand.ensures.kept.taken c.loop-b.invariant.took)
       c.in_ok-first.ensures.kept.took);
-  forward = omega (arith, c.in_ok-first.ensures.place.place);
+  forward = omega (arith, c.in_ok-first.ensures.offset.offset);
   count = c.in_ok-first.ensures.kept.count ∙ c.loop-b.invariant.count;
-  known = λ e. c.in_ok-first.ensures.kept.known (sym c.pass.ensures.kept.beyond ∙ e);
+  known = λ e. c.in_ok-first.ensures.kept.known (sym c.skip_byte.ensures.kept.beyond ∙ e);
 }
 
 pub returns-in_default-clause-tokens : goal.returns-in_default-clause-tokens
 returns-in_default-clause-tokens g c =
-    to_read-seen located_tokens _ _ _ _ c.in_ok-first.ensures.seen ∙ blanks-pass _ _ _ c.pass_blanks.ensures.value ∙
+    to_read-seen located_tokens _ _ _ _ c.in_ok-first.ensures.seen ∙
+    blanks-pass _ _ _ c.skip_blanks_at_hand.ensures.value ∙
     c.loop-b.invariant.tokens
 
 pub returns-in_default-2-clause-tokens : goal.returns-in_default-2-clause-tokens
 returns-in_default-2-clause-tokens g c =
-    to_read-seen located_tokens _ _ _ _ c.in_ok-first.ensures.seen ∙ blanks-pass _ _ _ c.pass_blanks.ensures.value ∙
+    to_read-seen located_tokens _ _ _ _ c.in_ok-first.ensures.seen ∙
+    blanks-pass _ _ _ c.skip_blanks_at_hand.ensures.value ∙
     c.loop-b.invariant.tokens
 
 pub returns-in_err-first-clause-stopped : goal.returns-in_err-first-clause-stopped
 returns-in_err-first-clause-stopped g c =
     let seen = c.in_err-first.ensures in
     on_err-from c.from_residual.result (stops-from located_tokens located_tokens _ _ c.peek.new.self _ _
-    (blanks-pass _ _ _ c.pass_blanks.ensures.value ∙ c.loop-b.invariant.tokens)
-    (stops located_tokens located_tokens-end c.pass_blanks.new.self c.peek.new.self _ seen.failed seen.place.place))
+    (blanks-pass _ _ _ c.skip_blanks_at_hand.ensures.value ∙ c.loop-b.invariant.tokens)
+    (stops located_tokens located_tokens-end c.skip_blanks_at_hand.new.self c.peek.new.self _ seen.failed
+    seen.offset.offset))
 
 pub returns-in_err-first-clause-kept : goal.returns-in_err-first-clause-kept
 returns-in_err-first-clause-kept g c =
     let now = c.loop-b.invariant in
-    let passed = c.pass_blanks.ensures.kept in
-    then-fails c.from_residual.result _ c.from_residual.ensures.1 _ c.pass_blanks.new.self _ _ _ _ _ _ _ _
+    let passed = c.skip_blanks_at_hand.ensures.kept in
+    then-fails c.from_residual.result _ c.from_residual.ensures.1 _ c.skip_blanks_at_hand.new.self _ _ _ _ _ _ _ _
     (TakesBytes-pass passed.taken now.took) (omega (arith, now.forward, passed.forward)) now.count
     c.in_err-first.ensures.kept
 
 pub returns-in_default-3-clause-tokens : goal.returns-in_default-3-clause-tokens
 returns-in_default-3-clause-tokens g c =
-    to_read-seen located_tokens _ _ _ _ c.in_ok-first.ensures.seen ∙ blanks-pass _ _ _ c.pass_blanks.ensures.value ∙
+    to_read-seen located_tokens _ _ _ _ c.in_ok-first.ensures.seen ∙
+    blanks-pass _ _ _ c.skip_blanks_at_hand.ensures.value ∙
     c.loop-b.invariant.tokens

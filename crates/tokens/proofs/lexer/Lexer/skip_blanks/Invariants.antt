@@ -10,10 +10,10 @@ invariant-loop-b g l = record {
       to_read located_tokens l.initial.self.window (g.F.Feed.device l.initial.feed).to_come;
   took : TakesBytes l.initial.self.window.taken l.self.window.taken (g.F.Feed.device l.initial.feed).to_come
       (g.F.Feed.device l.feed).to_come;
-  forward : l.initial.self.window.place ≤ l.self.window.place;
+  forward : l.initial.self.window.offset ≤ l.self.window.offset;
   count : (g.F.Feed.device l.feed).account ≡ (g.F.Feed.device l.initial.feed).account;
   known : KnowsEnd l.self.window.beyond (g.F.Feed.device l.feed).ended;
 }
 
 abbrev pub decreases-loop-b : goal.decreases-loop-b
-decreases-loop-b g l = 1048576 - l.self.window.place
+decreases-loop-b g l = 1048576 - l.self.window.offset

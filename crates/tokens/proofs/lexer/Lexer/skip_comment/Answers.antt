@@ -3,15 +3,15 @@ use Rattle.std.proofs.lemmas.Bool.{ne_eqb}
 use Rattle.tokens.specs.Tokens.{located_tokens}
 use Rattle.tokens.specs.Lexing.{in_comment}
 use Rattle.tokens.proofs.ToRead.{to_read-pass, to_read-seen}
-use Rattle.tokens.proofs.CommentLemmas.{in_star, comment-passes, star-passes, star-open, slash-closes, slash-found, plain-passes, comment-ended, ended-beyond}
+use Rattle.tokens.proofs.CommentLemmas.{in_star, comment_front-passes, star-passes, star-open, slash-closes, slash-found, plain-passes, comment_front-ended, ended-beyond}
 use Rattle.tokens.proofs.TakenLemmas.{on_err-from, stops, stops-from, in_comment-ends, in_star-ends, TakesBytes-pass, TakesBytes-then, then-fails}
 use Rattle.tokens.proofs.lexer.Lexer.skip_comment.Goals as goal
 
 pub returns-in-None-clause-tokens : goal.returns-in-None-clause-tokens
 returns-in-None-clause-tokens g c = λ line.
     let seen = c.in_ok-peek.ensures in
-    comment-ended line _ _ c.in_ok-peek.field-0 seen.next.ready seen.next.first c.in-None.is
-    ∙ to_read-seen (in_comment line) _ _ _ _ seen.seen ∙ plain-passes line _ _ _ c.pass_plain.ensures.value ∙
+    comment_front-ended line _ _ c.in_ok-peek.field-0 seen.next.ready seen.next.first c.in-None.is
+    ∙ to_read-seen (in_comment line) _ _ _ _ seen.seen ∙ plain-passes line _ _ _ c.skip_to_star.ensures.value ∙
     c.loop-self.invariant.tokens line
 
 pub returns-in-None-clause-ended : goal.returns-in-None-clause-ended
@@ -23,13 +23,13 @@ pub returns-then-eq-clause-tokens : goal.returns-then-eq-clause-tokens
 returns-then-eq-clause-tokens g c = λ line.
     let seen = c.in_ok-peek.ensures in
     let next = c.in_ok-peek-in-Some-eq42.ensures in
-    to_read-pass located_tokens (in_star line) _ _ _ _ 47 c.pass-then-eq.ensures.value next.next.first
+    to_read-pass located_tokens (in_star line) _ _ _ _ 47 c.skip_byte-then-eq.ensures.value next.next.first
     (slash-found _ (sym c.if-eq.ensures)) (slash-closes line)
     ∙ to_read-seen (in_star line) _ _ _ _ next.seen
     ∙
-    to_read-pass (in_star line) (in_comment line) _ _ _ _ 42 c.pass.ensures.value seen.next.first
+    to_read-pass (in_star line) (in_comment line) _ _ _ _ 42 c.skip_byte.ensures.value seen.next.first
     (c.in-Some-eq42.is ∙ ap Some c.in-Some-eq42.field-0-test) (star-passes line)
-    ∙ to_read-seen (in_comment line) _ _ _ _ seen.seen ∙ plain-passes line _ _ _ c.pass_plain.ensures.value ∙
+    ∙ to_read-seen (in_comment line) _ _ _ _ seen.seen ∙ plain-passes line _ _ _ c.skip_to_star.ensures.value ∙
     c.loop-self.invariant.tokens line
 
 pub loop-self-preserved-else-eq : goal.loop-self-preserved-else-eq
@@ -40,15 +40,15 @@ loop-self-preserved-else-eq g c =
       tokens = λ line. star-open line _ _ _ next.next.ready next.next.first (sym c.if-eq.ensures)
           ∙ to_read-seen (in_star line) _ _ _ _ next.seen
           ∙
-          to_read-pass (in_star line) (in_comment line) _ _ _ _ 42 c.pass.ensures.value seen.next.first
+          to_read-pass (in_star line) (in_comment line) _ _ _ _ 42 c.skip_byte.ensures.value seen.next.first
           (c.in-Some-eq42.is ∙ ap Some c.in-Some-eq42.field-0-test) (star-passes line)
-          ∙ to_read-seen (in_comment line) _ _ _ _ seen.seen ∙ plain-passes line _ _ _ c.pass_plain.ensures.value ∙
+          ∙ to_read-seen (in_comment line) _ _ _ _ seen.seen ∙ plain-passes line _ _ _ c.skip_to_star.ensures.value ∙
           c.loop-self.invariant.tokens line;
       took = TakesBytes-then
-          (TakesBytes-pass c.pass.ensures.kept.taken
-          (TakesBytes-then (TakesBytes-pass c.pass_plain.ensures.kept.taken c.loop-self.invariant.took)
+          (TakesBytes-pass c.skip_byte.ensures.kept.taken
+          (TakesBytes-then (TakesBytes-pass c.skip_to_star.ensures.kept.taken c.loop-self.invariant.took)
           seen.kept.took)) next.kept.took;
-      forward = omega (arith, seen.place.place, next.place.place);
+      forward = omega (arith, seen.offset.offset, next.offset.offset);
       count = next.kept.count ∙ seen.kept.count ∙ c.loop-self.invariant.count;
       known = next.kept.known;
     }
@@ -59,15 +59,16 @@ loop-self-preserved g c =
     record {
       tokens =
           λ line. to_read-pass (in_comment line) (in_comment line) _ _ _ _ c.in-Some.field-0
-          c.pass-in-Some.ensures.value seen.next.first c.in-Some.is
-          (comment-passes line c.in-Some.field-0 (ne_eqb _ _ c.in-Some.field-0-test.1))
-          ∙ to_read-seen (in_comment line) _ _ _ _ seen.seen ∙ plain-passes line _ _ _ c.pass_plain.ensures.value ∙
+          c.skip_byte-in-Some.ensures.value seen.next.first c.in-Some.is
+          (comment_front-passes line c.in-Some.field-0 (ne_eqb _ _ c.in-Some.field-0-test.1))
+          ∙ to_read-seen (in_comment line) _ _ _ _ seen.seen ∙ plain-passes line _ _ _ c.skip_to_star.ensures.value ∙
           c.loop-self.invariant.tokens line;
-      took = TakesBytes-pass c.pass-in-Some.ensures.kept.taken
-          (TakesBytes-then (TakesBytes-pass c.pass_plain.ensures.kept.taken c.loop-self.invariant.took) seen.kept.took);
-      forward = omega (arith, seen.place.place);
+      took = TakesBytes-pass c.skip_byte-in-Some.ensures.kept.taken
+          (TakesBytes-then (TakesBytes-pass c.skip_to_star.ensures.kept.taken c.loop-self.invariant.took)
+          seen.kept.took);
+      forward = omega (arith, seen.offset.offset);
       count = seen.kept.count ∙ c.loop-self.invariant.count;
-      known = λ e. seen.kept.known (sym c.pass-in-Some.ensures.kept.beyond ∙ e);
+      known = λ e. seen.kept.known (sym c.skip_byte-in-Some.ensures.kept.beyond ∙ e);
     }
 
 pub returns-in_err-peek-clause-stopped : goal.returns-in_err-peek-clause-stopped
@@ -75,9 +76,9 @@ returns-in_err-peek-clause-stopped g c =
     let seen = c.in_err-peek.ensures in
     on_err-from c.from_residual.result (λ line.
     stops-from (in_comment line) (in_comment line) _ _ c.peek.new.self _ _
-    (plain-passes line _ _ _ c.pass_plain.ensures.value ∙ c.loop-self.invariant.tokens line)
-    (stops (in_comment line) (in_comment-ends line) c.pass_plain.new.self c.peek.new.self _ seen.failed
-    seen.place.place))
+    (plain-passes line _ _ _ c.skip_to_star.ensures.value ∙ c.loop-self.invariant.tokens line)
+    (stops (in_comment line) (in_comment-ends line) c.skip_to_star.new.self c.peek.new.self _ seen.failed
+    seen.offset.offset))
 
 pub returns-in_err-peek-in-Some-eq42-clause-stopped : goal.returns-in_err-peek-in-Some-eq42-clause-stopped
 returns-in_err-peek-in-Some-eq42-clause-stopped g c =
@@ -85,29 +86,29 @@ returns-in_err-peek-in-Some-eq42-clause-stopped g c =
     let next = c.in_err-peek-in-Some-eq42.ensures in
     on_err-from c.from_residual-in_err-peek-in-Some-eq42.result (λ line.
     stops-from (in_star line) (in_comment line) _ _ c.peek-in-Some-eq42.new.self _ _
-    (to_read-pass (in_star line) (in_comment line) _ _ _ _ 42 c.pass.ensures.value seen.next.first
+    (to_read-pass (in_star line) (in_comment line) _ _ _ _ 42 c.skip_byte.ensures.value seen.next.first
     (c.in-Some-eq42.is ∙ ap Some c.in-Some-eq42.field-0-test) (star-passes line)
-    ∙ to_read-seen (in_comment line) _ _ _ _ seen.seen ∙ plain-passes line _ _ _ c.pass_plain.ensures.value ∙
+    ∙ to_read-seen (in_comment line) _ _ _ _ seen.seen ∙ plain-passes line _ _ _ c.skip_to_star.ensures.value ∙
     c.loop-self.invariant.tokens line)
-    (stops (in_star line) (in_star-ends line) c.pass.new.self c.peek-in-Some-eq42.new.self _ next.failed
-    next.place.place))
+    (stops (in_star line) (in_star-ends line) c.skip_byte.new.self c.peek-in-Some-eq42.new.self _ next.failed
+    next.offset.offset))
 
 pub returns-in_err-peek-clause-kept : goal.returns-in_err-peek-clause-kept
 returns-in_err-peek-clause-kept g c =
     let now = c.loop-self.invariant in
-    let plain = c.pass_plain.ensures.kept in
-    then-fails c.from_residual.result _ c.from_residual.ensures.1 _ c.pass_plain.new.self _ _ _ _ _ _ _ _
+    let plain = c.skip_to_star.ensures.kept in
+    then-fails c.from_residual.result _ c.from_residual.ensures.1 _ c.skip_to_star.new.self _ _ _ _ _ _ _ _
     (TakesBytes-pass plain.taken now.took) (omega (arith, now.forward, plain.forward)) now.count
     c.in_err-peek.ensures.kept
 
 pub returns-in_err-peek-in-Some-eq42-clause-kept : goal.returns-in_err-peek-in-Some-eq42-clause-kept
 returns-in_err-peek-in-Some-eq42-clause-kept g c =
     let now = c.loop-self.invariant in
-    let plain = c.pass_plain.ensures.kept in
+    let plain = c.skip_to_star.ensures.kept in
     let seen = c.in_ok-peek.ensures.kept in
-    let star = c.pass.ensures.kept in
+    let star = c.skip_byte.ensures.kept in
     then-fails c.from_residual-in_err-peek-in-Some-eq42.result _ c.from_residual-in_err-peek-in-Some-eq42.ensures.1 _
-    c.pass.new.self _ _ _ _ _ _ _ _
+    c.skip_byte.new.self _ _ _ _ _ _ _ _
     (TakesBytes-pass star.taken (TakesBytes-then (TakesBytes-pass plain.taken now.took) seen.took))
     (omega (arith, now.forward, plain.forward, seen.forward, star.forward)) (seen.count ∙ now.count)
     c.in_err-peek-in-Some-eq42.ensures.kept

@@ -1,6 +1,0 @@
-use Rattle.arena.proofs.Nearest.{scan_is}
-use Rattle.arena.proofs.scans.scan.Goals as goal
-
-pub returns : goal.returns
-returns c = λ field e.
-    scan_is field c.args.robot _ _ _ _ c.nearest.ensures.square (c.nearest.ensures.nearest field e) c.distance.ensures

@@ -1,6 +1,0 @@
-use Rattle.std.proofs.Common.{◌≡◌, [], replicate}
-use Rattle.arena.proofs.slots.no_missiles.Given as goal
-
--- so many robots have none
-abbrev pub invariant-loop-robot : goal.invariant-loop-robot
-invariant-loop-robot l = l.slots.items ≡ replicate l._robot []

@@ -1,0 +1,70 @@
+-- What those who run a window need of the machines and the arena, and what they keep.
+use Rattle.std.specs.Prelude.{◌≡◌, ℕ, ◌<◌, ◌≤◌, ◌*◌, List, Bool, length, slice_index_or, nat_le}
+use Rattle.arena.specs.Field.{live_count}
+use Rattle.arena.specs.Arena.{Arena}
+use Rattle.arena.specs.declared.rules.TheConstants.{MOST_ROBOTS}
+use Rattle.engine.specs.Executables.{Executable}
+use Rattle.engine.specs.declared.engines.Engine.{Engine}
+use Rattle.engine.specs.Engines.{EngineFits}
+use Rattle.battles.specs.Battle.{Behaviour, Stage}
+use Rattle.battles.specs.Carrying.{Runner, EachFits, HasReached}
+use Rattle.battles.specs.Intervals.{AreTurnNumbers, AreWaiting, WaitsToDraw, periods}
+
+-- a robot of the field for each machine
+pub record HavePlaces (runners : List Runner) (arena : Arena) : Type 0 where
+  pub few : length runners ≤ MOST_ROBOTS
+  pub robots : length arena.robots ≡ length runners
+
+-- each program has a machine that can go on with it, and a robot of the field
+pub record AreManned (exes : List Executable) (runners : List Runner) (arena : Arena) : Type 0 where
+  pub few : length exes ≤ MOST_ROBOTS
+  pub fits : EachFits runners exes
+  pub robots : length arena.robots ≡ length exes
+
+-- a robot of the field, whose machine can go on with its program
+pub record CanPlay (i : ℕ) (exe : Executable) (machine : Engine) (arena : Arena) : Type 0 where
+  pub turn_number : i < MOST_ROBOTS
+  pub inside : i < length arena.robots
+  pub fits : EngineFits machine exe
+
+-- a robot's turns keep that, the robots of the field, and the number of updates
+pub record KeepsPlayable (exe : Executable) (machine : Engine) (before after : Arena) : Type 0 where
+  pub fits : EngineFits machine exe
+  pub robots : length after.robots ≡ length before.robots
+  pub updates : after.updates ≡ before.updates
+
+-- A robot ran for n cycles of at most so many. If it stopped before these were over, its machine waits.
+pub record RanWithin (limit n : ℕ) (exe : Executable) (runner : Runner) : Type 0 where
+  pub most : n ≤ limit
+  pub waits : n < limit → WaitsToDraw exe runner
+
+-- A window of w cycles: each robot has the number of its next turn. Those that aren't there have no turn in it.
+pub record IsInterval (exes : List Executable) (next : List ℕ) (w : ℕ) (runners : List Runner)
+    (arena : Arena) : Type 0 where
+  pub manned : AreManned exes runners arena
+  pub turn_numbers : AreTurnNumbers next
+  pub past : (i : ℕ) → length exes ≤ i → i < MOST_ROBOTS → MOST_ROBOTS * w ≤ slice_index_or next i 0
+
+-- at its begin each robot has all its turns before it
+pub record BeginsInterval (exes : List Executable) (next : List ℕ) (w : ℕ) (runners : List Runner)
+    (arena : Arena) : Type 0 where
+  pub window : IsInterval exes next w runners arena
+  pub first : (i : ℕ) → i < length exes → slice_index_or next i 0 ≡ i
+
+-- later each robot that has turns left waits
+pub record IsUnderWay (exes : List Executable) (next : List ℕ) (w : ℕ) (runners : List Runner)
+    (arena : Arena) : Type 0 where
+  pub window : IsInterval exes next w runners arena
+  pub waiting : AreWaiting w next exes runners
+
+-- the stage after an update, and whether that decides the battle: at most one robot is alive
+pub record HasUpdated (exes : List Executable) (runners : List Runner) (arena : Arena) (stage : Stage)
+    (decides : Bool) : Type 0 where
+  pub reached : HasReached runners exes arena stage
+  pub decided : decides ≡ nat_le (live_count stage.field) 1
+
+-- the stage after n windows, each with its update, in none of which a robot died
+pub record HasRested (robots : List Behaviour) (exes : List Executable) (n : ℕ)
+    (runners : List Runner) (arena : Arena) (stage : Stage) : Type 0 where
+  pub reached : HasReached runners exes arena (periods robots n stage)
+  pub alive : (k : ℕ) → k ≤ n → live_count (periods robots k stage).field ≡ live_count stage.field

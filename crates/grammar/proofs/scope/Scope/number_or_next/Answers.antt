@@ -1,0 +1,16 @@
+use Rattle.std.proofs.Common.{rules, ◌≡◌, length, false, nat_le, None}
+use Rattle.grammar.specs.Scope.{function_number}
+use Rattle.grammar.proofs.ScopeLaws.{called_new}
+use Rattle.grammar.proofs.scope.Scope.number_or_next.Goals as goal
+
+-- src/scope.rt:195:5
+pub returns-clause-known : goal.returns-clause-known
+returns-clause-known c =
+    called_new c.args.name.now c.args.line c.args.self.now c.add_function.new.self c.requires.own unknown small
+    c.add_function.ensures.names
+  where
+    unknown : function_number c.args.name.now c.args.self.now ≡ None
+    unknown = search rules
+
+    small : nat_le 64 (length c.args.self.now.functions) ≡ false
+    small = search rules

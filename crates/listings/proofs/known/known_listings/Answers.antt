@@ -1,5 +1,0 @@
-use Rattle.listings.proofs.KnownListings.{listings}
-use Rattle.listings.proofs.known.known_listings.Goals as goal
-
-pub returns : goal.returns
-returns c = listings

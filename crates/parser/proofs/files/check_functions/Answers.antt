@@ -1,6 +1,0 @@
-use Rattle.std.proofs.Common.{sym, ◌∙◌, refl}
-use Rattle.parser.specs.Progress.{ADefinition}
-use Rattle.parser.proofs.files.check_functions.Goals as goal
-
-pub returns-in-Some-clause-lacks : goal.returns-in-Some-clause-lacks
-returns-in-Some-clause-lacks g c = ADefinition c.in-Some.line (sym c.undefined.ensures ∙ c.in-Some.is) refl

@@ -1,0 +1,20 @@
+use Rattle.std.proofs.Common.{[], ◌∷◌, ℕ}
+use Rattle.grammar.specs.Grammar.{Part}
+use Rattle.parser.specs.Defining.{StaysAt}
+use Rattle.parser.specs.Advancing.{HasStayedOrAdvanced}
+use Rattle.parser.specs.ScopedCursors.{scope_of, to_go}
+use Rattle.parser.specs.Segment.{Derives}
+use Rattle.parser.specs.Declarations.{declarations_of}
+use Rattle.parser.proofs.name_lists.declarations.Given as goal
+
+abbrev pub invariant-loop-declared : goal.invariant-loop-declared
+invariant-loop-declared g l = record {
+  matches : (depth : ℕ) →
+      Derives depth (Part (declarations_of l.declared) ∷ []) (Part (declarations_of l.declared) ∷ []) [] []
+      l.fn.tokens.position l.tokens.position;
+  stays : StaysAt l.declared (scope_of l.fn.tokens) (scope_of l.tokens);
+  kept : HasStayedOrAdvanced l.fn.tokens l.tokens;
+}
+
+abbrev pub decreases-loop-declared : goal.decreases-loop-declared
+decreases-loop-declared g l = to_go l.tokens

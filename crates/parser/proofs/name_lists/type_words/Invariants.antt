@@ -1,0 +1,17 @@
+use Rattle.std.proofs.Common.{◌≡◌, [], ◌∷◌, ℕ}
+use Rattle.grammar.specs.Grammar.{Types, Part}
+use Rattle.parser.specs.Advancing.{HasStayedOrAdvanced}
+use Rattle.parser.specs.ScopedCursors.{scope_of, to_go}
+use Rattle.parser.specs.Segment.{Derives}
+use Rattle.parser.proofs.name_lists.type_words.Given as goal
+
+abbrev pub invariant-loop-parser : goal.invariant-loop-parser
+invariant-loop-parser g l = record {
+  matches : (depth : ℕ) →
+      Derives depth (Part Types ∷ []) (Part Types ∷ []) [] [] l.fn.tokens.position l.tokens.position;
+  scope : scope_of l.tokens ≡ scope_of l.fn.tokens;
+  kept : HasStayedOrAdvanced l.fn.tokens l.tokens;
+}
+
+abbrev pub decreases-loop-parser : goal.decreases-loop-parser
+decreases-loop-parser g l = to_go l.tokens

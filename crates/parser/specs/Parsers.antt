@@ -1,0 +1,75 @@
+-- What each method of a reader needs and keeps. Every contract of the grammar's productions cites these facts.
+use Rattle.std.specs.Prelude.{ℕ, ◌≡◌, ◌≤◌, [], Result, Ok, Err}
+use Rattle.grammar.specs.declared.diagnostics.Code.TheVariants as code
+use Rattle.grammar.specs.declared.diagnostics.ParseFault.{ParseFault}
+use Rattle.grammar.specs.declared.diagnostics.ParseFault.TheVariants as refusal
+use Rattle.grammar.specs.Building.{Representation, LeavesOpen}
+use Rattle.grammar.specs.Compiled.{diagnostic}
+use Rattle.grammar.specs.declared.name_limits.TheConstants.{MOST_LEVELS}
+use Rattle.parser.specs.declared.parser.Parser.{Parser}
+use Rattle.parser.specs.Advancing.{IsReady, HasStayedOrAdvanced, Stopped, HasAdvanced}
+use Rattle.parser.specs.Growing.{BreaksOff}
+use Rattle.parser.specs.ScopedCursors.{ScopedCursor, next_at, taken_at}
+use Rattle.parser.specs.Room.{HasStatementRoom, room}
+use Rattle.parser.specs.Stopping.{Stop}
+
+-- the most levels are open, and the next token is refused for that
+pub record IsTooDeep {F B : Type 0} (at : Parser F B) (fault : ParseFault) : Type 0 where
+  pub deep : MOST_LEVELS ≤ at.depth
+  pub is : fault ≡ refusal.Source (diagnostic (next_at at.tokens.position).line code.NestedTooDeeply)
+
+-- What a method needs: this room in the builder for the operators from a level on, where so many levels of nesting are
+-- open, a parser that is ready, and these next tokens.
+pub record IsAt {F B : Type 0} (stands : B → Representation) (has_room : Representation → ℕ → Type 0) (level : ℕ)
+    (starts : ScopedCursor → Type 0) (at : Parser F B) : Type 0 where
+  pub builder : has_room (stands at.builder.now) (room at.depth level)
+  pub ready : IsReady at.tokens
+  pub is : starts at.tokens
+
+-- What it needs between functions: a builder in which nothing is open, no open level, a parser that is ready, and these
+-- next tokens.
+pub record IsBetween {F B : Type 0} (stands : B → Representation) (starts : ScopedCursor → Type 0) (at : Parser F B)
+    : Type 0 where
+  pub builder : LeavesOpen (stands at.builder.now) []
+  pub flat : at.depth ≡ 0
+  pub ready : IsReady at.tokens
+  pub is : starts at.tokens
+
+-- What it needs at a function's block, which opens the first level.
+pub record IsAtBlock {F B : Type 0} (stands : B → Representation) (at : Parser F B) : Type 0 where
+  pub builder : HasStatementRoom (stands at.builder.now) (room 1 1)
+  pub flat : at.depth ≡ 0
+  pub ready : IsReady at.tokens
+
+-- A reader went on so far: as many levels are open, and it reports to the same builder.
+pub record ParserKept {F B : Type 0} (went : ScopedCursor → ScopedCursor → Type 0) (old new : Parser F B) : Type 0 where
+  pub tokens : went old.tokens new.tokens
+  pub depth : new.depth ≡ old.depth
+  pub builder : new.builder.ghost_name ≡ old.builder.ghost_name
+
+-- What a refusal leaves: the parser that stopped, and the same builder. The reader is of no more use.
+pub record GaveUp {F B : Type 0} (fault : ParseFault) (old new : Parser F B) : Type 0 where
+  pub tokens : Stopped fault old.tokens new.tokens
+  pub builder : new.builder.ghost_name ≡ old.builder.ghost_name
+
+-- a call that consumes at least one token if it succeeds
+abbrev pub Proceeds : {A F B : Type 0} → Result A ParseFault → (old new : Parser F B) → Type 0
+Proceeds (Ok x) old new = ParserKept HasAdvanced old new
+Proceeds (Err fault) old new = GaveUp fault old new
+
+-- a call that may consume none
+abbrev pub MayProceed : {A F B : Type 0} → Result A ParseFault → (old new : Parser F B) → Type 0
+MayProceed (Ok x) old new = ParserKept HasStayedOrAdvanced old new
+MayProceed (Err fault) old new = GaveUp fault old new
+
+-- what a refusal says of where the derivation stops, and of the builder
+abbrev pub BreaksOffFrom : {F B : Type 0} → (Stop → Type 0) → (denied : Type 0) → (B → Representation) →
+    (old new : Parser F B) → ParseFault → Type 0
+BreaksOffFrom stops denied stands old new fault =
+    BreaksOff stops denied (stands old.builder.now) (stands new.builder.now) (taken_at new.tokens.position) fault
+
+-- a call that leaves the parser as it is
+pub record OnlyTells {F B : Type 0} (old new : Parser F B) : Type 0 where
+  pub tokens : new.tokens ≡ old.tokens
+  pub depth : new.depth ≡ old.depth
+  pub builder : new.builder.ghost_name ≡ old.builder.ghost_name

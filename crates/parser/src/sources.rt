@@ -1,0 +1,173 @@
+//! Files: one pass from a device's bytes to a builder, and the names of the file.
+
+ghost use Rattle.std.specs.Prelude.{◌≡◌, ◌∷◌, IfErr, IfOk, OnOk};
+ghost use Rattle.tokens.specs.Feed.{MayRead};
+ghost use Rattle.tokens.specs.declared.located_tokens.Keyword.TheVariants as word;
+ghost use Rattle.grammar.specs.Grammar.{Head, Part};
+ghost use Rattle.grammar.specs.Scope.{no_names};
+ghost use Rattle.parser.specs.Advancing.{Anywhere, IsNextKeyword};
+ghost use Rattle.parser.specs.Parsers.{IsBetween, MayProceed, Proceeds};
+ghost use Rattle.parser.specs.ScopedCursors.{pools_in, scope_of};
+ghost use Rattle.parser.specs.Segment.{CountsRefusal};
+ghost use Rattle.parser.specs.ParsedFiles.{IsFile, IsNew, ParseIsRefused, TakesEnough};
+ghost use Rattle.parser.specs.Progress.{HasMore, IsComplete, Lacks, ReadsParts, ReadsSource, at_source};
+
+use crate::function_headers::external_declaration;
+use crate::name_lists::type_words;
+use crate::parser::Parser;
+use crate::scoped_cursor::{ScopedCursor, open_cursor};
+use crate::token_predicates::{is_keyword, is_punctuator};
+use grammar::{Build, Code, Diagnostic, ParseFault, Pools, Scope};
+use tokens::{Feed, Keyword, Punctuator, Token};
+
+/// Reads a source from the device in one pass, reports its actions to the builder, and returns its names.
+///
+/// The device gives its bytes in pieces of any size. The source ends before the first byte 26, or where the device has
+/// no more bytes; it is too long past 1,048,576 bytes. At most `MOST_LEVELS` levels may be open at once, which bounds the
+/// recursion. No more bytes are taken than decide the answer and a window of 4,096 bytes. A device that has given no
+/// byte has ended, and is not asked again.
+///
+/// The builder is new: it stands for no action yet. On `Ok` it stands for those of the whole file, and nothing is left
+/// open in it. No memory is asked for but by the builder.
+///
+/// # Errors
+/// `Source` with the first fault; `Device` where the device failed before that, or the end, was known; `Memory` where
+/// the builder was refused memory. With `Device` the builder stands for the actions of each function after whose
+/// closing brace three more tokens were read, and perhaps for further ones. Of a builder that refused an action nothing
+/// is promised: it is given up.
+#[inline(never)]
+pub fn parse<F: Feed, B: Build>(feed: &mut F, build: &mut B) -> Result<Pools, ParseFault>
+    requires new { IsNew (B.stands build.old) }
+    requires ready { MayRead (F.device feed.old) }
+    ensures file { IfOk result (λ pools. IsFile (B.stands build.old) (B.stands build.new) (F.device feed.old).to_come pools) }
+    ensures refused { IfErr result (ParseIsRefused (B.stands build.old) (B.stands build.new) B.denied
+        (F.device feed.old).to_come (F.device feed.new).to_come) }
+    ensures taken { TakesEnough result (B.stands build.old) (F.device feed.old).to_come (F.device feed.new).to_come }
+    ensures counted { CountsRefusal result (F.device feed.old).account (F.device feed.new).account }
+{
+    let mut scope = Scope::new();
+    let read = parse_into(feed, build, &mut scope);
+    let pools = scope.into_pools();
+    read?;
+    Ok(pools)
+}
+
+/// Reads a source as `parse` does, and leaves its names in a scope that knew none.
+///
+/// Names are large, so they stay where the caller has them.
+///
+/// # Errors
+/// Those of `parse`. Of the names in the scope nothing is promised then.
+pub fn parse_into<F: Feed, B: Build>(
+    feed: &mut F,
+    build: &mut B,
+    scope: &mut Scope,
+) -> Result<(), ParseFault>
+    requires new { IsNew (B.stands build.old) }
+    requires nothing { scope.old ≡ no_names }
+    requires ready { MayRead (F.device feed.old) }
+    ensures file { OnOk result (IsFile (B.stands build.old) (B.stands build.new) (F.device feed.old).to_come
+        (pools_in scope.new)) }
+    ensures refused { IfErr result (ParseIsRefused (B.stands build.old) (B.stands build.new) B.denied
+        (F.device feed.old).to_come (F.device feed.new).to_come) }
+    ensures taken { TakesEnough result (B.stands build.old) (F.device feed.old).to_come (F.device feed.new).to_come }
+    ensures counted { CountsRefusal result (F.device feed.old).account (F.device feed.new).account }
+{
+    let cursor = open_cursor(feed)?;
+    let parser = ScopedCursor::new(cursor, scope, feed);
+    let mut reader = Parser {
+        tokens: parser,
+        builder: build,
+        depth: 0,
+    };
+    let read = reader.source();
+    let checked = check_functions(&reader.tokens);
+    let Parser {
+        tokens: parser,
+        builder: build,
+        ..
+    } = reader;
+    let (names, device) = parser.into_parts();
+    // For the proof alone: what the names, the device and the builder are when their loans end.
+    let _known = &*names;
+    let _held = &*device;
+    let _told = &*build;
+    read?;
+    checked?;
+    Ok(())
+}
+
+impl<F: Feed, B: Build> Parser<'_, '_, '_, F, B> {
+    /// `source → end`, `type types head source` and `name ( params ) pdecls block source`
+    fn source(&mut self) -> Result<(), ParseFault>
+        requires at { IsBetween B.stands Anywhere self.old }
+        ensures reads { ReadsSource result B.denied B.stands self.old self.new }
+        ensures kept { MayProceed result self.old self.new }
+    {
+        while !matches!(self.tokens.peek().token, Token::End) {
+            self.file_part()?;
+        }
+        Ok(())
+    }
+
+    /// `type types head` or `name ( params ) pdecls block`
+    fn file_part(&mut self) -> Result<(), ParseFault>
+        requires at { IsBetween B.stands HasMore self.old }
+        ensures reads { ReadsParts result B.denied B.stands at_source self.old self.new }
+        ensures kept { Proceeds result self.old self.new }
+    {
+        if is_keyword(&self.tokens.peek().token, Keyword::Type) {
+            self.typed_part()?;
+        } else if let Token::Name(_) = self.tokens.peek().token {
+            self.function()?;
+        } else {
+            return Err(self.tokens.misfit());
+        }
+        Ok(())
+    }
+
+    /// `type types head`
+    fn typed_part(&mut self) -> Result<(), ParseFault>
+        requires at { IsBetween B.stands (IsNextKeyword word.Type) self.old }
+        ensures reads { ReadsParts result B.denied B.stands at_source self.old self.new }
+        ensures kept { Proceeds result self.old self.new }
+    {
+        self.tokens.expect_type()?;
+        type_words(&mut self.tokens)?;
+        self.head()?;
+        Ok(())
+    }
+
+    /// `head → name ( params ) pdecls block` and `head → name more ;`
+    fn head(&mut self) -> Result<(), ParseFault>
+        requires at { IsBetween B.stands Anywhere self.old }
+        ensures reads { ReadsParts result B.denied B.stands (Part Head ∷ at_source) self.old self.new }
+        ensures kept { Proceeds result self.old self.new }
+    {
+        match self.tokens.peek().token {
+            Token::Name(_) if is_punctuator(self.tokens.after(), Punctuator::OpenRound) => {
+                self.function()?;
+            }
+            Token::Name(_) => external_declaration(&mut self.tokens)?,
+            _ => return Err(self.tokens.misfit()),
+        }
+        Ok(())
+    }
+}
+
+/// Refuses a file in which a function is missing: one that was mentioned, or else `main`.
+fn check_functions<F: Feed>(parser: &ScopedCursor<'_, '_, F>) -> Result<(), ParseFault>
+    ensures complete { OnOk result (IsComplete (scope_of parser.now)) }
+    ensures lacks { IfErr result (Lacks parser.now.position.lookahead) }
+{
+    if let Some(line) = parser.undefined_line() {
+        return Err(ParseFault::Source(Diagnostic {
+            line,
+            code: Code::FunctionNotDefined,
+        }));
+    }
+    if !parser.has_main() {
+        return Err(parser.refusal(Code::NoMainFunction));
+    }
+    Ok(())
+}

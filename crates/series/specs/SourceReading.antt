@@ -1,0 +1,66 @@
+-- How much of the source files a run reads.
+use Rattle.std.specs.Prelude.{◌≡◌, ℕ, ◌+◌, ◌-◌, ◌<◌, List, Option, Some, None, Result, MatchResult, drop, get_or, length, take}
+use Rattle.tokens.specs.WindowLimits.{window_bytes}
+use Rattle.grammar.specs.Profile.{Profile}
+use Rattle.parser.specs.ParsedFiles.{LeavesUndecided, TakesUpTo}
+use Rattle.settings.specs.Settings.{Settings}
+use Rattle.series.specs.Compiling.{Source, compiling}
+use Rattle.series.specs.Pieces.{Begins, Piece, Taken, Writes}
+use Rattle.series.specs.Runs.{AreSources}
+use Rattle.series.specs.declared.run_results.RunFault.{RunFault}
+use Rattle.series.specs.declared.run_results.RunFault.TheVariants as fault
+
+-- of a file whose contents are known no more was taken than decides what it is, and so many more bytes
+abbrev pub TakesOf : Profile → (told later : Option (List ℕ)) → ℕ → Type 0
+TakesOf profile told later more = (bytes : List ℕ) → told ≡ Some bytes → TakesUpTo profile bytes later more
+
+-- of a file whose contents are known so few bytes were taken that they may leave open what it is
+abbrev pub MayLeaveUndecided : Profile → (told later : Option (List ℕ)) → Type 0
+MayLeaveUndecided profile told later = (bytes : List ℕ) → told ≡ Some bytes → LeavesUndecided profile bytes later
+
+-- what was taken of a file that was read, or whose read failed
+abbrev pub ReadsFile : {T E : Type 0} → Profile → Result T E → (told later : Option (List ℕ)) → Type 0
+ReadsFile profile result told later = MatchResult result (λ _. TakesOf profile told later window_bytes)
+    (λ _. MayLeaveUndecided profile told later)
+
+-- of each of the first files a window of 4,096 bytes at most was taken past what decides it
+abbrev pub TakesOfFirst : Profile → (told later : List (Option (List ℕ))) → ℕ → Type 0
+TakesOfFirst profile told later count = (file : ℕ) → file < count
+    → TakesOf profile (get_or told file None) (get_or later file None) window_bytes
+
+-- so many files were read, and the others not
+pub record ReadsFirst (profile : Profile) (told later : List (Option (List ℕ))) (count : ℕ) : Type 0 where
+  pub read : TakesOfFirst profile told later count
+  pub unread : drop count later ≡ drop count told
+
+-- the read of this file failed: the bytes taken of it may leave open what it is, and the files after it were not read
+pub record FailsToRead (profile : Profile) (told later : List (Option (List ℕ))) (file : ℕ) : Type 0 where
+  pub before : TakesOfFirst profile told later file
+  pub here : MayLeaveUndecided profile (get_or told file None) (get_or later file None)
+  pub unread : drop (file + 1) later ≡ drop (file + 1) told
+
+-- the sinks took these pieces, each whole, and perhaps more
+abbrev pub TakesPast : Taken → Taken → List Piece → Type 0
+TakesPast before after pieces = (between : Taken) × Writes before between pieces
+    × ((more : List Piece) × Begins between after more)
+
+-- A write failed: before the last file that was read, what all files before it give had been put whole. So no file is
+-- read after the one whose piece failed.
+pub record FailsToPut (settings : Settings) (told later : List (Option (List ℕ))) (before after : Taken) : Type 0 where
+  pub count : ℕ
+  pub reads : ReadsFirst settings.profile told later count
+  pub puts : (sources : List Source) → AreSources sources settings.file_words told
+      → TakesPast before after (compiling settings.mode settings.profile (take (count - 1) sources))
+
+-- what was read if a device stopped the run
+abbrev pub StopsReading : Settings → RunFault → (told later : List (Option (List ℕ))) → (before after : Taken) → Type 0
+StopsReading settings (fault.Read file) told later before after = FailsToRead settings.profile told later file
+StopsReading settings fault.Write told later before after = FailsToPut settings told later before after
+StopsReading settings fault.Memory told later before after = ⊥
+
+-- what was read by the end, and of a failed write what the sinks had taken then
+abbrev pub ReadsSources : {T : Type 0} → Settings → Result T RunFault → (told later : List (Option (List ℕ)))
+    → (before after : Taken) → Type 0
+ReadsSources settings result told later before after = MatchResult result
+    (λ _. ReadsFirst settings.profile told later (length told))
+    (λ fault. StopsReading settings fault told later before after)

@@ -1,6 +1,0 @@
-use Rattle.std.proofs.Common.{rules}
-use Rattle.sinks.proofs.DraftLemmas.{piece_put}
-use Rattle.sinks.proofs.pen.Pen.done.Goals as goal
-
-pub returns : goal.returns
-returns g c = search (rules, piece_put)

@@ -1,6 +1,0 @@
-use Rattle.std.proofs.Common.{rules}
-use Rattle.sinks.proofs.DraftLemmas.{page_put}
-use Rattle.sinks.proofs.pen.Pen.turn.Goals as goal
-
-pub returns-then-not-self-clause-text : goal.returns-then-not-self-clause-text
-returns-then-not-self-clause-text g c = search (rules, page_put)

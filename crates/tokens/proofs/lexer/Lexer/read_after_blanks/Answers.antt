@@ -1,0 +1,109 @@
+use Rattle.tokens.proofs.CommentLemmas.{ended-beyond}
+use Rattle.std.proofs.lemmas.Result.{on_err_weaker}
+use Rattle.std.proofs.Common.{◌≡◌, ◌∙◌, sym, ap, refl, [], true, false, arith}
+use Rattle.tokens.specs.Tokens.{is_last, located_tokens}
+use Rattle.tokens.specs.Window.{ahead}
+use Rattle.tokens.specs.Lexing.{to_read, followed, after_slash}
+use Rattle.tokens.specs.declared.located_tokens.Token.TheVariants as variant
+use Rattle.tokens.proofs.ToRead.{to_read-here, none-ahead}
+use Rattle.tokens.proofs.TokenLemmas.{nothing-left}
+use Rattle.tokens.proofs.BeginLemmas.{last-is_last, last-fits}
+use Rattle.tokens.proofs.TakenLemmas.{TakesBytes-then, fails-from, on_err-from, stops-from, then-fails, then-asks}
+use Rattle.tokens.proofs.lexer.Lexer.read_after_blanks.Goals as goal
+
+pub returns-in-None-clause-tokens : goal.returns-in-None-clause-tokens
+returns-in-None-clause-tokens g c =
+    let here = c.skip_blanks.new.self.window in
+    let found = c.in_ok-skip_blanks.ensures in
+    to_read-here (followed c.put_source_end.new.here) located_tokens here _ (λ to_come.
+    let a = ahead here to_come in
+    ap (λ x. followed x a) (c.put_source_end.ensures.value to_come)
+    ∙ nothing-left a (none-ahead here to_come found.next.ready (sym found.next.first ∙ c.in-None.is)))
+    ∙ found.tokens ∙ c.loop-self.invariant.tokens
+
+pub returns-in-None-clause-read : goal.returns-in-None-clause-read
+returns-in-None-clause-read g c =
+    let here = c.skip_blanks.new.self.window in
+    let end = c.put_source_end.ensures in
+    let last : is_last c.put_source_end.new.here.token ≡ true =
+    ap (λ x. is_last x.token) (end.value []) ∙ last-is_last variant.End here.line (ahead here []) refl in
+    record {
+      progress = λ e. absurd cc;
+      reached = end.reached;
+      fits = rw (end.value []) (last-fits variant.End here.line (ahead here []) tt);
+    }
+
+pub loop-self-preserved : goal.loop-self-preserved
+loop-self-preserved g c =
+    let blanks = c.in_ok-skip_blanks.ensures in
+    let slash = c.in_ok-read_slash_or_comment-in-Some-eq47.ensures in
+    record {
+      tokens =
+          to_read-here located_tokens (after_slash false c.read_slash_or_comment.new.here)
+          c.read_slash_or_comment.new.self.window _ (λ to_come. refl)
+          ∙
+          ap
+          (λ found. to_read (after_slash found c.read_slash_or_comment.new.here) c.read_slash_or_comment.new.self.window
+          (g.F.Feed.device c.read_slash_or_comment.new.feed).to_come) (sym c.if-branch.false)
+          ∙ slash.past.tokens ∙ blanks.tokens ∙ c.loop-self.invariant.tokens;
+      took = TakesBytes-then (TakesBytes-then c.loop-self.invariant.took blanks.kept.took) slash.kept.took;
+      forward = omega (arith, blanks.kept.forward, slash.forward);
+      count = slash.kept.count ∙ blanks.kept.count ∙ c.loop-self.invariant.count;
+      here = slash.past.unread c.if-branch.false ∙ c.loop-self.invariant.here;
+      known = slash.kept.known;
+    }
+
+pub returns-in_err-skip_blanks-clause-kept : goal.returns-in_err-skip_blanks-clause-kept
+returns-in_err-skip_blanks-clause-kept g c =
+    let now = c.loop-self.invariant in
+    then-fails c.from_residual.result _ c.from_residual.ensures.1 _ _ _ _ _ _ _ _ _ _ now.took now.forward now.count
+    c.in_err-skip_blanks.ensures.kept
+
+pub put_source_end-requires : goal.put_source_end-requires
+put_source_end-requires g c =
+    let next = c.in_ok-skip_blanks.ensures.next in
+    ended-beyond c.skip_blanks.new.self.window _ next.ready next.first c.in-None.is
+
+pub returns-in_err-read_slash_or_comment-in-Some-eq47-clause-kept :
+    goal.returns-in_err-read_slash_or_comment-in-Some-eq47-clause-kept
+returns-in_err-read_slash_or_comment-in-Some-eq47-clause-kept g c =
+    let now = c.loop-self.invariant in
+    let blanks = c.in_ok-skip_blanks.ensures.kept in
+    then-fails c.from_residual-in_err-read_slash_or_comment-in-Some-eq47.result _
+    c.from_residual-in_err-read_slash_or_comment-in-Some-eq47.ensures.1 _
+    c.skip_blanks.new.self.window _ _ _ _ _ _ _ _ (TakesBytes-then now.took blanks.took)
+    (omega (arith, now.forward, blanks.forward)) (blanks.count ∙ now.count)
+    c.in_err-read_slash_or_comment-in-Some-eq47.ensures.kept
+
+pub returns-in-Some-clause-kept : goal.returns-in-Some-clause-kept
+returns-in-Some-clause-kept g c =
+    let now = c.loop-self.invariant in
+    let blanks = c.in_ok-skip_blanks.ensures.kept in
+    then-asks c.read_begun_token.result _ c.skip_blanks.new.self.window _ _ _ _ _ _ _ _
+    (TakesBytes-then now.took blanks.took)
+    (omega (arith, now.forward, blanks.forward)) (blanks.count ∙ now.count) c.read_begun_token.ensures.kept
+
+pub returns-in_err-skip_blanks-clause-stopped : goal.returns-in_err-skip_blanks-clause-stopped
+returns-in_err-skip_blanks-clause-stopped g c =
+    let now = c.loop-self.invariant in
+    on_err-from c.from_residual.result (record {
+      within = stops-from located_tokens located_tokens _ _ c.skip_blanks.new.self.window _ _ now.tokens
+          c.in_err-skip_blanks.ensures.stopped;
+      unread = now.here;
+    })
+
+pub returns-in_err-read_slash_or_comment-in-Some-eq47-clause-stopped :
+    goal.returns-in_err-read_slash_or_comment-in-Some-eq47-clause-stopped
+returns-in_err-read_slash_or_comment-in-Some-eq47-clause-stopped g c =
+    let now = c.loop-self.invariant in
+    on_err-from c.from_residual-in_err-read_slash_or_comment-in-Some-eq47.result
+    (fails-from located_tokens located_tokens _ _ c.read_slash_or_comment.new.self.window _ _
+    (c.in_ok-skip_blanks.ensures.tokens ∙ now.tokens) now.here
+    c.in_err-read_slash_or_comment-in-Some-eq47.ensures.stopped)
+
+pub returns-in-Some-clause-stopped : goal.returns-in-Some-clause-stopped
+returns-in-Some-clause-stopped g c =
+    let now = c.loop-self.invariant in
+    on_err_weaker c.read_begun_token.result
+    (fails-from located_tokens located_tokens _ _ c.read_begun_token.new.self.window _ _
+    (c.in_ok-skip_blanks.ensures.tokens ∙ now.tokens) now.here) c.read_begun_token.ensures.stopped

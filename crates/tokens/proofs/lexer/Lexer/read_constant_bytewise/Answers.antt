@@ -1,0 +1,66 @@
+use Rattle.std.proofs.Common.{◌≡◌, ◌∙◌, ◌+◌, ◌*◌, ◌-◌, min, sym, arith, ap, subst}
+use Rattle.tokens.specs.Characters.{is_digit}
+use Rattle.tokens.specs.Lexing.{to_read, in_constant, constant_going_on}
+use Rattle.tokens.proofs.ToRead.{to_read-pass, to_read-seen}
+use Rattle.tokens.proofs.TokenLemmas.{constant-takes, token_run-stops, StopsAt}
+use Rattle.tokens.proofs.TakenLemmas.{on_err-from, stops, stops-from, in_token_run-ends, constant-undecided, TakesBytes-pass, TakesBytes-then, then-fails}
+use Rattle.tokens.proofs.lexer.Lexer.read_constant_bytewise.Goals as goal
+use Rattle.tokens.proofs.lexer.Lexer.read_constant_bytewise.Goals.{in_default-via-in-Some+else-is_digit, in_default-via-in_default}
+
+pub loop-b-preserved : goal.loop-b-preserved
+loop-b-preserved g c =
+    let now = in_constant c.loop-b.value in
+    let seen = c.in_ok-b.ensures in
+    let value : c.min-value.result ≡ min (10 * c.loop-b.value + (c.in-Some.b - 48)) 2147483648 =
+    c.min-value.ensures ∙ ap (λ d. min (10 * c.loop-b.value + d) 2147483648) c.from.ensures in
+    record {
+      tokens = ap (λ v. to_read (in_constant v) c.skip_byte.new.self (g.F.Feed.device c.peek.new.feed).to_come) value
+          ∙
+          to_read-pass _ now _ _ _ _ c.in-Some.b c.skip_byte.ensures.value seen.next.first c.in-Some.is
+          (constant-takes c.loop-b.value c.in-Some.b (sym c.if-is_digit.ensures))
+          ∙ to_read-seen now _ _ _ _ seen.seen ∙ c.loop-b.invariant.tokens;
+      bounded = omega (arith, value);
+      took = TakesBytes-pass c.skip_byte.ensures.kept.taken (TakesBytes-then c.loop-b.invariant.took seen.kept.took);
+      forward = omega (arith, seen.offset.offset);
+      count = seen.kept.count ∙ c.loop-b.invariant.count;
+      here = c.loop-b.invariant.here;
+      known = λ e. seen.kept.known (sym c.skip_byte.ensures.kept.beyond ∙ e);
+    }
+
+pub returns-in_default-clause-tokens : goal.returns-in_default-clause-tokens
+returns-in_default-clause-tokens g c =
+    let now = in_constant c.loop-b.value in
+    let seen = c.in_ok-b.ensures in
+    let stops : StopsAt is_digit c.in_ok-b.field-0 = elim c.in_default.branch [
+      | in_default-via-in-Some+else-is_digit w ↦ subst (StopsAt is_digit) (sym w.in-Some.is) (sym w.if-is_digit.ensures)
+      | in_default-via-in_default w ↦ subst (StopsAt is_digit) (sym w.in_default.is) tt
+    ] in
+    token_run-stops is_digit (constant_going_on c.loop-b.value) c.token_ending_here.result c.constant_token.result _ _ _
+    seen.next.ready
+    seen.next.first stops (λ _. c.token_ending_here.ensures) c.constant_token.ensures.token
+    ∙ to_read-seen now _ _ _ _ seen.seen ∙ c.loop-b.invariant.tokens
+    ∙
+    ap (λ v. to_read (in_constant v) c.args.self.now.window (g.F.Feed.device c.args.feed.now).to_come)
+    c.from-value.ensures
+
+pub returns-in_err-b-clause-stopped : goal.returns-in_err-b-clause-stopped
+returns-in_err-b-clause-stopped g c =
+    let seen = c.in_err-b.ensures in
+    let now = in_constant c.loop-b.value in
+    let chain =
+    c.loop-b.invariant.tokens ∙
+    ap (λ v. to_read (in_constant v) c.args.self.now.window (g.F.Feed.device c.args.feed.now).to_come)
+    c.from-value.ensures
+    in
+    on_err-from c.from_residual.result (record {
+      within = stops-from now (in_constant (c.args.first - 48)) _ _ c.peek.new.self _ _ chain
+          (stops now (in_token_run-ends is_digit (constant_going_on c.loop-b.value) (constant-undecided c.loop-b.value))
+          c.loop-b.self.window c.peek.new.self _ seen.failed seen.offset.offset);
+      unread = c.loop-b.invariant.here;
+    })
+
+pub returns-in_err-b-clause-kept : goal.returns-in_err-b-clause-kept
+returns-in_err-b-clause-kept g c =
+    let now = c.loop-b.invariant in
+    then-fails c.from_residual.result _ c.from_residual.ensures.1 _ _ _ _ _ _ _ _ _ _ now.took now.forward now.count
+    c.in_err-b.ensures.kept

@@ -1,0 +1,75 @@
+use Rattle.std.proofs.Common.{◌≡◌, ◌∙◌, ◌++◌, ◌∷◌, sym, arith, false, [], ap, refl, subst}
+use Rattle.tokens.specs.Characters.{is_name_byte}
+use Rattle.tokens.specs.Lexing.{to_read, in_name, name_going_on}
+use Rattle.tokens.proofs.ToRead.{to_read-pass, to_read-seen}
+use Rattle.tokens.proofs.TokenLemmas.{name-takes, name-overflows, token_run-stops, StopsAt}
+use Rattle.tokens.proofs.TakenLemmas.{on_err-from, stops, stops-from, in_token_run-ends, name-undecided, TakesBytes-pass, TakesBytes-then, then-fails}
+use Rattle.tokens.proofs.lexer.Lexer.read_name_bytewise.Goals as goal
+use Rattle.tokens.proofs.lexer.Lexer.read_name_bytewise.Goals.{then-is_full, else-is_full, in_default-via-in-Some+else-is_name_byte, in_default-via-in_default}
+
+pub loop-b-preserved : goal.loop-b-preserved
+loop-b-preserved g c =
+    let now = in_name c.loop-b.name c.loop-b.too_long in
+    let passes = sym c.if-is_name_byte.ensures in
+    let seen = c.in_ok-b.ensures in
+    let step =
+    elim c.if-is_full.branch as
+    (λ w.
+    to_read (in_name c.if-is_full.name c.if-is_full.too_long) c.skip_byte.new.self
+    (g.F.Feed.device c.peek.new.feed).to_come
+    ≡ to_read now c.peek.new.self (g.F.Feed.device c.peek.new.feed).to_come) [
+      | then-is_full w ↦ rw (w.name-is, w.too_long-is)
+          (to_read-pass _ now _ _ _ _ c.in-Some.b c.skip_byte.ensures.value seen.next.first c.in-Some.is
+          (name-overflows c.loop-b.name c.loop-b.too_long c.in-Some.b (w.if-is_full.ensures.0 refl) passes))
+      | else-is_full w ↦ rw (w.name-is, w.too_long-is, w.push-else-is_full.ensures)
+          (to_read-pass _ now _ _ _ _ c.in-Some.b c.skip_byte.ensures.value seen.next.first c.in-Some.is
+          (name-takes c.loop-b.name c.loop-b.too_long c.in-Some.b passes))
+    ] in
+    record {
+      tokens = step ∙ to_read-seen now _ _ _ _ seen.seen ∙ c.loop-b.invariant.tokens;
+      took = TakesBytes-pass c.skip_byte.ensures.kept.taken (TakesBytes-then c.loop-b.invariant.took seen.kept.took);
+      forward = omega (arith, seen.offset.offset);
+      count = seen.kept.count ∙ c.loop-b.invariant.count;
+      here = c.loop-b.invariant.here;
+      known = λ e. seen.kept.known (sym c.skip_byte.ensures.kept.beyond ∙ e);
+    }
+
+pub returns-in_default-clause-tokens : goal.returns-in_default-clause-tokens
+returns-in_default-clause-tokens g c =
+    let now = in_name c.loop-b.name c.loop-b.too_long in
+    let seen = c.in_ok-b.ensures in
+    let stops : StopsAt is_name_byte c.in_ok-b.field-0 = elim c.in_default.branch [
+      | in_default-via-in-Some+else-is_name_byte w ↦ subst (StopsAt is_name_byte) (sym w.in-Some.is)
+          (sym w.if-is_name_byte.ensures)
+      | in_default-via-in_default w ↦ subst (StopsAt is_name_byte) (sym w.in_default.is) tt
+    ] in
+    token_run-stops is_name_byte (name_going_on c.loop-b.name c.loop-b.too_long) c.put_name_token.new.here
+    (name_going_on c.loop-b.name c.loop-b.too_long []) _ _ _ seen.next.ready seen.next.first stops
+    (λ _. c.put_name_token.ensures.value) refl
+    ∙ to_read-seen now _ _ _ _ seen.seen ∙ c.loop-b.invariant.tokens
+    ∙
+    ap (λ name. to_read (in_name name false) c.args.self.now.window (g.F.Feed.device c.args.feed.now).to_come)
+    (c.push.ensures ∙ ap (λ name. name ++ c.args.first ∷ []) c.new-name.ensures)
+
+pub returns-in_err-b-clause-stopped : goal.returns-in_err-b-clause-stopped
+returns-in_err-b-clause-stopped g c =
+    let seen = c.in_err-b.ensures in
+    let now = in_name c.loop-b.name c.loop-b.too_long in
+    let begun = c.push.ensures ∙ ap (λ name. name ++ c.args.first ∷ []) c.new-name.ensures in
+    let chain =
+    c.loop-b.invariant.tokens ∙
+    ap (λ name. to_read (in_name name false) c.args.self.now.window (g.F.Feed.device c.args.feed.now).to_come) begun in
+    on_err-from c.from_residual.result (record {
+      within = stops-from now (in_name (c.args.first ∷ []) false) _ _ c.peek.new.self _ _ chain
+          (stops now
+          (in_token_run-ends is_name_byte (name_going_on c.loop-b.name c.loop-b.too_long)
+          (name-undecided c.loop-b.name c.loop-b.too_long)) c.loop-b.self.window c.peek.new.self _ seen.failed
+          seen.offset.offset);
+      unread = c.loop-b.invariant.here;
+    })
+
+pub returns-in_err-b-clause-kept : goal.returns-in_err-b-clause-kept
+returns-in_err-b-clause-kept g c =
+    let now = c.loop-b.invariant in
+    then-fails c.from_residual.result _ c.from_residual.ensures.1 _ _ _ _ _ _ _ _ _ _ now.took now.forward now.count
+    c.in_err-b.ensures.kept

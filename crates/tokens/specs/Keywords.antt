@@ -1,0 +1,34 @@
+-- The names that the language keeps for itself.
+use Rattle.std.specs.Prelude.{ℕ, Bool, false, ◌||◌, List, [], ◌∷◌, Option, Some, None, codes, if◌then◌else◌}
+use Rattle.std.specs.Str.{bytes_eq}
+use Rattle.tokens.specs.declared.located_tokens.Keyword.{Keyword}
+use Rattle.tokens.specs.declared.located_tokens.Keyword.TheVariants as word
+
+-- whether a name is one of these
+abbrev pub is_one_of : List (List ℕ) → List ℕ → Bool
+is_one_of [] name = false
+is_one_of (this ∷ others) name = bytes_eq name this || is_one_of others name
+
+-- the names of types
+abbrev pub type_words : List (List ℕ)
+type_words = codes "int" ∷ codes "long" ∷ codes "auto" ∷ codes "register" ∷ []
+
+-- reserved, with no use
+abbrev pub refused_words : List (List ℕ)
+refused_words =
+    codes "for" ∷ codes "do" ∷ codes "break" ∷ codes "continue" ∷ codes "switch" ∷ codes "case" ∷ codes "default"
+    ∷ codes "goto"
+    ∷ codes "struct" ∷ codes "union" ∷ codes "typedef" ∷ codes "char" ∷ codes "float" ∷ codes "double" ∷ codes "void"
+    ∷ codes "sizeof"
+    ∷ codes "static" ∷ codes "extern" ∷ codes "short" ∷ codes "unsigned" ∷ []
+
+-- the word that a name is, if it is one
+unfoldable pub keyword_of : List ℕ → Option Keyword
+keyword_of name =
+    if bytes_eq name (codes "if") then Some word.If
+    else (if bytes_eq name (codes "else") then Some word.Else
+    else (if bytes_eq name (codes "while") then Some word.While
+    else (if bytes_eq name (codes "return") then Some word.Return
+    else (if is_one_of type_words name then Some word.Type
+    else (if is_one_of refused_words name then Some word.Refused
+    else None)))))

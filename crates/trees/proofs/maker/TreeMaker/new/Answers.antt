@@ -1,6 +1,0 @@
-use Rattle.std.proofs.Common.{arith}
-use Rattle.trees.proofs.StandingLaws.{some}
-use Rattle.trees.proofs.maker.TreeMaker.new.Goals as goal
-
-pub prove-unreachable-requires : goal.prove-unreachable-requires
-prove-unreachable-requires c = omega (arith, some _ c.instructions.ensures.known)

@@ -1,8 +1,0 @@
-use Rattle.std.proofs.Common.{refl}
-use Rattle.std.proofs.lemmas.Result.{on_ok_weaker}
-use Rattle.trees.proofs.stack.Stack.begin.Goals as goal
-
-pub returns-clause-ok : goal.returns-clause-ok
-returns-clause-ok c =
-    on_ok_weaker c.push.result
-    (λ is. record { body = _; is = is; heading = refl; empty = c.new-statements.ensures.items }) c.push.ensures.ok
