@@ -1,5 +1,5 @@
 -- What two glances show is what happens between two stages.
-use Rattle.std.proofs.Common.{◌≡◌, ℕ, ◌+◌, ◌<◌, true, false, ℤ, List, length, get_or, Some, refl, sym, ap, ◌∙◌, arith}
+use Rattle.std.proofs.Common.{◌≡◌, ℕ, ◌+◌, ◌<◌, Bool, true, false, ℤ, List, length, get_or, Some, refl, sym, ap, ◌∙◌, arith}
 use Rattle.std.specs.Prelude.{option_map, slice_get}
 use Rattle.std.proofs.lemmas.Option.{slice_get-get_or, slice_get-map}
 use Rattle.arena.specs.Field.{damage_of, robot_at}
@@ -15,9 +15,9 @@ use Rattle.playing.specs.Played.{codes_of, exes_of}
 use Rattle.playing.proofs.Playing.{code_same, lives_are, robots_as_seats, seat_reached, some_same}
 use Rattle.moments.specs.declared.sought.Glance.{Glance}
 use Rattle.moments.specs.declared.sought.Sought.{Sought}
-use Rattle.moments.specs.declared.sought.Sought.TheVariants.{Place, Question, Restart, Hurt, Change, Value}
+use Rattle.moments.specs.declared.sought.Sought.TheVariants.{Place, Question, Restart, Hurt, Change, Value, LocalChange, LocalValue}
 use Rattle.moments.specs.Moments.{last_of, replies_of, wanted}
-use Rattle.moments.specs.Searches.{Happens, IsGlanced, Seems, Shows, state_at, value_of}
+use Rattle.moments.specs.Searches.{Happens, IsGlanced, IsOneCall, Seems, Shows, state_at, value_of}
 use Rattle.moments.proofs.Asking.{reply_is, wanted_is}
 
 -- two glances see a robot at two stages
@@ -28,15 +28,24 @@ pub record See (robots : List Behaviour) (code : Program) (i : ℕ) (sought : So
   pub damage_then : after.damage ≡ damage_of (robot_at later.field i)
   pub value : before.value ≡ value_of sought (state_at code i now)
   pub value_then : after.value ≡ value_of sought (state_at code i later)
-  pub address : after.address ≡ (state_at code i later).at
+  pub address : before.address ≡ (state_at code i now).at
+  pub address_then : after.address ≡ (state_at code i later).at
+  pub home : before.home ≡ (state_at code i now).home
+  pub home_then : after.home ≡ (state_at code i later).home
   pub frames : after.frames ≡ length (state_at code i later).frames
   pub word : (k : Intrinsic) (a : List ℤ) → wanted robots i now ≡ Ask k a → after.word ≡ last_of (replies_of later i)
+
+-- one call stays one where the numbers are the same
+one_call : (marks : List Bool) (a b c d a' b' c' d' : ℕ) → a ≡ a' → b ≡ b' → c ≡ c' → d ≡ d'
+    → IsOneCall marks a b c d → IsOneCall marks a' b' c' d'
+one_call marks a b c d a' b' c' d' p q r t (here, there, same) =
+    (ap (λ n. get_or marks n false) (sym p) ∙ here, ap (λ n. get_or marks n false) (sym r) ∙ there, sym q ∙ same ∙ t)
 
 pub shows_so : (sought : Sought) (robots : List Behaviour) (code : Program) (i : ℕ) (now later : Stage)
     (before after : Glance) → See robots code i sought now later before after → Seems sought before after
     → Shows sought robots code i now later
 shows_so (Place marks most) robots code i now later before after see (here, few) =
-    (ap (λ n. get_or marks.now n false) (sym see.address) ∙ here, omega (arith, see.frames, few))
+    (ap (λ n. get_or marks.now n false) (sym see.address_then) ∙ here, omega (arith, see.frames, few))
 shows_so (Question k least most) robots code i now later before after see ((a, asks), low, high) =
     let asked = sym see.want ∙ asks in
     let word = see.word k a asked in ((a, asked), rw word at low, rw word at high)
@@ -45,12 +54,18 @@ shows_so Hurt robots code i now later before after see grows = omega (arith, see
 shows_so (Change variable) robots code i now later before after see differs =
     λ same. differs (see.value_then ∙ same ∙ sym see.value)
 shows_so (Value variable value) robots code i now later before after see is = sym see.value_then ∙ is
+shows_so (LocalChange marks number) robots code i now later before after see (one, differs) =
+    (one_call marks.now before.address before.home after.address after.home (state_at code i now).at
+    (state_at code i now).home (state_at code i later).at (state_at code i later).home see.address see.home
+    see.address_then see.home_then one, λ same. differs (see.value_then ∙ same ∙ sym see.value))
+shows_so (LocalValue marks number value) robots code i now later before after see (here, is) =
+    (ap (λ n. get_or marks.now n false) (sym see.address_then) ∙ here, sym see.value_then ∙ is)
 
 pub seems_so : (sought : Sought) (robots : List Behaviour) (code : Program) (i : ℕ) (now later : Stage)
     (before after : Glance) → See robots code i sought now later before after → Shows sought robots code i now later
     → Seems sought before after
 seems_so (Place marks most) robots code i now later before after see (here, few) =
-    (ap (λ n. get_or marks.now n false) see.address ∙ here, omega (arith, see.frames, few))
+    (ap (λ n. get_or marks.now n false) see.address_then ∙ here, omega (arith, see.frames, few))
 seems_so (Question k least most) robots code i now later before after see ((a, asked), low, high) =
     let word = see.word k a asked in ((a, see.want ∙ asked), rw word low, rw word high)
 seems_so Restart robots code i now later before after see restarts = see.want ∙ restarts
@@ -58,6 +73,12 @@ seems_so Hurt robots code i now later before after see grows = omega (arith, see
 seems_so (Change variable) robots code i now later before after see differs =
     λ same. differs (sym see.value_then ∙ same ∙ see.value)
 seems_so (Value variable value) robots code i now later before after see is = see.value_then ∙ is
+seems_so (LocalChange marks number) robots code i now later before after see (one, differs) =
+    (one_call marks.now (state_at code i now).at (state_at code i now).home (state_at code i later).at
+    (state_at code i later).home before.address before.home after.address after.home (sym see.address) (sym see.home)
+    (sym see.address_then) (sym see.home_then) one, λ same. differs (sym see.value_then ∙ same ∙ see.value))
+seems_so (LocalValue marks number value) robots code i now later before after see (here, is) =
+    (ap (λ n. get_or marks.now n false) see.address_then ∙ here, see.value_then ∙ is)
 
 -- glances before and after a cycle do so
 pub glances_see : (codes : List Program) (robots : List Behaviour) (s : Stage) (seats others : List Pilot) (i : ℕ)
@@ -88,7 +109,10 @@ glances_see codes robots s seats others i none new game next code sought before 
       damage_then = rw one at (second.damage (stage_after robots s next.ending.cycles).field came.played.field);
       value = first.value ∙ ap (value_of sought) old_at;
       value_then = second.value ∙ ap (value_of sought) new_at;
-      address = second.address ∙ ap (λ (t : Machine). t.at) new_at;
+      address = first.address ∙ ap (λ (t : Machine). t.at) old_at;
+      address_then = second.address ∙ ap (λ (t : Machine). t.at) new_at;
+      home = first.home ∙ ap (λ (t : Machine). t.home) old_at;
+      home_then = second.home ∙ ap (λ (t : Machine). t.home) new_at;
       frames = second.frames ∙ ap (λ (t : Machine). length t.frames) new_at;
       word = λ k a asks.
           second.word

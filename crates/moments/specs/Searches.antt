@@ -1,11 +1,12 @@
 -- In which cycle of a match something happens to a robot.
-use Rattle.std.specs.Prelude.{◌≡◌, ◌≢◌, ◌<◌, ◌≤◌, ◌+◌, ◌≤ℤ◌, ℕ, ℤ, pos, true, false, if◌then◌else◌, List, get_or, length, Option, Some, None}
+use Rattle.std.specs.Prelude.{◌≡◌, ◌≢◌, ◌<◌, ◌≤◌, ◌+◌, ◌≤ℤ◌, ℕ, ℤ, pos, Bool, true, false, if◌then◌else◌, List, get_or, length, Option, Some, None}
 use Rattle.arena.specs.Field.{Field, damage_of, is_live, robot_at}
 use Rattle.arena.specs.Arena.{lives}
 use Rattle.arena.specs.Representing.{RepresentsField}
 use Rattle.battles.specs.Battle.{Behaviour, Stage, stage_after}
 use Rattle.code.specs.declared.want.Want.TheVariants.{Ask, Quiet}
 use Rattle.code.specs.declared.want.Want.TheVariants as want
+use Rattle.grammar.specs.declared.resolved_names.Var.TheVariants.{Local}
 use Rattle.code.specs.Generation.{Program}
 use Rattle.code.specs.Machine.{Machine, reached, read_variable, started_machine, want_code}
 use Rattle.code.specs.ReachedMachines.{IsReached}
@@ -13,12 +14,16 @@ use Rattle.playing.specs.Games.{Game}
 use Rattle.playing.specs.Pilot.{Pilot}
 use Rattle.moments.specs.declared.sought.Glance.{Glance}
 use Rattle.moments.specs.declared.sought.Sought.{Sought}
-use Rattle.moments.specs.declared.sought.Sought.TheVariants.{Place, Question, Restart, Hurt, Change, Value}
+use Rattle.moments.specs.declared.sought.Sought.TheVariants.{Place, Question, Restart, Hurt, Change, Value, LocalChange, LocalValue}
 use Rattle.moments.specs.Moments.{last_of, replies_of, wanted}
 
 -- where a robot's code stands at a stage
 abbrev pub state_at : Program → ℕ → Stage → Machine
 state_at code i stage = reached code (started_machine code) (replies_of stage i)
+
+-- two instructions are both marked, in one call of a function: its variables begin at the same word
+abbrev pub IsOneCall : List Bool → (at home at' home' : ℕ) → Type 0
+IsOneCall marks at home at' home' = (get_or marks at false ≡ true) × (get_or marks at' false ≡ true) × (home ≡ home')
 
 -- what is sought shows between the stages before and after a cycle
 abbrev pub Shows : Sought → List Behaviour → Program → ℕ → (before after : Stage) → Type 0
@@ -32,6 +37,13 @@ Shows Hurt robots code i before after = damage_of (robot_at before.field i) < da
 Shows (Change variable) robots code i before after =
     read_variable (state_at code i after) variable ≢ read_variable (state_at code i before) variable
 Shows (Value variable value) robots code i before after = read_variable (state_at code i after) variable ≡ value
+Shows (LocalChange marks number) robots code i before after =
+    IsOneCall marks.now (state_at code i before).at (state_at code i before).home (state_at code i after).at
+    (state_at code i after).home
+    × (read_variable (state_at code i after) (Local number) ≢ read_variable (state_at code i before) (Local number))
+Shows (LocalValue marks number value) robots code i before after =
+    (get_or marks.now (state_at code i after).at false ≡ true)
+    × (read_variable (state_at code i after) (Local number) ≡ value)
 
 -- it happens to a robot in the cycle after so many: the robot lives to begin it, and it shows
 pub record Happens (robots : List Behaviour) (code : Program) (opening : Stage) (i : ℕ) (sought : Sought) (n : ℕ) :
@@ -60,6 +72,8 @@ IsFound H n after (Some cycle) = (cycle ≡ n + 1) × (after < cycle) × H n
 abbrev pub value_of : Sought → Machine → ℤ
 value_of (Change variable) state = read_variable state variable
 value_of (Value variable value) state = read_variable state variable
+value_of (LocalChange marks number) state = read_variable state (Local number)
+value_of (LocalValue marks number value) state = read_variable state (Local number)
 value_of _ state = pos 0
 
 -- what a glance at a robot sees
@@ -71,6 +85,7 @@ pub record IsGlanced (game : Game) (seat : Pilot) (i : ℕ) (sought : Sought) (g
   pub damage : (f : Field) → RepresentsField game.arena f → glance.damage ≡ damage_of (robot_at f i)
   pub value : glance.value ≡ value_of sought seat.state
   pub address : glance.address ≡ seat.state.at
+  pub home : glance.home ≡ seat.state.home
   pub frames : glance.frames ≡ length seat.state.frames
 
 -- what is sought seems to happen between two glances
@@ -82,3 +97,7 @@ Seems Restart before after = before.wanted ≡ want.Restart
 Seems Hurt before after = before.damage < after.damage
 Seems (Change variable) before after = after.value ≢ before.value
 Seems (Value variable value) before after = after.value ≡ value
+Seems (LocalChange marks number) before after =
+    IsOneCall marks.now before.address before.home after.address after.home × (after.value ≢ before.value)
+Seems (LocalValue marks number value) before after =
+    (get_or marks.now after.address false ≡ true) × (after.value ≡ value)

@@ -7,7 +7,7 @@ ghost use Rattle.code.specs.Generation.{Program};
 ghost use Rattle.code.specs.declared.want.Want.TheVariants.{Ask};
 ghost use Rattle.playing.specs.Games.{GoesOn, HasCome};
 ghost use Rattle.playing.specs.Played.{codes_of, exes_of};
-ghost use Rattle.moments.specs.Searches.{Happens, IsGlanced, Seems, value_of};
+ghost use Rattle.moments.specs.Searches.{Happens, IsGlanced, IsOneCall, Seems, value_of};
 
 use crate::asked::{Nobody, top_word, wanted};
 use code::{Intrinsic, Machine, Want};
@@ -29,6 +29,12 @@ pub enum Sought<'a> {
     Change(Var),
     /// A variable has this value after the cycle.
     Value(Var, i32),
+    /// The variable of this number of the function whose addresses are marked has another value after the cycle than
+    /// before it, in one call of the function: the instructions before and after the cycle are both in it.
+    LocalChange(&'a [bool], u8),
+    /// After the cycle the next instruction is in the function whose addresses are marked, and its variable of this number
+    /// has this value.
+    LocalValue(&'a [bool], u8, i32),
 }
 
 /// What is seen of a robot between two cycles.
@@ -43,6 +49,7 @@ pub(crate) struct Glance {
     /// The value of the variable that is sought.
     value: i32,
     address: usize,
+    home: u16,
     frames: usize,
 }
 
@@ -90,6 +97,7 @@ fn look(game: &Game, pilot: &Pilot<'_>, robot: usize, sought: &Sought<'_>) -> Gl
         damage: game.arena().damage(robot),
         value: value_of(machine, sought),
         address: machine.address(),
+        home: machine.home(),
         frames: machine.frames().len(),
     }
 }
@@ -100,6 +108,9 @@ fn value_of(machine: &Machine, sought: &Sought<'_>) -> i32
 {
     match *sought {
         Sought::Change(variable) | Sought::Value(variable, _) => machine.variable(variable),
+        Sought::LocalChange(_, number) | Sought::LocalValue(_, number, _) => {
+            machine.variable(Var::Local(number))
+        }
         Sought::Place(_, _) | Sought::Question(_, _, _) | Sought::Restart | Sought::Hurt => 0,
     }
 }
@@ -126,7 +137,23 @@ fn shows(sought: &Sought<'_>, before: &Glance, after: &Glance) -> bool
         Sought::Hurt => before.damage < after.damage,
         Sought::Change(_) => after.value != before.value,
         Sought::Value(_, value) => after.value == value,
+        Sought::LocalChange(marks, _) => {
+            is_one_call(marks, before, after) && after.value != before.value
+        }
+        Sought::LocalValue(marks, _, value) => {
+            is_marked(marks, after.address) && after.value == value
+        }
     }
+}
+
+/// Reports whether the instructions of two glances are both marked, in one call of a function.
+fn is_one_call(marks: &[bool], before: &Glance, after: &Glance) -> bool
+    ensures yes { result ≡ true → IsOneCall marks.now before.now.address before.now.home after.now.address after.now.home }
+    ensures no { IsOneCall marks.now before.now.address before.now.home after.now.address after.now.home → result ≡ true }
+{
+    is_marked(marks, before.address)
+        && is_marked(marks, after.address)
+        && before.home == after.home
 }
 
 /// Reports whether an address is marked.

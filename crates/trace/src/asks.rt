@@ -1,7 +1,7 @@
 //! Questions: a row for each call of an intrinsic function.
 
-use crate::notes::{Note, place_of};
 use crate::rows::add_turn;
+use notes::{Note, add_call, place_of};
 use playing::{Exchange, Pilot, Turn};
 use tools::{Draft, Text, add_signed};
 
@@ -23,24 +23,8 @@ pub fn add_ask(
     text.add("\t");
     text.number(u64::from(line));
     text.add("\t");
-    add_call(text, question);
+    add_call(text, question.intrinsic, question.arguments);
     text.add("\t");
     add_signed(text, i64::from(question.reply));
     text.add("\n");
-}
-
-/// Adds a call with the arguments that are used.
-fn add_call(text: &mut Draft, question: &Exchange) {
-    let [first, second] = question.arguments;
-    let used = question.intrinsic.argument_count();
-    text.add(question.intrinsic.name());
-    text.add("(");
-    if used > 0 {
-        add_signed(text, i64::from(first));
-    }
-    if used > 1 {
-        text.add(", ");
-        add_signed(text, i64::from(second));
-    }
-    text.add(")");
 }

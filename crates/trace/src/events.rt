@@ -2,13 +2,13 @@
 
 ghost use Rattle.std.specs.Prelude.{◌<◌, length};
 
-use crate::notes::{Note, note_of, place_of};
 use crate::requests::Request;
 use crate::rows::Rows;
 use crate::tellers::Teller;
 use arena::{Arena, MOST_ROBOTS};
 use code::Cause;
 use findings::{Event, Field, Listener, Seen, Stance};
+use notes::{Note, note_of, place_of};
 use playing::{Exchange, Pilot, Turn, Watcher, word_of};
 use tools::Fault;
 

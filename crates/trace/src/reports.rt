@@ -3,13 +3,13 @@
 use crate::habits::{add_calls, add_directions, add_streak};
 use crate::items::{Items, MOST_COLUMNS};
 use crate::measured::add_measured;
-use crate::notes::{Note, note_of, plain};
 use crate::requests::Request;
 use crate::restarts::add_restarts;
 use crate::subjects::Subject;
 use crate::tallies::{RobotCounts, add, take_largest};
 use code::Intrinsic;
 use findings::percent;
+use notes::{Note, note_of, plain};
 use playing::Pilot;
 use std::alloc::{AllocError, Global};
 use tools::{Draft, Text, add_right};

@@ -1,10 +1,10 @@
 //! Where and why a robot restarted.
 
 use crate::items::Items;
-use crate::notes::Note;
 use crate::subjects::Subject;
 use crate::tallies::{add, take_largest};
 use code::{Cause, Frame};
+use notes::Note;
 use std::alloc::{AllocError, Global};
 use tools::{Draft, Text};
 

@@ -1,9 +1,9 @@
 //! A robot that is reported.
 
-use crate::notes::Note;
 use crate::tallies::RobotCounts;
 use code::Program;
 use findings::function_at;
+use notes::Note;
 
 /// A robot that is reported: what was counted of it, and what that is told by.
 #[derive(Clone, Copy)]

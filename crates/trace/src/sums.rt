@@ -2,7 +2,6 @@
 
 ghost use Rattle.std.specs.Prelude.{◌<◌, length};
 
-use crate::notes::Note;
 use crate::reports::add_report;
 use crate::requests::Request;
 use crate::tallies::RobotCounts;
@@ -10,6 +9,7 @@ use crate::tellers::Teller;
 use arena::Arena;
 use code::Cause;
 use findings::{Source, losses};
+use notes::Note;
 use playing::{Exchange, Pilot, Turn, Watcher};
 use tools::{Draft, Fault, Span, write_text};
 

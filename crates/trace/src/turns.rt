@@ -1,12 +1,12 @@
 //! Turns: a row for each question, or for each cycle.
 
 use crate::asks::{ASK_COLUMNS, add_ask};
-use crate::notes::Note;
 use crate::requests::{Form, Request};
 use crate::rows::Rows;
 use crate::steps::{STEP_COLUMNS, add_step};
 use crate::tellers::Teller;
 use arena::Arena;
+use notes::Note;
 use playing::{Exchange, Pilot, Turn, Watcher};
 use std::alloc::Global;
 use tools::Fault;

@@ -1,5 +1,5 @@
 use Rattle.std.proofs.Common.{◌≡◌, false, length}
-use Rattle.trace.proofs.notes.compiled.Given as goal
+use Rattle.notes.proofs.notes.compiled.Given as goal
 
 -- if no file so far is faulty, each has its program
 abbrev pub invariant-loop-word : goal.invariant-loop-word

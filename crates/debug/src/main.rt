@@ -1,0 +1,62 @@
+//! Answers questions about one match: where a robot is after a cycle, and in which cycle something happens to it.
+#![tactic(auto)]
+
+mod aims;
+mod answers;
+mod calls;
+mod commands;
+mod places;
+mod refusals;
+mod sessions;
+mod variables;
+
+use crate::sessions::{Session, answer_all};
+use notes::{compiled, note_of};
+use playing::pilots;
+use std::process::ExitCode;
+use tools::{Fault, Known, MATCH_OPTIONS, Options, ProgramFrame, Span, Work, wish};
+
+/// The program's name, its line of wrong usage, and its options.
+const FRAME: ProgramFrame = ProgramFrame {
+    name: "crobots-debug",
+    about: "Reads commands, a line each, and answers where a robot is after a cycle of a match.",
+    usage: "[-kMATCH] [-lCYCLES] [-sSEED] [-pPROFILE] [--robot N] FILE..",
+    known: &[&MATCH_OPTIONS, &ROBOT_OPTIONS],
+};
+
+/// The option of the robot.
+const ROBOT_OPTIONS: [Known; 1] = [Known::Valued(
+    "robot",
+    "N",
+    "the robot that is looked at, from 1 (default 1)",
+)];
+
+/// Answers the commands of standard input about the match that the command line asks for, and returns the status.
+fn main(rt: HostRuntime) -> ExitCode {
+    FRAME.run(&rt, &Debug)
+}
+
+/// The work of this program.
+struct Debug;
+
+impl Work for Debug {
+    /// Compiles the files, and answers commands up to `quit` or the end of input.
+    fn work(&self, rt: &HostRuntime, options: &Options<'_>) -> Result<(), Fault> {
+        let wish = wish(options)?;
+        let robots = wish.file_words().len().max(2);
+        let robot = Span::read(options, robots)?.robot.unwrap_or(0);
+        let sources = compiled(rt, FRAME.name, &wish)?;
+        let mut pilots = pilots(rt.alloc(), sources.programs.as_slice())?;
+        // each file has a note
+        let note = note_of(sources.notes.as_slice(), robot).ok_or(Fault::Source)?;
+        let session = Session {
+            note,
+            program: pilots[robot].program(),
+            robot,
+            seed: wish.seed(),
+            number: wish.first(),
+            limit: wish.limit(),
+        };
+        answer_all(rt, FRAME.name, &session, pilots.as_mut_slice())
+    }
+}
