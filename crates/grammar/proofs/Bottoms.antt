@@ -8,7 +8,7 @@ use Rattle.tokens.specs.declared.located_tokens.Punctuator.TheVariants as punctu
 use Rattle.tokens.specs.declared.located_tokens.Token.{Token}
 use Rattle.tokens.specs.declared.located_tokens.Token.TheVariants as token
 use Rattle.tokens.specs.declared.located_tokens.Keyword.{Keyword}
-use Rattle.tokens.specs.declared.located_tokens.Keyword.TheVariants as word
+use Rattle.tokens.specs.declared.located_tokens.Keyword.TheVariants as keyword
 use Rattle.arith.specs.declared.operators.Op.{Op}
 use Rattle.grammar.specs.declared.operators.StoreOp.{StoreOp}
 use Rattle.grammar.specs.Derivation.{State, Value, Definition, initial_state, step, item_step, stepped, derived, next_token, name_of_token, constant_value, matched, name_matched, replaced, constant_matched}
@@ -76,33 +76,33 @@ head_fits next after = refl
 
 choice_fits : (symbol : Symbol) (next after : Token) → fits (is_bottom (Part symbol)) (choice symbol next after) ≡ true
 choice_fits Source token.End after = refl
-choice_fits Source (token.Keyword word.Type) after = refl
+choice_fits Source (token.Keyword keyword.Type) after = refl
 choice_fits Source (token.Name name) after = refl
 choice_fits Source next after = refl
-choice_fits Types (token.Keyword word.Type) after = refl
+choice_fits Types (token.Keyword keyword.Type) after = refl
 choice_fits Types next after = refl
 choice_fits Head next after = head_fits next after
 choice_fits (More role) (token.Punctuator punctuator.Comma) after = refl
 choice_fits (More role) next after = refl
 choice_fits Parameters (token.Name name) after = refl
 choice_fits Parameters next after = refl
-choice_fits ParameterTypes (token.Keyword word.Type) after = refl
+choice_fits ParameterTypes (token.Keyword keyword.Type) after = refl
 choice_fits ParameterTypes next after = refl
 choice_fits FunctionBlock (token.Punctuator punctuator.OpenCurly) after = refl
 choice_fits FunctionBlock next after = refl
 choice_fits Block (token.Punctuator punctuator.OpenCurly) after = refl
 choice_fits Block next after = refl
-choice_fits Declarations (token.Keyword word.Type) after = refl
+choice_fits Declarations (token.Keyword keyword.Type) after = refl
 choice_fits Declarations next after = refl
 choice_fits Statements (token.Punctuator punctuator.CloseCurly) after = refl
 choice_fits Statements next after = refl
 choice_fits Statement (token.Punctuator punctuator.Semicolon) after = refl
 choice_fits Statement (token.Punctuator punctuator.OpenCurly) after = refl
-choice_fits Statement (token.Keyword word.If) after = refl
-choice_fits Statement (token.Keyword word.While) after = refl
-choice_fits Statement (token.Keyword word.Return) after = refl
+choice_fits Statement (token.Keyword keyword.If) after = refl
+choice_fits Statement (token.Keyword keyword.While) after = refl
+choice_fits Statement (token.Keyword keyword.Return) after = refl
 choice_fits Statement next after = refl
-choice_fits ElsePart (token.Keyword word.Else) after = refl
+choice_fits ElsePart (token.Keyword keyword.Else) after = refl
 choice_fits ElsePart next after = refl
 choice_fits Back (token.Punctuator punctuator.Semicolon) after = refl
 choice_fits Back next after = refl

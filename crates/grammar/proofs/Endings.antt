@@ -7,7 +7,7 @@ use Rattle.tokens.specs.declared.located_tokens.Punctuator.{Punctuator}
 use Rattle.tokens.specs.declared.located_tokens.Punctuator.TheVariants as punctuator
 use Rattle.tokens.specs.declared.located_tokens.Token.{Token}
 use Rattle.tokens.specs.declared.located_tokens.Token.TheVariants as token
-use Rattle.tokens.specs.declared.located_tokens.Keyword.TheVariants as word
+use Rattle.tokens.specs.declared.located_tokens.Keyword.TheVariants as keyword
 use Rattle.arith.specs.declared.operators.Op.{Op}
 use Rattle.grammar.specs.declared.operators.StoreOp.{StoreOp}
 use Rattle.grammar.specs.Derivation.{State, state, Value, Definition, step, item_step, stepped, derived, next_token, token_after_next, matched, name_matched, replaced, constant_matched}
@@ -91,9 +91,9 @@ expression_lighter = λ stack. omega arith
 statement_lighter : (t after : Token) → Lighter Statement (choice Statement t after)
 statement_lighter (token.Punctuator punctuator.Semicolon) after = λ stack. omega arith
 statement_lighter (token.Punctuator punctuator.OpenCurly) after = λ stack. omega arith
-statement_lighter (token.Keyword word.If) after = λ stack. omega arith
-statement_lighter (token.Keyword word.While) after = λ stack. omega arith
-statement_lighter (token.Keyword word.Return) after = λ stack. omega arith
+statement_lighter (token.Keyword keyword.If) after = λ stack. omega arith
+statement_lighter (token.Keyword keyword.While) after = λ stack. omega arith
+statement_lighter (token.Keyword keyword.Return) after = λ stack. omega arith
 statement_lighter t after = expression_lighter
 
 name_lighter : (after : Token) → Lighter Primary (choice Primary (token.Name []) after)
@@ -147,28 +147,28 @@ argument_lighter = λ stack. omega arith
 
 lighter : (symbol : Symbol) (t after : Token) → Lighter symbol (choice symbol t after)
 lighter Source token.End after = λ stack. omega arith
-lighter Source (token.Keyword word.Type) after = λ stack. omega arith
+lighter Source (token.Keyword keyword.Type) after = λ stack. omega arith
 lighter Source (token.Name name) after = λ stack. omega arith
 lighter Source t after = tt
-lighter Types (token.Keyword word.Type) after = λ stack. omega arith
+lighter Types (token.Keyword keyword.Type) after = λ stack. omega arith
 lighter Types t after = empty_lighter Types refl
 lighter Head t after = head_lighter t after
 lighter (More role) (token.Punctuator punctuator.Comma) after = λ stack. omega arith
 lighter (More role) t after = empty_lighter (More role) refl
 lighter Parameters (token.Name name) after = λ stack. omega arith
 lighter Parameters t after = empty_lighter Parameters refl
-lighter ParameterTypes (token.Keyword word.Type) after = λ stack. omega arith
+lighter ParameterTypes (token.Keyword keyword.Type) after = λ stack. omega arith
 lighter ParameterTypes t after = empty_lighter ParameterTypes refl
 lighter FunctionBlock (token.Punctuator punctuator.OpenCurly) after = λ stack. omega arith
 lighter FunctionBlock t after = tt
 lighter Block (token.Punctuator punctuator.OpenCurly) after = λ stack. omega arith
 lighter Block t after = tt
-lighter Declarations (token.Keyword word.Type) after = λ stack. omega arith
+lighter Declarations (token.Keyword keyword.Type) after = λ stack. omega arith
 lighter Declarations t after = empty_lighter Declarations refl
 lighter Statements (token.Punctuator punctuator.CloseCurly) after = empty_lighter Statements refl
 lighter Statements t after = more_statements_lighter
 lighter Statement t after = statement_lighter t after
-lighter ElsePart (token.Keyword word.Else) after = λ stack. omega arith
+lighter ElsePart (token.Keyword keyword.Else) after = λ stack. omega arith
 lighter ElsePart t after = rule_lighter
 lighter Back (token.Punctuator punctuator.Semicolon) after = λ stack. omega arith
 lighter Back t after = back_lighter

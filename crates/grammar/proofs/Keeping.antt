@@ -6,7 +6,7 @@ use Rattle.tokens.specs.declared.located_tokens.Punctuator.{Punctuator}
 use Rattle.tokens.specs.declared.located_tokens.Punctuator.TheVariants as punctuator
 use Rattle.tokens.specs.declared.located_tokens.Token.{Token}
 use Rattle.tokens.specs.declared.located_tokens.Token.TheVariants as token
-use Rattle.tokens.specs.declared.located_tokens.Keyword.TheVariants as word
+use Rattle.tokens.specs.declared.located_tokens.Keyword.TheVariants as keyword
 use Rattle.arith.specs.declared.operators.Op.{Op}
 use Rattle.grammar.specs.declared.operators.StoreOp.{StoreOp}
 use Rattle.grammar.specs.Derivation.{State, state, Value, Definition, step, item_step, stepped, derived, next_token, token_after_next, line_at, matched, name_matched, constant_matched, replaced, name_of_token, constant_value, is_end, functions_defined, scope_after_action}
@@ -96,25 +96,25 @@ choice_inner Source next after h = absurd (cc)
 choice_inner Head next after h = absurd (cc)
 choice_inner Parameters next after h = absurd (cc)
 choice_inner FunctionBlock next after h = absurd (cc)
-choice_inner Types (token.Keyword word.Type) after h = refl
+choice_inner Types (token.Keyword keyword.Type) after h = refl
 choice_inner Types next after h = refl
 choice_inner (More role) (token.Punctuator punctuator.Comma) after h = more_inner role h
 choice_inner (More role) next after h = refl
-choice_inner ParameterTypes (token.Keyword word.Type) after h = refl
+choice_inner ParameterTypes (token.Keyword keyword.Type) after h = refl
 choice_inner ParameterTypes next after h = refl
 choice_inner Block (token.Punctuator punctuator.OpenCurly) after h = refl
 choice_inner Block next after h = refl
-choice_inner Declarations (token.Keyword word.Type) after h = refl
+choice_inner Declarations (token.Keyword keyword.Type) after h = refl
 choice_inner Declarations next after h = refl
 choice_inner Statements (token.Punctuator punctuator.CloseCurly) after h = refl
 choice_inner Statements next after h = refl
 choice_inner Statement (token.Punctuator punctuator.Semicolon) after h = refl
 choice_inner Statement (token.Punctuator punctuator.OpenCurly) after h = refl
-choice_inner Statement (token.Keyword word.If) after h = refl
-choice_inner Statement (token.Keyword word.While) after h = refl
-choice_inner Statement (token.Keyword word.Return) after h = refl
+choice_inner Statement (token.Keyword keyword.If) after h = refl
+choice_inner Statement (token.Keyword keyword.While) after h = refl
+choice_inner Statement (token.Keyword keyword.Return) after h = refl
 choice_inner Statement next after h = refl
-choice_inner ElsePart (token.Keyword word.Else) after h = refl
+choice_inner ElsePart (token.Keyword keyword.Else) after h = refl
 choice_inner ElsePart next after h = refl
 choice_inner Back (token.Punctuator punctuator.Semicolon) after h = refl
 choice_inner Back next after h = refl

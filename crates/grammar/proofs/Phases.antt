@@ -5,7 +5,7 @@ use Rattle.tokens.specs.declared.located_tokens.Punctuator.{Punctuator}
 use Rattle.tokens.specs.declared.located_tokens.Punctuator.TheVariants as punctuator
 use Rattle.tokens.specs.declared.located_tokens.Token.{Token}
 use Rattle.tokens.specs.declared.located_tokens.Token.TheVariants as token
-use Rattle.tokens.specs.declared.located_tokens.Keyword.TheVariants as word
+use Rattle.tokens.specs.declared.located_tokens.Keyword.TheVariants as keyword
 use Rattle.arith.specs.declared.operators.Op.{Op}
 use Rattle.grammar.specs.declared.operators.StoreOp.{StoreOp}
 use Rattle.grammar.specs.Grammar.{Symbol, Source, Types, Head, More, Parameters, ParameterTypes, FunctionBlock, Block, Declarations, Statements, Statement, ElsePart, Back, Expression, Level, Tail, Unary, Primary, Arguments, MoreArguments, Role, Defined, External, Parameter, Typed, Local, Called, Mentioned, Item, Exactly, AKeyword, AName, AConstant, AnEnd, Part, Make, Close, SemanticAction, Define, Production, choice, assignment_or, tail_production}
@@ -155,17 +155,17 @@ primary_kept next after = tt
 
 kept : (symbol : Symbol) (next after : Token) → Kept symbol (choice symbol next after)
 kept Source token.End after = record { outside = refl; before = tt; inside = tt; wrong = tt }
-kept Source (token.Keyword word.Type) after = record { outside = refl; before = tt; inside = tt; wrong = tt }
+kept Source (token.Keyword keyword.Type) after = record { outside = refl; before = tt; inside = tt; wrong = tt }
 kept Source (token.Name name) after = record { outside = refl; before = tt; inside = tt; wrong = tt }
 kept Source next after = tt
-kept Types (token.Keyword word.Type) after = record { outside = refl; before = refl; inside = refl; wrong = tt }
+kept Types (token.Keyword keyword.Type) after = record { outside = refl; before = refl; inside = refl; wrong = tt }
 kept Types next after = record { outside = refl; before = refl; inside = refl; wrong = tt }
 kept Head next after = head_kept next after
 kept (More role) (token.Punctuator punctuator.Comma) after = more_kept role
 kept (More role) next after = no_more_kept role
 kept Parameters (token.Name name) after = record { outside = refl; before = refl; inside = refl; wrong = tt }
 kept Parameters next after = record { outside = refl; before = refl; inside = refl; wrong = tt }
-kept ParameterTypes (token.Keyword word.Type) after =
+kept ParameterTypes (token.Keyword keyword.Type) after =
     record { outside = refl; before = refl; inside = refl; wrong = tt }
 kept ParameterTypes next after = record { outside = refl; before = refl; inside = refl; wrong = tt }
 kept FunctionBlock (token.Punctuator punctuator.OpenCurly) after =
@@ -174,7 +174,8 @@ kept FunctionBlock next after = tt
 kept Block (token.Punctuator punctuator.OpenCurly) after =
     record { outside = tt; before = tt; inside = refl; wrong = tt }
 kept Block next after = tt
-kept Declarations (token.Keyword word.Type) after = record { outside = refl; before = refl; inside = refl; wrong = tt }
+kept Declarations (token.Keyword keyword.Type) after =
+    record { outside = refl; before = refl; inside = refl; wrong = tt }
 kept Declarations next after = record { outside = refl; before = refl; inside = refl; wrong = tt }
 kept Statements (token.Punctuator punctuator.CloseCurly) after =
     record { outside = tt; before = tt; inside = refl; wrong = tt }
@@ -183,11 +184,11 @@ kept Statement (token.Punctuator punctuator.Semicolon) after =
     record { outside = tt; before = tt; inside = refl; wrong = tt }
 kept Statement (token.Punctuator punctuator.OpenCurly) after =
     record { outside = tt; before = tt; inside = refl; wrong = tt }
-kept Statement (token.Keyword word.If) after = record { outside = tt; before = tt; inside = refl; wrong = tt }
-kept Statement (token.Keyword word.While) after = record { outside = tt; before = tt; inside = refl; wrong = tt }
-kept Statement (token.Keyword word.Return) after = record { outside = tt; before = tt; inside = refl; wrong = tt }
+kept Statement (token.Keyword keyword.If) after = record { outside = tt; before = tt; inside = refl; wrong = tt }
+kept Statement (token.Keyword keyword.While) after = record { outside = tt; before = tt; inside = refl; wrong = tt }
+kept Statement (token.Keyword keyword.Return) after = record { outside = tt; before = tt; inside = refl; wrong = tt }
 kept Statement next after = record { outside = tt; before = tt; inside = refl; wrong = tt }
-kept ElsePart (token.Keyword word.Else) after = record { outside = tt; before = tt; inside = refl; wrong = tt }
+kept ElsePart (token.Keyword keyword.Else) after = record { outside = tt; before = tt; inside = refl; wrong = tt }
 kept ElsePart next after = record { outside = tt; before = tt; inside = refl; wrong = tt }
 kept Back (token.Punctuator punctuator.Semicolon) after =
     record { outside = tt; before = tt; inside = refl; wrong = tt }

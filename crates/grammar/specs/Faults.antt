@@ -6,7 +6,7 @@ use Rattle.tokens.specs.declared.located_tokens.LexicalError.TheVariants as lexi
 use Rattle.tokens.specs.declared.located_tokens.LocatedToken.{LocatedToken}
 use Rattle.tokens.specs.declared.located_tokens.Token.{Token}
 use Rattle.tokens.specs.declared.located_tokens.Token.TheVariants as token
-use Rattle.tokens.specs.declared.located_tokens.Keyword.TheVariants as word
+use Rattle.tokens.specs.declared.located_tokens.Keyword.TheVariants as keyword
 use Rattle.grammar.specs.declared.diagnostics.Code.{Code}
 use Rattle.grammar.specs.declared.diagnostics.Code.TheVariants as code
 use Rattle.grammar.specs.declared.actions.Action.{Action}
@@ -57,7 +57,7 @@ lexical_error_code lexical_error.SourceTooLong = code.SourceTooLong
 -- the code of a token that doesn't fit
 abbrev pub misfit_code : Token → Code
 misfit_code (token.Fault f) = lexical_error_code f
-misfit_code (token.Keyword word.Refused) = code.ReservedWord
+misfit_code (token.Keyword keyword.Refused) = code.ReservedWord
 misfit_code next = code.SyntaxError
 
 -- how many levels are open: each stays open until its production is done

@@ -4,11 +4,11 @@ use Rattle.std.specs.Prelude.{ℕ, ◌+◌, List, [], ◌∷◌, Bool, true, fal
 use Rattle.std.specs.Prelude.{if◌then◌else◌}
 use denote.Enum.Bare.{sameb}
 use Rattle.tokens.specs.contracts.located_tokens.Punctuator as punctuators
-use Rattle.tokens.specs.contracts.located_tokens.Word as words
+use Rattle.tokens.specs.contracts.located_tokens.Keyword as keywords
 use Rattle.tokens.specs.declared.located_tokens.Punctuator.{Punctuator}
 use Rattle.tokens.specs.declared.located_tokens.Punctuator.TheVariants as punctuator
 use Rattle.tokens.specs.declared.located_tokens.Keyword.{Keyword}
-use Rattle.tokens.specs.declared.located_tokens.Keyword.TheVariants as word
+use Rattle.tokens.specs.declared.located_tokens.Keyword.TheVariants as keyword
 use Rattle.tokens.specs.declared.located_tokens.Token.{Token}
 use Rattle.tokens.specs.declared.located_tokens.Token.TheVariants as token
 use Rattle.arith.specs.declared.operators.Op.{Op}
@@ -91,7 +91,7 @@ is_punctuator m (token.Punctuator n) = same_punctuator m n
 is_punctuator m _ = false
 
 abbrev pub same_keyword : Keyword → Keyword → Bool
-same_keyword w v = sameb words.the_type w v
+same_keyword w v = sameb keywords.the_type w v
 
 abbrev pub is_keyword : Keyword → Token → Bool
 is_keyword w (token.Keyword v) = same_keyword w v
@@ -114,12 +114,13 @@ tail_production n (Some op) m = Exactly m ∷ Part (Level (n + 1)) ∷ Make (Ope
 -- the production of a symbol if the next token is no fault
 abbrev pub choice : Symbol → Token → Token → Production
 choice Source token.End after = Some (AnEnd ∷ [])
-choice Source (token.Keyword word.Type) after = Some (AKeyword word.Type ∷ Part Types ∷ Part Head ∷ Part Source ∷ [])
+choice Source (token.Keyword keyword.Type) after =
+    Some (AKeyword keyword.Type ∷ Part Types ∷ Part Head ∷ Part Source ∷ [])
 choice Source (token.Name name) after =
     Some (AName Defined ∷ Exactly punctuator.OpenRound ∷ Part Parameters ∷ Exactly punctuator.CloseRound
     ∷ Part ParameterTypes ∷ Part FunctionBlock ∷ Part Source ∷ [])
 choice Source next after = None
-choice Types (token.Keyword word.Type) after = Some (AKeyword word.Type ∷ Part Types ∷ [])
+choice Types (token.Keyword keyword.Type) after = Some (AKeyword keyword.Type ∷ Part Types ∷ [])
 choice Types next after = Some []
 choice Head (token.Name name) (token.Punctuator punctuator.OpenRound) =
     Some (AName Defined ∷ Exactly punctuator.OpenRound ∷ Part Parameters ∷ Exactly punctuator.CloseRound
@@ -131,8 +132,8 @@ choice (More role) (token.Punctuator punctuator.Comma) after = Some
 choice (More role) next after = Some []
 choice Parameters (token.Name name) after = Some (AName Parameter ∷ Part (More Parameter) ∷ [])
 choice Parameters next after = Some []
-choice ParameterTypes (token.Keyword word.Type) after =
-    Some (AKeyword word.Type ∷ Part Types ∷ AName Typed ∷ Part (More Typed) ∷ Exactly punctuator.Semicolon
+choice ParameterTypes (token.Keyword keyword.Type) after =
+    Some (AKeyword keyword.Type ∷ Part Types ∷ AName Typed ∷ Part (More Typed) ∷ Exactly punctuator.Semicolon
     ∷ Part ParameterTypes ∷ [])
 choice ParameterTypes next after = Some []
 choice FunctionBlock (token.Punctuator punctuator.OpenCurly) after =
@@ -143,25 +144,26 @@ choice Block (token.Punctuator punctuator.OpenCurly) after =
     Some (Exactly punctuator.OpenCurly ∷ Part Declarations ∷ Part Statements ∷ Exactly punctuator.CloseCurly ∷ Close
     ∷ [])
 choice Block next after = None
-choice Declarations (token.Keyword word.Type) after =
-    Some (AKeyword word.Type ∷ Part Types ∷ AName Local ∷ Part (More Local) ∷ Exactly punctuator.Semicolon
+choice Declarations (token.Keyword keyword.Type) after =
+    Some (AKeyword keyword.Type ∷ Part Types ∷ AName Local ∷ Part (More Local) ∷ Exactly punctuator.Semicolon
     ∷ Part Declarations ∷ [])
 choice Declarations next after = Some []
 choice Statements (token.Punctuator punctuator.CloseCurly) after = Some []
 choice Statements next after = Some (Part Statement ∷ Part Statements ∷ [])
 choice Statement (token.Punctuator punctuator.Semicolon) after = Some (Exactly punctuator.Semicolon ∷ [])
 choice Statement (token.Punctuator punctuator.OpenCurly) after = Some (Part Block ∷ [])
-choice Statement (token.Keyword word.If) after =
-    Some (AKeyword word.If ∷ Exactly punctuator.OpenRound ∷ Part Expression ∷ Exactly punctuator.CloseRound ∷ Make Empty
+choice Statement (token.Keyword keyword.If) after =
+    Some (AKeyword keyword.If ∷ Exactly punctuator.OpenRound ∷ Part Expression ∷ Exactly punctuator.CloseRound ∷
+    Make Empty
     ∷ Part Statement ∷ Part ElsePart ∷ Close ∷ [])
-choice Statement (token.Keyword word.While) after =
-    Some (AKeyword word.While ∷ Exactly punctuator.OpenRound ∷ Part Expression ∷ Exactly punctuator.CloseRound
+choice Statement (token.Keyword keyword.While) after =
+    Some (AKeyword keyword.While ∷ Exactly punctuator.OpenRound ∷ Part Expression ∷ Exactly punctuator.CloseRound
     ∷ Make Empty ∷ Part Statement ∷ Make Repeat ∷ Close ∷ [])
-choice Statement (token.Keyword word.Return) after = Some
-    (AKeyword word.Return ∷ Part Back ∷ Exactly punctuator.Semicolon ∷ Make GiveBack ∷ [])
+choice Statement (token.Keyword keyword.Return) after = Some
+    (AKeyword keyword.Return ∷ Part Back ∷ Exactly punctuator.Semicolon ∷ Make GiveBack ∷ [])
 choice Statement next after = Some (Part Expression ∷ Exactly punctuator.Semicolon ∷ Make Evaluate ∷ [])
-choice ElsePart (token.Keyword word.Else) after = Some
-    (AKeyword word.Else ∷ Make Empty ∷ Part Statement ∷ Make DecideElse ∷ [])
+choice ElsePart (token.Keyword keyword.Else) after = Some
+    (AKeyword keyword.Else ∷ Make Empty ∷ Part Statement ∷ Make DecideElse ∷ [])
 choice ElsePart next after = Some (Make Decide ∷ [])
 choice Back (token.Punctuator punctuator.Semicolon) after = Some (Make Zero ∷ [])
 choice Back next after = Some (Part Expression ∷ [])
@@ -205,8 +207,8 @@ choice MoreArguments next after = Some []
 abbrev pub enters : Symbol → Token → Token → Bool
 enters FunctionBlock (token.Punctuator punctuator.OpenCurly) after = true
 enters Block (token.Punctuator punctuator.OpenCurly) after = true
-enters Statement (token.Keyword word.If) after = true
-enters Statement (token.Keyword word.While) after = true
+enters Statement (token.Keyword keyword.If) after = true
+enters Statement (token.Keyword keyword.While) after = true
 enters Expression (token.Name name) (token.Punctuator m) = is_some (store_of m)
 enters Unary (token.Punctuator punctuator.Minus) after = true
 enters Unary (token.Punctuator punctuator.Not) after = true

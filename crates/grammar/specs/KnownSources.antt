@@ -7,7 +7,7 @@ use Rattle.tokens.specs.declared.located_tokens.LocatedToken.{LocatedToken}
 use Rattle.tokens.specs.declared.located_tokens.Punctuator.TheVariants as punctuator
 use Rattle.tokens.specs.declared.located_tokens.Token.{Token}
 use Rattle.tokens.specs.declared.located_tokens.Token.TheVariants as token
-use Rattle.tokens.specs.declared.located_tokens.Keyword.TheVariants as word
+use Rattle.tokens.specs.declared.located_tokens.Keyword.TheVariants as keyword
 use Rattle.grammar.specs.declared.diagnostics.Code.{Code}
 use Rattle.grammar.specs.declared.diagnostics.Code.TheVariants as code
 use Rattle.grammar.specs.declared.diagnostics.Diagnostic.{Diagnostic}
@@ -82,10 +82,10 @@ abbrev pub number : ℕ → Token
 number n = token.Constant n
 
 abbrev pub int : Token
-int = token.Keyword word.Type
+int = token.Keyword keyword.Type
 
 abbrev pub return : Token
-return = token.Keyword word.Return
+return = token.Keyword keyword.Return
 
 -- ( ) { } ; ,
 abbrev pub ro : Token
@@ -186,7 +186,8 @@ distance_file = record {
 -- if(a) if(b) c; else d;
 abbrev pub nearest_else : List Token
 nearest_else =
-    token.Keyword word.If ∷ ro ∷ a ∷ rc ∷ token.Keyword word.If ∷ ro ∷ b ∷ rc ∷ c ∷ end ∷ token.Keyword word.Else ∷ d ∷
+    token.Keyword keyword.If ∷ ro ∷ a ∷ rc ∷ token.Keyword keyword.If ∷ ro ∷ b ∷ rc ∷ c ∷ end ∷
+    token.Keyword keyword.Else ∷ d ∷
     end ∷ []
 
 abbrev pub nearest_else_tree : Body
@@ -198,9 +199,10 @@ abbrev pub late_read : List Token
 late_read =
     int ∷ x ∷ end ∷ (function f (x ∷ equals ∷ number 1 ∷ end ∷ return ∷ number 1 ∷ end ∷ []) ++ function main (
     x ∷ token.Punctuator punctuator.PlusEquals ∷ f ∷ ro ∷ rc ∷ end
-    ∷ token.Keyword word.If ∷ ro ∷ x ∷ token.Punctuator punctuator.EqualsEquals ∷ number 2 ∷ rc ∷ cannon ∷ ro ∷ number 0
+    ∷ token.Keyword keyword.If ∷ ro ∷ x ∷ token.Punctuator punctuator.EqualsEquals ∷ number 2 ∷ rc ∷ cannon ∷ ro ∷
+    number 0
     ∷ comma ∷ number 0 ∷ rc ∷ end
-    ∷ token.Keyword word.While ∷ ro ∷ number 1 ∷ rc ∷ end ∷ []))
+    ∷ token.Keyword keyword.While ∷ ro ∷ number 1 ∷ rc ∷ end ∷ []))
 
 abbrev pub shot_tree : Body
 shot_tree = ExpressionStatement (Call (callee.Intrinsic intrinsic.Cannon)
@@ -304,8 +306,8 @@ pub record KnownMisfits : Type 0 where
   pub constant_then_name : HasFault (in_main (number 12 ∷ token.Name (codes "ab") ∷ end ∷ [])) 6 code.SyntaxError
   pub late_declaration : HasFault (in_main (end ∷ int ∷ x ∷ end ∷ [])) 6 code.SyntaxError
   pub unclosed : HasFault (on_lines (main ∷ ro ∷ rc ∷ co ∷ [])) 5 code.SyntaxError
-  pub refused_word : HasFault (in_main (token.Keyword word.Refused ∷ end ∷ [])) 5 code.ReservedWord
-  pub misplaced_word : HasFault (in_main (token.Keyword word.Else ∷ end ∷ [])) 5 code.SyntaxError
+  pub refused_word : HasFault (in_main (token.Keyword keyword.Refused ∷ end ∷ [])) 5 code.ReservedWord
+  pub misplaced_word : HasFault (in_main (token.Keyword keyword.Else ∷ end ∷ [])) 5 code.SyntaxError
   pub bad_character : HasFault (broken_off (main ∷ ro ∷ []) lexical_error.BadCharacter) 3 code.BadCharacter
   pub comment_not_closed : HasFault (broken_off (function main []) lexical_error.CommentNotClosed) 6
       code.CommentNotClosed
@@ -385,7 +387,7 @@ pub record KnownNameFaults : Type 0 where
 -- How far a source need be read, and what a builder has by then: here a token ends where its line says.
 pub record KnownNeeds : Type 0 where
   pub all : need_tokens first_profile (in_main []) ≡ 6
-  pub misfit : need_tokens first_profile (in_main (token.Keyword word.Refused ∷ end ∷ end ∷ [])) ≡ 6
+  pub misfit : need_tokens first_profile (in_main (token.Keyword keyword.Refused ∷ end ∷ end ∷ [])) ≡ 6
   pub last_token : need_tokens first_profile (broken_off (main ∷ ro ∷ []) lexical_error.BadCharacter) ≡ 3
   pub built : built_tokens (on_lines (function f [] ++ function main [])) 8
       ≡ function_actions 0 (empty_function (codes "f"))

@@ -5,7 +5,7 @@ use Rattle.tokens.specs.declared.located_tokens.Punctuator.{Punctuator}
 use Rattle.tokens.specs.declared.located_tokens.Punctuator.TheVariants as punctuator
 use Rattle.tokens.specs.declared.located_tokens.Token.{Token}
 use Rattle.tokens.specs.declared.located_tokens.Token.TheVariants as token
-use Rattle.tokens.specs.declared.located_tokens.Keyword.TheVariants as word
+use Rattle.tokens.specs.declared.located_tokens.Keyword.TheVariants as keyword
 use Rattle.arith.specs.declared.operators.Op.{Op}
 use Rattle.grammar.specs.declared.operators.StoreOp.{StoreOp}
 use Rattle.grammar.specs.Grammar.{Symbol, Source, Types, Head, More, Parameters, ParameterTypes, FunctionBlock, Block, Declarations, Statements, Statement, ElsePart, Back, Expression, Level, Tail, Unary, Primary, Arguments, MoreArguments, Part, choice, enters, assignment_or, tail_production}
@@ -48,33 +48,33 @@ levels_are_close symbol next after = close symbol next after
     close : (symbol : Symbol) (next after : Token) →
         closes (choice symbol next after) ≡ entered_levels (enters symbol next after)
     close Source token.End after = refl
-    close Source (token.Keyword word.Type) after = refl
+    close Source (token.Keyword keyword.Type) after = refl
     close Source (token.Name name) after = refl
     close Source next after = refl
-    close Types (token.Keyword word.Type) after = refl
+    close Types (token.Keyword keyword.Type) after = refl
     close Types next after = refl
     close Head next after = head_close next after
     close (More role) (token.Punctuator punctuator.Comma) after = refl
     close (More role) next after = refl
     close Parameters (token.Name name) after = refl
     close Parameters next after = refl
-    close ParameterTypes (token.Keyword word.Type) after = refl
+    close ParameterTypes (token.Keyword keyword.Type) after = refl
     close ParameterTypes next after = refl
     close FunctionBlock (token.Punctuator punctuator.OpenCurly) after = refl
     close FunctionBlock next after = refl
     close Block (token.Punctuator punctuator.OpenCurly) after = refl
     close Block next after = refl
-    close Declarations (token.Keyword word.Type) after = refl
+    close Declarations (token.Keyword keyword.Type) after = refl
     close Declarations next after = refl
     close Statements (token.Punctuator punctuator.CloseCurly) after = refl
     close Statements next after = refl
     close Statement (token.Punctuator punctuator.Semicolon) after = refl
     close Statement (token.Punctuator punctuator.OpenCurly) after = refl
-    close Statement (token.Keyword word.If) after = refl
-    close Statement (token.Keyword word.While) after = refl
-    close Statement (token.Keyword word.Return) after = refl
+    close Statement (token.Keyword keyword.If) after = refl
+    close Statement (token.Keyword keyword.While) after = refl
+    close Statement (token.Keyword keyword.Return) after = refl
     close Statement next after = refl
-    close ElsePart (token.Keyword word.Else) after = refl
+    close ElsePart (token.Keyword keyword.Else) after = refl
     close ElsePart next after = refl
     close Back (token.Punctuator punctuator.Semicolon) after = refl
     close Back next after = refl

@@ -6,7 +6,7 @@ use Rattle.tokens.specs.declared.located_tokens.Punctuator.{Punctuator}
 use Rattle.tokens.specs.declared.located_tokens.Punctuator.TheVariants as punctuator
 use Rattle.tokens.specs.declared.located_tokens.Token.{Token}
 use Rattle.tokens.specs.declared.located_tokens.Token.TheVariants as token
-use Rattle.tokens.specs.declared.located_tokens.Keyword.TheVariants as word
+use Rattle.tokens.specs.declared.located_tokens.Keyword.TheVariants as keyword
 use Rattle.arith.specs.declared.operators.Op.{Op}
 use Rattle.grammar.specs.declared.operators.StoreOp.{StoreOp}
 use Rattle.grammar.specs.Grammar.{Role, Symbol, Source, Types, Head, More, Parameters, ParameterTypes, FunctionBlock, Block, Declarations, Statements, Statement, ElsePart, Back, Expression, Level, Tail, Unary, Primary, Arguments, MoreArguments, Mentioned, Part, assignment_or, choice, tail_production}
@@ -22,118 +22,118 @@ Fits symbol next after = (option_map in_words (choice symbol next after) ≡ pla
 source_fits : (next after : Token) → Fits Source next after
 unfolding digits
 source_fits (token.Punctuator punctuator.Plus) after = (refl, refl)
-source_fits (token.Keyword word.Type) after = (refl, refl)
+source_fits (token.Keyword keyword.Type) after = (refl, refl)
 source_fits next after = (refl, refl)
 
 types_fits : (next after : Token) → Fits Types next after
 unfolding digits
 types_fits (token.Punctuator punctuator.Plus) after = (refl, refl)
-types_fits (token.Keyword word.Type) after = (refl, refl)
+types_fits (token.Keyword keyword.Type) after = (refl, refl)
 types_fits next after = (refl, refl)
 
 parameters_fits : (next after : Token) → Fits Parameters next after
 unfolding digits
 parameters_fits (token.Punctuator punctuator.Plus) after = (refl, refl)
-parameters_fits (token.Keyword word.Type) after = (refl, refl)
+parameters_fits (token.Keyword keyword.Type) after = (refl, refl)
 parameters_fits next after = (refl, refl)
 
 parameter_types_fits : (next after : Token) → Fits ParameterTypes next after
 unfolding digits
 parameter_types_fits (token.Punctuator punctuator.Plus) after = (refl, refl)
-parameter_types_fits (token.Keyword word.Type) after = (refl, refl)
+parameter_types_fits (token.Keyword keyword.Type) after = (refl, refl)
 parameter_types_fits next after = (refl, refl)
 
 function_block_fits : (next after : Token) → Fits FunctionBlock next after
 unfolding digits
 function_block_fits (token.Punctuator punctuator.Plus) after = (refl, refl)
-function_block_fits (token.Keyword word.Type) after = (refl, refl)
+function_block_fits (token.Keyword keyword.Type) after = (refl, refl)
 function_block_fits next after = (refl, refl)
 
 block_fits : (next after : Token) → Fits Block next after
 unfolding digits
 block_fits (token.Punctuator punctuator.Plus) after = (refl, refl)
-block_fits (token.Keyword word.Type) after = (refl, refl)
+block_fits (token.Keyword keyword.Type) after = (refl, refl)
 block_fits next after = (refl, refl)
 
 declarations_fits : (next after : Token) → Fits Declarations next after
 unfolding digits
 declarations_fits (token.Punctuator punctuator.Plus) after = (refl, refl)
-declarations_fits (token.Keyword word.Type) after = (refl, refl)
+declarations_fits (token.Keyword keyword.Type) after = (refl, refl)
 declarations_fits next after = (refl, refl)
 
 statements_fits : (next after : Token) → Fits Statements next after
 unfolding digits
 statements_fits (token.Punctuator punctuator.Plus) after = (refl, refl)
-statements_fits (token.Keyword word.Type) after = (refl, refl)
+statements_fits (token.Keyword keyword.Type) after = (refl, refl)
 statements_fits next after = (refl, refl)
 
 statement_fits : (next after : Token) → Fits Statement next after
 unfolding digits
 statement_fits (token.Punctuator punctuator.Plus) after = (refl, refl)
-statement_fits (token.Keyword word.Type) after = (refl, refl)
+statement_fits (token.Keyword keyword.Type) after = (refl, refl)
 statement_fits next after = (refl, refl)
 
 else_part_fits : (next after : Token) → Fits ElsePart next after
 unfolding digits
 else_part_fits (token.Punctuator punctuator.Plus) after = (refl, refl)
-else_part_fits (token.Keyword word.Type) after = (refl, refl)
+else_part_fits (token.Keyword keyword.Type) after = (refl, refl)
 else_part_fits next after = (refl, refl)
 
 back_fits : (next after : Token) → Fits Back next after
 unfolding digits
 back_fits (token.Punctuator punctuator.Plus) after = (refl, refl)
-back_fits (token.Keyword word.Type) after = (refl, refl)
+back_fits (token.Keyword keyword.Type) after = (refl, refl)
 back_fits next after = (refl, refl)
 
 unary_fits : (next after : Token) → Fits Unary next after
 unfolding digits
 unary_fits (token.Punctuator punctuator.Plus) after = (refl, refl)
-unary_fits (token.Keyword word.Type) after = (refl, refl)
+unary_fits (token.Keyword keyword.Type) after = (refl, refl)
 unary_fits next after = (refl, refl)
 
 arguments_fits : (next after : Token) → Fits Arguments next after
 unfolding digits
 arguments_fits (token.Punctuator punctuator.Plus) after = (refl, refl)
-arguments_fits (token.Keyword word.Type) after = (refl, refl)
+arguments_fits (token.Keyword keyword.Type) after = (refl, refl)
 arguments_fits next after = (refl, refl)
 
 more_arguments_fits : (next after : Token) → Fits MoreArguments next after
 unfolding digits
 more_arguments_fits (token.Punctuator punctuator.Plus) after = (refl, refl)
-more_arguments_fits (token.Keyword word.Type) after = (refl, refl)
+more_arguments_fits (token.Keyword keyword.Type) after = (refl, refl)
 more_arguments_fits next after = (refl, refl)
 
 more_fits : (role : Role) (next after : Token) → Fits (More role) next after
 unfolding digits
 more_fits role (token.Punctuator punctuator.Plus) after = (refl, refl)
-more_fits role (token.Keyword word.Type) after = (refl, refl)
+more_fits role (token.Keyword keyword.Type) after = (refl, refl)
 more_fits role next after = (refl, refl)
 
 head_fits : (next after : Token) → Fits Head next after
 unfolding digits
 head_fits (token.Name name) (token.Punctuator punctuator.Plus) = (refl, refl)
-head_fits (token.Name name) (token.Keyword word.Type) = (refl, refl)
+head_fits (token.Name name) (token.Keyword keyword.Type) = (refl, refl)
 head_fits (token.Name name) after = (refl, refl)
 head_fits (token.Punctuator punctuator.Plus) after = (refl, refl)
-head_fits (token.Keyword word.Type) after = (refl, refl)
+head_fits (token.Keyword keyword.Type) after = (refl, refl)
 head_fits next after = (refl, refl)
 
 expression_fits : (next after : Token) → Fits Expression next after
 unfolding digits
 expression_fits (token.Name name) (token.Punctuator punctuator.Plus) = (refl, refl)
-expression_fits (token.Name name) (token.Keyword word.Type) = (refl, refl)
+expression_fits (token.Name name) (token.Keyword keyword.Type) = (refl, refl)
 expression_fits (token.Name name) after = (refl, refl)
 expression_fits (token.Punctuator punctuator.Plus) after = (refl, refl)
-expression_fits (token.Keyword word.Type) after = (refl, refl)
+expression_fits (token.Keyword keyword.Type) after = (refl, refl)
 expression_fits next after = (refl, refl)
 
 primary_fits : (next after : Token) → Fits Primary next after
 unfolding digits
 primary_fits (token.Name name) (token.Punctuator punctuator.Plus) = (refl, refl)
-primary_fits (token.Name name) (token.Keyword word.Type) = (refl, refl)
+primary_fits (token.Name name) (token.Keyword keyword.Type) = (refl, refl)
 primary_fits (token.Name name) after = (refl, refl)
 primary_fits (token.Punctuator punctuator.Plus) after = (refl, refl)
-primary_fits (token.Keyword word.Type) after = (refl, refl)
+primary_fits (token.Keyword keyword.Type) after = (refl, refl)
 primary_fits next after = (refl, refl)
 
 level_fits : (n : ℕ) (next after : Token) → n ≤ 10 → Fits (Level (suc n)) next after
@@ -154,35 +154,35 @@ level_fits (suc (suc (suc (suc (suc (suc (suc (suc (suc (suc (suc n))))))))))) n
 tail_fits : (n : ℕ) (next after : Token) → n ≤ 9 → Fits (Tail (suc n)) next after
 unfolding digits
 tail_fits zero (token.Punctuator punctuator.Plus) after l = (refl, refl)
-tail_fits zero (token.Keyword word.Type) after l = (refl, refl)
+tail_fits zero (token.Keyword keyword.Type) after l = (refl, refl)
 tail_fits zero next after l = (refl, refl)
 tail_fits (suc zero) (token.Punctuator punctuator.Plus) after l = (refl, refl)
-tail_fits (suc zero) (token.Keyword word.Type) after l = (refl, refl)
+tail_fits (suc zero) (token.Keyword keyword.Type) after l = (refl, refl)
 tail_fits (suc zero) next after l = (refl, refl)
 tail_fits (suc (suc zero)) (token.Punctuator punctuator.Plus) after l = (refl, refl)
-tail_fits (suc (suc zero)) (token.Keyword word.Type) after l = (refl, refl)
+tail_fits (suc (suc zero)) (token.Keyword keyword.Type) after l = (refl, refl)
 tail_fits (suc (suc zero)) next after l = (refl, refl)
 tail_fits (suc (suc (suc zero))) (token.Punctuator punctuator.Plus) after l = (refl, refl)
-tail_fits (suc (suc (suc zero))) (token.Keyword word.Type) after l = (refl, refl)
+tail_fits (suc (suc (suc zero))) (token.Keyword keyword.Type) after l = (refl, refl)
 tail_fits (suc (suc (suc zero))) next after l = (refl, refl)
 tail_fits (suc (suc (suc (suc zero)))) (token.Punctuator punctuator.Plus) after l = (refl, refl)
-tail_fits (suc (suc (suc (suc zero)))) (token.Keyword word.Type) after l = (refl, refl)
+tail_fits (suc (suc (suc (suc zero)))) (token.Keyword keyword.Type) after l = (refl, refl)
 tail_fits (suc (suc (suc (suc zero)))) next after l = (refl, refl)
 tail_fits (suc (suc (suc (suc (suc zero))))) (token.Punctuator punctuator.Plus) after l = (refl, refl)
-tail_fits (suc (suc (suc (suc (suc zero))))) (token.Keyword word.Type) after l = (refl, refl)
+tail_fits (suc (suc (suc (suc (suc zero))))) (token.Keyword keyword.Type) after l = (refl, refl)
 tail_fits (suc (suc (suc (suc (suc zero))))) next after l = (refl, refl)
 tail_fits (suc (suc (suc (suc (suc (suc zero)))))) (token.Punctuator punctuator.Plus) after l = (refl, refl)
-tail_fits (suc (suc (suc (suc (suc (suc zero)))))) (token.Keyword word.Type) after l = (refl, refl)
+tail_fits (suc (suc (suc (suc (suc (suc zero)))))) (token.Keyword keyword.Type) after l = (refl, refl)
 tail_fits (suc (suc (suc (suc (suc (suc zero)))))) next after l = (refl, refl)
 tail_fits (suc (suc (suc (suc (suc (suc (suc zero))))))) (token.Punctuator punctuator.Plus) after l = (refl, refl)
-tail_fits (suc (suc (suc (suc (suc (suc (suc zero))))))) (token.Keyword word.Type) after l = (refl, refl)
+tail_fits (suc (suc (suc (suc (suc (suc (suc zero))))))) (token.Keyword keyword.Type) after l = (refl, refl)
 tail_fits (suc (suc (suc (suc (suc (suc (suc zero))))))) next after l = (refl, refl)
 tail_fits (suc (suc (suc (suc (suc (suc (suc (suc zero)))))))) (token.Punctuator punctuator.Plus) after l = (refl, refl)
-tail_fits (suc (suc (suc (suc (suc (suc (suc (suc zero)))))))) (token.Keyword word.Type) after l = (refl, refl)
+tail_fits (suc (suc (suc (suc (suc (suc (suc (suc zero)))))))) (token.Keyword keyword.Type) after l = (refl, refl)
 tail_fits (suc (suc (suc (suc (suc (suc (suc (suc zero)))))))) next after l = (refl, refl)
 tail_fits (suc (suc (suc (suc (suc (suc (suc (suc (suc zero))))))))) (token.Punctuator punctuator.Plus) after l =
     (refl, refl)
-tail_fits (suc (suc (suc (suc (suc (suc (suc (suc (suc zero))))))))) (token.Keyword word.Type) after l = (refl, refl)
+tail_fits (suc (suc (suc (suc (suc (suc (suc (suc (suc zero))))))))) (token.Keyword keyword.Type) after l = (refl, refl)
 tail_fits (suc (suc (suc (suc (suc (suc (suc (suc (suc zero))))))))) next after l = (refl, refl)
 tail_fits (suc (suc (suc (suc (suc (suc (suc (suc (suc (suc n)))))))))) next after l = absurd (omega arith)
 
@@ -251,7 +251,7 @@ unary_role next after = refl
 
 statement_role : (next after : Token) → AreFor Mentioned (roles_of (choice Statement next after))
 statement_role (token.Punctuator punctuator.Semicolon) after = refl
-statement_role (token.Keyword word.If) after = refl
+statement_role (token.Keyword keyword.If) after = refl
 statement_role next after = refl
 
 pub has_one_role : HasOneRole
@@ -259,27 +259,27 @@ has_one_role symbol next after = role symbol next after
   where
     role : (symbol : Symbol) (next after : Token) → AreFor (role_of symbol after) (roles_of (choice symbol next after))
     role Source token.End after = refl
-    role Source (token.Keyword word.Type) after = refl
+    role Source (token.Keyword keyword.Type) after = refl
     role Source next after = refl
-    role Types (token.Keyword word.Type) after = refl
+    role Types (token.Keyword keyword.Type) after = refl
     role Types next after = refl
     role Head next after = head_role next after
     role (More r) (token.Punctuator punctuator.Comma) after = refl
     role (More r) next after = refl
     role Parameters (token.Name name) after = refl
     role Parameters next after = refl
-    role ParameterTypes (token.Keyword word.Type) after = refl
+    role ParameterTypes (token.Keyword keyword.Type) after = refl
     role ParameterTypes next after = refl
     role FunctionBlock (token.Punctuator punctuator.OpenCurly) after = refl
     role FunctionBlock next after = refl
     role Block (token.Punctuator punctuator.OpenCurly) after = refl
     role Block next after = refl
-    role Declarations (token.Keyword word.Type) after = refl
+    role Declarations (token.Keyword keyword.Type) after = refl
     role Declarations next after = refl
     role Statements (token.Punctuator punctuator.CloseCurly) after = refl
     role Statements next after = refl
     role Statement next after = statement_role next after
-    role ElsePart (token.Keyword word.Else) after = refl
+    role ElsePart (token.Keyword keyword.Else) after = refl
     role ElsePart next after = refl
     role Back (token.Punctuator punctuator.Semicolon) after = refl
     role Back next after = refl

@@ -3,7 +3,7 @@ use Rattle.std.proofs.Common.{◌≡◌, pos, List, [], ◌∷◌, ◌++◌, ref
 use Rattle.tokens.specs.declared.located_tokens.Punctuator.TheVariants as punctuator
 use Rattle.tokens.specs.declared.located_tokens.Token.{Token}
 use Rattle.tokens.specs.declared.located_tokens.Token.TheVariants as token
-use Rattle.tokens.specs.declared.located_tokens.Keyword.TheVariants as word
+use Rattle.tokens.specs.declared.located_tokens.Keyword.TheVariants as keyword
 use Rattle.grammar.specs.Derivation.{Value, AnExpr, ABody, Definition}
 use Rattle.grammar.specs.Grammar as grammar
 use Rattle.grammar.specs.Grammar.{Item, Exactly, Part, Make, Close, Declarations, ElsePart, Back, Empty, Decide, DecideElse, Repeat, Zero, GiveBack, is_fault}
@@ -141,11 +141,11 @@ decide_else c body other added added_other rest f stack before values scope func
     ABody (bodies_of body (behind c scope)) ∷ AnExpr (tree_of c scope) ∷ ABody before ∷ values in
     let all : Body = join before (body_of (IfElse c body other) scope) in
     let second_body : List Token = braces (spell_statements other) in
-    let rest_else : List Token = token.Keyword word.Else ∷ (second_body ++ rest) in
+    let rest_else : List Token = token.Keyword keyword.Else ∷ (second_body ++ rest) in
     let end : List Item = Part ElsePart ∷ Close ∷ stack in
     rw (
-      opened c (braces (spell_statements body) ++ token.Keyword word.Else ∷ second_body) rest,
-      append_assoc (braces (spell_statements body)) (token.Keyword word.Else ∷ second_body) rest,
+      opened c (braces (spell_statements body) ++ token.Keyword keyword.Else ∷ second_body) rest,
+      append_assoc (braces (spell_statements body)) (token.Keyword keyword.Else ∷ second_body) rest,
     )
     (then _
     (at (Part grammar.Expression ∷ Exactly punctuator.CloseRound ∷ Make Empty ∷ Part grammar.Statement ∷ end)

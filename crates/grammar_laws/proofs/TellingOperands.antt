@@ -6,7 +6,7 @@ use Rattle.tokens.specs.declared.located_tokens.Punctuator.{Punctuator}
 use Rattle.tokens.specs.declared.located_tokens.Punctuator.TheVariants as punctuator
 use Rattle.tokens.specs.declared.located_tokens.Token.{Token}
 use Rattle.tokens.specs.declared.located_tokens.Token.TheVariants as token
-use Rattle.tokens.specs.declared.located_tokens.Keyword.TheVariants as word
+use Rattle.tokens.specs.declared.located_tokens.Keyword.TheVariants as keyword
 use Rattle.arith.specs.declared.operators.Op.{Op}
 use Rattle.arith.specs.declared.operators.Op.TheVariants as op
 use Rattle.grammar.specs.declared.operators.StoreOp.{StoreOp}
@@ -248,7 +248,7 @@ further_arguments_tell A next after stack values n k ds acts h =
 types_tell : (A : Type 0) (next after : Token) (stack : List Item) (values : List Value) (n k : ℕ)
     (ds : List Definition) (acts : List Action) →
     Tells A stack values n k ds acts → Produced A (choice Types next after) stack values n k ds acts
-types_tell A (token.Keyword word.Type) after stack values n k ds acts h = h
+types_tell A (token.Keyword keyword.Type) after stack values n k ds acts h = h
 types_tell A next after stack values n k ds acts h = h
 
 parameters_tell : (A : Type 0) (next after : Token) (stack : List Item) (values : List Value) (n k : ℕ)
@@ -260,13 +260,13 @@ parameters_tell A next after stack values n k ds acts h = h k
 parameter_types_tell : (A : Type 0) (next after : Token) (stack : List Item) (values : List Value) (n k : ℕ)
     (ds : List Definition) (acts : List Action) →
     Tells A stack values n k ds acts → Produced A (choice ParameterTypes next after) stack values n k ds acts
-parameter_types_tell A (token.Keyword word.Type) after stack values n k ds acts h = h
+parameter_types_tell A (token.Keyword keyword.Type) after stack values n k ds acts h = h
 parameter_types_tell A next after stack values n k ds acts h = h
 
 declarations_tell : (A : Type 0) (next after : Token) (stack : List Item) (values : List Value) (n k : ℕ)
     (ds : List Definition) (acts : List Action) →
     Tells A stack values n k ds acts → Produced A (choice Declarations next after) stack values n k ds acts
-declarations_tell A (token.Keyword word.Type) after stack values n k ds acts h = h
+declarations_tell A (token.Keyword keyword.Type) after stack values n k ds acts h = h
 declarations_tell A next after stack values n k ds acts h = h
 
 -- a function's number and its parameters are within the limits, if a function's block is next

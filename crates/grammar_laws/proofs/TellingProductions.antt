@@ -5,7 +5,7 @@ use Rattle.std.specs.Prelude.{◌-◌, ◌*◌, Some, None}
 use Rattle.tokens.specs.declared.located_tokens.Punctuator.TheVariants as punctuator
 use Rattle.tokens.specs.declared.located_tokens.Token.{Token}
 use Rattle.tokens.specs.declared.located_tokens.Token.TheVariants as token
-use Rattle.tokens.specs.declared.located_tokens.Keyword.TheVariants as word
+use Rattle.tokens.specs.declared.located_tokens.Keyword.TheVariants as keyword
 use Rattle.grammar.specs.declared.actions.Action.TheVariants as action
 use Rattle.grammar.specs.declared.actions.Action.{Action}
 use Rattle.grammar.specs.declared.actions.Action.TheVariants.{PushConstant, StoreVariable, ApplyBinop, BeginCall}
@@ -65,7 +65,7 @@ pub source_tells : (A : Type 0) (next after : Token) (stack : List Item) (values
     (ds : List Definition) (acts : List Action) →
     Between A (Tells A stack) ds acts → Produced A (choice Source next after) stack values n k ds acts
 source_tells A token.End after stack values n k ds acts h = ends_between A (Tells A stack) values n k ds acts h
-source_tells A (token.Keyword word.Type) after stack values n k ds acts h = then_further A (Tells A stack) ds acts h
+source_tells A (token.Keyword keyword.Type) after stack values n k ds acts h = then_further A (Tells A stack) ds acts h
 source_tells A (token.Name name) after stack values n k ds acts h = λ m j i. then_further A (Tells A stack) ds acts h
 source_tells A next after stack values n k ds acts h = tt
 
@@ -273,11 +273,11 @@ pub statement_tells : (A : Type 0) (next after : Token) (stack : List Item) (val
 statement_tells A (token.Punctuator punctuator.Semicolon) after stack values scope n k ds acts level h =
     no_more_statements A (room_in stack + 2) (Tells A stack) values n k ds acts h
 statement_tells A (token.Punctuator punctuator.OpenCurly) after stack values scope n k ds acts level h = h
-statement_tells A (token.Keyword word.If) after stack values scope n k ds acts level h =
+statement_tells A (token.Keyword keyword.If) after stack values scope n k ds acts level h =
     decides A stack values n k ds acts (λ a. level a refl) h
-statement_tells A (token.Keyword word.While) after stack values scope n k ds acts level h =
+statement_tells A (token.Keyword keyword.While) after stack values scope n k ds acts level h =
     repeats A stack values n k ds acts (λ a. level a refl) h
-statement_tells A (token.Keyword word.Return) after stack values scope n k ds acts level h =
+statement_tells A (token.Keyword keyword.Return) after stack values scope n k ds acts level h =
     gives_back A stack values n k ds acts h
 statement_tells A next after stack values scope n k ds acts level h = evaluates A stack values n k ds acts h
 
@@ -351,5 +351,5 @@ pub else_tells : (A : Type 0) (next after : Token) (stack : List Item) (values :
     (ds : List Definition) (acts : List Action) →
     Branched A (room_in stack + 2) (Tells A stack) values n k ds acts →
     Produced A (choice ElsePart next after) stack values n k ds acts
-else_tells A (token.Keyword word.Else) after stack values n k ds acts h = with_else A stack values n k ds acts h
+else_tells A (token.Keyword keyword.Else) after stack values n k ds acts h = with_else A stack values n k ds acts h
 else_tells A next after stack values n k ds acts h = without_else A stack values n k ds acts h

@@ -6,7 +6,7 @@ use Rattle.tokens.specs.declared.located_tokens.LocatedToken.{LocatedToken}
 use Rattle.tokens.specs.declared.located_tokens.Punctuator.TheVariants as punctuator
 use Rattle.tokens.specs.declared.located_tokens.Token.{Token}
 use Rattle.tokens.specs.declared.located_tokens.Token.TheVariants as token
-use Rattle.tokens.specs.declared.located_tokens.Keyword.TheVariants as word
+use Rattle.tokens.specs.declared.located_tokens.Keyword.TheVariants as keyword
 use Rattle.grammar.specs.declared.actions.Action.TheVariants as action
 use Rattle.grammar.specs.declared.actions.Action.{Action}
 use Rattle.grammar.specs.declared.actions.Action.TheVariants.{PushConstant, BeginFunction, EndFunction}
@@ -127,7 +127,7 @@ silent : (symbol : Symbol) (next after : Token) (scope : Scope) → choice symbo
     on_choice symbol next scope ≡ []
 silent FunctionBlock (token.Punctuator punctuator.OpenCurly) after scope e = absurd (cc)
 silent FunctionBlock next after scope e = refl
-silent Statement (token.Keyword word.While) after scope e = absurd (cc)
+silent Statement (token.Keyword keyword.While) after scope e = absurd (cc)
 silent Statement next after scope e = refl
 silent (Tail n) (token.Punctuator p) after scope e = absurd (cc)
 silent (Tail n) next after scope e = refl

@@ -3,7 +3,7 @@ use Rattle.std.specs.Prelude.{ℕ, zero, suc, pos, negsuc, List, [], ◌∷◌, 
 use Rattle.tokens.specs.declared.located_tokens.Punctuator.TheVariants as punctuator
 use Rattle.tokens.specs.declared.located_tokens.Token.{Token}
 use Rattle.tokens.specs.declared.located_tokens.Token.TheVariants as token
-use Rattle.tokens.specs.declared.located_tokens.Keyword.TheVariants as word
+use Rattle.tokens.specs.declared.located_tokens.Keyword.TheVariants as keyword
 use Rattle.arith.specs.declared.operators.Op.{Op}
 use Rattle.arith.specs.declared.operators.Op.TheVariants as op
 use Rattle.grammar.specs.declared.actions.Action.TheVariants as action
@@ -30,7 +30,7 @@ on_operator (Some o) = middle o
 abbrev pub on_choice : Symbol → Token → Scope → List Action
 on_choice FunctionBlock (token.Punctuator punctuator.OpenCurly) scope = BeginFunction scope.number
     scope.current.parameters ∷ []
-on_choice Statement (token.Keyword word.While) scope = BeginWhile ∷ []
+on_choice Statement (token.Keyword keyword.While) scope = BeginWhile ∷ []
 on_choice (Tail n) next scope = on_operator (operator_at n next)
 on_choice Unary (token.Punctuator punctuator.Minus) scope = PushConstant (pos 0) ∷ []
 on_choice symbol next scope = []

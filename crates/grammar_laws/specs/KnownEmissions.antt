@@ -4,7 +4,7 @@ use Rattle.tokens.specs.declared.located_tokens.LocatedToken.{LocatedToken}
 use Rattle.tokens.specs.declared.located_tokens.Punctuator.TheVariants as punctuator
 use Rattle.tokens.specs.declared.located_tokens.Token.{Token}
 use Rattle.tokens.specs.declared.located_tokens.Token.TheVariants as token
-use Rattle.tokens.specs.declared.located_tokens.Keyword.TheVariants as word
+use Rattle.tokens.specs.declared.located_tokens.Keyword.TheVariants as keyword
 use Rattle.grammar.specs.declared.resolved_names.Var.TheVariants as var
 use Rattle.arith.specs.declared.operators.Op.TheVariants as op
 use Rattle.grammar.specs.declared.operators.StoreOp.TheVariants as store
@@ -32,7 +32,7 @@ EmitsFile source file = Emits source (actions file)
 abbrev pub loop : List Token
 loop =
     f ∷ ro ∷ a ∷ rc ∷ co
-    ∷ token.Keyword word.While ∷ ro ∷ a ∷ token.Punctuator punctuator.AndAnd ∷ number 1 ∷ rc
+    ∷ token.Keyword keyword.While ∷ ro ∷ a ∷ token.Punctuator punctuator.AndAnd ∷ number 1 ∷ rc
     ∷ x ∷ equals ∷ token.Punctuator punctuator.Minus ∷ a ∷ end ∷ cc ∷ []
 
 abbrev pub loop_actions : List Action

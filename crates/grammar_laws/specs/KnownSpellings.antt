@@ -3,7 +3,7 @@ use Rattle.std.specs.Prelude.{◌≡◌, ℕ, pos, List, [], ◌∷◌, codes}
 use Rattle.tokens.specs.declared.located_tokens.Punctuator.TheVariants as punctuator
 use Rattle.tokens.specs.declared.located_tokens.Token.{Token}
 use Rattle.tokens.specs.declared.located_tokens.Token.TheVariants as token
-use Rattle.tokens.specs.declared.located_tokens.Keyword.TheVariants as word
+use Rattle.tokens.specs.declared.located_tokens.Keyword.TheVariants as keyword
 use Rattle.grammar.specs.declared.resolved_names.Callee.TheVariants as callee
 use Rattle.grammar.specs.declared.resolved_names.Intrinsic.TheVariants as intrinsic
 use Rattle.grammar.specs.declared.resolved_names.Var.TheVariants as var
@@ -67,9 +67,9 @@ decision =
 
 abbrev pub decision_tokens : List Token
 decision_tokens =
-    token.Keyword word.If ∷ ro ∷ a ∷ token.Punctuator punctuator.Less ∷ b ∷ rc
-    ∷ co ∷ token.Keyword word.While ∷ ro ∷ a ∷ rc ∷ co ∷ cc ∷ cc
-    ∷ token.Keyword word.Else ∷ co ∷ x ∷ end ∷ return ∷ end ∷ cc ∷ []
+    token.Keyword keyword.If ∷ ro ∷ a ∷ token.Punctuator punctuator.Less ∷ b ∷ rc
+    ∷ co ∷ token.Keyword keyword.While ∷ ro ∷ a ∷ rc ∷ co ∷ cc ∷ cc
+    ∷ token.Keyword keyword.Else ∷ co ∷ x ∷ end ∷ return ∷ end ∷ cc ∷ []
 
 abbrev pub decision_body : Body
 decision_body =

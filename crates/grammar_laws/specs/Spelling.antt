@@ -4,7 +4,7 @@ use Rattle.tokens.specs.declared.located_tokens.Punctuator.{Punctuator}
 use Rattle.tokens.specs.declared.located_tokens.Punctuator.TheVariants as punctuator
 use Rattle.tokens.specs.declared.located_tokens.Token.{Token}
 use Rattle.tokens.specs.declared.located_tokens.Token.TheVariants as token
-use Rattle.tokens.specs.declared.located_tokens.Keyword.TheVariants as word
+use Rattle.tokens.specs.declared.located_tokens.Keyword.TheVariants as keyword
 use Rattle.grammar.specs.Operators.{binary_punctuator, store_punctuator}
 use Rattle.grammar_laws.specs.Written.{Sign, Minus, Not, Tilde, Step, Up, Down, Expression, Constant, Variable, Binary}
 use Rattle.grammar_laws.specs.Written.{Signed, Assign, StepBefore, StepBehind, Call, Arguments, NoMore, Argument}
@@ -65,13 +65,13 @@ abbrev mutual
   pub spell_statement : Statement → List Token
   spell_statement Nothing = token.Punctuator punctuator.Semicolon ∷ []
   spell_statement (Evaluate e) = closed (spell e)
-  spell_statement (If c body) = token.Keyword word.If ∷ (condition c ++ braces (spell_statements body))
+  spell_statement (If c body) = token.Keyword keyword.If ∷ (condition c ++ braces (spell_statements body))
   spell_statement (IfElse c body other) =
-      token.Keyword word.If ∷ (condition c ++ (braces (spell_statements body)
-      ++ token.Keyword word.Else ∷ braces (spell_statements other)))
-  spell_statement (While c body) = token.Keyword word.While ∷ (condition c ++ braces (spell_statements body))
-  spell_statement Return = token.Keyword word.Return ∷ token.Punctuator punctuator.Semicolon ∷ []
-  spell_statement (ReturnValue e) = token.Keyword word.Return ∷ closed (spell e)
+      token.Keyword keyword.If ∷ (condition c ++ (braces (spell_statements body)
+      ++ token.Keyword keyword.Else ∷ braces (spell_statements other)))
+  spell_statement (While c body) = token.Keyword keyword.While ∷ (condition c ++ braces (spell_statements body))
+  spell_statement Return = token.Keyword keyword.Return ∷ token.Punctuator punctuator.Semicolon ∷ []
+  spell_statement (ReturnValue e) = token.Keyword keyword.Return ∷ closed (spell e)
   spell_statement (Block body) = braces (spell_statements body)
 
   pub spell_statements : Statements → List Token

@@ -2,7 +2,7 @@
 use Rattle.std.proofs.Common.{◌≡◌, ℕ, ◌+◌, ◌<◌, ◌≤◌, List, [], ◌∷◌, ◌++◌, refl, sym, ap, ◌∙◌, subst, true, false, arith}
 use Rattle.std.specs.Prelude.{Option, Some, None}
 use Rattle.tokens.specs.declared.located_tokens.Punctuator.TheVariants as punctuator
-use Rattle.tokens.specs.declared.located_tokens.Keyword.TheVariants as word
+use Rattle.tokens.specs.declared.located_tokens.Keyword.TheVariants as keyword
 use Rattle.grammar.specs.declared.diagnostics.Code.TheVariants as code
 use Rattle.grammar.specs.declared.diagnostics.ParseFault.TheVariants as refusal
 use Rattle.grammar.specs.declared.actions.Action.{Action}
@@ -164,47 +164,50 @@ Conditioned depth items at now =
     (ABody b ∷ []) at now
 
 pub if_past : (at now : Position) (depth : ℕ) → is_fault (next_at at).token ≡ false →
-    is_keyword word.If (next_at at).token ≡ true → depth < 64 → GoesPast at now →
+    is_keyword keyword.If (next_at at).token ≡ true → depth < 64 → GoesPast at now →
     Conditioned depth (Part ElsePart ∷ Close ∷ []) at now
 if_past at now depth sound is shallow goes b =
-    word_past at now depth Statement word.If (in_brackets ++ behind_if) (ABody b ∷ []) sound (if_chosen _ is) is
+    word_past at now depth Statement keyword.If (in_brackets ++ behind_if) (ABody b ∷ []) sound (if_chosen _ is) is
     (free_below depth Statement (next_at at) shallow) goes
 
 pub while_past : (at now : Position) (depth : ℕ) → is_fault (next_at at).token ≡ false →
-    is_keyword word.While (next_at at).token ≡ true → depth < 64 → GoesPast at now →
+    is_keyword keyword.While (next_at at).token ≡ true → depth < 64 → GoesPast at now →
     Conditioned depth (Make Repeat ∷ Close ∷ []) at now
 while_past at now depth sound is shallow goes b =
-    word_past at now depth Statement word.While (in_brackets ++ behind_while) (ABody b ∷ []) sound (while_chosen _ is)
+    word_past at now depth Statement keyword.While (in_brackets ++ behind_while) (ABody b ∷ []) sound
+    (while_chosen _ is)
     is (free_below depth Statement (next_at at) shallow) goes
 
 pub if_stops : (at : Position) (depth : ℕ) → is_fault (next_at at).token ≡ false →
-    is_keyword word.If (next_at at).token ≡ true → depth < 64 → (d : Stop) → StopsAt at d →
+    is_keyword keyword.If (next_at at).token ≡ true → depth < 64 → (d : Stop) → StopsAt at d →
     FailsBody depth (Part Statement ∷ []) at d
 if_stops at depth sound is shallow d stop b =
-    word_stops at d depth Statement word.If (in_brackets ++ behind_if) (ABody b ∷ []) sound (if_chosen _ is) is
+    word_stops at d depth Statement keyword.If (in_brackets ++ behind_if) (ABody b ∷ []) sound (if_chosen _ is) is
     (free_below depth Statement (next_at at) shallow) stop
 
 pub while_stops : (at : Position) (depth : ℕ) → is_fault (next_at at).token ≡ false →
-    is_keyword word.While (next_at at).token ≡ true → depth < 64 → (d : Stop) → StopsAt at d →
+    is_keyword keyword.While (next_at at).token ≡ true → depth < 64 → (d : Stop) → StopsAt at d →
     FailsBody depth (Part Statement ∷ []) at d
 while_stops at depth sound is shallow d stop b =
-    word_stops at d depth Statement word.While (in_brackets ++ behind_while) (ABody b ∷ []) sound (while_chosen _ is) is
+    word_stops at d depth Statement keyword.While (in_brackets ++ behind_while) (ABody b ∷ []) sound (while_chosen _ is)
+    is
     (free_below depth Statement (next_at at) shallow) stop
 
 pub if_too_deep : (at : Position) (used : ℕ) (near : IsNearTo at.lookahead.cursor used) (depth : ℕ) →
-    is_fault (next_at at).token ≡ false → is_keyword word.If (next_at at).token ≡ true → 64 ≤ depth →
+    is_fault (next_at at).token ≡ false → is_keyword keyword.If (next_at at).token ≡ true → 64 ≤ depth →
     FailsBody depth (Part Statement ∷ []) at
     (stop_with (refusal.Source (diagnostic (next_at at).line code.NestedTooDeeply)) used)
 if_too_deep at used near depth sound is deep b =
-    word_too_deep at used near depth Statement word.If (in_brackets ++ behind_if) (ABody b ∷ []) sound (if_chosen _ is)
+    word_too_deep at used near depth Statement keyword.If (in_brackets ++ behind_if) (ABody b ∷ []) sound
+    (if_chosen _ is)
     is (if_enters _ is) deep
 
 pub while_too_deep : (at : Position) (used : ℕ) (near : IsNearTo at.lookahead.cursor used) (depth : ℕ) →
-    is_fault (next_at at).token ≡ false → is_keyword word.While (next_at at).token ≡ true → 64 ≤ depth →
+    is_fault (next_at at).token ≡ false → is_keyword keyword.While (next_at at).token ≡ true → 64 ≤ depth →
     FailsBody depth (Part Statement ∷ []) at
     (stop_with (refusal.Source (diagnostic (next_at at).line code.NestedTooDeeply)) used)
 while_too_deep at used near depth sound is deep b =
-    word_too_deep at used near depth Statement word.While (in_brackets ++ behind_while) (ABody b ∷ []) sound
+    word_too_deep at used near depth Statement keyword.While (in_brackets ++ behind_while) (ABody b ∷ []) sound
     (while_chosen _ is) is (while_enters _ is) deep
 
 -- the items behind the first statement keep one level open
@@ -324,7 +327,7 @@ branch_adds at now later behind there before m1 m2 m3 m4 after depth shallow beg
 -- Second branches.
 
 pub no_else_adds : (at : Position) (before : Representation) (depth : ℕ) → is_fault (next_at at).token ≡ false →
-    is_keyword word.Else (next_at at).token ≡ false → AddsElse before before depth at at
+    is_keyword keyword.Else (next_at at).token ≡ false → AddsElse before before depth at at
 no_else_adds at before depth sound other = record {
   tree = None;
   numbered = tt;
@@ -340,25 +343,26 @@ no_else_adds at before depth sound other = record {
 }
 
 pub else_stops : (at : Position) (depth : ℕ) → is_fault (next_at at).token ≡ false →
-    is_keyword word.Else (next_at at).token ≡ true → (d : Stop) → StopsAt at d → FailsElse depth at d
+    is_keyword keyword.Else (next_at at).token ≡ true → (d : Stop) → StopsAt at d → FailsElse depth at d
 else_stops at depth sound is d stop s c b =
-    word_stops at d depth ElsePart word.Else (Make Empty ∷ Part Statement ∷ Make DecideElse ∷ []) (before_else s c b)
+    word_stops at d depth ElsePart keyword.Else (Make Empty ∷ Part Statement ∷ Make DecideElse ∷ []) (before_else s c b)
     sound (else_chosen _ is) is (free_of depth ElsePart (next_at at) (λ after. refl)) stop
 
 -- the word and an empty body behind it; the token that follows is no fault
 else_past : (at now : Position) (depth : ℕ) (s : Body) (c : Expr) (b : Body) → is_fault (next_at at).token ≡ false →
-    is_keyword word.Else (next_at at).token ≡ true → GoesPast at now → is_fault (next_at now).token ≡ false →
+    is_keyword keyword.Else (next_at at).token ≡ true → GoesPast at now → is_fault (next_at now).token ≡ false →
     Derives depth (Part ElsePart ∷ []) (Part Statement ∷ Make DecideElse ∷ []) (before_else s c b)
     (ABody Done ∷ before_else s c b) at now
 else_past at now depth s c b sound is goes sound_behind =
     joined depth depth (Part ElsePart ∷ []) (Make Empty ∷ []) [] (Part Statement ∷ Make DecideElse ∷ [])
     (before_else s c b) [] (ABody Done ∷ []) (before_else s c b) at now now
-    (word_past at now depth ElsePart word.Else (Make Empty ∷ Part Statement ∷ Make DecideElse ∷ []) (before_else s c b)
+    (word_past at now depth ElsePart keyword.Else (Make Empty ∷ Part Statement ∷ Make DecideElse ∷ [])
+    (before_else s c b)
     sound (else_chosen _ is) is (free_of depth ElsePart (next_at at) (λ after. refl)) goes)
     (make_stands now depth Empty [] (ABody Done ∷ []) sound_behind empty_makes) (λ stack same. same)
 
 pub else_fails : (at now : Position) (depth : ℕ) → is_fault (next_at at).token ≡ false →
-    is_keyword word.Else (next_at at).token ≡ true → GoesPast at now → is_fault (next_at now).token ≡ false →
+    is_keyword keyword.Else (next_at at).token ≡ true → GoesPast at now → is_fault (next_at now).token ≡ false →
     (d : Stop) →
     FailsBody depth (Part Statement ∷ []) now d → FailsElse depth at d
 else_fails at now depth sound is goes sound_behind d fails s c b =
@@ -368,7 +372,7 @@ else_fails at now depth sound is goes sound_behind d fails s c b =
 
 pub else_adds : (at now there : Position) (before mid after : Representation) (depth : ℕ) →
     is_fault (next_at at).token ≡ false →
-    is_keyword word.Else (next_at at).token ≡ true → GoesPast at now → is_fault (next_at now).token ≡ false →
+    is_keyword keyword.Else (next_at at).token ≡ true → GoesPast at now → is_fault (next_at now).token ≡ false →
     Appends before mid BetweenBranches → AddsBody mid after depth (Part Statement ∷ []) [] now there →
     is_fault (next_at there).token ≡ false → AddsElse before after depth at there
 else_adds at now there before mid after depth sound is goes sound_behind told t sound_there = record {

@@ -5,7 +5,7 @@ use Rattle.tokens.specs.declared.located_tokens.LocatedToken.{LocatedToken}
 use Rattle.tokens.specs.declared.located_tokens.Punctuator.TheVariants as punctuator
 use Rattle.tokens.specs.declared.located_tokens.Token.{Token}
 use Rattle.tokens.specs.declared.located_tokens.Token.TheVariants as token
-use Rattle.tokens.specs.declared.located_tokens.Keyword.TheVariants as word
+use Rattle.tokens.specs.declared.located_tokens.Keyword.TheVariants as keyword
 use Rattle.grammar.specs.declared.diagnostics.ParseFault.{ParseFault}
 use Rattle.grammar.specs.declared.diagnostics.ParseFault.TheVariants as refusal
 use Rattle.grammar.specs.Building.{Representation}
@@ -37,13 +37,13 @@ symbol_leads symbol items located_token tail at sound chosen flat = record {
 }
 
 abbrev pub typed_items : List Item
-typed_items = AKeyword word.Type ∷ Part Types ∷ Part Head ∷ at_source
+typed_items = AKeyword keyword.Type ∷ Part Types ∷ Part Head ∷ at_source
 
 -- a type word begins a file's part
-pub source_typed : (before : Representation) (at : Position) → is_keyword word.Type (next_at at).token ≡ true →
+pub source_typed : (before : Representation) (at : Position) → is_keyword keyword.Type (next_at at).token ≡ true →
     ReadsOn before before at_source typed_items at at
 source_typed before at is =
-    let same : (next_at at).token ≡ token.Keyword word.Type = word_is word.Type (next_at at).token is in
+    let same : (next_at at).token ≡ token.Keyword keyword.Type = word_is keyword.Type (next_at at).token is in
     segment_advances before (Part Source ∷ []) typed_items [] at at refl
     (stand at 0 (Part Source ∷ []) typed_items [] []
     (λ tail b. symbol_leads Source typed_items (next_at at) tail at (rw same refl) (rw same refl) refl))
@@ -57,10 +57,10 @@ source_named before at name same =
     (λ tail b. symbol_leads Source at_definition (next_at at) tail at (rw same refl) (rw same refl) refl))
 
 -- nothing else does
-source_none : (t after : Token) → (t ≡ token.End → ⊥) → is_keyword word.Type t ≡ false →
+source_none : (t after : Token) → (t ≡ token.End → ⊥) → is_keyword keyword.Type t ≡ false →
     ((name : List ℕ) → t ≡ token.Name name → ⊥) → choice Source t after ≡ None
 source_none token.End after end type name = absurd (end refl)
-source_none (token.Keyword word.Type) after end type name = absurd (cc)
+source_none (token.Keyword keyword.Type) after end type name = absurd (cc)
 source_none (token.Keyword w) after end type name = refl
 source_none (token.Name n) after end type name = absurd (name n refl)
 source_none (token.Punctuator m) after end type name = refl
@@ -69,7 +69,7 @@ source_none (token.Fault lexical_error) after end type name = refl
 
 pub source_misfits : (before : Representation) (at : Position) (used : ℕ) (near : IsNearTo at.lookahead.cursor used) →
     is_fault (next_at at).token ≡ false → ((next_at at).token ≡ token.End → ⊥) →
-    is_keyword word.Type (next_at at).token ≡ false → ((name : List ℕ) → (next_at at).token ≡ token.Name name → ⊥) →
+    is_keyword keyword.Type (next_at at).token ≡ false → ((name : List ℕ) → (next_at at).token ≡ token.Name name → ⊥) →
     StopsPart before before at_source at
     (stop_with (refusal.Source (diagnostic (next_at at).line (misfit_code (next_at at).token))) used)
 source_misfits before at used near sound end type name =
@@ -82,18 +82,19 @@ source_misfits before at used near sound end type name =
 abbrev pub at_head : List Item
 at_head = Part Head ∷ at_source
 
-pub type_word : (before : Representation) (at now : Position) → DerivesItem (AKeyword word.Type) [] [] at now →
+pub type_word : (before : Representation) (at now : Position) → DerivesItem (AKeyword keyword.Type) [] [] at now →
     ReadsOn before before typed_items (Part Types ∷ at_head) at now
 type_word before at now d =
-    segment_advances before (AKeyword word.Type ∷ []) [] (Part Types ∷ at_head) at now refl (d 0)
+    segment_advances before (AKeyword keyword.Type ∷ []) [] (Part Types ∷ at_head) at now refl (d 0)
 
 pub more_types : (before : Representation) (at now : Position) → Derives 0 (Part Types ∷ []) [] [] [] at now →
     ReadsOn before before (Part Types ∷ at_head) at_head at now
 more_types before at now d = segment_advances before (Part Types ∷ []) [] at_head at now refl d
 
 -- up to the head
-pub typed_head : (before : Representation) (at now behind : Position) → is_keyword word.Type (next_at at).token ≡ true →
-    DerivesItem (AKeyword word.Type) [] [] at now → Derives 0 (Part Types ∷ []) [] [] [] now behind →
+pub typed_head : (before : Representation) (at now behind : Position) →
+    is_keyword keyword.Type (next_at at).token ≡ true →
+    DerivesItem (AKeyword keyword.Type) [] [] at now → Derives 0 (Part Types ∷ []) [] [] [] now behind →
     ReadsOn before before at_source at_head at behind
 typed_head before at now behind is d e =
     advances_then before before before at_source (Part Types ∷ at_head) at_head at now behind
@@ -101,16 +102,16 @@ typed_head before at now behind is d e =
     (source_typed before at is) (type_word before at now d)) (more_types before now behind e)
 
 pub word_refused : (used : ℕ) (before : Representation) (at : Position) (f : ParseFault) (more : Type 0) →
-    is_keyword word.Type (next_at at).token ≡ true → Refused (FailsItem (AKeyword word.Type) at) ⊥ used f →
+    is_keyword keyword.Type (next_at at).token ≡ true → Refused (FailsItem (AKeyword keyword.Type) at) ⊥ used f →
     Refused (StopsPart before before at_source at) more used f
 word_refused used before at f more is =
-    refused_map used (FailsItem (AKeyword word.Type) at) (StopsPart before before at_source at) ⊥ more f
+    refused_map used (FailsItem (AKeyword keyword.Type) at) (StopsPart before before at_source at) ⊥ more f
     (λ d fails. stops_then before before before at_source typed_items at at d (source_typed before at is)
-    (segment_stops before (AKeyword word.Type ∷ []) (Part Types ∷ at_head) at d refl (fails 0)))
+    (segment_stops before (AKeyword keyword.Type ∷ []) (Part Types ∷ at_head) at d refl (fails 0)))
     (λ never. absurd never)
 
 pub types_refused : (used : ℕ) (before : Representation) (at now : Position) (f : ParseFault) (more : Type 0) →
-    is_keyword word.Type (next_at at).token ≡ true → DerivesItem (AKeyword word.Type) [] [] at now →
+    is_keyword keyword.Type (next_at at).token ≡ true → DerivesItem (AKeyword keyword.Type) [] [] at now →
     Refused (λ d. (depth : ℕ) → FailsAt depth (Part Types ∷ []) [] now d) ⊥ used f →
     Refused (StopsPart before before at_source at) more used f
 types_refused used before at now f more is passed =

@@ -3,7 +3,7 @@ use Rattle.std.proofs.Common.{◌≡◌, [], ◌∷◌, refl, true, false}
 use Rattle.tokens.specs.declared.located_tokens.Punctuator.TheVariants as punctuator
 use Rattle.tokens.specs.declared.located_tokens.Token.{Token}
 use Rattle.tokens.specs.declared.located_tokens.Token.TheVariants as token
-use Rattle.tokens.specs.declared.located_tokens.Keyword.TheVariants as word
+use Rattle.tokens.specs.declared.located_tokens.Keyword.TheVariants as keyword
 use Rattle.grammar.specs.Grammar.{AKeyword, Back, Block, Decide, DecideElse, Declarations, ElsePart, Empty, Evaluate, Exactly, Expression, GiveBack, Item, Make, Part, Repeat, Close, Statement, Statements, Zero, is_punctuator, is_keyword, enters}
 use Rattle.std.specs.Prelude.{List}
 use Rattle.parser.specs.Forms.{begins_statement}
@@ -20,9 +20,9 @@ pub evaluates : (t : Token) → begins_statement t ≡ false → Evaluates t
 evaluates (token.Punctuator punctuator.Semicolon) plain = absurd (cc)
 evaluates (token.Punctuator punctuator.OpenCurly) plain = absurd (cc)
 evaluates (token.Punctuator m) plain = record { chosen = λ after. refl; shallow = λ after. refl }
-evaluates (token.Keyword word.If) plain = absurd (cc)
-evaluates (token.Keyword word.While) plain = absurd (cc)
-evaluates (token.Keyword word.Return) plain = absurd (cc)
+evaluates (token.Keyword keyword.If) plain = absurd (cc)
+evaluates (token.Keyword keyword.While) plain = absurd (cc)
+evaluates (token.Keyword keyword.Return) plain = absurd (cc)
 evaluates (token.Keyword w) plain = record { chosen = λ after. refl; shallow = λ after. refl }
 evaluates (token.Name name) plain = record { chosen = λ after. refl; shallow = λ after. refl }
 evaluates (token.Constant value) plain = record { chosen = λ after. refl; shallow = λ after. refl }
@@ -47,12 +47,12 @@ end_chosen t is after =
 
 -- Second branches.
 
-pub else_chosen : (t : Token) → is_keyword word.Else t ≡ true →
-    Chooses ElsePart t (AKeyword word.Else ∷ Make Empty ∷ Part Statement ∷ Make DecideElse ∷ [])
-else_chosen t is after = let at : t ≡ token.Keyword word.Else = word_is word.Else t is in rw at refl
+pub else_chosen : (t : Token) → is_keyword keyword.Else t ≡ true →
+    Chooses ElsePart t (AKeyword keyword.Else ∷ Make Empty ∷ Part Statement ∷ Make DecideElse ∷ [])
+else_chosen t is after = let at : t ≡ token.Keyword keyword.Else = word_is keyword.Else t is in rw at refl
 
-pub no_else_chosen : (t : Token) → is_keyword word.Else t ≡ false → Chooses ElsePart t (Make Decide ∷ [])
-no_else_chosen (token.Keyword word.Else) other = absurd (cc)
+pub no_else_chosen : (t : Token) → is_keyword keyword.Else t ≡ false → Chooses ElsePart t (Make Decide ∷ [])
+no_else_chosen (token.Keyword keyword.Else) other = absurd (cc)
 no_else_chosen (token.Keyword w) other = λ after. refl
 no_else_chosen (token.Punctuator m) other = λ after. refl
 no_else_chosen (token.Name name) other = λ after. refl
@@ -118,23 +118,24 @@ behind_while = Make Empty ∷ Part Statement ∷ Make Repeat ∷ Close ∷ []
 abbrev pub conditioned : List Item → List Item
 conditioned items = Exactly punctuator.OpenRound ∷ Part Expression ∷ Exactly punctuator.CloseRound ∷ items
 
-pub if_chosen : (t : Token) → is_keyword word.If t ≡ true →
-    Chooses Statement t (AKeyword word.If ∷ conditioned behind_if)
-if_chosen t is after = let at : t ≡ token.Keyword word.If = word_is word.If t is in rw at refl
+pub if_chosen : (t : Token) → is_keyword keyword.If t ≡ true →
+    Chooses Statement t (AKeyword keyword.If ∷ conditioned behind_if)
+if_chosen t is after = let at : t ≡ token.Keyword keyword.If = word_is keyword.If t is in rw at refl
 
-pub if_enters : (t : Token) → is_keyword word.If t ≡ true → (after : Token) → enters Statement t after ≡ true
-if_enters t is after = let at : t ≡ token.Keyword word.If = word_is word.If t is in rw at refl
+pub if_enters : (t : Token) → is_keyword keyword.If t ≡ true → (after : Token) → enters Statement t after ≡ true
+if_enters t is after = let at : t ≡ token.Keyword keyword.If = word_is keyword.If t is in rw at refl
 
-pub while_chosen : (t : Token) → is_keyword word.While t ≡ true →
-    Chooses Statement t (AKeyword word.While ∷ conditioned behind_while)
-while_chosen t is after = let at : t ≡ token.Keyword word.While = word_is word.While t is in rw at refl
+pub while_chosen : (t : Token) → is_keyword keyword.While t ≡ true →
+    Chooses Statement t (AKeyword keyword.While ∷ conditioned behind_while)
+while_chosen t is after = let at : t ≡ token.Keyword keyword.While = word_is keyword.While t is in rw at refl
 
-pub while_enters : (t : Token) → is_keyword word.While t ≡ true → (after : Token) → enters Statement t after ≡ true
-while_enters t is after = let at : t ≡ token.Keyword word.While = word_is word.While t is in rw at refl
+pub while_enters : (t : Token) → is_keyword keyword.While t ≡ true → (after : Token) → enters Statement t after ≡ true
+while_enters t is after = let at : t ≡ token.Keyword keyword.While = word_is keyword.While t is in rw at refl
 
-pub return_chosen : (t : Token) → is_keyword word.Return t ≡ true →
-    Chooses Statement t (AKeyword word.Return ∷ Part Back ∷ Exactly punctuator.Semicolon ∷ Make GiveBack ∷ [])
-return_chosen t is after = let at : t ≡ token.Keyword word.Return = word_is word.Return t is in rw at refl
+pub return_chosen : (t : Token) → is_keyword keyword.Return t ≡ true →
+    Chooses Statement t (AKeyword keyword.Return ∷ Part Back ∷ Exactly punctuator.Semicolon ∷ Make GiveBack ∷ [])
+return_chosen t is after = let at : t ≡ token.Keyword keyword.Return = word_is keyword.Return t is in rw at refl
 
-pub return_shallow : (t : Token) → is_keyword word.Return t ≡ true → (after : Token) → enters Statement t after ≡ false
-return_shallow t is after = let at : t ≡ token.Keyword word.Return = word_is word.Return t is in rw at refl
+pub return_shallow : (t : Token) → is_keyword keyword.Return t ≡ true → (after : Token) →
+    enters Statement t after ≡ false
+return_shallow t is after = let at : t ≡ token.Keyword keyword.Return = word_is keyword.Return t is in rw at refl

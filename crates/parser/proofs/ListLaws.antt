@@ -4,7 +4,7 @@ use Rattle.std.specs.Prelude.{Result, Ok, Err}
 use Rattle.tokens.specs.declared.located_tokens.Punctuator.TheVariants as punctuator
 use Rattle.tokens.specs.declared.located_tokens.Token.{Token}
 use Rattle.tokens.specs.declared.located_tokens.Token.TheVariants as token
-use Rattle.tokens.specs.declared.located_tokens.Keyword.TheVariants as word
+use Rattle.tokens.specs.declared.located_tokens.Keyword.TheVariants as keyword
 use Rattle.grammar.specs.declared.diagnostics.ParseFault.{ParseFault}
 use Rattle.grammar.specs.Faults.{levels}
 use Rattle.grammar.specs.Grammar.{Item, AName, AKeyword, Exactly, More, Part, Role, Symbol, Types, is_fault, is_punctuator, is_keyword, enters}
@@ -31,12 +31,13 @@ replaces at depth symbol items sound gives =
 
 -- The choices.
 
-pub types_more : (t : Token) → is_keyword word.Type t ≡ true → Gives Types t (AKeyword word.Type ∷ Part Types ∷ [])
-types_more (token.Keyword word.Type) is = record { chosen = λ after. refl; plain = λ after. refl }
+pub types_more : (t : Token) → is_keyword keyword.Type t ≡ true →
+    Gives Types t (AKeyword keyword.Type ∷ Part Types ∷ [])
+types_more (token.Keyword keyword.Type) is = record { chosen = λ after. refl; plain = λ after. refl }
 types_more t is = absurd (cc)
 
-pub types_end : (t : Token) → is_keyword word.Type t ≡ false → Gives Types t []
-types_end (token.Keyword word.Type) other = absurd (cc)
+pub types_end : (t : Token) → is_keyword keyword.Type t ≡ false → Gives Types t []
+types_end (token.Keyword keyword.Type) other = absurd (cc)
 types_end t other = record { chosen = λ after. refl; plain = λ after. refl }
 
 pub names_more : (role : Role) (t : Token) → is_punctuator punctuator.Comma t ≡ true →
@@ -48,23 +49,24 @@ pub names_end : (role : Role) (t : Token) → is_punctuator punctuator.Comma t �
 names_end role (token.Punctuator punctuator.Comma) other = absurd (cc)
 names_end role t other = record { chosen = λ after. refl; plain = λ after. refl }
 
-pub declarations_more : (declared : Declared) (t : Token) → IsInFunction declared → is_keyword word.Type t ≡ true →
+pub declarations_more : (declared : Declared) (t : Token) → IsInFunction declared → is_keyword keyword.Type t ≡ true →
     Gives (declarations_of declared) t (declaration_items declared ++ Part (declarations_of declared) ∷ [])
 declarations_more kind.Externals t never is = absurd never
 declarations_more kind.Parameters t never is = absurd never
-declarations_more kind.TypedParameters (token.Keyword word.Type) h is =
+declarations_more kind.TypedParameters (token.Keyword keyword.Type) h is =
     record { chosen = λ after. refl; plain = λ after. refl }
 declarations_more kind.TypedParameters t h is = absurd (cc)
-declarations_more kind.Locals (token.Keyword word.Type) h is = record { chosen = λ after. refl; plain = λ after. refl }
+declarations_more kind.Locals (token.Keyword keyword.Type) h is =
+    record { chosen = λ after. refl; plain = λ after. refl }
 declarations_more kind.Locals t h is = absurd (cc)
 
-pub declarations_end : (declared : Declared) (t : Token) → IsInFunction declared → is_keyword word.Type t ≡ false →
+pub declarations_end : (declared : Declared) (t : Token) → IsInFunction declared → is_keyword keyword.Type t ≡ false →
     Gives (declarations_of declared) t []
 declarations_end kind.Externals t never other = absurd never
 declarations_end kind.Parameters t never other = absurd never
-declarations_end kind.TypedParameters (token.Keyword word.Type) h other = absurd (cc)
+declarations_end kind.TypedParameters (token.Keyword keyword.Type) h other = absurd (cc)
 declarations_end kind.TypedParameters t h other = record { chosen = λ after. refl; plain = λ after. refl }
-declarations_end kind.Locals (token.Keyword word.Type) h other = absurd (cc)
+declarations_end kind.Locals (token.Keyword keyword.Type) h other = absurd (cc)
 declarations_end kind.Locals t h other = record { chosen = λ after. refl; plain = λ after. refl }
 
 -- Segments, over items that open no level.
@@ -152,12 +154,12 @@ names_then declared at now there a b =
     (λ stack. refl)
     (name_first declared at now a) b
 
-pub type_first : (declared : Declared) (at there : Position) → DerivesItem (AKeyword word.Type) [] [] at there →
+pub type_first : (declared : Declared) (at there : Position) → DerivesItem (AKeyword keyword.Type) [] [] at there →
     Goes (declaration_items declared) (Part Types ∷ names_items declared) at there
 type_first declared at there b =
-    starts (AKeyword word.Type) (Part Types ∷ names_items declared) at there (λ stack. refl) b
+    starts (AKeyword keyword.Type) (Part Types ∷ names_items declared) at there (λ stack. refl) b
 
-pub types_then : (declared : Declared) (at now there : Position) → DerivesItem (AKeyword word.Type) [] [] at now →
+pub types_then : (declared : Declared) (at now there : Position) → DerivesItem (AKeyword keyword.Type) [] [] at now →
     DerivesItem (Part Types) [] [] now there → Goes (declaration_items declared) (names_items declared) at there
 types_then declared at now there a b =
     item_on (declaration_items declared) (Part Types) (names_items declared) at now there (λ stack. refl)

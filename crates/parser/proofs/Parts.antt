@@ -8,7 +8,7 @@ use Rattle.tokens.specs.declared.located_tokens.Token.{Token}
 use Rattle.tokens.specs.declared.located_tokens.Token.TheVariants as token
 use Rattle.tokens.specs.declared.located_tokens.Keyword.{Keyword}
 use Rattle.tokens.specs.contracts.located_tokens.Punctuator as punctuators
-use Rattle.tokens.specs.contracts.located_tokens.Word as words
+use Rattle.tokens.specs.contracts.located_tokens.Keyword as keywords
 use denote.Enum.Bare.{same_true}
 use Rattle.grammar.specs.declared.diagnostics.Code.TheVariants as code
 use Rattle.grammar.specs.declared.diagnostics.ParseFault.TheVariants as refusal
@@ -42,7 +42,7 @@ punctuator_is m (token.Fault lexical_error) is = absurd (cc)
 pub word_is : (w : Keyword) (t : Token) → is_keyword w t ≡ true → t ≡ token.Keyword w
 word_is w (token.Punctuator m) is = absurd (cc)
 word_is w (token.Name name) is = absurd (cc)
-word_is w (token.Keyword v) is = ap token.Keyword (sym (same_true words.the_type tt w v is))
+word_is w (token.Keyword v) is = ap token.Keyword (sym (same_true keywords.the_type tt w v is))
 word_is w (token.Constant value) is = absurd (cc)
 word_is w token.End is = absurd (cc)
 word_is w (token.Fault lexical_error) is = absurd (cc)

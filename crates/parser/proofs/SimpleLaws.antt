@@ -1,7 +1,7 @@
 -- What the parse functions of statements without statements inside derive.
 use Rattle.std.proofs.Common.{◌≡◌, ℕ, pos, [], ◌∷◌, refl, sym, subst, true, false, arith}
 use Rattle.tokens.specs.declared.located_tokens.Punctuator.TheVariants as punctuator
-use Rattle.tokens.specs.declared.located_tokens.Keyword.TheVariants as word
+use Rattle.tokens.specs.declared.located_tokens.Keyword.TheVariants as keyword
 use Rattle.grammar.specs.declared.actions.Action.TheVariants.{Chop, PushConstant}
 use Rattle.grammar.specs.declared.actions.Action.TheVariants.{GiveBack as Returns}
 use Rattle.grammar.specs.Actions.{expr_actions}
@@ -165,22 +165,22 @@ back_adds at there before after depth sound other h = record {
 -- Returns.
 
 return_past : (at now : Position) (depth : ℕ) (b : Body) → is_fault (next_at at).token ≡ false →
-    is_keyword word.Return (next_at at).token ≡ true → GoesPast at now →
+    is_keyword keyword.Return (next_at at).token ≡ true → GoesPast at now →
     Derives depth (Part Statement ∷ []) (Part Back ∷ Exactly punctuator.Semicolon ∷ Make GiveBack ∷ []) (ABody b ∷ [])
     (ABody b ∷ []) at now
 return_past at now depth b sound is goes =
-    word_past at now depth Statement word.Return (Part Back ∷ Exactly punctuator.Semicolon ∷ Make GiveBack ∷ [])
+    word_past at now depth Statement keyword.Return (Part Back ∷ Exactly punctuator.Semicolon ∷ Make GiveBack ∷ [])
     (ABody b ∷ []) sound (return_chosen _ is) is (free_of depth Statement (next_at at) (return_shallow _ is)) goes
 
 pub return_stops : (at : Position) (depth : ℕ) → is_fault (next_at at).token ≡ false →
-    is_keyword word.Return (next_at at).token ≡ true → (d : Stop) → StopsAt at d →
+    is_keyword keyword.Return (next_at at).token ≡ true → (d : Stop) → StopsAt at d →
     FailsBody depth (Part Statement ∷ []) at d
 return_stops at depth sound is d stop b =
-    word_stops at d depth Statement word.Return (Part Back ∷ Exactly punctuator.Semicolon ∷ Make GiveBack ∷ [])
+    word_stops at d depth Statement keyword.Return (Part Back ∷ Exactly punctuator.Semicolon ∷ Make GiveBack ∷ [])
     (ABody b ∷ []) sound (return_chosen _ is) is (free_of depth Statement (next_at at) (return_shallow _ is)) stop
 
 pub given_fails : (at now : Position) (depth : ℕ) → is_fault (next_at at).token ≡ false →
-    is_keyword word.Return (next_at at).token ≡ true → GoesPast at now → (d : Stop) →
+    is_keyword keyword.Return (next_at at).token ≡ true → GoesPast at now → (d : Stop) →
     FailsAt depth (Part Back ∷ []) [] now d → FailsBody depth (Part Statement ∷ []) at d
 given_fails at now depth sound is goes d fails b =
     fails_behind depth depth (Part Statement ∷ []) (Part Back ∷ []) (Exactly punctuator.Semicolon ∷ Make GiveBack ∷ [])
@@ -188,7 +188,7 @@ given_fails at now depth sound is goes d fails b =
     (return_past at now depth b sound is goes) (λ stack same. same) fails
 
 given_past : (at now later : Position) (before after : Representation) (depth : ℕ) (b : Body) →
-    is_fault (next_at at).token ≡ false → is_keyword word.Return (next_at at).token ≡ true → GoesPast at now →
+    is_fault (next_at at).token ≡ false → is_keyword keyword.Return (next_at at).token ≡ true → GoesPast at now →
     (h : AddsExpr before after depth 1 (Part Back ∷ []) [] now later) →
     Derives depth (Part Statement ∷ []) (Exactly punctuator.Semicolon ∷ Make GiveBack ∷ []) (ABody b ∷ [])
     (AnExpr h.tree ∷ ABody b ∷ []) at later
@@ -199,7 +199,7 @@ given_past at now later before after depth b sound is goes h =
 
 pub return_unended : (at now later : Position) (before after : Representation) (depth : ℕ) →
     is_fault (next_at at).token ≡ false →
-    is_keyword word.Return (next_at at).token ≡ true → GoesPast at now →
+    is_keyword keyword.Return (next_at at).token ≡ true → GoesPast at now →
     AddsExpr before after depth 1 (Part Back ∷ []) [] now later → (d : Stop) →
     FailsItem (Exactly punctuator.Semicolon) later d → FailsBody depth (Part Statement ∷ []) at d
 return_unended at now later before after depth sound is goes h d fails b =
@@ -208,7 +208,7 @@ return_unended at now later before after depth sound is goes h d fails b =
     (given_past at now later before after depth b sound is goes h) (λ stack same. same) (fails depth)
 
 pub return_adds : (at now later there : Position) (before mid after : Representation) (depth : ℕ) →
-    is_fault (next_at at).token ≡ false → is_keyword word.Return (next_at at).token ≡ true → GoesPast at now →
+    is_fault (next_at at).token ≡ false → is_keyword keyword.Return (next_at at).token ≡ true → GoesPast at now →
     AddsExpr before mid depth 1 (Part Back ∷ []) [] now later →
     DerivesItem (Exactly punctuator.Semicolon) [] [] later there → is_fault (next_at there).token ≡ false →
     Appends mid after Returns →

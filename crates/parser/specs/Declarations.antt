@@ -1,7 +1,7 @@
 -- The items of lists of names, of declarations and of a function's heading, by what the names are declared as.
 use Rattle.std.specs.Prelude.{List, [], ◌∷◌}
 use Rattle.tokens.specs.declared.located_tokens.Punctuator.TheVariants as punctuator
-use Rattle.tokens.specs.declared.located_tokens.Keyword.TheVariants as word
+use Rattle.tokens.specs.declared.located_tokens.Keyword.TheVariants as keyword
 use Rattle.grammar.specs.Grammar.{Item, AName, AKeyword, Exactly, Part}
 use Rattle.grammar.specs.Grammar.{Symbol, Declarations, Defined, More, ParameterTypes, Parameters, Types}
 use Rattle.parser.specs.Roles.{role_of}
@@ -24,7 +24,7 @@ names_items declared = AName (role_of declared) ∷ Part (More (role_of declared
 
 -- type types name more ;
 abbrev pub declaration_items : Declared → List Item
-declaration_items declared = AKeyword word.Type ∷ Part Types ∷ names_items declared
+declaration_items declared = AKeyword keyword.Type ∷ Part Types ∷ names_items declared
 
 -- name ( params ) pdecls
 abbrev pub header_items : List Item

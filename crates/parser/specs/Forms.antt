@@ -3,7 +3,7 @@ use Rattle.std.specs.Prelude.{◌≡◌, List, [], ◌∷◌, Bool, true, false,
 use Rattle.tokens.specs.declared.located_tokens.Punctuator.TheVariants as punctuator
 use Rattle.tokens.specs.declared.located_tokens.Token.{Token}
 use Rattle.tokens.specs.declared.located_tokens.Token.TheVariants as token
-use Rattle.tokens.specs.declared.located_tokens.Keyword.TheVariants as word
+use Rattle.tokens.specs.declared.located_tokens.Keyword.TheVariants as keyword
 use Rattle.grammar.specs.declared.diagnostics.ParseFault.{ParseFault}
 use Rattle.grammar.specs.Building.{Representation}
 use Rattle.grammar.specs.Grammar.{Item, Exactly, Expression, Part}
@@ -17,9 +17,9 @@ use Rattle.parser.specs.Expressions.{AddsExpr}
 abbrev pub begins_statement : Token → Bool
 begins_statement (token.Punctuator punctuator.Semicolon) = true
 begins_statement (token.Punctuator punctuator.OpenCurly) = true
-begins_statement (token.Keyword word.If) = true
-begins_statement (token.Keyword word.While) = true
-begins_statement (token.Keyword word.Return) = true
+begins_statement (token.Keyword keyword.If) = true
+begins_statement (token.Keyword keyword.While) = true
+begins_statement (token.Keyword keyword.Return) = true
 begins_statement next = false
 
 -- an expression for its effect

@@ -5,7 +5,7 @@ ghost use Rattle.tokens.specs.Cursors.{OpensCursor, beyond};
 ghost use Rattle.tokens.specs.Tokens.{FitsToken, is_last};
 ghost use Rattle.tokens.specs.Window.{KnowsEnd};
 ghost use Rattle.tokens.specs.declared.located_tokens.Token.TheVariants as token;
-ghost use Rattle.tokens.specs.declared.located_tokens.Keyword.TheVariants as word;
+ghost use Rattle.tokens.specs.declared.located_tokens.Keyword.TheVariants as keyword;
 ghost use Rattle.grammar.specs.Compiled.{diagnostic, main_name};
 ghost use Rattle.grammar.specs.Derivation.{ACall, AVariable, name_of_token};
 ghost use Rattle.grammar.specs.Faults.{misfit_code};
@@ -173,7 +173,7 @@ impl<'s, 'a, F: Feed> ScopedCursor<'s, 'a, F> {
     /// Consumes a type word, which has to be the next token.
     pub fn expect_type(&mut self) -> Result<(), ParseFault>
         requires ready { IsReady self.old }
-        ensures matches { Matches result (AKeyword word.Type ∷ []) (λ _. []) self.old self.new }
+        ensures matches { Matches result (AKeyword keyword.Type ∷ []) (λ _. []) self.old self.new }
         ensures scope { OnOk result (scope_of self.new ≡ scope_of self.old) }
         ensures kept { Advances result self.old self.new }
     {

@@ -2,7 +2,7 @@
 
 ghost use Rattle.std.specs.Prelude.{◌≡◌, ◌∷◌, IfErr, IfOk, OnOk};
 ghost use Rattle.tokens.specs.Feed.{MayRead};
-ghost use Rattle.tokens.specs.declared.located_tokens.Keyword.TheVariants as word;
+ghost use Rattle.tokens.specs.declared.located_tokens.Keyword.TheVariants as keyword;
 ghost use Rattle.grammar.specs.Grammar.{Head, Part};
 ghost use Rattle.grammar.specs.Scope.{no_names};
 ghost use Rattle.parser.specs.Advancing.{Anywhere, IsNextKeyword};
@@ -128,7 +128,7 @@ impl<F: Feed, B: Build> Parser<'_, '_, '_, F, B> {
 
     /// `type types head`
     fn typed_part(&mut self) -> Result<(), ParseFault>
-        requires at { IsBetween B.stands (IsNextKeyword word.Type) self.old }
+        requires at { IsBetween B.stands (IsNextKeyword keyword.Type) self.old }
         ensures reads { ReadsParts result B.denied B.stands at_source self.old self.new }
         ensures kept { Proceeds result self.old self.new }
     {

@@ -1,7 +1,7 @@
 //! Blocks, branches, loops, returns and expressions for their effect.
 
 ghost use Rattle.tokens.specs.declared.located_tokens.Punctuator.TheVariants as punctuator;
-ghost use Rattle.tokens.specs.declared.located_tokens.Keyword.TheVariants as word;
+ghost use Rattle.tokens.specs.declared.located_tokens.Keyword.TheVariants as keyword;
 ghost use Rattle.grammar.specs.Following.{InBranch};
 ghost use Rattle.grammar.specs.Grammar.{Back, Statement};
 ghost use Rattle.parser.specs.Advancing.{Anywhere, IsNextPunctuator, IsNextKeyword};
@@ -71,7 +71,7 @@ impl<F: Feed, B: Build> Parser<'_, '_, '_, F, B> {
     /// `stmt → if ( expr ) stmt elsepart`
     #[cycle(statements)]
     fn if_statement(&mut self) -> Result<(), ParseFault>
-        requires at { IsAt B.stands HasStatementRoom 1 (IsNextKeyword word.If) self.old }
+        requires at { IsAt B.stands HasStatementRoom 1 (IsNextKeyword keyword.If) self.old }
         ensures parses { ParsesBody result B.denied B.stands Statement self.old self.new }
         ensures kept { Proceeds result self.old self.new }
     {
@@ -105,7 +105,7 @@ impl<F: Feed, B: Build> Parser<'_, '_, '_, F, B> {
     /// `stmt → while ( expr ) stmt`
     #[cycle(statements)]
     fn while_statement(&mut self) -> Result<(), ParseFault>
-        requires at { IsAt B.stands HasStatementRoom 1 (IsNextKeyword word.While) self.old }
+        requires at { IsAt B.stands HasStatementRoom 1 (IsNextKeyword keyword.While) self.old }
         ensures parses { ParsesBody result B.denied B.stands Statement self.old self.new }
         ensures kept { Proceeds result self.old self.new }
     {
@@ -135,7 +135,7 @@ impl<F: Feed, B: Build> Parser<'_, '_, '_, F, B> {
 
     /// `stmt → return back ;`
     fn return_statement(&mut self) -> Result<(), ParseFault>
-        requires at { IsAt B.stands HasStatementRoom 1 (IsNextKeyword word.Return) self.old }
+        requires at { IsAt B.stands HasStatementRoom 1 (IsNextKeyword keyword.Return) self.old }
         ensures parses { ParsesBody result B.denied B.stands Statement self.old self.new }
         ensures kept { Proceeds result self.old self.new }
     {

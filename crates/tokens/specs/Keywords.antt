@@ -2,7 +2,7 @@
 use Rattle.std.specs.Prelude.{ℕ, Bool, false, ◌||◌, List, [], ◌∷◌, Option, Some, None, codes, if◌then◌else◌}
 use Rattle.std.specs.Str.{bytes_eq}
 use Rattle.tokens.specs.declared.located_tokens.Keyword.{Keyword}
-use Rattle.tokens.specs.declared.located_tokens.Keyword.TheVariants as word
+use Rattle.tokens.specs.declared.located_tokens.Keyword.TheVariants as keyword
 
 -- whether a name is one of these
 abbrev pub is_one_of : List (List ℕ) → List ℕ → Bool
@@ -25,10 +25,10 @@ refused_words =
 -- the word that a name is, if it is one
 unfoldable pub keyword_of : List ℕ → Option Keyword
 keyword_of name =
-    if bytes_eq name (codes "if") then Some word.If
-    else (if bytes_eq name (codes "else") then Some word.Else
-    else (if bytes_eq name (codes "while") then Some word.While
-    else (if bytes_eq name (codes "return") then Some word.Return
-    else (if is_one_of type_words name then Some word.Type
-    else (if is_one_of refused_words name then Some word.Refused
+    if bytes_eq name (codes "if") then Some keyword.If
+    else (if bytes_eq name (codes "else") then Some keyword.Else
+    else (if bytes_eq name (codes "while") then Some keyword.While
+    else (if bytes_eq name (codes "return") then Some keyword.Return
+    else (if is_one_of type_words name then Some keyword.Type
+    else (if is_one_of refused_words name then Some keyword.Refused
     else None)))))

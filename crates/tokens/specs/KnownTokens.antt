@@ -1,7 +1,7 @@
 -- Small sources and their tokens.
 use Rattle.std.specs.Prelude.{◌≡◌, ℕ, [], ◌∷◌, ◌++◌, codes}
 use Rattle.tokens.specs.declared.located_tokens.Punctuator.TheVariants as punctuator
-use Rattle.tokens.specs.declared.located_tokens.Keyword.TheVariants as word
+use Rattle.tokens.specs.declared.located_tokens.Keyword.TheVariants as keyword
 use Rattle.tokens.specs.declared.located_tokens.LexicalError.TheVariants as lexical_error
 use Rattle.tokens.specs.declared.located_tokens.Token.{Token}
 use Rattle.tokens.specs.declared.located_tokens.Token.TheVariants as token
@@ -23,13 +23,13 @@ pub record KnownTokens : Type 0 where
       ∷ located_token (token.Punctuator punctuator.Not) 1 5
       ∷ located_token (token.Punctuator punctuator.Equals) 1 7 ∷ located_token token.End 1 7 ∷ []
   pub comments : tokens (codes "/*/ if */ /***/ if/0")
-      ≡ located_token (token.Keyword word.If) 1 18 ∷ located_token (token.Punctuator punctuator.Slash) 1 19
+      ≡ located_token (token.Keyword keyword.If) 1 18 ∷ located_token (token.Punctuator punctuator.Slash) 1 19
       ∷ located_token (token.Constant 0) 1 20 ∷ located_token token.End 1 20 ∷ []
   pub not_closed : tokens (10 ∷ codes "/*/" ++ 10 ∷ [])
       ≡ located_token (token.Fault lexical_error.CommentNotClosed) 2 5 ∷ []
   pub byte_26 : tokens (codes "int/*" ++ 26 ∷ codes "*/")
       ≡
-      located_token (token.Keyword word.Type) 1 3 ∷ located_token (token.Fault lexical_error.CommentNotClosed) 1 5 ∷
+      located_token (token.Keyword keyword.Type) 1 3 ∷ located_token (token.Fault lexical_error.CommentNotClosed) 1 5 ∷
       []
   pub lines : tokens (10 ∷ 13 ∷ 10 ∷ codes "7" ++ 10 ∷ [])
       ≡ located_token (token.Constant 7) 3 4 ∷ located_token token.End 4 5 ∷ []

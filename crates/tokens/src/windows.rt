@@ -92,7 +92,7 @@ impl Window {
         requires ready { MayAsk self.old (F.device feed.old) }
         ensures next { IfOk result (λ first. IsNextByte first self.new) }
         ensures seen { OnOk result (seen self.new (F.device feed.new).to_come ≡ seen self.old (F.device feed.old).to_come) }
-        ensures place { IsAtSameOffset self.old self.new }
+        ensures offset { IsAtSameOffset self.old self.new }
         ensures failed { OnErr result (self.new.taken ≡ self.new.offset) }
         ensures kept { MayHaveAsked result self.old self.new (F.device feed.old) (F.device feed.new) }
     {
@@ -181,7 +181,7 @@ impl Window {
         requires empty { self.old.at_hand ≡ [] }
         requires ready { MayAsk self.old (F.device feed.old) }
         ensures shows { OnOk result (Shows self.old self.new (F.device feed.old).to_come (F.device feed.new).to_come) }
-        ensures place { IsAtSameOffset self.old self.new }
+        ensures offset { IsAtSameOffset self.old self.new }
         ensures failed { OnErr result (self.new.taken ≡ self.new.offset) }
         ensures kept { MayHaveAsked result self.old self.new (F.device feed.old) (F.device feed.new) }
     {

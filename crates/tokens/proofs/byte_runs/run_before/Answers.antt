@@ -6,7 +6,7 @@ pub returns-then-run-lt-BLOCK-clause-count : goal.returns-then-run-lt-BLOCK-clau
 returns-then-run-lt-BLOCK-clause-count g c =
     let e = c.run_in_block-run.ensures in
     let stops =
-    block_stops (λ b. not (g.S.Stop.stops b)) c.args.bytes.now c.loop-count.count c.run_in_block-run.result.0
+    block_stops (λ b. not (g.S.StopByte.stops b)) c.args.bytes.now c.loop-count.count c.run_in_block-run.result.0
     (omega arith) e.count c.if-run-lt-BLOCK.true in
     sym (c.loop-count.invariant.count ∙ ap (λ n. c.loop-count.count + n) stops)
 
@@ -22,7 +22,7 @@ loop-count-preserved g c =
     let n = c.loop-count.invariant in
     let whole : c.run_in_block-run.result.0 ≡ 32 = omega (arith, e.within) in
     let passed =
-    block_passed (λ b. not (g.S.Stop.stops b)) c.args.bytes.now c.loop-count.count 32 c.run_in_block-run.result.0
+    block_passed (λ b. not (g.S.StopByte.stops b)) c.args.bytes.now c.loop-count.count 32 c.run_in_block-run.result.0
     (omega arith) e.count whole in
     record {
       within = omega (arith, whole);
@@ -33,7 +33,7 @@ loop-count-preserved g c =
 
 pub returns-clause-count : goal.returns-clause-count
 returns-clause-count g c =
-    rest_of_run (λ b. not (g.S.Stop.stops b)) c.args.bytes.now c.loop-count.count c.run_by_one-run.result.0
+    rest_of_run (λ b. not (g.S.StopByte.stops b)) c.args.bytes.now c.loop-count.count c.run_by_one-run.result.0
     c.loop-count.invariant.count c.run_by_one-run.ensures.count
 
 pub returns-clause-lines : goal.returns-clause-lines

@@ -5,8 +5,8 @@ use Rattle.tokens.proofs.byte_runs.run_before.Given as goal
 abbrev pub invariant-loop-count : goal.invariant-loop-count
 invariant-loop-count g l = record {
   within : l.count ≤ length l.bytes;
-  count : prefix_len (λ b. not (g.S.Stop.stops b)) l.bytes ≡
-      l.count + prefix_len (λ b. not (g.S.Stop.stops b)) (drop l.count l.bytes);
+  count : prefix_len (λ b. not (g.S.StopByte.stops b)) l.bytes ≡
+      l.count + prefix_len (λ b. not (g.S.StopByte.stops b)) (drop l.count l.bytes);
   lines : l.lines ≡ count_by (λ b. eqb b 10) (take l.count l.bytes);
 }
 

@@ -4,7 +4,7 @@ use Rattle.std.proofs.Common.{◌∙◌, ◌≡◌, ◌+◌, ◌<◌, [], ◌∷
 use Rattle.std.proofs.lemmas.Result.{err_from_is_err_and}
 use Rattle.tokens.specs.declared.located_tokens.Punctuator.TheVariants as punctuator
 use Rattle.tokens.specs.declared.located_tokens.Token.TheVariants as token
-use Rattle.tokens.specs.declared.located_tokens.Keyword.TheVariants as word
+use Rattle.tokens.specs.declared.located_tokens.Keyword.TheVariants as keyword
 use Rattle.grammar.specs.Derivation.{ABody}
 use Rattle.grammar.specs.Grammar.{ElsePart, Make, Part, Repeat, Close, Statement, is_fault, is_punctuator, is_keyword}
 use Rattle.parser.specs.Room.{HasStatementRoom, room}
@@ -528,8 +528,8 @@ pub else_part-returns-in_err-advance-clause-parses : goal.else_part-returns-in_e
 else_part-returns-in_err-advance-clause-parses g t c =
     let sound : is_fault c.args.self.now.tokens.position.lookahead.cursor.next.token ≡ false =
     c.requires.at.ready.sound in
-    let is : is_keyword word.Else c.args.self.now.tokens.position.lookahead.cursor.next.token ≡ true =
-    word_tested word.Else c.peek.result.now _ c.is_word.result true c.peek.ensures.value c.is_word.ensures
+    let is : is_keyword keyword.Else c.args.self.now.tokens.position.lookahead.cursor.next.token ≡ true =
+    word_tested keyword.Else c.peek.result.now _ c.is_word.result true c.peek.ensures.value c.is_word.ensures
     c.if-is_word.true in
     let p = err_from_is_err_and c.from_residual-in_err-advance.result c.from_residual-in_err-advance.ensures.1 in
     rw (p.1, p.2) (record {
@@ -542,8 +542,8 @@ pub else_part-returns-in_err-statement-clause-parses : goal.else_part-returns-in
 else_part-returns-in_err-statement-clause-parses g t c =
     let sound : is_fault c.args.self.now.tokens.position.lookahead.cursor.next.token ≡ false =
     c.requires.at.ready.sound in
-    let is : is_keyword word.Else c.args.self.now.tokens.position.lookahead.cursor.next.token ≡ true =
-    word_tested word.Else c.peek.result.now _ c.is_word.result true c.peek.ensures.value c.is_word.ensures
+    let is : is_keyword keyword.Else c.args.self.now.tokens.position.lookahead.cursor.next.token ≡ true =
+    word_tested keyword.Else c.peek.result.now _ c.is_word.result true c.peek.ensures.value c.is_word.ensures
     c.if-is_word.true in
     let p = err_from_is_err_and c.from_residual-in_err-statement.result c.from_residual-in_err-statement.ensures.1 in
     rw (p.1, p.2) (record {
@@ -558,8 +558,8 @@ pub else_part-returns-in_ok-statement-clause-parses : goal.else_part-returns-in_
 else_part-returns-in_ok-statement-clause-parses g t c =
     let sound : is_fault c.args.self.now.tokens.position.lookahead.cursor.next.token ≡ false =
     c.requires.at.ready.sound in
-    let is : is_keyword word.Else c.args.self.now.tokens.position.lookahead.cursor.next.token ≡ true =
-    word_tested word.Else c.peek.result.now _ c.is_word.result true c.peek.ensures.value c.is_word.ensures
+    let is : is_keyword keyword.Else c.args.self.now.tokens.position.lookahead.cursor.next.token ≡ true =
+    word_tested keyword.Else c.peek.result.now _ c.is_word.result true c.peek.ensures.value c.is_word.ensures
     c.if-is_word.true in
     else_adds _ _ _ _ _ _ c.args.self.now.depth sound is c.in_ok-advance.ensures.consumes
     c.in_ok-advance.ensures.kept.ready.sound c.in_ok-act.ensures.ok c.in_ok-statement.ensures.parses
@@ -569,8 +569,8 @@ pub else_part-returns-else-is_word-clause-parses : goal.else_part-returns-else-i
 else_part-returns-else-is_word-clause-parses g t c =
     let sound : is_fault c.args.self.now.tokens.position.lookahead.cursor.next.token ≡ false =
     c.requires.at.ready.sound in
-    let other : is_keyword word.Else c.args.self.now.tokens.position.lookahead.cursor.next.token ≡ false =
-    word_tested word.Else c.peek.result.now _ c.is_word.result false c.peek.ensures.value c.is_word.ensures
+    let other : is_keyword keyword.Else c.args.self.now.tokens.position.lookahead.cursor.next.token ≡ false =
+    word_tested keyword.Else c.peek.result.now _ c.is_word.result false c.peek.ensures.value c.is_word.ensures
     c.if-is_word.false in
     no_else_adds _ _ c.args.self.now.depth sound other
 

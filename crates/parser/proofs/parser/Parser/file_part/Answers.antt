@@ -2,7 +2,7 @@ use Rattle.std.proofs.Common.{◌≡◌, false, refl, sym, ap, ◌∙◌}
 use Rattle.std.proofs.lemmas.Result.{err_from_is_err_and}
 use Rattle.tokens.specs.declared.located_tokens.LocatedToken.{LocatedToken}
 use Rattle.tokens.specs.declared.located_tokens.Token.TheVariants as token
-use Rattle.tokens.specs.declared.located_tokens.Keyword.TheVariants as word
+use Rattle.tokens.specs.declared.located_tokens.Keyword.TheVariants as keyword
 use Rattle.grammar.specs.Grammar.{is_fault, is_keyword}
 use Rattle.parser.specs.Progress.{at_source}
 use Rattle.parser.proofs.Choosing.{function_read, function_refused, source_misfits, source_named}
@@ -22,7 +22,7 @@ pub returns-in_default : goal.returns-in_default
 returns-in_default g c =
     let sound : is_fault c.args.self.now.tokens.position.lookahead.cursor.next.token ≡ false =
     c.requires.at.ready.sound in
-    let other : is_keyword word.Type c.args.self.now.tokens.position.lookahead.cursor.next.token ≡ false = cc in
+    let other : is_keyword keyword.Type c.args.self.now.tokens.position.lookahead.cursor.next.token ≡ false = cc in
     record {
       reads =
           rw c.misfit.ensures (source_misfits (g.B.Build.stands c.args.self.now.builder.now) _ _

@@ -20,8 +20,8 @@ returns-clause-shows g c =
       ready = search rules;
     }
 
-pub returns-clause-place : goal.returns-clause-place
-returns-clause-place g c =
+pub returns-clause-offset : goal.returns-clause-offset
+returns-clause-offset g c =
     let s = c.self.inside in
     let empty : between s.next s.filled s.bytes ≡ [] = ap (λ h. h.at_hand) c.self.view_is ∙ c.requires.empty in
     let at_end = empty-range s.bytes s.next s.filled (omega arith) c.self.invariant.ordered empty in
