@@ -47,6 +47,8 @@ PROGRAMS = (
     Program("crobots-why", "why", (ROBOT,)),
     Program("crobots-stages", "stages", ("--tokens", ROBOT)),
     Program("crobots-bounds", "bounds", (ROBOT,)),
+    # without commands: these would be read from a terminal
+    Program("crobots-debug", "debug", ("--help",)),
 )
 SCRIPTS = (
     Script("crobots-tournament", "tournament", ("tournaments", "sites")),
