@@ -1,6 +1,6 @@
 //! A session: commands, a line each, and their answers.
 
-ghost use Rattle.std.specs.Prelude.{◌≡◌, ◌<◌, ◌≤◌, length};
+ghost use Rattle.std.specs.Prelude.{◌<◌, ◌≤◌, length};
 
 use crate::answers::{add_found, add_moment};
 use crate::commands::Command;
@@ -82,7 +82,6 @@ fn answer(
     requires most { length pilots.old ≤ MOST_ROBOTS }
     requires limit { session.now.limit ≤ MOST_CYCLES }
     requires inside { session.now.robot < length pilots.old }
-    ensures manned { length pilots.new ≡ length pilots.old }
 {
     let Ok(line) = str::from_utf8(line) else {
         return Ok(Some(refused(alloc, Refusal::NoText)?));
@@ -144,7 +143,6 @@ fn moment(
     requires most { length pilots.old ≤ MOST_ROBOTS }
     requires limit { session.now.limit ≤ MOST_CYCLES }
     requires inside { session.now.robot < length pilots.old }
-    ensures manned { length pilots.new ≡ length pilots.old }
 {
     let robot = session.robot;
     let moment = moment_at(

@@ -1,6 +1,6 @@
 //! Files: their programs, names and texts, and the line that each instruction comes from.
 
-ghost use Rattle.std.specs.Prelude.{◌<◌, ◌≤◌, IfOk, length};
+ghost use Rattle.std.specs.Prelude.{◌≡◌, ◌<◌, ◌≤◌, IfOk, length};
 
 use code::{Profile, Program};
 use derivations::{SourcePositions, lines};
@@ -107,6 +107,7 @@ pub struct Sources {
 /// Compiles the files of a wish, and writes the diagnostic of each faulty one, or a line about the first that can't be
 /// opened or read, with the name of the program that asks.
 pub fn compiled(rt: &HostRuntime, program: &str, wish: &Settings<'_>) -> Result<Sources, Fault>
+    ensures each { IfOk result (λ sources. length sources.programs.items ≡ length wish.now.file_words) }
     ensures some { IfOk result (λ sources. 0 < length sources.programs.items) }
     ensures most { IfOk result (λ sources. length sources.programs.items ≤ MOST_FILES) }
 {
