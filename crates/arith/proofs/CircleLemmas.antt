@@ -12,7 +12,7 @@ use Rattle.std.specs.Int.{abs_diff}
 use Rattle.arith.specs.Circle.{sine_at, cosine_at, square_of, IsNearlyOnCircle}
 use Rattle.arith.proofs.Below.{passes_below, passes_at}
 
--- the sine of the degree that i stands for, once round
+-- the sine of the degree that i represents, once round
 abbrev pub round_sine : ℕ → ℤ
 round_sine i = sine_at (i % 360)
 

@@ -143,7 +143,7 @@ module _ (code : Program) (file : File) (l n : ℕ) (again : Again) (holds : Hol
   abbrev e : ℕ
   e = length file.externals
 
-  -- a call behind its arguments
+  -- a call after its arguments
   called_law : (f : Callee) → IsCallable (length file.functions) f →
       (xs : List ℤ) (below : List ℤ) (fs : List Frame) (at : ℕ) (vars : Vars) (temps : List ℤ) (depth frames : ℕ)
       (rest : List ℤ) → HasSizes e l vars → IsDepth l below temps depth → frames ≡ length fs → 0 < length fs →

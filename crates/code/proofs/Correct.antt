@@ -114,7 +114,7 @@ bounded code file holds (suc n) l b r below f fs at vars depth frames trace base
     (effect_law code file n again holds (bounded code file holds n) l b r below f fs at vars depth frames trace base
     tied s)
 
--- a list's part behind another part stands there
+-- a list's part after another part stands there
 stands_behind : (code : Program) (front xs : List Instr) → code.instructions ≡ front ++ xs →
     StandsAt code (length front) xs
 stands_behind code front [] e = tt

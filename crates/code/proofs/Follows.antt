@@ -1,4 +1,4 @@
--- The trees' outcome against what the instructions want: where the outcome is a value, the instructions go on behind
+-- The trees' outcome against what the instructions want: where the outcome is a value, the instructions go on after
 -- it;
 -- where it awaits an event, they want that event.
 use Rattle.std.specs.Prelude.{ℕ, ℤ, suc, ◌≡◌, ◌≤◌, List, [], ◌∷◌, Bool, true, false, Option, Some, None, length, if◌then◌else◌}
@@ -30,7 +30,7 @@ pub follows_from : {A : Type 0} (e l n : ℕ) (o : Evaluated A) (v w : Option Wa
 follows_from e l n (Gives x vars rest) v w k same f = record { sizes = f.sizes; short = f.short; same = same ∙ f.same }
 follows_from e l n (Awaits event) v w k same f = same ∙ f
 
--- an evaluation and what comes behind it
+-- an evaluation and what comes after it
 pub chain : {A B : Type 0} (e l e' l' n : ℕ) (o : Evaluated A) (w : Option Want) (k : A → Vars → List ℤ → Option Want)
     (go : A → Vars → List ℤ → Evaluated B) (k' : B → Vars → List ℤ → Option Want) → Follows e' l' n o w k →
     ((x : A) (vars : Vars) (rest : List ℤ) → HasSizes e' l' vars → length rest ≤ n →
@@ -50,7 +50,7 @@ follows_longer e l n (Awaits event) w k f = f
 abbrev pub shown : Program → Machine → Option Want
 shown code s = if is_ready code s (instr_at code s.at) then Some (want_next code s) else None
 
--- what is shown behind replies, from a state on
+-- what is shown after replies, from a state on
 unfoldable pub wants : Program → Machine → List ℤ → Option Want
 wants code s trace = shown code (reached code s trace)
 

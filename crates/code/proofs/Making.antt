@@ -92,7 +92,7 @@ makes_if p xs ys s b first second m e =
     ∙ ap (λ (r : Maker). maker_from r ys) (closed_if m s)
     ∙ behind p m e (past s (length m.code)) ys b second
 
--- the first part of a choice is made, and a branch without a target behind it
+-- the first part of a choice is made, and a branch without a target after it
 abbrev between : Maker → List Instr → Maker
 between m inner = record {
   profile = m.profile;

@@ -36,7 +36,7 @@ pub stands : (code : Program) (at : ℕ) (a b : PlacedCode) → StandsAt code at
     StandsBoth code at (a at) (b (at + length (a at)))
 stands code at a b s = stands_both code at (a at) (b (at + length (a at))) s
 
--- where a piece and the one behind it end
+-- where a piece and the one after it end
 pub ends : (at : ℕ) (a b : PlacedCode) → at + length (a at) + length (b (at + length (a at))) ≡ at + length ((a ⨾ b) at)
 ends at a b = omega (arith, length-append (a at) (b (at + length (a at))))
 
@@ -79,14 +79,14 @@ abbrev pub Evaluation : Type 0 → Type 0
 Evaluation A = Vars → ℕ → ℕ → List ℤ → Evaluated A
 
 module _ (code : Program) where
-  -- the run of a function goes on behind a piece, with its values pushed
+  -- the run of a function goes on after a piece, with its values pushed
   abbrev pub gone_on : ℕ → List ℤ → List Frame → List ℤ → ℤ → Vars → List ℤ → Option Want
   gone_on at below fs temps x vars rest = wants code (run at below fs vars (temps ++ x ∷ [])) rest
 
   abbrev pub gone_on_with : ℕ → List ℤ → List Frame → List ℤ → List ℤ → Vars → List ℤ → Option Want
   gone_on_with at below fs temps xs vars rest = wants code (run at below fs vars (temps ++ xs)) rest
 
-  -- behind statements: the run goes on, or the function has returned, which main never does
+  -- after statements: the run goes on, or the function has returned, which main never does
   abbrev pub flown : ℕ → List ℤ → Frame → List Frame → Flow → Vars → List ℤ → Option Want
   flown at below f fs Through vars rest = wants code (run at below (f ∷ fs) vars []) rest
   flown at below f [] (Returns x) vars rest = Some Restart

@@ -17,7 +17,7 @@ use Rattle.code.specs.Generation.{code_of}
 use Rattle.code.specs.Machine.{want_code}
 use Rattle.code.specs.Meaning.{want, zeros}
 
--- a file of a first function, and a main behind it
+-- a file of a first function, and a main after it
 abbrev pub file_of_two : Function → Body → File
 file_of_two first main = record {
   externals = [];
@@ -44,7 +44,7 @@ asking_file = file_of_two
     })
     (ExpressionStatement (Call (callee.Function 0) (Argument (constant 5) NoMore)) Done)
 
--- int e; main(){g();} f(){} g(){e-=-1;}: g is mentioned before f, and defined behind it
+-- int e; main(){g();} f(){} g(){e-=-1;}: g is mentioned before f, and defined after it
 abbrev pub defined_behind_file : File
 defined_behind_file = record {
   externals = codes "e" ∷ [];

@@ -1,4 +1,4 @@
--- What a maker holds behind a list of actions.
+-- What a maker holds after a list of actions.
 use Rattle.std.specs.Prelude.{ℕ, pos, ◌+◌, List, [], ◌∷◌, ◌++◌, length, replicate, slice_set, if◌then◌else◌}
 use Rattle.grammar.specs.declared.actions.Action.{Action}
 use Rattle.grammar.specs.declared.actions.Action.TheVariants.{PushConstant, FetchVariable, StoreVariable, ApplyBinop}
@@ -89,14 +89,14 @@ with_other m = record {
 abbrev pub without_open : Maker → Maker
 without_open m = record { profile = m.profile; code = m.code; addresses = m.addresses; opened = others_opened m.opened }
 
--- where the right side is left out: behind the left side, a branch is taken to the value of && that is decided, and
--- else to the right side of ||, behind its value that is decided
+-- where the right side is left out: after the left side, a branch is taken to the value of && that is decided, and
+-- else to the right side of ||, after its value that is decided
 abbrev pub begun_right : Op → Maker → Maker
 begun_right op.And m = with_branch m
 begun_right op.Or m = with_other (with_code (with_branch m) (Const (pos 1) ∷ []))
 begun_right o m = m
 
--- behind the right side, whose truth is the value
+-- after the right side, whose truth is the value
 abbrev pub ended_right : Op → Maker → Maker
 ended_right op.And m = with_closed (with_code (with_other (with_code m (Truth ∷ []))) (Const (pos 0) ∷ []))
 ended_right op.Or m = with_closed (with_code m (Truth ∷ []))

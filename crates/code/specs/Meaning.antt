@@ -35,7 +35,7 @@ pub data Evaluated (A : Type 0) : Type 0 where
   Gives : (value : A) (vars : Vars) (rest : List ℤ) → Evaluated A
   Awaits : (event : Want) → Evaluated A
 
--- an evaluation, and what comes behind it
+-- an evaluation, and what comes after it
 abbrev pub and_then : {A B : Type 0} → Evaluated A → (A → Vars → List ℤ → Evaluated B) → Evaluated B
 and_then (Gives x vars rest) go = go x vars rest
 and_then (Awaits event) go = Awaits event
@@ -69,7 +69,7 @@ push p depth trace go = tick (nat_lt depth p.words) Quiet trace (λ reply rest. 
 abbrev pub pass : {A : Type 0} → List ℤ → (List ℤ → Evaluated A) → Evaluated A
 pass trace go = tick true Quiet trace (λ reply rest. go rest)
 
--- an operator behind both of its sides
+-- an operator after both of its sides
 abbrev pub full : Op → ℕ → Evaluated ℤ → (Vars → ℕ → List ℤ → Evaluated ℤ) → Evaluated ℤ
 full o depth left right =
     and_then left (λ x vars rest.
@@ -97,7 +97,7 @@ short p o depth left right = full o depth left right
 abbrev pub binary : Profile → Op → ℕ → Evaluated ℤ → (Vars → ℕ → List ℤ → Evaluated ℤ) → Evaluated ℤ
 binary p o depth left right = if p.short_circuit then short p o depth left right else full o depth left right
 
--- what comes behind a statement that is passed through
+-- what comes after a statement that is passed through
 abbrev pub on_through : Flow → Vars → List ℤ → (Vars → List ℤ → Evaluated Flow) → Evaluated Flow
 on_through Through vars rest go = go vars rest
 on_through (Returns x) vars rest go = Gives (Returns x) vars rest
@@ -121,7 +121,7 @@ abbrev pub returned : Vars → ℤ → Vars → List ℤ → Evaluated ℤ
 returned caller x vars rest = Gives x (record { externals = vars.externals; locals = caller.locals }) rest
 
 module _ (p : Profile) (file : File) (again : Again) where
-  -- a call behind its arguments
+  -- a call after its arguments
   abbrev pub called : Callee → List ℤ → Vars → ℕ → ℕ → List ℤ → Evaluated ℤ
   called (callee.Intrinsic i) arguments vars depth frames trace =
       tick (nat_le (depth + 1) p.words) (Ask i (asked_words i arguments)) trace (λ reply rest. Gives reply vars rest)

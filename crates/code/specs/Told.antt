@@ -5,7 +5,7 @@ use Rattle.grammar.specs.Actions.{code_length, ends_function}
 use Rattle.grammar.specs.Profile.{Profile}
 use Rattle.code.specs.Making.{Maker, maker_after}
 
--- no function is open behind these actions
+-- no function is open after these actions
 abbrev pub is_ended : List Action → Bool
 is_ended [] = true
 is_ended (a ∷ []) = ends_function a

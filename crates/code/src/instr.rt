@@ -22,7 +22,7 @@ pub enum Instr {
     /// doesn't fit, and doesn't ask, where that is past the stack.
     Fcall(Callee),
     /// `RETSUB`: takes the top word, closes the frame, cuts the stack to the frame's base, pushes the word and goes on
-    /// behind the call. It doesn't fit in main's first frame.
+    /// after the call. It doesn't fit in main's first frame.
     Retsub,
     /// `BRANCH address`: takes one word and goes to the address where it is 0.
     Branch(u16),

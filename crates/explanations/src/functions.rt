@@ -24,7 +24,7 @@ fn is_misspelled(scene: &Scene<'_>, index: usize) -> bool {
     }
 }
 
-/// Returns the hint on a call behind the last function.
+/// Returns the hint on a call after the last function.
 pub fn on_outer_calls(scene: &Scene<'_>) -> Option<Hint> {
     let name = scene.pending_at(Item::Part(Symbol::FunctionBlock))?;
     let lacks_block = scene.is_behind_head() && !scene.is_mark(Punctuator::Semicolon);
@@ -32,7 +32,7 @@ pub fn on_outer_calls(scene: &Scene<'_>) -> Option<Hint> {
     (is_stray && !lacks_block).then_some(Hint::Text(STRAY_CALL))
 }
 
-/// What is said of a call outside of functions, behind the last of them.
+/// What is said of a call outside of functions, after the last of them.
 pub const STRAY_CALL: &str = "a call stands inside of a function: a `}` above may be one too many";
 
 /// Returns the hint on the heads of functions.

@@ -23,7 +23,7 @@ pub fn behind_brackets(tokens: &[Located], before: usize) -> Option<usize> {
     None
 }
 
-/// Reports whether a function's head begins at an index: type words, a name and brackets, and behind them its block, or
+/// Reports whether a function's head begins at an index: type words, a name and brackets, and after them its block, or
 /// the types of its parameters and then its block.
 pub fn is_head(tokens: &[Located], index: usize) -> bool {
     let name = behind_types(tokens, index);
@@ -45,7 +45,7 @@ fn behind_types(tokens: &[Located], index: usize) -> usize {
     behind
 }
 
-/// Reports whether a block begins at an index, or declarations do with a block behind them.
+/// Reports whether a block begins at an index, or declarations do with a block after them.
 fn begins_block(tokens: &[Located], index: usize) -> bool {
     let open = Token::Punctuator(Punctuator::OpenCurly);
     let first = token_at(tokens, index);
@@ -73,7 +73,7 @@ fn is_declaring(token: &Token) -> bool {
     )
 }
 
-/// Reports whether a name outside of functions is called rather than defined: no type word stands before it, and behind
+/// Reports whether a name outside of functions is called rather than defined: no type word stands before it, and after
 /// its brackets neither a block nor a type begins.
 pub fn is_call(tokens: &[Located], name: usize) -> bool {
     match behind_brackets(tokens, name) {
@@ -90,7 +90,7 @@ fn follows_type(tokens: &[Located], index: usize) -> bool {
     }
 }
 
-/// Reports whether a token may stand behind the brackets of a definition.
+/// Reports whether a token may follow the brackets of a definition.
 fn may_define(token: &Token) -> bool {
     matches!(
         token,

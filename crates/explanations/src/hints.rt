@@ -135,7 +135,7 @@ fn hexadecimal(digits: &[u8]) -> Option<u32> {
     value
 }
 
-/// Returns the hint on declarations: with values, of parameters in their list, and behind statements.
+/// Returns the hint on declarations: with values, of parameters in their list, and after statements.
 fn on_declarations(scene: &Scene<'_>) -> Option<Hint> {
     if scene.is_mark(Punctuator::Equals) && declares(scene) {
         return Some(Hint::Text(
@@ -314,7 +314,7 @@ fn on_brackets(scene: &Scene<'_>) -> Option<Hint> {
     None
 }
 
-/// Reports whether a `;` stands where a `,` may, with a whole argument behind it.
+/// Reports whether a `;` stands where a `,` may, with a whole argument after it.
 fn parts_arguments(scene: &Scene<'_>) -> bool {
     let behind = scene.token(scene.index.saturating_add(2));
     let ends = matches!(

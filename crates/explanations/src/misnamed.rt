@@ -212,7 +212,7 @@ fn add_unknown(note: &mut Note, found: &Found<'_>, name: &Name) {
     }
 }
 
-/// Reports whether a name stands somewhere without a bracket behind it.
+/// Reports whether a name stands somewhere without a bracket after it.
 fn is_variable(tokens: &[Located], name: &Name) -> bool {
     let open = Token::Punctuator(Punctuator::OpenRound);
     let mut follows_name = false;

@@ -113,7 +113,7 @@ fn meant(subject: &Subject<'_>, uses: &Uses, token: usize, name: &Name) -> Meant
     }
 }
 
-/// Reports whether a variable of the file that is declared behind a token has this name.
+/// Reports whether a variable of the file that is declared after a token has this name.
 fn is_declared_below(subject: &Subject<'_>, token: usize, name: &Name) -> bool {
     for external in subject.nodes.externals() {
         if *external > token && name_at(subject.tokens, *external) == Some(*name) {

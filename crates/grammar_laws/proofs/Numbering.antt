@@ -81,7 +81,7 @@ parameter_more : (b : Bool) (name : List ℕ) (scope : Scope) →
 parameter_more true name scope = refl
 parameter_more false name scope = refl
 
--- whether a name stands for no variable
+-- whether a name represents no variable
 variable_new : (name : List ℕ) (scope : Scope) →
     is_variable_new name scope ≡
     (is_none (number_of_name name scope.current.variables) && is_none (number_of_name name scope.externals))

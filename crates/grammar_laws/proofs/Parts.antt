@@ -33,7 +33,7 @@ pub operator_ends : (o : Op) → EndsPart (binary_punctuator o)
 operator_ends op.Or = record { fetches = λ name. refl; begins = λ name. refl }
 operator_ends o = record { fetches = λ name. refl; begins = λ name. refl }
 
--- the derivation takes an expression as it is spelled, up to the punctuator behind it
+-- the derivation takes an expression as it is spelled, up to the punctuator after it
 abbrev pub IsTaken : Expression → Type 0
 IsTaken e =
     (c : Closing) (rest : List Token) (stack : List Item) (values : List Value) (scope : Scope)
@@ -103,7 +103,7 @@ pub part_begins : (e : Expression) (m : Punctuator) (rest : List Token) → Ends
 part_begins (Variable name) m rest ends = ends.begins name
 part_begins e m rest ends = refl
 
--- a part behind which a level of operators ends
+-- a part after which a level of operators ends
 pub part_at_level : (e : Expression) → IsOperand e → (m n : ℕ) → m + n ≡ 11 →
     (c : Closing) (rest : List Token) (stack : List Item) (values : List Value) (scope : Scope)
     (functions : List Definition) →

@@ -43,7 +43,7 @@ advances_stay before front at = record {
       (state front rest [] (scope_at at) fs)) (sym (append-nil functions)) (here profile _);
 }
 
--- two readings one behind another
+-- two readings one after another
 pub advances_then : (before mid after : Representation) (front between pending : List Item) (at now there : Position) →
     ReadsOn before mid front between at now → ReadsOn mid after between pending now there →
     ReadsOn before after front pending at there
@@ -112,7 +112,7 @@ pub told_grown : (before after : Representation) (profile : Profile) (functions 
     before profile (definitions_actions functions) → HasTold after profile functions
 told_grown before after profile functions grown h = record { more = grown.more; stands = grown.added profile _ h }
 
--- a fault behind a reading
+-- a fault after a reading
 pub stops_then : (before mid after : Representation) (front between : List Item) (at now : Position) (d : Stop) →
     ReadsOn before mid front between at now → StopsPart mid after between now d →
     StopsPart before after front at d
@@ -152,7 +152,7 @@ segment_stops before front stack at d depths fails located_tokens is profile fun
     telling_inside before profile _ d (λ device. told_alone before profile functions h)
     (fails located_tokens is profile stack [] functions depths)
 
--- a refusal behind a reading
+-- a refusal after a reading
 pub leave : (used : ℕ) (before mid after : Representation) (front between : List Item) (at now : Position)
     (denied more : Type 0)
     (f : ParseFault) → ReadsOn before mid front between at now →

@@ -144,7 +144,7 @@ close_step : (profile : Profile) (located_tokens : List LocatedToken) (scope : S
 close_step profile located_tokens scope functions stack next tail e sound =
     rw e (close profile stack (next ∷ tail) [] scope functions sound)
 
--- the place at the closing brace, and the same behind the function's end
+-- the place at the closing brace, and the same after the function's end
 pub record IsEnded (brace ended : Position) : Type 0 where
   pub cursor : ended.lookahead.cursor ≡ brace.lookahead.cursor
   pub to_come : ended.to_come ≡ brace.to_come
@@ -336,7 +336,7 @@ too_much_refused used first second third after at now brace number parameters f 
           (braced second third at now brace h b) near,
     )
 
--- the closing brace itself is always there, but the token behind it may be a fault; the builder was told the function
+-- the closing brace itself is always there, but the token after it may be a fault; the builder was told the function
 brace_stops : (first second third fourth : Representation) (at now brace ended : Position)
     (number parameters variables : ℕ)
     (d : Stop) →

@@ -112,7 +112,7 @@ closes before mid between after variables a b c fits = record {
         append_assoc (acts ++ PushConstant (pos 0) ∷ []) (GiveBack ∷ []) (EndFunction variables ∷ []) ∙
         append_assoc acts (PushConstant (pos 0) ∷ []) (GiveBack ∷ EndFunction variables ∷ [])
 
--- Behind it nothing is open.
+-- After it nothing is open.
 pub closed : (before after : Representation) (number parameters variables : ℕ) (body : Body) → LeavesOpen before [] →
     number < 64 → parameters ≤ variables → variables ≤ 64 → InBody 64 64 64 body → body_nesting body ≤ 200 →
     AppendsAll before after

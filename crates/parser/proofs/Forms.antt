@@ -87,7 +87,7 @@ pub empty_shallow : (t : Token) → is_punctuator punctuator.Semicolon t ≡ tru
 empty_shallow t is after =
     let at : t ≡ token.Punctuator punctuator.Semicolon = punctuator_is punctuator.Semicolon t is in rw at refl
 
--- what stands behind the opening brace of a block
+-- what follows the opening brace of a block
 abbrev pub in_braces : List Item
 in_braces = Part Declarations ∷ Part Statements ∷ Exactly punctuator.CloseCurly ∷ Close ∷ []
 
@@ -107,7 +107,7 @@ begins_block t is =
       opened = λ after. rw at refl;
     }
 
--- what stands behind the condition of an `if`
+-- what follows the condition of an `if`
 abbrev pub behind_if : List Item
 behind_if = Make Empty ∷ Part Statement ∷ Part ElsePart ∷ Close ∷ []
 

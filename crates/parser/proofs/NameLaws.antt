@@ -1,4 +1,4 @@
--- Where a name was matched, the token that stood behind it is next.
+-- Where a name was matched, the token that followed it is next.
 use Rattle.std.proofs.Common.{◌≡◌, ℕ, zero, suc, List, [], ◌∷◌, ◌++◌, refl, sym, ap, ◌∙◌, Bool, true, false, drop}
 use Rattle.std.specs.Prelude.{Some}
 use Rattle.tokens.specs.Tokens.{followed_by}

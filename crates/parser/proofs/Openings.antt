@@ -1,4 +1,4 @@
--- What is open behind the actions of statements so far, and which actions may follow.
+-- What is open after the actions of statements so far, and which actions may follow.
 use Rattle.std.proofs.Common.{◌≡◌, ℕ, pos, ◌+◌, ◌≤◌, [], ◌∷◌, refl, ap, ◌∙◌, Bool, true, false, arith}
 use Rattle.std.specs.Prelude.{Option, Some, None}
 use Rattle.grammar.specs.declared.actions.Action.{Action}
@@ -15,7 +15,7 @@ use Rattle.grammar.proofs.StandingLaws.{may_follow, stands_then}
 use Rattle.parser.specs.Room.{HasStatementRoom, HasRoom}
 use Rattle.parser.specs.Branches.{HasInside, IsElseNumbered, else_actions, else_nesting}
 
--- Behind statements a statement may stand, and no more is open.
+-- After statements a statement may stand, and no more is open.
 
 record Keeps (b : Body) (o : Opened) : Type 0 where
   position : may_take_statement (behind_body b o) ≡ true
@@ -81,7 +81,7 @@ may_push before n h =
     may_follow before (h.outer ∷ h.opened) (AValue (Number (pos 0)) ∷ h.outer ∷ h.opened) (PushConstant (pos 0))
     h.stands refl (omega (arith, h.few))
 
--- behind an expression at a statement's place
+-- after an expression at a statement's place
 pub value_inside : (before now : Representation) (n : ℕ) (e : Expr) → HasStatementRoom before n → InExpr 64 64 64 e →
     nesting e ≤ n →
     AppendsAll before now (expr_actions e) →

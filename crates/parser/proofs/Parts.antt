@@ -86,7 +86,7 @@ free_of depth symbol located_token none stack rest depths = rw (none (next_token
 
 -- Productions.
 
--- the production of a symbol at this token, whatever stands behind it
+-- the production of a symbol at this token, whatever follows it
 abbrev pub Chooses : Symbol → Token → List Item → Type 0
 Chooses symbol t items = (after : Token) → choice symbol t after ≡ Some items
 

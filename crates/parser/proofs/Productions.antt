@@ -50,7 +50,7 @@ punctuator_past at there m fits goes =
     punctuator_derives at.lookahead.cursor (scope_at at) at.to_come there m (punctuator_sound m (next_at at).token fits)
     fits goes
 
--- the token behind it is a fault
+-- the token after it is a fault
 pub punctuator_ends : (used : ℕ) (at : Position) (m : Punctuator) (f : ParseFault) →
     is_punctuator m (next_at at).token ≡ true → Refused (StopsAt at) ⊥ used f →
     Refused (FailsItem (Exactly m) at) ⊥ used f
@@ -61,7 +61,7 @@ punctuator_ends used at m f fits =
 
 -- The choice of a production.
 
--- whatever it stands for, this is so of the token behind the next one
+-- whatever it represents, this is so of the token after the next one
 abbrev pub WithAfter : Position → (Token → Type 0) → Type 0
 WithAfter at P = (after : Token) → (is_last (next_at at).token ≡ false → after ≡ after_at at) → P after
 

@@ -98,7 +98,7 @@ passes_all before after told at there w profile h =
     (w.reads.passes (next_at there ∷ []) (goes_alone there w.ends) profile [] h))
     (end_steps profile (next_at there) (scope_at there) w.reads.more w.ends)
 
--- where the device tells its bytes, their tokens are those
+-- if the device's bytes are known, their tokens are those
 tokens_all : (before after : Representation) (told : Option (List ℕ)) (at there : Position)
     (w : IsWhole before after told at there) (bytes : List ℕ) → told ≡ Some bytes →
     tokens bytes ≡ all_of before after told at there w
@@ -208,7 +208,7 @@ takes_up_to profile bytes to_come used more passed rest is none took limited tak
     let needed : reach_of rest ≤ need profile bytes = what_was_read_is_needed profile bytes passed rest is none.each in
     record { count = used; took = took; needed = omega (arith, needed, taken); limited = limited }
 
--- so many bytes were taken from a device that tells its bytes
+-- so many bytes were taken from a device whose bytes are known
 pub record HasTaken (used : ℕ) (told to_come : Option (List ℕ)) : Type 0 where
   pub took : (bytes : List ℕ) → told ≡ Some bytes → to_come ≡ Some (drop used bytes)
   pub limited : used ≤ 1048577

@@ -51,7 +51,7 @@ module _ {before now : Written} where
     counted = λ h. puts.1 ∙ ap (λ m. m + 1) (so_far.never_failed was);
   }
 
-  -- a fragment is put behind an empty page
+  -- a fragment is put after an empty page
   pub fragment_put : {T E : Type 0} (pen later : Pen) (after : Written) (bytes text : List ℕ)
       (put : Result T E)
       → PutsSoFar before now pen text → pen.failed ≡ false → pen.buffer ≡ []

@@ -20,7 +20,7 @@ column_step width n long fits =
     (append_assoc (replicate ((width - 1) - length (decimal (n / 10))) 32) (decimal (n / 10))
     ((48 + n % 10) ∷ [])))
 
--- one digit stands behind spaces
+-- one digit follows spaces
 pub column_digit : (width n : ℕ) → n < 10 → column width n ≡ replicate (width - 1) 32 ++ ((48 + n) ∷ [])
 column_digit width n short = rw (decimal_digit n short)
 

@@ -7,7 +7,7 @@ pub record Pen : Type 0 where
   pub buffer : List ℕ
   pub failed : Bool
 
--- a pen at the begin of a piece
+-- a pen at the beginning of a piece
 abbrev pub new_pen : Pen
 new_pen = record { buffer = []; failed = false }
 
@@ -17,7 +17,7 @@ MayFail pen sink = pen.failed ≡ false → sink.failures < 2 ^ 64 - 1
 
 -- Since the pen began, of a sink that was `before` then and is `now`:
 -- while no put has failed, the sink took the text but for what is on the page;
--- once one has failed, it took a front of the text.
+-- once one has failed, it took a prefix of the text.
 pub record PutsSoFar (before now : Written) (pen : Pen) (text : List ℕ) : Type 0 where
   pub going : pen.failed ≡ false → TakesAllBut before.portions now.portions text pen.buffer
   pub never_failed : pen.failed ≡ false → now.failures ≡ before.failures

@@ -45,6 +45,6 @@ pub record TakesAllBut (before after : Portions) (bytes left : List ℕ) : Type 
   pub told : after ≡ and_portions before portions
   pub joined : concat portions ++ left ≡ bytes
 
--- it took a front of these bytes
+-- it took a prefix of these bytes
 abbrev pub TakesFront : Portions → Portions → List ℕ → Type 0
 TakesFront before after bytes = (left : List ℕ) × TakesAllBut before after bytes left

@@ -29,7 +29,7 @@ impl Model for Pen {
 }
 
 impl Pen {
-    /// Makes a pen at the begin of a piece.
+    /// Makes a pen at the beginning of a piece.
     pub fn new() -> Pen
         ensures blank { result ≡ new_pen }
         ensures text { (now : Written) → WritesSoFar now now result [] }

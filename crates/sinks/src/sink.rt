@@ -14,7 +14,7 @@ use tokens::DeviceFault;
 pub trait Sink {
     ghost written: { Self → Written };
 
-    /// Takes a nonempty front of `bytes` as one portion and answers its length, or fails and takes nothing.
+    /// Takes a nonempty prefix of `bytes` as one portion and answers its length, or fails and takes nothing.
     fn put(&mut self, bytes: &[u8]) -> Result<usize, DeviceFault>
         requires nonempty { 0 < length bytes.now }
         requires countable { CanFail (written self.old) }

@@ -234,7 +234,7 @@ bad-begins b no_blank no_letter no_digit no_slash h a rest e =
     (located_tokens-by b (punctuator_front None) a rest e
     (front-punctuator_front b rest no_blank no_letter no_digit no_slash ∙ ap punctuator_front (longest-none b rest h)))
 
--- behind a `/` on this line
+-- after a `/` on this line
 unfoldable pub in_slash : ℕ → Ahead → List LocatedToken
 in_slash line a = cond (begins_with 42 a.bytes) (in_comment line (ahead_after_byte a)) (in_punctuator Slash a)
 
@@ -284,7 +284,7 @@ slash-begins line a rest e l =
     (λ (xs : List ℕ). in_slash a.line (ahead_after_byte (here a.line a.offset xs a.too_long)) ≡
     located_tokens (here a.line a.offset xs a.too_long)) (sym e) (slash-here a.line a.offset rest a.too_long))
 
--- a `*` behind it begins a comment
+-- a `*` after it begins a comment
 pub star-begins : (line : ℕ) (a : Ahead) (rest : List ℕ) → a.bytes ≡ 42 ∷ rest →
     in_comment line (ahead_after_byte a) ≡ in_slash line a
 unfolding in_slash

@@ -1,4 +1,4 @@
--- Tokens end one behind the other, within the source, and there is one at least.
+-- Tokens end one after the other, within the source, and there is one at least.
 use Rattle.std.proofs.Common.{◌≡◌, ℕ, zero, suc, ◌+◌, ◌<◌, ◌≤◌, Bool, true, false, cond, Option, Some, None, List, [], ◌∷◌, length, take, drop, refl, ap, ◌∙◌, arith, subst, length-take, ltb, eqb}
 use Rattle.std.specs.Prelude.{◌&&◌}
 use Rattle.std.specs.Option.{option_or}

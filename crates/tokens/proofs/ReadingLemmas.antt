@@ -14,7 +14,7 @@ use Rattle.tokens.proofs.EndLemmas.{located_tokens-nonempty, located_tokens-open
 abbrev reading : LocatedToken → LocatedToken → Window → Cursor
 reading next after behind = record { next = next; after = after; window = behind }
 
--- the token behind the next one was read
+-- the token after the next one was read
 pub shown-read : (next after : LocatedToken) (new old : Window) (told' told : Option (List ℕ)) →
     to_read (followed after) new told' ≡ to_read located_tokens old told →
     shown (reading next after new) told' ≡ to_read (followed next) old told
@@ -41,7 +41,7 @@ unfolding to_read tokens
 shown-opened None = refl
 shown-opened (Some bytes) = refl
 
--- behind the next token
+-- after the next token
 pub shown-advanced : (next after located_token : LocatedToken) (new old : Window) (told' told : Option (List ℕ)) →
     is_last next.token ≡ false → to_read (followed located_token) new told' ≡ to_read located_tokens old told →
     shown (reading after located_token new) told' ≡ option_map (drop 1) (shown (reading next after old) told)

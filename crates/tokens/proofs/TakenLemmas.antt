@@ -267,7 +267,7 @@ in_slash-ends line = record {
       ((in_punctuator-ends Slash).ends a first others);
 }
 
--- a read that failed took nothing behind the place that was reached
+-- a read that failed took nothing after the place that was reached
 pub stops : (made : Ahead → List LocatedToken) → EndsBehind made → (here new : Window) (told : Option (List ℕ)) →
     new.taken ≡ new.offset → new.offset ≡ here.offset → StopsWithin made here new told
 unfolding to_read
