@@ -75,7 +75,7 @@ level_faults symbol stack rest =
     only_if (enters symbol (next_token rest) (token_after_next rest))
     (only_if (nat_le most_levels (levels stack)) (fault rest code.NestedTooDeeply ∷ []))
 
--- a new name for which there is no room after so many
+-- a new name for which there is no room after this many
 abbrev pub no_room : Bool → ℕ → Code → List LocatedToken → List Fault
 no_room new count c rest = only_if new (only_if (nat_le most_names count) (fault rest c ∷ []))
 
