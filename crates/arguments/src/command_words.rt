@@ -27,7 +27,7 @@ pub fn read_words<'a>(alloc: Global, words: &'a [&'a str]) -> Result<Settings<'a
     }
 }
 
-/// Returns what the matches give for each option, and the files, of which there is one at least.
+/// Returns what the matches of `clap` give for each option, and the file words, of which there is at least one.
 fn given<'w, 'a>(matches: &'w ArgMatches<'a>) -> Given<'w, 'a>
     requires { 0 < length (files_in (rows_of (found_of matches.now))) }
     ensures { result ≡ given_by (rows_of (found_of matches.now)) }

@@ -81,7 +81,7 @@ full o depth left right =
     pass rest (λ rest.
     Gives (value_of o x y) vars rest)))
 
--- an operator that leaves out its right side where the left decides
+-- an operator that leaves out its right side if the left one decides
 abbrev pub short : Profile → Op → ℕ → Evaluated ℤ → (Vars → ℕ → List ℤ → Evaluated ℤ) → Evaluated ℤ
 short p op.And depth left right =
     and_then left (λ x vars rest.
@@ -113,7 +113,7 @@ abbrev pub binary : Profile → Op → ℕ → Evaluated ℤ → (Vars → ℕ �
 binary p o depth left right =
     if p.short_circuit then short p o depth left right else full o depth left right
 
--- what comes after a statement that is passed through
+-- what follows a statement that is passed through
 abbrev pub on_through : Flow → Vars → List ℤ → (Vars → List ℤ → Evaluated Flow) → Evaluated Flow
 on_through Through vars rest go = go vars rest
 on_through (Returns x) vars rest go = Gives (Returns x) vars rest
@@ -237,7 +237,7 @@ effect_within p file zero body vars depth frames trace = Awaits Restart
 effect_within p file (suc n) body vars depth frames trace =
     effect p file (effect_within p file n) body vars depth frames trace
 
--- main does not end: where it would return, it wants a restart
+-- main does not end: when it would return, it wants a restart
 abbrev pub wanted : Evaluated ℤ → Want
 wanted (Awaits event) = event
 wanted (Gives x vars rest) = Restart

@@ -1,4 +1,4 @@
--- What a call leaves that puts bytes on a sink.
+-- What a call that puts bytes on a sink leaves.
 use Rattle.std.specs.Prelude.{◌≡◌, ℕ, ◌+◌, ◌-◌, ◌^◌, ◌<◌, ◌≤◌, List, [], ◌∷◌, length, take, Result, MatchResult}
 use Rattle.sinks.specs.Portions.{Takes, TakesFront, TakesWhole, Written, and_portions}
 
@@ -23,7 +23,7 @@ CountsSink result before after = MatchResult result
     (λ _. after.failures ≡ before.failures)
     (λ _. after.failures ≡ before.failures + 1)
 
--- What a call left that was to put these bytes: if it succeeded, the sink took them and has not failed; if it failed,
+-- What a call leaves that had to put these bytes: if it succeeded, the sink took them and has not failed; if it failed,
 -- the sink took a prefix of them and has failed once.
 abbrev pub Puts : {T E : Type 0} → Result T E → Written → Written → List ℕ → Type 0
 Puts result before after bytes = MatchResult result

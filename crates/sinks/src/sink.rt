@@ -8,8 +8,8 @@ use tokens::DeviceFault;
 
 /// A device that takes bytes.
 ///
-/// `written` says how many calls failed, and which portions were taken so far, one for each call that succeeded, if the
-/// device's contents are known. Joined in order they are the bytes that it took. It says too whether the device takes
+/// `written` says how many calls failed, and, if the device's contents are known, which portions were taken so far, one
+/// for each call that succeeded. Joined in order they are the bytes that it took. It says too whether the device takes
 /// each put whole.
 pub trait Sink {
     ghost written: { Self → Written };
