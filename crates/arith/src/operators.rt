@@ -55,7 +55,7 @@ impl Op {
     }
 }
 
-/// Returns what an operator makes of any two numbers. Both have been worked out before, also for `&&` and `||`
+/// Returns what an operator makes of any two numbers. Both have been evaluated before, also for `&&` and `||`
 /// (docs/numbers.md, "Operators").
 #[inline(always)]
 #[tactic(auto, using(crate::proofs::OpLemmas::op_steps))]

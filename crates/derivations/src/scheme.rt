@@ -18,7 +18,7 @@ const STORE: Action = Action::StoreVariable(Var::Local(0), StoreOp::Set);
 /// The end of a call, of any function.
 const END_CALL: Action = Action::EndCall(Callee::Function(0));
 
-/// The begin of any function.
+/// The beginning of any function.
 const BEGIN_FUNCTION: Action = Action::BeginFunction(0, 0);
 
 /// The end of any function.
@@ -86,7 +86,7 @@ fn on_choice(symbol: Symbol, next: &Token) -> &'static [Action] {
         (Symbol::Tail(level), _) => match operator_at(level, next) {
             Some(Op::And) => &[Action::LogicMiddle(Op::And)],
             Some(Op::Or) => &[Action::LogicMiddle(Op::Or)],
-            // the right side of any other operator is always worked out
+            // the right side of any other operator is always evaluated
             _ => &[],
         },
         _ => &[],

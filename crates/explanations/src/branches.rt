@@ -29,8 +29,8 @@ pub fn warn_of_branch(out: &mut Warnings, subject: &Subject<'_>, index: usize, n
     }
 }
 
-/// Warns of the body that begins at the token of an index: of a `;` alone, and of a statement after it that looks as if it
-/// were a part of it.
+/// Warns of the body that begins at the token of an index: of a `;` alone, and of a statement after it that looks as if
+/// it were a part of it.
 fn warn_of_body(out: &mut Warnings, tokens: &[Located], node: &Node, body: usize) {
     let behind = token_at(tokens, body.saturating_add(1));
     if token_at(tokens, body) != Token::Punctuator(Punctuator::Semicolon) {
@@ -50,7 +50,7 @@ fn warn_of_body(out: &mut Warnings, tokens: &[Located], node: &Node, body: usize
     }
 }
 
-/// Warns of the statement after a body without braces that begins below the body's begin.
+/// Warns of the statement after a body without braces that begins below the body's beginning.
 fn warn_of_indentation(out: &mut Warnings, tokens: &[Located], head: usize, body: usize) {
     let Some(behind) = behind_simple(tokens, body) else {
         return;

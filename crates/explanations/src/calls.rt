@@ -82,7 +82,7 @@ fn has_return(nodes: &[Node]) -> bool {
     false
 }
 
-/// Returns what is said of the node of an index that stands on the right of `&&` or `||`, both of whose sides are always
+/// Returns what is said of the node of an index that is on the right of `&&` or `||`, both of whose sides are always
 /// evaluated.
 fn on_right_side(nodes: &Nodes, index: usize) -> Option<&'static str> {
     for node in nodes.within(index, nodes.all().len()) {

@@ -1,4 +1,4 @@
-//! Heads of functions, and calls that stand where a head might.
+//! Heads of functions, and calls at which a head may have been meant.
 
 use derivations::Located;
 use tokens::{Keyword, Punctuator, Token};
@@ -33,7 +33,7 @@ pub fn is_head(tokens: &[Located], index: usize) -> bool {
     }
 }
 
-/// Returns the index after the type words that stand at an index.
+/// Returns the index after the type words that begin at an index.
 fn behind_types(tokens: &[Located], index: usize) -> usize {
     let mut behind = index;
     for located in from(tokens, index) {
@@ -73,7 +73,7 @@ fn is_declaring(token: &Token) -> bool {
     )
 }
 
-/// Reports whether a name outside of functions is called rather than defined: no type word stands before it, and after
+/// Reports whether a name outside of functions is called rather than defined: no type word is before it, and after
 /// its brackets neither a block nor a type begins.
 pub fn is_call(tokens: &[Located], name: usize) -> bool {
     match behind_brackets(tokens, name) {
@@ -82,7 +82,7 @@ pub fn is_call(tokens: &[Located], name: usize) -> bool {
     }
 }
 
-/// Reports whether a type word stands right before an index.
+/// Reports whether a type word is right before an index.
 fn follows_type(tokens: &[Located], index: usize) -> bool {
     match tokens.get(..index) {
         Some([.., before]) => before.token == Token::Keyword(Keyword::Type),
@@ -101,7 +101,7 @@ fn may_define(token: &Token) -> bool {
     )
 }
 
-/// Reports whether a `}` stands before an index.
+/// Reports whether a `}` is before an index.
 pub fn is_behind_block(tokens: &[Located], index: usize) -> bool {
     for located in tokens.get(..index).unwrap_or(tokens) {
         if located.token == Token::Punctuator(Punctuator::CloseCurly) {

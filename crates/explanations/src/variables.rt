@@ -9,14 +9,14 @@ use derivations::Located;
 use grammar::{MOST_NAMES, StoreOp, Var};
 use tokens::Name;
 
-/// Where a variable of a function is first read and first set, by the indices of its nodes.
+/// The first read and the first setting of a function's variable, by the indices of their nodes.
 #[derive(Clone, Copy, Default)]
 struct Use {
     read: Option<usize>,
     set: Option<usize>,
 }
 
-/// Where the variables of a function are first read and first set, by their numbers.
+/// The first read and the first setting of a function's variables, by their numbers.
 type Uses = [Use; MOST_NAMES];
 
 /// Warns of the variables of all functions.
@@ -156,7 +156,7 @@ fn may_be_meant(tokens: &[Located], index: usize, name: &Name) -> bool {
     }
 }
 
-/// Finds where the variables of a function are read and set.
+/// Finds at which nodes the variables of a function are read and set.
 fn uses_of(nodes: &Nodes, body: &Body) -> Uses {
     let mut uses = [Use::default(); MOST_NAMES];
     for (number, node) in nodes.within(body.first, body.end).iter().enumerate() {

@@ -1,4 +1,4 @@
--- What is spelled, the derivation gives back, wherever the tokens stand.
+-- The round-trip law: the derivation returns what is spelled, on any lines.
 use Rattle.std.proofs.Common.{◌≡◌, ℕ, zero, suc, ◌+◌, List, [], ◌∷◌, refl, sym, ap, ◌∙◌, subst, arith}
 use Rattle.std.specs.Prelude.{None}
 use Rattle.tokens.specs.declared.located_tokens.LocatedToken.{LocatedToken}

@@ -1,4 +1,4 @@
--- Where the tokens stand decides nothing but the lines of first mentions.
+-- The lines of tokens decide nothing but the lines of first mentions.
 use Rattle.std.proofs.Common.{◌≡◌, ℕ, zero, suc, List, [], ◌∷◌, refl, ap, ◌∙◌, Bool, true, false, map, drop}
 use Rattle.std.proofs.lemmas.List.{map-append}
 use Rattle.std.specs.Prelude.{Option, Some, None, unwrap_or, if◌then◌else◌}
