@@ -1,6 +1,6 @@
--- The trees' outcome against what the instructions want: where the outcome is a value, the instructions go on after
+-- The trees' outcome against what the instructions want: if the outcome is a value, the instructions go on after
 -- it;
--- where it awaits an event, they want that event.
+-- if it awaits an event, they want that event.
 use Rattle.std.specs.Prelude.{ℕ, ℤ, suc, ◌≡◌, ◌≤◌, List, [], ◌∷◌, Bool, true, false, Option, Some, None, length, if◌then◌else◌}
 use Rattle.std.proofs.Common.{refl, ap, ◌∙◌, arith}
 use Rattle.code.specs.declared.instr.Instr.{Instr}
@@ -46,7 +46,7 @@ follows_longer e l n (Gives x vars rest) w k f =
     record { sizes = f.sizes; short = omega (arith, f.short); same = f.same }
 follows_longer e l n (Awaits event) w k f = f
 
--- what a state shows: what it wants, or nothing where its instruction lacks what it takes
+-- what a state shows: what it wants, or nothing if its instruction lacks what it takes
 abbrev pub shown : Program → Machine → Option Want
 shown code s = if is_ready code s (instr_at code s.at) then Some (want_next code s) else None
 

@@ -1,4 +1,4 @@
--- Where pieces of code stand, and what it is for one to evaluate an expression or to have the effect of statements.
+-- Code at an address, and what it is for it to evaluate an expression or to have the effect of statements.
 use Rattle.std.specs.Prelude.{ℕ, ℤ, pos, suc, ◌+◌, ◌≡◌, ◌<◌, ◌≤◌, List, [], ◌∷◌, ◌++◌, Option, Some, length}
 use Rattle.std.proofs.Common.{ap, subst, arith, length-append}
 use Rattle.code.specs.declared.instr.Instr.{Instr}
@@ -12,12 +12,12 @@ use Rattle.code.specs.Meaning.{Vars, Evaluated, Flow, Through, Returns}
 use Rattle.code.proofs.Follows.{HasSizes, Arrives, Follows, wants}
 use Rattle.code.proofs.Instructions.{run, IsDepth, back_with}
 
--- these instructions stand in the code from this address on
+-- these instructions are in the code from this address on
 abbrev pub StandsAt : Program → ℕ → List Instr → Type 0
 StandsAt code at [] = Unit {0}
 StandsAt code at (i ∷ is) = (instr_at code at ≡ Some i) × StandsAt code (at + 1) is
 
--- the two parts of a list that stands in the code
+-- the two parts of a list that is in the code
 pub record StandsBoth (code : Program) (at : ℕ) (xs ys : List Instr) : Type 0 where
   pub first : StandsAt code at xs
   pub second : StandsAt code (at + length xs) ys
@@ -93,7 +93,7 @@ module _ (code : Program) where
   flown at below f (g ∷ fs) (Returns x) vars rest = wants code (back_with f below (g ∷ fs) vars.externals x) rest
 
 module _ (code : Program) (e l n : ℕ) where
-  -- wherever it stands, the piece follows the evaluation and pushes its value
+  -- at any address, the piece follows the evaluation and pushes its value
   abbrev pub Evaluates : PlacedCode → Evaluation ℤ → Type 0
   Evaluates piece ev =
       (below : List ℤ) (fs : List Frame) (at : ℕ) (vars : Vars) (temps : List ℤ) (depth frames : ℕ) (trace : List ℤ) →

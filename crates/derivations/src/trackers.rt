@@ -145,7 +145,7 @@ impl Tracker {
     }
 }
 
-/// Returns the offset at which a token begins.
+/// Returns the position at which a token begins.
 pub(crate) fn place_of(token: &Located) -> SourcePosition {
     SourcePosition {
         line: token.line,

@@ -10,7 +10,7 @@ use tokens::Name;
 /// How far a shot flies at most, in metres.
 const MOST_RANGE: i32 = 700;
 
-/// Warns of the call of a node's index, which has so many arguments.
+/// Warns of the call of a node's index, which has `count` arguments.
 pub fn warn_of_call(
     out: &mut Warnings,
     subject: &Subject<'_>,

@@ -122,7 +122,7 @@ fn hint_for(found: &Found<'_>, scene: &Scene<'_>) -> Option<Hint> {
             let words = on_character(found.source, found.tokens, found.index)?;
             Some(Hint::Text(words))
         }
-        // of any other fault that has a hint here, the token doesn't fit where it stands
+        // of any other fault that has a hint here, the token doesn't fit
         _ => hint_on(scene),
     }
 }

@@ -285,7 +285,7 @@ too_deep profile symbol m items stack located_token rest values scope functions 
   code = refl;
 }
 
--- By a word.
+-- By a keyword.
 pub too_deep_word : (profile : Profile) (symbol : Symbol) (w : Keyword) (items stack : List Item)
     (located_token : LocatedToken) (rest : List LocatedToken) (values : List Value) (scope : Scope)
     (functions : List Definition) →

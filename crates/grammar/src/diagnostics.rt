@@ -36,7 +36,7 @@ pub enum Code {
     IntrinsicRedefined,
     /// A name twice in a parameter list, or one declared before the body that is not in the list.
     BadParameterDeclaration,
-    /// The closing brace of the function with which the code passes its limit.
+    /// The closing brace of the function with which the code exceeds its limit.
     TooMuchCode,
     /// The first mention of a function that the file doesn't define.
     FunctionNotDefined,

@@ -36,7 +36,7 @@ none_left : (rest : List LocatedToken) → bare_rest rest ≡ [] → rest ≡ []
 none_left [] e = refl
 none_left (l ∷ rest) e = absurd (cc)
 
--- a state that is over but for the places of its tokens
+-- a state that is over but for the lines and ends of its tokens
 record IsOver (s : State) (body : Body) (learnt : Scope) : Type 0 where
   stack : s.stack ≡ []
   rest : s.rest ≡ []

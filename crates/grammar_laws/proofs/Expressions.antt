@@ -195,7 +195,7 @@ with_one_more : (arguments : Args) (e : Expr) (more : Args) →
 with_one_more tree.NoMore e more = refl
 with_one_more (tree.Argument a rest) e more = ap (tree.Argument a) (with_one_more rest e more)
 
--- after an argument stands a comma or the bracket
+-- a comma or the bracket follows an argument
 record Stops (tokens : List Token) : Type 0 where
   closing : Closing
   behind : List Token

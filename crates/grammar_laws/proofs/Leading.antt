@@ -20,7 +20,7 @@ then s t u a b = record {
   leads = derived-add a.steps b.steps s ∙ ap (λ v. derived b.steps v) a.leads ∙ b.leads;
 }
 
--- a token in a place of no meaning
+-- a token whose line and end mean nothing
 abbrev pub placed : Token → LocatedToken
 placed t = record { token = t; line = 0; end = 0 }
 

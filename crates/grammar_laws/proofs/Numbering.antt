@@ -54,7 +54,7 @@ external_current : (b : Bool) (name : List ℕ) (scope : Scope) →
 external_current true name scope = refl
 external_current false name scope = refl
 
--- a scope with a variable more where it is new
+-- a scope with a variable more if it is new
 record HasVariable (b : Bool) (name : List ℕ) (scope more : Scope) : Type 0 where
   externals : more.externals ≡ scope.externals
   variables : more.current.variables ≡ (if b then scope.current.variables ++ name ∷ [] else scope.current.variables)

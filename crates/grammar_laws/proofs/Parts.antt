@@ -18,7 +18,7 @@ use Rattle.grammar_laws.specs.Resolving.{tree_of, behind, mentioned}
 use Rattle.grammar_laws.proofs.Leading.{Leads, then, at, first, second, part, make}
 use Rattle.grammar_laws.proofs.Levels.{tails, down, up, Closing, Round, closing_punctuator}
 
--- in front of this punctuator a name is a variable, and begins no assignment
+-- before this punctuator a name is a variable, and begins no assignment
 pub record EndsPart (m : Punctuator) : Type 0 where
   pub fetches : (name : List ℕ) →
       choice Primary (token.Name name) (token.Punctuator m) ≡ Some (AName Mentioned ∷ Make Fetch ∷ [])

@@ -17,7 +17,7 @@ no_line line = 0
 abbrev pub bare_scope : Scope → Scope
 bare_scope scope = record scope { lines = map no_line scope.lines }
 
--- the same tokens in places of no meaning
+-- the same tokens, with lines and ends that mean nothing
 abbrev pub bare_rest : List LocatedToken → List LocatedToken
 bare_rest rest = located_tokens_of (tokens_of rest)
 

@@ -155,7 +155,7 @@ Listed Called next values n k ds acts = ⊥
 Listed Mentioned next values n k ds acts = ⊥
 Listed role next values n k ds acts = next values n k ds acts
 
--- how much may be open at once within so many levels, without the right sides of && and ||
+-- how much may be open at once within this many levels, without the right sides of && and ||
 abbrev pub room_in : List Item → ℕ
 room_in stack = 3 * (64 - levels stack)
 

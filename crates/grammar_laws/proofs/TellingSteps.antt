@@ -35,7 +35,7 @@ use Rattle.grammar_laws.proofs.Telling.{Defines, Named, Tells}
 abbrev pub StateTells : Type 0 → State → List Action → Type 0
 StateTells A s acts = Tells A s.stack s.values s.scope.number s.scope.current.parameters s.functions acts
 
--- after a step that emits more; where there is none, nothing is emitted
+-- after a step that emits more; if there is none, nothing is emitted
 abbrev After : Type 0 → Option State → List Action → List Action → Type 0
 After A None acts more = more ≡ []
 After A (Some s) acts more = StateTells A s (and_then acts more)

@@ -49,8 +49,8 @@ pub fn productions()
 
 /// Proves that a derivation emits the actions of the functions that it defines: when it is done these and no more, and
 /// at each state those of the functions defined so far and a part of one more. It holds with faults too. The
-/// derivation of a file emits the file's actions. What is emitted before the first fault may be reported to a builder, and its
-/// numbers of variables and functions are below the limits.
+/// derivation of a file emits the file's actions. What is emitted before the first fault may be reported to a builder,
+/// and its numbers of variables and functions are below the limits.
 pub fn emissions()
     ensures whole { EmitsItsFunctions }
     ensures file { EmitsItsFile }

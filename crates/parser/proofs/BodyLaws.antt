@@ -156,7 +156,7 @@ block_adds at now later behind there before after depth sound is shallow goes de
 
 -- The condition of an `if` or a `while`, and its first statement.
 
--- an `if` or a `while` goes on after its word
+-- an `if` or a `while` goes on after its keyword
 abbrev pub Conditioned : ℕ → List Item → Position → Position → Type 0
 Conditioned depth items at now =
     (b : Body) →
@@ -345,7 +345,7 @@ else_stops at depth sound is d stop s c b =
     word_stops at d depth ElsePart word.Else (Make Empty ∷ Part Statement ∷ Make DecideElse ∷ []) (before_else s c b)
     sound (else_chosen _ is) is (free_of depth ElsePart (next_at at) (λ after. refl)) stop
 
--- the word and an empty body after it; the token that follows is no fault
+-- the keyword and an empty body after it; the token that follows is no lexical error
 else_past : (at now : Position) (depth : ℕ) (s : Body) (c : Expr) (b : Body) → is_fault (next_at at).token ≡ false →
     is_keyword word.Else (next_at at).token ≡ true → GoesPast at now → is_fault (next_at now).token ≡ false →
     Derives depth (Part ElsePart ∷ []) (Part Statement ∷ Make DecideElse ∷ []) (before_else s c b)

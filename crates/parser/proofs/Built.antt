@@ -55,7 +55,7 @@ fewer_ahead (suc n) count (x ∷ xs) h =
     both_true (ends_by count x) (has_ahead (suc n) count xs) h in
     rw (p.0, fewer_ahead n count xs p.1) refl
 
--- a token ends by this place where the one after it does
+-- a token ends by this offset if the one after it does
 ends_sooner : (place count : ℕ) (x y : LocatedToken) (ys : List LocatedToken) → IsCut place (x ∷ y ∷ ys) →
     ends_by count y ≡ true → ends_by count x ≡ true
 ends_sooner place count x y ys cut h = by (is_last x.token) refl
@@ -80,7 +80,7 @@ sooner_brace : (count place : ℕ) (x : LocatedToken) (xs : List LocatedToken) �
 sooner_brace count place x [] cut h = absurd (cc)
 sooner_brace count place x (y ∷ ys) cut h = more_ahead 2 count x.end y ys cut.1.1.1 h
 
--- where too little lies after a brace, so it does after each later one
+-- if too little follows a brace, too little follows each later one
 later_brace : (count place : ℕ) (x : LocatedToken) (xs : List LocatedToken) → IsCut place (x ∷ xs) →
     is_behind_brace count (x ∷ xs) ≡ false → is_behind_brace count xs ≡ false
 later_brace count place x xs cut h = by (is_behind_brace count xs) refl
@@ -157,9 +157,9 @@ none_in count (suc n) place s cut h =
     let t : IsStepped count s = steps_on count place s cut in
     rw (none_of count s.stack s.rest s.values s.scope h, none_in count n t.position (stepped s) t.cut (t.later h)) refl
 
--- What a step defines.
+-- What a step of the derivation defines.
 
--- the functions defined, whose actions are built, or nothing is, and too little lies after the brace
+-- the functions defined, whose actions are built; or nothing is, and too little follows the brace
 pub record Defines (count : ℕ) (s : State) : Type 0 where
   pub more : List Definition
   pub functions : (stepped s).functions ≡ s.functions ++ more

@@ -60,7 +60,7 @@ no_else_chosen (token.Constant value) other = λ after. refl
 no_else_chosen token.End other = λ after. refl
 no_else_chosen (token.Fault lexical_error) other = λ after. refl
 
--- What a return gives back.
+-- What a return returns.
 
 pub zero_chosen : (t : Token) → is_punctuator punctuator.Semicolon t ≡ true → Chooses Back t (Make Zero ∷ [])
 zero_chosen t is after =
@@ -75,7 +75,7 @@ value_chosen (token.Constant value) other = λ after. refl
 value_chosen token.End other = λ after. refl
 value_chosen (token.Fault lexical_error) other = λ after. refl
 
--- The forms that a punctuator or a word begins.
+-- The forms that a punctuator or a keyword begins.
 
 pub empty_chosen : (t : Token) → is_punctuator punctuator.Semicolon t ≡ true →
     Chooses Statement t (Exactly punctuator.Semicolon ∷ [])

@@ -35,7 +35,7 @@ pub grown_behind : (before mid after : Representation) (more : List Action) → 
     HasGrown before after
 grown_behind before mid after more told h = grown_then before mid after (grown before mid more told) h
 
--- A builder that was refused memory: of what it represents nothing is known.
+-- A builder that was refused memory: what it represents is unknown.
 
 abbrev pub unknown : Representation
 unknown profile acts = Unit {0}
@@ -45,7 +45,7 @@ pub refuses : (e : BuildFault) (denied : Type 0) → Refuses {A = Unit {0}} (Err
 refuses fault.Memory denied h = h
 refuses fault.Full denied h = absurd h
 
--- It is asked how a builder has grown only where the device failed.
+-- It is asked how a builder has grown only if the device failed.
 
 pub source_grown : (before after : Representation) (d : Diagnostic) → refusal.Device ≡ refusal.Source d →
     HasGrown before after

@@ -1,4 +1,4 @@
--- What the reading of a function's block derives, up to its closing brace.
+-- What the parse of a function's block derives, up to its closing brace.
 use Rattle.std.proofs.Common.{◌≡◌, ℕ, ◌+◌, List, [], ◌∷◌, ◌++◌, refl, ap, subst, Bool, true, false, arith, append-nil}
 use Rattle.std.specs.Prelude.{Option, None, nat_le}
 use Rattle.tokens.specs.Cursors.{Cursor, IsNearTo}
@@ -119,7 +119,7 @@ block_declared at now then a b =
     joined 0 1 (Part FunctionBlock ∷ []) (Part Declarations ∷ []) [] (Part Statements ∷ at_brace) [] [] []
     (ABody Done ∷ []) at now then a b (λ stack same. ap (λ n. n + 1) same)
 
--- the tokens that a place may have: the two that were read, and no more
+-- the tokens that a position may have: the two that were read, and no more
 abbrev some_tokens : Position → List LocatedToken
 some_tokens at = followed_by at.lookahead.cursor.next (followed_by at.lookahead.cursor.after [])
 

@@ -1,4 +1,4 @@
--- What it takes to match one item, and what happens where the next token doesn't fit.
+-- What it takes to match one item, and what happens if the next token doesn't fit.
 use Rattle.std.proofs.Common.{◌≡◌, ℕ, List, [], ◌∷◌, refl, true, false}
 use Rattle.std.specs.Prelude.{Option, Some}
 use Rattle.tokens.specs.Cursors.{Cursor, IsNearTo}

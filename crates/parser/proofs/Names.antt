@@ -103,7 +103,7 @@ within Defined name line old new k w = rw k.window (record {
   variables = omega arith;
 })
 
--- The function that is being defined stays, but where another begins.
+-- The function that is being defined stays, unless another begins.
 
 -- two sets of names are of one function, whatever their limits
 record AreOfOne (old new : Scope) : Type 0 where

@@ -49,7 +49,7 @@ word_is w (token.Fault lexical_error) is = absurd (cc)
 
 -- Levels.
 
--- with so many levels open the symbol enters none beyond the last
+-- with `depth` levels open the symbol enters none beyond the last
 abbrev pub IsFree : ℕ → Symbol → LocatedToken → Type 0
 IsFree depth symbol located_token =
     (stack : List Item) (rest : List LocatedToken) → levels stack ≡ depth →

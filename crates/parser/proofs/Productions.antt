@@ -94,7 +94,7 @@ chosen at depth symbol items kept c none = stand at depth (Part symbol ∷ []) i
       (none (next_token tail) (next_behind at tail b)));
 })
 
--- one that may open a level, where there is a level left
+-- one that may open a level, if there is a level left
 pub chosen_within : (at : Position) (depth : ℕ) (symbol : Symbol) (items : List Item) → Chooses at symbol items →
     depth < 64 → Derives depth (Part symbol ∷ []) items [] [] at at
 chosen_within at depth symbol items c shallow = stand at depth (Part symbol ∷ []) items [] [] (λ tail b. record {
@@ -174,7 +174,7 @@ item_exit used whole item below under at now more f a enters =
     (λ d h depth. fails_behind depth depth (whole ∷ []) (item ∷ []) below [] [] under at now d (a depth) (enters depth)
     (h depth)) (λ never. absurd never)
 
--- the next item is done, and its trees stand on the others
+-- the next item is done, and its trees are on top of the others
 pub item_done : (depth inner : ℕ) (front : List Item) (item : Item) (below : List Item) (taken left under : List Value)
     (at now there : Position) →
     Derives depth front (item ∷ below) taken under at now → Derives inner (item ∷ []) [] [] left now there →

@@ -1,4 +1,4 @@
--- Segments of the derivation between two places of a parser.
+-- Segments of the derivation between two positions of a cursor.
 use Rattle.std.proofs.Common.{◌≡◌, ℕ, ◌+◌, ◌≤◌, drop, length, List, [], ◌∷◌, ◌++◌, refl, sym, ap, ◌∙◌, subst, Bool, true, false, append_assoc, arith}
 use Rattle.std.specs.Prelude.{Option, Some, None, cond}
 use Rattle.std.specs.Option.{option_map}
@@ -24,9 +24,9 @@ use Rattle.parser.specs.ScopedCursors.{Lookahead, Position, position_of, MayCont
 use Rattle.parser.specs.Stopping.{IfSource, NoFaultBefore, Stop, Stops, StopsInside, most_taken, stop_with}
 use Rattle.parser.specs.Segment.{Derives, FailsAt, FailsItem, GoesPast, HasLexicalError, Refused, StopsAt, StopsAtFirst, TakesTokens}
 
--- The tokens at a place.
+-- The tokens at a position.
 
--- the token after the next one, where the next isn't the last
+-- the token after the next one, unless the next is the last
 pub record IsBehind (r : Cursor) (tail : List LocatedToken) : Type 0 where
   pub others : List LocatedToken
   pub is : is_last r.next.token ≡ false → tail ≡ r.after ∷ others
@@ -60,7 +60,7 @@ goes_told : (position : Lookahead) (more : Option (List ℕ)) (located_tokens : 
 goes_told position None located_tokens e = absurd (cc)
 goes_told position (Some bytes) located_tokens e = record { window = _; is = sym (some_same _ _ e) }
 
--- tokens that are told are such as the place may have
+-- tokens that are known are such as the position may have
 pub told_goes : (at : Position) (located_tokens : List LocatedToken) → tokens_at at ≡ Some located_tokens →
     MayContinue at located_tokens
 told_goes at located_tokens e =
@@ -74,7 +74,7 @@ told_begins at located_tokens e = goes_begins at located_tokens (told_goes at lo
 
 -- Steps of the derivation.
 
--- these items in front, with these trees on top and these names known, pass to those, whatever stands below and after
+-- these items in front, with these trees on top and these names known, pass to those, whatever is below and after
 pub record Leads (depth : ℕ) (front pending : List Item) (bytes_taken left : List Value) (known learnt : Scope)
     (located_tokens rest : List LocatedToken) : Type 0 where
   pub passes : (profile : Profile) (stack : List Item) (values : List Value) (functions : List Definition) →
@@ -159,7 +159,7 @@ past cursor known learnt more there depth front pending bytes_taken left goes le
       (sym goes.scope) ((leads rest b).passes profile stack values functions depths);
 }
 
--- Where a reading stops.
+-- Where a derivation stops.
 
 -- after these there is none before
 pub none_before : (profile : Profile) (s : State) → NoFaultBefore profile s s.rest
@@ -197,7 +197,7 @@ none_back profile s t rest p h = record {
       (subst (λ (v : State). IsFault profile v f) p.leads (later profile p.steps s f p.clean from.steps from.here));
 }
 
--- the state so many steps after a segment
+-- the state n steps after a segment
 pub run_behind : (profile : Profile) (s t : State) (n : ℕ) (p : Passes profile s t) →
     derived (p.steps + n) s ≡ derived n t
 run_behind profile s t n p = derived-add p.steps n s ∙ ap (λ (v : State). derived n v) p.leads
@@ -244,7 +244,7 @@ inside_back profile s t stop consumed is same p h = record {
   functions = functions_back profile s t stop consumed is p h.stops ∙ h.functions ∙ same;
 }
 
--- the two tokens that a place holds end where those told end
+-- the two tokens that a position holds end where those known end
 reach_told_at : (next after : LocatedToken) (others located_tokens : List LocatedToken) (last : Bool) →
     is_last next.token ≡ last → located_tokens ≡ followed_by next (followed_by after others) →
     reach_of located_tokens ≡ cond last next.end after.end
@@ -263,7 +263,7 @@ pub near_told : (at : Position) (located_tokens : List LocatedToken) (used : ℕ
     IsNearTo at.lookahead.cursor used → used ≤ reach_of located_tokens + 4096
 near_told at located_tokens used is near = subst (λ (k : ℕ). used ≤ k + 4096) (reach_told at located_tokens is) near
 
--- the first fault stands at the next token
+-- the first fault is at the next token
 pub fails_at_next : (depth : ℕ) (front : List Item) (bytes_taken : List Value) (at : Position) (d : Diagnostic) (n : ℕ)
     →
     IsNearTo at.lookahead.cursor n →
@@ -385,7 +385,7 @@ fails_behind depth inner front mid below bytes_taken between under at now d a op
 
 -- A builder was refused memory.
 
--- at this place
+-- at this position
 pub halts_here : (depth : ℕ) (front : List Item) (bytes_taken : List Value) (at : Position) (n : ℕ) →
     IsNearTo at.lookahead.cursor n → FailsAt depth front bytes_taken at (stop_with refusal.Memory n)
 halts_here depth front bytes_taken at n near located_tokens is profile stack values functions depths =

@@ -13,7 +13,7 @@ use Rattle.tokens.proofs.LocatedTokensLemmas.{IsPiece, front-is_piece, here}
 use Rattle.tokens.proofs.TakenLemmas.{place-ahead_after}
 use Rattle.grammar.specs.Derivation.{is_end}
 
--- each token ends after this place and after the one ahead of it, the source's end perhaps with it; the last is last
+-- each token ends after this offset and after the one ahead of it, the source's end perhaps with it; the last is last
 abbrev pub IsCut : ℕ → List LocatedToken → Type 0
 IsCut place [] = Unit {0}
 IsCut place (x ∷ others) =

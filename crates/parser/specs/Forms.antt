@@ -30,7 +30,8 @@ StartsEvaluation at = begins_statement (token_of at) ≡ false
 abbrev pub in_brackets : List Item
 in_brackets = Exactly punctuator.OpenRound ∷ Part Expression ∷ Exactly punctuator.CloseRound ∷ []
 
--- What the parse of a condition says by its result: it was read, or the derivation stops within it, as the refusal says.
+-- What the parse of a condition says by its result: it was read, or the derivation stops within it, as the refusal
+-- says.
 abbrev pub ParsesCondition : {A F B : Type 0} → Result A ParseFault → Type 0 → (B → Representation) →
     (old new : Parser F B) → Type 0
 ParsesCondition (Ok x) denied stands old new =

@@ -48,8 +48,8 @@ pub record TakesUpTo (profile : Profile) (bytes : List ℕ) (to_come : Option (L
   pub needed : count ≤ need profile bytes + more
   pub limited : count ≤ most_taken_bytes
 
--- From a device whose bytes are known so few were taken that they may leave open what the source is: none past those that
--- decide it, and if it has a bad character, not that one.
+-- From a device whose bytes are known so few were taken that they may leave open what the source is: none past those
+-- that decide it, and if it has a bad character, not that one.
 pub record LeavesUndecided (profile : Profile) (bytes : List ℕ) (to_come : Option (List ℕ)) : Type 0 where
   pub count : ℕ
   pub took : to_come ≡ Some (drop count bytes)

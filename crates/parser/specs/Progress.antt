@@ -110,7 +110,7 @@ pub record ClosesFunction (before after : Representation) (variables : ℕ) : Ty
   pub fits : (profile : Profile) (acts : List Action) → before profile acts →
       code_length profile (acts ++ last_return) + 1 ≤ profile.instructions
 
--- The code passes the limit, and the diagnostic says so at this line.
+-- The code exceeds the limit, and the diagnostic says so at this line.
 pub record IsTooMuch (before : Representation) (line : ℕ) (d : Diagnostic) : Type 0 where
   pub is : d ≡ diagnostic line code.TooMuchCode
   pub over : (profile : Profile) (acts : List Action) → before profile acts →

@@ -1,4 +1,4 @@
--- Where a token begins.
+-- How a token begins.
 use Rattle.std.proofs.Common.{◌≡◌, ℕ, ◌+◌, ◌-◌, ◌*◌, Bool, true, false, not, cond, eqb, Option, Some, None, List, [], ◌∷◌, ◌++◌, length, drop, refl, sym, ap, ◌∙◌, subst, arith, ◌≢◌}
 use Rattle.std.specs.Prelude.{slice_get, ◌&&◌}
 use Rattle.std.specs.Option.{option_or, option_eq}
@@ -169,7 +169,7 @@ punctuator_front-here m b line place (c ∷ d ∷ rest) t h = by (punctuator_of 
         three k (punctuator_of (b ∷ c ∷ d ∷ [])) e refl ∙
         sym (extended-step m (b ∷ []) c (d ∷ rest) (ahead_after_byte a) (Some k) h e)
 
--- a punctuator of one byte begins a punctuator, where the rest begins as no other piece
+-- a punctuator of one byte begins a punctuator, if the rest begins as no other piece
 pub punctuator_front-begins : (m : Punctuator) (b : ℕ) → punctuator_of (b ∷ []) ≡ Some m → (a : Ahead) (rest : List ℕ) →
     a.bytes ≡ b ∷ rest → front (b ∷ rest) ≡ punctuator_front (longest_punctuator (b ∷ rest)) →
     in_punctuator m (ahead_after_byte a) ≡ located_tokens a
@@ -343,7 +343,7 @@ last-is_last token line a h = by a.too_long
     by true = refl
     by false = h
 
--- the last token fits where this one does
+-- the last token fits if this one does
 pub last-fits : (token : Token) (line : ℕ) (a : Ahead) → FitsToken token →
     FitsToken (last_located_token token line a).token
 last-fits token line a h = by a.too_long

@@ -19,7 +19,7 @@ use Rattle.tokens.proofs.PunctuatorLemmas.{punctuator_of-spelled}
 use Rattle.tokens.proofs.LocatedTokensLemmas.{IsPiece, front-is_piece, length-ahead_after, here}
 use Rattle.tokens.proofs.TakenLemmas.{open-located, place-ahead_after, last-window_after, last-open}
 
--- a token lies within the bytes that it is the front of
+-- a token lies within the bytes that begin with it
 abbrev pub IsInside : List ℕ → Front → Type 0
 IsInside bytes Nothing = Unit {0}
 IsInside bytes Unclosed = Unit {0}

@@ -35,7 +35,7 @@ shown-last next after behind (Some t) e =
     ap (λ s. Some (next ∷ cond s [] (followed_by after (located_tokens (ahead behind t))))) e ∙
     sym (ap (λ s. Some (next ∷ cond s [] (located_tokens (ahead behind t)))) e)
 
--- at the begin
+-- at the beginning
 pub shown-opened : (told : Option (List ℕ)) → to_read located_tokens untouched told ≡ option_map tokens told
 unfolding to_read tokens
 shown-opened None = refl
@@ -91,7 +91,7 @@ most_left-ended next after after' new old n a = by (is_last next.token) (is_last
     by false true n a = omega arith
     by false false n a = absurd cc
 
--- where a read stopped that failed
+-- how far a read came that failed
 pub open-end : (x : LocatedToken) → undecided_until x ≤ x.end
 open-end x = by (is_decided_by_last_byte x.token)
   where

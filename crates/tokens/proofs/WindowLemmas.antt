@@ -33,7 +33,7 @@ lines-cons line b xs =
     by true = omega arith
     by false = omega arith
 
--- so many bytes further on: the lines among them are counted
+-- this many bytes further on: the lines among them are counted
 pub window_after-is : (line place taken : ℕ) (beyond : Beyond) (n : ℕ) (xs : List ℕ) → n ≤ length xs →
     window_after n (held line place xs taken beyond) ≡
     held (line + count_by (λ b. eqb b 10) (take n xs)) (place + n) (drop n xs) taken beyond
@@ -45,7 +45,7 @@ window_after-is line place taken beyond (suc n) (b ∷ xs) h =
     let f : place + 1 + n ≡ place + suc n = omega arith in
     window_after-is (line_after b line) (place + 1) taken beyond n xs (omega (arith, h)) ∙ cc
 
--- the bytes at hand, so many further on
+-- the bytes at hand, this many further on
 pub between-further : (xs : List ℕ) (i n j : ℕ) → between (i + n) j xs ≡ drop n (between i j xs)
 between-further xs i n j = rw (between_is, between_is, drop-drop) refl
 

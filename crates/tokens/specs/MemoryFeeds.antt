@@ -3,8 +3,8 @@ use Rattle.std.specs.Prelude.{◌≡◌, ◌↔◌, ◌≤◌, ◌-◌, ℕ, Boo
 use Rattle.tokens.specs.Feed.{Device}
 use Rattle.tokens.specs.declared.devices.DeviceFault.{DeviceFault}
 
--- the bytes that it has still to give, how many it gave, how many it gives at most at a read, how often it failed, after
--- how many further reads each one fails, and whether it gave none
+-- the bytes that it has still to give, how many it gave, how many it gives at most at a read, how often it failed,
+-- after how many further reads each one fails, and whether it gave none
 pub record MemoryFeed : Type 0 where
   pub to_come : List ℕ
   pub taken : ℕ

@@ -130,8 +130,8 @@ pub record MayAsk (window : Window) (device : Device) : Type 0 where
   pub countable : device.account.failures < 2 ^ 64 - 1
   pub known : KnowsEnd window.beyond device.ended
 
--- A window went on, or stayed: its device has still to give all but the bytes taken, and has failed as often as counted.
--- The window is as every window is, and knows if the device has ended.
+-- A window went on, or stayed: its device has still to give all but the bytes taken, and has failed as often as
+-- counted. The window is as every window is, and knows if the device has ended.
 pub record HasReadOn (old new : Window) (told told' : Option (List ℕ)) (counted account : Account) (ended : Bool)
     : Type 0 where
   pub took : TakesBytes old.taken new.taken told told'
