@@ -63,8 +63,8 @@ fn making(action: SemanticAction, behind: [Option<Item>; 2]) -> Emission {
     }
 }
 
-/// Returns what is emitted as a body begins, by the items after it: that of an `if`, of an `else`, of a `while`, or of a
-/// function.
+/// Returns what is emitted as a body begins, by the items after it: that of an `if`, of an `else`, of a `while`, or of
+/// a function.
 fn on_body(behind: [Option<Item>; 2]) -> &'static [Action] {
     let [Some(Item::Part(Symbol::Statement)), Some(after)] = behind else {
         return &[];

@@ -12,8 +12,8 @@ use crate::symbols::{Item, Production, Symbol};
 use arrayvec::ArrayVec;
 use tokens::Token;
 
-/// The most items that are pending. A source has fewer up to its first fault: each of its levels, `grammar::MOST_LEVELS` at
-/// most, has at most 30, three for each level of operators.
+/// The most items that are pending. A source has fewer up to its first fault: each of its levels,
+/// `grammar::MOST_LEVELS` at most, has at most 30, three for each level of operators.
 pub(crate) const MOST_PENDING: usize = 2048;
 
 /// How a step ended.
@@ -25,8 +25,8 @@ pub enum StepEnd {
     Misfit,
     /// Nothing is left to match. The derivation stays.
     Done,
-    /// There is no room for what is still to match: more levels are open than a source may have. The derivation is of no
-    /// more use.
+    /// There is no room for what is still to match: more levels are open than a source may have. The derivation is of
+    /// no more use.
     Full,
 }
 

@@ -1,5 +1,5 @@
-//! Where each instruction comes from: a tracker follows the derivation token by token, in memory of fixed size, and keeps
-//! a position for each instruction of the actions that are emitted.
+//! Where each instruction comes from: a tracker follows the derivation token by token, in memory of fixed size, and
+//! keeps a position for each instruction of the actions that are emitted.
 
 use crate::addresses::{MOST_PLACES, SourcePosition};
 use crate::emissions::{Emission, Origin};

@@ -113,8 +113,8 @@ fn is_in_brackets(tokens: &[Located], token: usize) -> bool {
     true
 }
 
-/// Returns what is said of the condition of the loop of a node's index, if that can't change: constants that say that the
-/// loop is to go on forever are meant.
+/// Returns what is said of the condition of the loop of a node's index, if that can't change: constants that say that
+/// the loop is to go on forever are meant.
 fn on_condition(
     nodes: &Nodes,
     index: usize,
@@ -145,8 +145,8 @@ fn asks(condition: &[Node]) -> bool {
     false
 }
 
-/// Reports whether the condition of a loop reads variables, calls nothing, and sets none, and the whole loop sets none of
-/// those that it reads.
+/// Reports whether the condition of a loop reads variables, calls nothing, and sets none, and the whole loop sets none
+/// of those that it reads.
 fn is_fixed(condition: &[Node], whole: &[Node]) -> bool {
     let mut is_read = false;
     for node in condition {

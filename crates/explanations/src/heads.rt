@@ -3,8 +3,8 @@
 use derivations::Located;
 use tokens::{Keyword, Punctuator, Token};
 
-/// Returns the index after the bracket that closes the one right after a token. It isn't inlined, since the page's module is
-/// to be small.
+/// Returns the index after the bracket that closes the one right after a token. It isn't inlined, since the page's
+/// module is to be small.
 #[inline(never)]
 pub fn behind_brackets(tokens: &[Located], before: usize) -> Option<usize> {
     let open = before.saturating_add(1);
@@ -111,7 +111,8 @@ pub fn is_behind_block(tokens: &[Located], index: usize) -> bool {
     false
 }
 
-/// Returns the token of an index: after the last one, the end. It isn't inlined, since the page's module is to be small.
+/// Returns the token of an index: after the last one, the end. It isn't inlined, since the page's module is to be
+/// small.
 #[inline(never)]
 pub fn token_at(tokens: &[Located], index: usize) -> Token {
     match tokens.get(index) {

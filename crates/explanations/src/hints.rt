@@ -161,7 +161,8 @@ fn on_declarations(scene: &Scene<'_>) -> Option<Hint> {
     None
 }
 
-/// Returns the hint on names of a declaration: with a digit in front, with a `-` in them, and without a `,` between them.
+/// Returns the hint on names of a declaration: with a digit in front, with a `-` in them, and without a `,` between
+/// them.
 fn on_declared_names(scene: &Scene<'_>) -> Option<Hint> {
     let is_number = matches!(scene.met(), Token::Constant(_));
     if is_number && scene.fits(&Token::Name(Name::new())) && !scene.kinds.expression {
@@ -235,8 +236,8 @@ fn on_operators(scene: &Scene<'_>) -> Option<Hint> {
     None
 }
 
-/// Returns the hint on a name that is written for a word: the one before, the one met, or that of the statement. A name that
-/// occurs several times is no misspelled word.
+/// Returns the hint on a name that is written for a word: the one before, the one met, or that of the statement. A name
+/// that occurs several times is no misspelled word.
 fn on_names(scene: &Scene<'_>) -> Option<Hint> {
     let names = [
         scene.index.saturating_sub(1),

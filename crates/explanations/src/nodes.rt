@@ -449,8 +449,8 @@ impl Nodes {
         self.add_branch(Kind::While, body, is_sure);
     }
 
-    /// Takes the body of an `if` without `else` or of a `while`, and reports whether its condition is known and isn't 0.
-    /// The body doesn't run if it is known to be 0.
+    /// Takes the body of an `if` without `else` or of a `while`, and reports whether its condition is known and isn't
+    /// 0. The body doesn't run if it is known to be 0.
     fn take_tested(&mut self) -> (Taken, bool) {
         let end = self.list.len();
         let body = self.take_body(end);

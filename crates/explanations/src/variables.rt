@@ -1,5 +1,5 @@
-//! Warnings about variables: set and never read, read and never set or before they are set, and names of the file's that
-//! mean another variable.
+//! Warnings about variables: set and never read, read and never set or before they are set, and names of the file's
+//! that mean another variable.
 
 use crate::misnamed::{is_intrinsic, may_mean, name_at};
 use crate::nodes::{Body, Kind, Node, Nodes};

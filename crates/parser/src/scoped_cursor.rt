@@ -141,7 +141,8 @@ impl<'s, 'a, F: Feed> ScopedCursor<'s, 'a, F> {
     /// Consumes the next token.
     ///
     /// # Errors
-    /// `Source` if the token after it is a lexical error, which the cursor doesn't reach; `Device` if the device failed.
+    /// `Source` if the token after it is a lexical error, which the cursor doesn't reach; `Device` if the device
+    /// failed.
     #[inline(always)]
     pub fn advance(&mut self) -> Result<(), ParseFault>
         requires more { is_last (token_of self.old) ≡ false }

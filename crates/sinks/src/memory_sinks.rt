@@ -10,8 +10,8 @@ use std::alloc::{AllocError, Global};
 use std::marker::Model;
 use tokens::DeviceFault;
 
-/// A sink in memory that keeps each portion. It can be limited to a number of bytes for each call, or in all, or be made
-/// to fail at one call. It fails too if memory is refused.
+/// A sink in memory that keeps each portion. It can be limited to a number of bytes for each call, or in all, or be
+/// made to fail at one call. It fails too if memory is refused.
 #[derive(Debug, Drop)]
 pub struct MemorySink {
     portions: Vec<Vec<u8>>,

@@ -15,8 +15,8 @@ pub const BUFFER_BYTES: usize = 512;
 
 /// Gathers the fragments of one piece in a buffer, and puts the buffer's bytes on a sink when it is full.
 ///
-/// A failure is kept until `finish` answers it: after it nothing more is put. The buffer is emptied at the piece's end, so
-/// no write mixes two pieces. Each call takes the same sink.
+/// A failure is kept until `finish` answers it: after it nothing more is put. The buffer is emptied at the piece's end,
+/// so no write mixes two pieces. Each call takes the same sink.
 pub struct Pen {
     buffer: ArrayVec<u8, BUFFER_BYTES>,
     failed: bool,
