@@ -12,7 +12,7 @@ struct Comment<'a> {
 }
 
 /// Returns the line on which a comment begins that has a name in it, and after the name the beginning of another
-/// comment: it was hardly meant to go so far.
+/// comment: it probably wasn't meant to go so far.
 pub fn swallowed(source: &[u8], name: &[u8]) -> Option<u32> {
     let (mut line, mut rest) = (1u32, source);
     for _ in 0..source.len() {
@@ -35,7 +35,7 @@ fn begins_behind(text: &[u8], name: &[u8]) -> bool {
 }
 
 /// Returns the line on which a comment begins that has the beginning of another one in it, if a position is between the
-/// end of that comment and a further `*/`: it was hardly meant to end so early.
+/// end of that comment and a further `*/`: it probably wasn't meant to end so early.
 pub fn nested(source: &[u8], at: usize) -> Option<u32> {
     let (mut line, mut rest) = (1u32, source);
     for _ in 0..source.len() {

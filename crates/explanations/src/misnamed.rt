@@ -71,7 +71,7 @@ fn add_reason(note: &mut Note, found: &Found<'_>, defined: &[usize], name: &Name
     }
 }
 
-/// Returns the hint on a name that was hardly meant to be defined: it is in a comment that has ended, or a call is
+/// Returns the hint on a name that probably wasn't meant to be defined: it is in a comment that has ended, or a call is
 /// outside of functions.
 fn on_stray_code(found: &Found<'_>) -> Option<Hint> {
     if matches!(found.code, Code::FunctionNotDefined | Code::NoMainFunction) {

@@ -1,4 +1,4 @@
-//! Warnings about operators and assignments that are hardly meant as they are written.
+//! Warnings about operators and assignments that probably aren't meant as they are written.
 
 use crate::heads::token_at;
 use crate::nodes::{Kind, Node, Nodes};

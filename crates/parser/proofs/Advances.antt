@@ -16,7 +16,7 @@ pub stays_ready : (at : ScopedCursor) → IsReady at → HasStayedOrAdvanced at 
 stays_ready at ready =
     record { borrows = refl; account = refl; took = record { rest = λ total h. h }; falls = le_refl _; ready = ready }
 
--- a call that advanced, where it didn't have to
+-- a call that advanced, though it didn't have to
 pub on : (a b : ScopedCursor) → HasAdvanced a b → HasStayedOrAdvanced a b
 on a b h =
     record { borrows = h.borrows; account = h.account; took = h.took; falls = omega (arith, h.falls); ready = h.ready }

@@ -336,7 +336,8 @@ too_much_refused used first second third after at now brace number parameters f 
           (braced second third at now brace h b) near,
     )
 
--- the closing brace itself is always there, but the token after it may be a fault; the builder was told the function
+-- the closing brace itself is always there, but the token after it may be a lexical error; the builder was told the
+-- function
 brace_stops : (first second third fourth : Representation) (at now brace ended : Position)
     (number parameters variables : ℕ)
     (d : Stop) →
@@ -384,7 +385,7 @@ brace_refused used first second third fourth at now brace ended number parameter
     (λ d. brace_stops first second third fourth at now brace ended number parameters variables d h b same s told c
     sound) (λ never. absurd never)
 
--- A closing brace is no fault.
+-- A closing brace is no lexical error.
 pub closing_sound : (t : Token) → is_punctuator punctuator.CloseCurly t ≡ true → is_fault t ≡ false
 closing_sound (token.Punctuator m) is = refl
 closing_sound (token.Name name) is = refl

@@ -203,7 +203,7 @@ plain : (count : ℕ) (s : State) → built_of count s.stack s.rest s.values s.s
 plain count s none keeps =
     record { more = []; functions = kept (is_fault (next_token s.rest)) _ s keeps; built = inl none }
 
--- a fault has nothing after it
+-- a lexical error has nothing after it
 behind_fault : (count place : ℕ) (rest : List LocatedToken) → IsCut place rest → is_fault (next_token rest) ≡ true →
     is_behind_brace count rest ≡ false
 behind_fault count place [] cut e = refl

@@ -17,7 +17,7 @@ use Rattle.parser.proofs.Advances.{kept_then, on, on_then, stays_ready}
 pub nothing_read : {F B : Type 0} → (at : Parser F B) → IsReady at.tokens → ParserKept HasStayedOrAdvanced at at
 nothing_read at ready = record { tokens = stays_ready _ ready; depth = refl; builder = refl }
 
--- a call that went on, where it didn't have to
+-- a call that went on, though it didn't have to
 pub went : {F B : Type 0} → (a b : Parser F B) → ParserKept HasAdvanced a b → ParserKept HasStayedOrAdvanced a b
 went a b h = record { tokens = on _ _ h.tokens; depth = h.depth; builder = h.builder }
 

@@ -50,7 +50,7 @@ punctuator_past at there m fits goes =
     punctuator_derives at.lookahead.cursor (scope_at at) at.to_come there m (punctuator_sound m (next_at at).token fits)
     fits goes
 
--- the token after it is a fault
+-- the token after it is a lexical error
 pub punctuator_ends : (used : ℕ) (at : Position) (m : Punctuator) (f : ParseFault) →
     is_punctuator m (next_at at).token ≡ true → Refused (StopsAt at) ⊥ used f →
     Refused (FailsItem (Exactly m) at) ⊥ used f
@@ -65,7 +65,7 @@ punctuator_ends used at m f fits =
 abbrev pub WithAfter : Position → (Token → Type 0) → Type 0
 WithAfter at P = (after : Token) → (is_last (next_at at).token ≡ false → after ≡ after_at at) → P after
 
--- the next token is no fault, and the symbol is replaced by these items
+-- the next token is no lexical error, and the symbol is replaced by these items
 pub record Chooses (at : Position) (symbol : Symbol) (items : List Item) : Type 0 where
   pub sound : is_fault (next_at at).token ≡ false
   pub is : WithAfter at (λ after. choice symbol (next_at at).token after ≡ Some items)

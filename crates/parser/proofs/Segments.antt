@@ -280,7 +280,7 @@ fails_at_next depth front bytes_taken at d n near fails located_tokens is profil
     inside_here profile (state (front ++ stack) located_tokens (bytes_taken ++ values) (scope_at at) functions)
     (stop_with (refusal.Source d) n) here bound
 
--- the token after the one that was passed is a fault, or the device failed
+-- the token after the one that was passed is a lexical error, or the device failed
 pub stops : (cursor : Cursor) (known learnt : Scope) (more : Option (List ℕ)) (d : Stop) (depth : ℕ)
     (front pending : List Item) (bytes_taken left : List Value) →
     ((rest : List LocatedToken) → IsBehind cursor rest →
@@ -456,7 +456,7 @@ no_opening (Some bytes) told' h =
       };
     }
 
--- the first token is a fault
+-- the first token is a lexical error
 pub opens_at_lexical_error : (cursor : Cursor) (told told' : Option (List ℕ)) →
     shown cursor told' ≡ option_map tokens told → told' ≡ option_map (drop (bytes_taken cursor)) told → IsNear cursor →
     bytes_taken cursor ≤ 1048577 →
