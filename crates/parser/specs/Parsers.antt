@@ -41,7 +41,7 @@ pub record IsAtBlock {F B : Type 0} (stands : B → Representation) (at : Parser
   pub flat : at.depth ≡ 0
   pub ready : IsReady at.tokens
 
--- A parser went on: its cursor did this, as many levels are open, and it reports to the same builder.
+-- A parser went on, and its cursor as `went` says: as many levels are open, and it reports to the same builder.
 pub record ParserKept {F B : Type 0} (went : ScopedCursor → ScopedCursor → Type 0) (old new : Parser F B) : Type 0 where
   pub tokens : went old.tokens new.tokens
   pub depth : new.depth ≡ old.depth

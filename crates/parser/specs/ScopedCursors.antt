@@ -41,7 +41,6 @@ tokens_at here = shown here.lookahead.cursor here.to_come
 
 -- What a contract sees of a scoped cursor: its position, what is known of its device's failures, and which borrows it
 -- has, of the names and of the device.
--- names and of the device.
 pub record ScopedCursor : Type 0 where
   pub position : Position
   pub account : Account
