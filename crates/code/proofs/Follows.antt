@@ -1,6 +1,5 @@
 -- The trees' outcome against what the instructions want: if the outcome is a value, the instructions go on after
--- it;
--- if it awaits an event, they want that event.
+-- it; if it awaits an event, they want that event.
 use Rattle.std.specs.Prelude.{ℕ, ℤ, suc, ◌≡◌, ◌≤◌, List, [], ◌∷◌, Bool, true, false, Option, Some, None, length, if◌then◌else◌}
 use Rattle.std.proofs.Common.{refl, ap, ◌∙◌, arith}
 use Rattle.code.specs.declared.instr.Instr.{Instr}

@@ -46,7 +46,7 @@ distinct_front (x ∷ ns) n h = (λ i. h.0 (among_front x n ns i), distinct_fron
     among_front k m (y ∷ xs) (inl e) = inl e
     among_front k m (y ∷ xs) (inr i) = inr (among_front k m xs i)
 
--- Places of names.
+-- Indices of names.
 
 pub less_of : (n m : ℕ) → nat_lt n m ≡ true → n < m
 less_of n m h = grind (arith, nat_tests)

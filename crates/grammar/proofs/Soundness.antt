@@ -72,7 +72,7 @@ pub last_body_in : (e l n : ℕ) (values : List Value) → ValuesIn e l n values
 last_body_in e l n (ABody b ∷ values) h = h.0
 last_body_in e l n values h = tt
 
--- what a rule makes is among the same names
+-- what a semantic action makes is among the same names
 pub made_in : (e l n : ℕ) (rule : SemanticAction) (values : List Value) → ValuesIn e l n values →
     ValuesIn e l n (trees_after rule values)
 made_in e l n (Operate o) (AnExpr b ∷ AnExpr a ∷ values) h = ((h.1.0, h.0), h.1.1)
@@ -126,7 +126,7 @@ not_among k (n ∷ ns) e h = at_test (λ g i. not_among k ns g i) (n == k) refl 
     at_test again false is h (inl same) = differs k (subst (λ (x : ℕ). (x == k) ≡ false) (sym same) is)
     at_test again false is h (inr i) = again h i
 
--- Places of names.
+-- Indices of names.
 
 chosen_below : (n m k : ℕ) (b : Bool) → nat_lt n m ≡ b → cond b (Some n) None ≡ Some k → k < m
 chosen_below n m k true less e = let same : n ≡ k = cc in subst (λ (x : ℕ). x < m) same (less_of n m less)

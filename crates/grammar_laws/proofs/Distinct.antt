@@ -90,7 +90,7 @@ distinct_last (x ∷ xs) y = by (is_among y xs) (bytes_eq y x) refl refl (distin
     by false false e f again = ap (λ names. x ∷ without x names) (again ∙ rw e refl)
         ∙ ap (λ names. x ∷ names) (without_last x (distinct xs) y ∙ rw (turned x y ∙ f) refl)
 
--- Places.
+-- Indices.
 
 record IsPlace (name : List ℕ) (first : ℕ) (names : List (List ℕ)) (k : ℕ) : Type 0 where
   place : ℕ

@@ -50,7 +50,7 @@ binary o a b is_a is_b c rest stack values scope functions =
     (up goes.level 1 c stack rest (AnExpr (tree_of (Binary o a b) scope) ∷ values) (behind (Binary o a b) scope)
     functions)))))))
 
--- an operator in front
+-- a unary operator
 
 sign_rule : Sign → SemanticAction
 sign_rule Minus = Negate

@@ -45,7 +45,7 @@ pub part : (symbol : Symbol) (items stack : List Item) (tokens : List Token) (va
 part symbol items stack tokens values scope functions sound chosen =
     record { steps = 1; leads = rw (sound, chosen) refl }
 
--- a tree is made; no rule but that of a function's end adds to the functions
+-- a tree is made; only the semantic action of a function's end adds to the functions
 pub make : (rule : SemanticAction) (stack : List Item) (tokens : List Token) (values left : List Value) (scope : Scope)
     (functions : List Definition) →
     is_fault (first tokens) ≡ false → trees_after rule values ≡ left → functions_defined rule values scope ≡ [] →

@@ -336,8 +336,8 @@ too_much_refused used first second third after at now brace number parameters f 
           (braced second third at now brace h b) near,
     )
 
--- the closing brace itself is always there, but the token after it may be a lexical error; the builder was told the
--- function
+-- The closing brace itself is always there, but the token after it may be a lexical error. The builder was told the
+-- function.
 brace_stops : (first second third fourth : Representation) (at now brace ended : Position)
     (number parameters variables : ℕ)
     (d : Stop) →

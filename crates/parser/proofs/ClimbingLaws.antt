@@ -281,8 +281,7 @@ drops at depth n kept (suc count) trees less none sound =
 -- Climbing.
 
 -- An expression of the operators from level n on was read so far. The tails of some levels wait, and no operator that
--- is tighter than
--- these follows.
+-- is tighter than these follows.
 pub record Climbs (before after : Representation) (depth n : ℕ) (here there : Position) : Type 0 where
   pub count : ℕ
   pub none : operator_from (n + count) (next_at there).token ≡ None

@@ -9,7 +9,7 @@ use Rattle.std.specs.Prelude.{List}
 use Rattle.parser.specs.Forms.{begins_statement}
 use Rattle.parser.proofs.Parts.{Chooses, punctuator_is, word_is}
 
--- An expression for its effect.
+-- An expression statement.
 
 -- a token that begins no form of its own
 pub record Evaluates (t : Token) : Type 0 where

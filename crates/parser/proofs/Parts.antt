@@ -203,7 +203,7 @@ punctuator_too_deep at n near depth symbol m items trees sound chosen fits opene
 
 -- Trees.
 
--- a rule that makes these trees of those, and nothing else
+-- a semantic action that makes these trees of those, and nothing else
 pub record MakesOnly (rule : SemanticAction) (taken left : List Value) : Type 0 where
   pub makes : (values : List Value) → trees_after rule (taken ++ values) ≡ left ++ values
   pub learns : (scope : Scope) → scope_after_action rule scope ≡ scope

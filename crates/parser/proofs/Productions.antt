@@ -1,5 +1,5 @@
 -- What a production adds to a segment of the derivation: its choice, its punctuators, the trees made and the level
--- close.
+-- closed.
 use Rattle.std.proofs.Common.{◌≡◌, ℕ, ◌+◌, ◌<◌, ◌≤◌, List, [], ◌∷◌, ◌++◌, refl, ap, Bool, true, false, arith, eqb}
 use Rattle.std.proofs.lemmas.Bool.Decides.{nat_tests}
 use Rattle.std.specs.Prelude.{Some, None, nat_le}
@@ -147,7 +147,7 @@ none_chosen at used near depth symbol sound none opened =
 
 -- The trees made.
 
--- a tree is made, and the level is close
+-- a tree is made, and the level is closed
 pub makes_and_closes : (at : Position) (depth : ℕ) (rule : SemanticAction) (taken left : List Value) →
     is_fault (next_at at).token ≡ false → MakesOnly rule taken left →
     Derives depth (Make rule ∷ Close ∷ []) [] taken left at at

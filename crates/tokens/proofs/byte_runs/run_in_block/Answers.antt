@@ -36,7 +36,8 @@ returns-clause-lines g c =
     ap₂ (λ m n. count_ones (bit_and m (n - 1))) (bitmask_splat w8 eqb c.args.block 32 10 c.fits-block.0 (omega arith))
     c.stop_bits-stops.ensures.bits
     ∙
-    ones_before (λ b. eqb b 10) g.S.StopByte.stops (in_line g.S.StopByte.stops c.stop_bits-stops.ensures.in_line) c.args.block
+    ones_before (λ b. eqb b 10) g.S.StopByte.stops (in_line g.S.StopByte.stops c.stop_bits-stops.ensures.in_line)
+    c.args.block
     some
     ∙ ap (λ n. count_by (λ b. eqb b 10) (take n c.args.block)) (sym count)
 
