@@ -5,7 +5,7 @@
 pub struct Frame {
     /// The stack's depth when the frame was opened.
     pub base: u16,
-    /// The address behind the call.
+    /// The address after the call.
     pub back: u16,
     /// Where the caller's variables begin.
     pub home: u16,

@@ -1,4 +1,4 @@
--- Where a name was matched, the token that stood behind it is next.
+-- If a name was matched, the token after it is next.
 use Rattle.std.proofs.Common.{◌≡◌, ℕ, zero, suc, List, [], ◌∷◌, ◌++◌, refl, sym, ap, ◌∙◌, Bool, true, false, drop}
 use Rattle.std.specs.Prelude.{Some}
 use Rattle.tokens.specs.Tokens.{followed_by}
@@ -51,7 +51,7 @@ name_runs (suc n) role bytes rest others values left scope learnt functions soun
 first_of : (x : LocatedToken) (xs ys : List LocatedToken) (y : LocatedToken) → x ∷ xs ≡ y ∷ ys → x ≡ y
 first_of x xs ys y e = cc
 
--- the fewest tokens that a place may have
+-- the fewest tokens that a position may have
 abbrev fewest : Position → List LocatedToken
 fewest at = followed_by (next_at at) (followed_by at.lookahead.cursor.after [])
 

@@ -82,7 +82,7 @@ begun_within : (own begun new : Bool) (name : List ℕ) (line : ℕ) (scope : Sc
 begun_within own begun new name line scope c rest d e clean w =
     (functions_within new name line scope c rest (first own begun d e _ clean).clean w).functions
 
--- behind a name without a fault the limits hold
+-- after a name without a fault the limits hold
 pub within : (role : Role) (name : List ℕ) (line : ℕ) (old new : Scope) → LearnsName role name line old new →
     IsWithin old →
     IsWithin new
@@ -103,7 +103,7 @@ within Defined name line old new k w = rw k.window (record {
   variables = omega arith;
 })
 
--- The function that is being defined stays, but where another begins.
+-- The function that is being defined stays, unless another begins.
 
 -- two sets of names are of one function, whatever their limits
 record AreOfOne (old new : Scope) : Type 0 where
@@ -209,7 +209,7 @@ begins number name line old new learnt k same is few =
       within = λ w. rw same (within Defined name line old.scope learnt k w);
     }
 
--- One call behind another.
+-- One call after another.
 
 pub stays_then : (a b c : Scope) → StaysIn a b → StaysIn b c → StaysIn a c
 stays_then a b c h i = record {

@@ -1,4 +1,4 @@
--- Segments of the derivation between two places of a parser.
+-- Segments of the derivation between two positions of a cursor.
 use Rattle.std.proofs.Common.{◌≡◌, ℕ, ◌+◌, ◌≤◌, drop, length, List, [], ◌∷◌, ◌++◌, refl, sym, ap, ◌∙◌, subst, Bool, true, false, append_assoc, arith}
 use Rattle.std.specs.Prelude.{Option, Some, None, cond}
 use Rattle.std.specs.Option.{option_map}
@@ -24,9 +24,9 @@ use Rattle.parser.specs.ScopedCursors.{Lookahead, Position, position_of, MayCont
 use Rattle.parser.specs.Stopping.{IfSource, NoFaultBefore, Stop, Stops, StopsInside, most_taken, stop_with}
 use Rattle.parser.specs.Segment.{Derives, FailsAt, FailsItem, GoesPast, HasLexicalError, Refused, StopsAt, StopsAtFirst, TakesTokens}
 
--- The tokens at a place.
+-- The tokens at a position.
 
--- the token behind the next one, where the next isn't the last
+-- the token after the next one, unless the next is the last
 pub record IsBehind (r : Cursor) (tail : List LocatedToken) : Type 0 where
   pub others : List LocatedToken
   pub is : is_last r.next.token ≡ false → tail ≡ r.after ∷ others
@@ -41,7 +41,7 @@ pub next_behind : (at : Position) (tail : List LocatedToken) → IsBehind at.loo
     is_last (next_at at).token ≡ false → next_token tail ≡ after_at at
 next_behind at tail b more = ap next_token (b.is more)
 
--- tokens, if there are any behind this one
+-- tokens, if there are any after this one
 abbrev until_last : Token → List LocatedToken → List LocatedToken
 until_last t others = cond (is_last t) [] others
 
@@ -60,7 +60,7 @@ goes_told : (position : Lookahead) (more : Option (List ℕ)) (located_tokens : 
 goes_told position None located_tokens e = absurd (cc)
 goes_told position (Some bytes) located_tokens e = record { window = _; is = sym (some_same _ _ e) }
 
--- tokens that are told are such as the place may have
+-- tokens that are known are such as the position may have
 pub told_goes : (at : Position) (located_tokens : List LocatedToken) → tokens_at at ≡ Some located_tokens →
     MayContinue at located_tokens
 told_goes at located_tokens e =
@@ -74,7 +74,7 @@ told_begins at located_tokens e = goes_begins at located_tokens (told_goes at lo
 
 -- Steps of the derivation.
 
--- these items in front, with these trees on top and these names known, pass to those, whatever stands below and behind
+-- these items in front, with these trees on top and these names known, pass to those, whatever is below and after
 pub record Leads (depth : ℕ) (front pending : List Item) (bytes_taken left : List Value) (known learnt : Scope)
     (located_tokens rest : List LocatedToken) : Type 0 where
   pub passes : (profile : Profile) (stack : List Item) (values : List Value) (functions : List Definition) →
@@ -139,7 +139,7 @@ takes_past cursor known learnt more there goes located_tokens is =
     told_begins (position_of (record { cursor = cursor; scope = known }) more) located_tokens is in
     record { rest = b.tail; is = b.is; shows = goes.told cursor.next b.tail (is ∙ ap Some b.is) }
 
--- one token is passed, behind which these names are known
+-- one token is passed, after which these names are known
 pub past : (cursor : Cursor) (known learnt : Scope) (more : Option (List ℕ)) (there : Position) (depth : ℕ)
     (front pending : List Item) (bytes_taken left : List Value) →
     GoesPast (position_of (record { cursor = cursor; scope = learnt }) more) there →
@@ -159,9 +159,9 @@ past cursor known learnt more there depth front pending bytes_taken left goes le
       (sym goes.scope) ((leads rest b).passes profile stack values functions depths);
 }
 
--- Where a reading stops.
+-- Where a derivation stops.
 
--- behind these there is none before
+-- after these there is none before
 pub none_before : (profile : Profile) (s : State) → NoFaultBefore profile s s.rest
 none_before profile s = record {
   each =
@@ -197,7 +197,7 @@ none_back profile s t rest p h = record {
       (subst (λ (v : State). IsFault profile v f) p.leads (later profile p.steps s f p.clean from.steps from.here));
 }
 
--- the state so many steps behind a segment
+-- the state n steps after a segment
 pub run_behind : (profile : Profile) (s t : State) (n : ℕ) (p : Passes profile s t) →
     derived (p.steps + n) s ≡ derived n t
 run_behind profile s t n p = derived-add p.steps n s ∙ ap (λ (v : State). derived n v) p.leads
@@ -244,7 +244,7 @@ inside_back profile s t stop consumed is same p h = record {
   functions = functions_back profile s t stop consumed is p h.stops ∙ h.functions ∙ same;
 }
 
--- the two tokens that a place holds end where those told end
+-- the two tokens that a position holds end where those known end
 reach_told_at : (next after : LocatedToken) (others located_tokens : List LocatedToken) (last : Bool) →
     is_last next.token ≡ last → located_tokens ≡ followed_by next (followed_by after others) →
     reach_of located_tokens ≡ cond last next.end after.end
@@ -263,7 +263,7 @@ pub near_told : (at : Position) (located_tokens : List LocatedToken) (used : ℕ
     IsNearTo at.lookahead.cursor used → used ≤ reach_of located_tokens + 4096
 near_told at located_tokens used is near = subst (λ (k : ℕ). used ≤ k + 4096) (reach_told at located_tokens is) near
 
--- the first fault stands at the next token
+-- the first fault is at the next token
 pub fails_at_next : (depth : ℕ) (front : List Item) (bytes_taken : List Value) (at : Position) (d : Diagnostic) (n : ℕ)
     →
     IsNearTo at.lookahead.cursor n →
@@ -280,7 +280,7 @@ fails_at_next depth front bytes_taken at d n near fails located_tokens is profil
     inside_here profile (state (front ++ stack) located_tokens (bytes_taken ++ values) (scope_at at) functions)
     (stop_with (refusal.Source d) n) here bound
 
--- the token behind the one that was passed is a fault, or the device failed
+-- the token after the one that was passed is a lexical error, or the device failed
 pub stops : (cursor : Cursor) (known learnt : Scope) (more : Option (List ℕ)) (d : Stop) (depth : ℕ)
     (front pending : List Item) (bytes_taken left : List Value) →
     ((rest : List LocatedToken) → IsBehind cursor rest →
@@ -311,7 +311,7 @@ stops cursor known learnt more d depth front pending bytes_taken left leads stop
         let lexical_error : is_fault (next_token tail) ≡ true = rw behind h.lexical_error in
         rw same (at_fault profile _ tail _ learnt functions lexical_error)
 
--- Segments one behind another.
+-- Segments one after another.
 
 takes_join : (first second located_tokens : List LocatedToken) (between there : Position)
     (t : TakesTokens first located_tokens between) → TakesTokens second t.rest there →
@@ -350,7 +350,7 @@ joined depth inner front mid pending below bytes_taken between left under at now
       (b.passes rest g profile (below ++ stack) (under ++ values) functions (opens stack depths))));
 }
 
--- a fault behind a segment
+-- a fault after a segment
 pub fails_then : (depth : ℕ) (front mid : List Item) (bytes_taken between : List Value) (at now : Position) (d : Stop) →
     Derives depth front mid bytes_taken between at now → FailsAt depth mid between now d →
     FailsAt depth front bytes_taken at d
@@ -372,7 +372,7 @@ under_more depth inner front below bytes_taken beneath at d opens fails located_
     rw (append_assoc front below stack, append_assoc bytes_taken beneath values)
     (fails located_tokens is profile (below ++ stack) (beneath ++ values) functions (opens stack depths))
 
--- a fault behind a segment, over more items and trees
+-- a fault after a segment, over more items and trees
 pub fails_behind : (depth inner : ℕ) (front mid below : List Item) (bytes_taken between under : List Value)
     (at now : Position)
     (d : Stop) →
@@ -385,14 +385,14 @@ fails_behind depth inner front mid below bytes_taken between under at now d a op
 
 -- A builder was refused memory.
 
--- at this place
+-- at this position
 pub halts_here : (depth : ℕ) (front : List Item) (bytes_taken : List Value) (at : Position) (n : ℕ) →
     IsNearTo at.lookahead.cursor n → FailsAt depth front bytes_taken at (stop_with refusal.Memory n)
 halts_here depth front bytes_taken at n near located_tokens is profile stack values functions depths =
     inside_here profile (state (front ++ stack) located_tokens (bytes_taken ++ values) (scope_at at) functions)
     (stop_with refusal.Memory n) tt (near_told at located_tokens n is near)
 
--- behind a segment
+-- after a segment
 pub halts : (depth : ℕ) (front mid : List Item) (bytes_taken between : List Value) (at now : Position) (n : ℕ) →
     Derives depth front mid bytes_taken between at now → IsNearTo now.lookahead.cursor n →
     FailsAt depth front bytes_taken at (stop_with refusal.Memory n)
@@ -408,7 +408,7 @@ refused_map n P Q denied more (refusal.Source d) each memory h = each (stop_with
 refused_map n P Q denied more refusal.Device each memory h = each (stop_with refusal.Device n) h
 refused_map n P Q denied more refusal.Memory each memory h = (memory h.0, each (stop_with refusal.Memory n) h.1)
 
--- a refusal of a callee behind a segment is one of the caller's
+-- a refusal of a callee after a segment is one of the caller's
 pub exit : (n : ℕ) (depth inner : ℕ) (front mid below : List Item) (bytes_taken between under : List Value)
     (at now : Position)
     (denied more : Type 0) (f : ParseFault) →
@@ -456,7 +456,7 @@ no_opening (Some bytes) told' h =
       };
     }
 
--- the first token is a fault
+-- the first token is a lexical error
 pub opens_at_lexical_error : (cursor : Cursor) (told told' : Option (List ℕ)) →
     shown cursor told' ≡ option_map tokens told → told' ≡ option_map (drop (bytes_taken cursor)) told → IsNear cursor →
     bytes_taken cursor ≤ 1048577 →
