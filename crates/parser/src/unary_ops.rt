@@ -10,7 +10,7 @@ use grammar::{Action, Build, BuildFault, Op, StoreOp};
 use tokens::{Punctuator, Token};
 
 /// An operator before an operand.
-#[derive(Clone, Copy, Debug, PartialEq, Eq)]
+#[derive(Clone, Copy, PartialEq, Eq)]
 pub enum UnaryOp {
     /// `-`
     Negation,
@@ -21,7 +21,7 @@ pub enum UnaryOp {
 }
 
 /// What moves a variable up or down by one.
-#[derive(Clone, Copy, Debug, PartialEq, Eq)]
+#[derive(Clone, Copy, PartialEq, Eq)]
 pub enum IncrementOp {
     /// `++`
     Increment,
