@@ -1,7 +1,7 @@
 //! The frames of a machine.
 
 /// An open frame: the stack's depth at its opening, and the address and the variables to which its function returns.
-#[derive(Clone, Copy, Debug, Default, PartialEq, Eq)]
+#[derive(Clone, Copy, Default, PartialEq, Eq)]
 pub struct Frame {
     /// The stack's depth when the frame was opened.
     pub base: u16,

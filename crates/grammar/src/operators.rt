@@ -36,7 +36,7 @@ pub enum StoreOp {
 }
 
 /// A binary operator with its level: 1 binds loosest, 10 tightest.
-#[derive(Clone, Copy, Debug, PartialEq, Eq)]
+#[derive(Clone, Copy, PartialEq, Eq)]
 pub struct BinaryOperator {
     /// The level, from 1 to 10.
     pub level: u8,

@@ -1,7 +1,7 @@
 //! What the names of a list are declared as.
 
 /// What the names of a list are declared as.
-#[derive(Clone, Copy, Debug, PartialEq, Eq)]
+#[derive(Clone, Copy, PartialEq, Eq)]
 pub enum Declared {
     /// Externals, at the level of a file.
     Externals,

@@ -10,7 +10,7 @@ use grammar::{Action, Build, BuildFault, Op, StoreOp};
 use tokens::{Punctuator, Token};
 
 /// A unary operator: `-e` is `0 - e`, `!e` is `e == 0`, and `~e` is `e ^ -1`.
-#[derive(Clone, Copy, Debug, PartialEq, Eq)]
+#[derive(Clone, Copy, PartialEq, Eq)]
 pub enum UnaryOp {
     /// `-`
     Negation,
@@ -21,7 +21,7 @@ pub enum UnaryOp {
 }
 
 /// An operator that changes a variable by one.
-#[derive(Clone, Copy, Debug, PartialEq, Eq)]
+#[derive(Clone, Copy, PartialEq, Eq)]
 pub enum IncrementOp {
     /// `++`
     Increment,

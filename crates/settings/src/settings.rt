@@ -18,7 +18,7 @@ pub enum Mode {
 }
 
 /// The numbers of a run, and the language profile of all its files.
-#[derive(Clone, Copy, Debug)]
+#[derive(Clone, Copy)]
 pub struct Numbers {
     /// How many matches are played, 1 to 1,000,000.
     pub matches: u32,

@@ -15,7 +15,7 @@ use crate::token_limits::{MOST_SOURCE_BYTES, WINDOW_BYTES};
 use std::marker::Model;
 
 /// What is known of the source after the bytes at hand.
-#[derive(Clone, Copy, Debug, PartialEq, Eq)]
+#[derive(Clone, Copy, PartialEq, Eq)]
 pub enum Beyond {
     /// Nothing yet: the device is to be asked.
     Unread,
