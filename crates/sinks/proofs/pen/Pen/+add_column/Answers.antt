@@ -9,7 +9,7 @@ returns-clause-text g t c = elim c.if-n-ge10.branch [
       let fits : c.args.n < 2 ^ 64 = omega arith in
       rw (column_step c.args.width c.args.n w.if-n-ge10.true fits, ← append_assoc)
       (c.add_byte.ensures.text before _
-      (rw (w.self-is, w.sink-is) (rw w.saturating_sub.ensures at (w.column.ensures.text before text so_far))))
+      (rw (w.self-is, w.sink-is) (rw w.saturating_sub.ensures at (w.add_column.ensures.text before text so_far))))
   | else-n-ge10 w ↦ λ before text so_far.
       let short : c.args.n % 10 ≡ c.args.n = omega arith in
       rw (column_digit c.args.width c.args.n w.if-n-ge10.false, ← append_assoc)
