@@ -15,5 +15,5 @@ returns-clause-text g t c = elim c.if-n-ge10.branch [
       rw (column_digit c.args.width c.args.n w.if-n-ge10.false, ← append_assoc)
       (rw short at (c.add_byte.ensures.text before (text ++ replicate (c.args.width - 1) 32)
       (rw (w.self-is, w.sink-is)
-      (rw w.saturating_sub-else-n-ge10.ensures at (w.spaces.ensures.text before text so_far)))))
+      (rw w.saturating_sub-else-n-ge10.ensures at (w.add_spaces.ensures.text before text so_far)))))
 ]
