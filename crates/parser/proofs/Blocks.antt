@@ -176,7 +176,7 @@ short refusal.Memory at before line denied ends =
 
 goes_ended : (brace ended : Position) (rest : List LocatedToken) → IsEnded brace ended → MayContinue ended rest →
     MayContinue brace rest
-goes_ended brace ended rest s g = record { window = g.window; is = g.is ∙ rw s.cursor refl }
+goes_ended brace ended rest s g = record { behind = g.behind; is = g.is ∙ rw s.cursor refl }
 
 tokens_ended : (brace ended : Position) → IsEnded brace ended → tokens_at ended ≡ tokens_at brace
 tokens_ended brace ended s = rw (s.cursor, s.to_come) refl

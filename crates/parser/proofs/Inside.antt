@@ -124,7 +124,7 @@ abbrev some_tokens : Position → List LocatedToken
 some_tokens at = followed_by at.lookahead.cursor.next (followed_by at.lookahead.cursor.after [])
 
 some_goes : (at : Position) → MayContinue at (some_tokens at)
-some_goes at = record { window = []; is = refl }
+some_goes at = record { behind = []; is = refl }
 
 -- declarations and statements keep the function that is being defined
 kept_between : (before after : Representation) (now mid there : Position) →

@@ -105,7 +105,7 @@ name_leads : (located_token : LocatedToken) (role : Role) (bytes : List ℕ) (de
 name_leads located_token role bytes depth known learnt rest is knows = record {
   passes = λ profile stack values functions depths.
       let found : name_of_token located_token.token ≡ Some bytes = rw is refl in
-      rw knows.window
+      rw knows.behind
       (name profile role bytes stack (located_token ∷ rest) values known functions (rw is refl) found
       (knows.clean (located_token ∷ rest)));
 }

@@ -60,7 +60,7 @@ ends_alone at rest is g =
 goes_alone : (at : Position) → is_end (next_at at).token ≡ true → MayContinue at (next_at at ∷ [])
 goes_alone at is =
     let last : is_last (next_at at).token ≡ true = rw (end_is (next_at at).token is) refl in
-    record { window = []; is = rw last refl }
+    record { behind = []; is = rw last refl }
 
 end_steps : (profile : Profile) (next : LocatedToken) (scope : Scope) (functions : List Definition) →
     is_end next.token ≡ true →

@@ -73,5 +73,5 @@ to_go at = most_left at.position.lookahead.cursor
 
 -- the tokens from there on that a device of unknown bytes may have: the two that were read, and any after them
 pub record MayContinue (here : Position) (rest : List LocatedToken) : Type 0 where
-  pub window : List LocatedToken
-  pub is : rest ≡ followed_by here.lookahead.cursor.next (followed_by here.lookahead.cursor.after window)
+  pub behind : List LocatedToken
+  pub is : rest ≡ followed_by here.lookahead.cursor.next (followed_by here.lookahead.cursor.after behind)
