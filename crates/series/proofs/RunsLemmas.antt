@@ -100,7 +100,7 @@ module _ {X : Type 0} where
   drop_once [] (suc n) = refl
   drop_once (x ∷ l) (suc n) = drop_once l n
 
-  -- the feeds behind one that was read
+  -- the feeds after one that was read
   pub rest_more : (start feeds : List X) (file : ℕ) (y : X) → drop file feeds ≡ drop file start
       → drop (file + 1) (set feeds file y) ≡ drop (file + 1) start
   rest_more start feeds file y same =
