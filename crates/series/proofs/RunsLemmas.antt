@@ -20,7 +20,7 @@ pub length_sources : (sources : List Source) (words : List (List ℕ)) (told : L
     → length sources ≡ length words
 length_sources sources words told are = sym (length-map sources (λ (s : Source). s.word)) ∙ ap length are.named
 
--- the source that stands under a word
+-- the source of a word
 pub word_here : (sources : List Source) (words : List (List ℕ)) (told : List (Option (List ℕ))) (file : ℕ) →
     AreSources sources words told
     → file < length words → get_or words file [] ≡ (get_or sources file no_source).word
