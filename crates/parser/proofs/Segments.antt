@@ -458,7 +458,7 @@ no_opening (Some bytes) told' h =
 
 -- the first token is a lexical error
 pub opens_at_lexical_error : (cursor : Cursor) (told told' : Option (List ℕ)) →
-    shown cursor told' ≡ option_map tokens told → told' ≡ option_map (drop (taken cursor)) told → IsNear cursor →
+    shown cursor told' ≡ option_map tokens told → told' ≡ option_map (drop (bytes_taken cursor)) told → IsNear cursor →
     taken cursor ≤ 1048577 →
     is_fault cursor.next.token ≡ true →
     StopsAtFirst told told' (refusal.Source (diagnostic cursor.next.line (misfit_code cursor.next.token)))
