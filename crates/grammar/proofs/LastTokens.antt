@@ -48,4 +48,4 @@ pub tokens_end : (bytes : List ℕ) → EndsWithLast (tokens bytes)
 unfolding tokens located_tokens
 tokens_end bytes =
     let a = ahead_of_source (source bytes) in
-    cut_ends (suc (length a.bytes)) a.line a.place a.bytes a.too_long (omega arith)
+    cut_ends (suc (length a.bytes)) a.line a.offset a.bytes a.too_long (omega arith)

@@ -27,22 +27,22 @@ cut_sooner p q (x ∷ xs) h r = (omega (arith, h, r.0), ((λ other. omega (arith
 -- The last token.
 
 -- the source's end
-closing_end : (place line : ℕ) (end : Ahead) → place ≤ end.position →
+closing_end : (place line : ℕ) (end : Ahead) → place ≤ end.offset →
     IsCut place (last_located_token variant.End line end ∷ [])
 closing_end place line end h = by end.too_long
   where
-    by : (t : Bool) → IsCut place (last_located_token variant.End line (here end.line end.position end.bytes t) ∷ [])
+    by : (t : Bool) → IsCut place (last_located_token variant.End line (here end.line end.offset end.bytes t) ∷ [])
     by true = (omega (arith, h), ((λ other. omega (arith, h)), ((λ last. refl), tt)))
     by false = (h, ((λ other. absurd (cc)), ((λ last. refl), tt)))
 
 -- a comment that is open there, of which something was passed
-closing_open : (place line : ℕ) (end : Ahead) → place < end.position →
+closing_open : (place line : ℕ) (end : Ahead) → place < end.offset →
     IsCut place (last_located_token (variant.Fault CommentNotClosed) line end ∷ [])
 closing_open place line end h = by end.too_long
   where
     by : (t : Bool) →
         IsCut place
-        (last_located_token (variant.Fault CommentNotClosed) line (here end.line end.position end.bytes t) ∷ [])
+        (last_located_token (variant.Fault CommentNotClosed) line (here end.line end.offset end.bytes t) ∷ [])
     by true = (omega (arith, h), ((λ other. omega (arith, h)), ((λ last. refl), tt)))
     by false = (omega (arith, h), ((λ other. h), ((λ last. refl), tt)))
 
