@@ -63,7 +63,7 @@ count_all p (x ∷ xs) d =
     let rest = count_all p xs d in
     omega arith
 
--- all but the one at a place
+-- all but the one with an index
 is_other : (k : ℕ) → (0 == suc k) ≡ false
 is_other k = grind (arith, nat_tests)
 

@@ -90,7 +90,7 @@ far_same updates bodies now size places far = record {
 same_place : (t : Motion) → IsAtPlace t t
 same_place t = record { on_x = refl; on_y = refl }
 
--- one robot is written, at its place
+-- one robot is written, at its index
 pub far_set : (updates : ℕ) (bodies : List Robot) (i : ℕ) (b : Robot) → i < length bodies →
     IsAtPlace (get_or bodies i none).motion b.motion → AreApartFor updates bodies → AreApartFor updates (set bodies i b)
 far_set updates bodies i b inside place far =

@@ -60,7 +60,7 @@ all_after f now size each =
     sym (get_or-map (after_at f) (range_with_len 0 n) k 0 none (omega (arith, inside, count)) ∙ ap (after_at f) at))
     ∙ after_all f
 
--- where nothing bursts and none touches another, each is where it drove on its own
+-- if nothing bursts and none touches another, each is where it drove on its own
 pub ahead_of_all : (f : Field) → ((i : ℕ) → i < length f.robots → touches (map mover f.robots) i ≡ 0) →
     ((x y : ℕ) → sum (bursts (f.updates + 1) f.shots x y) ≡ 0) →
     map robot_ahead f.robots ≡ map robot_of (moved f).robots

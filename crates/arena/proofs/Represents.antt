@@ -15,7 +15,7 @@ use Rattle.arena.specs.Representing.{HoldsShots, RepresentsField}
 pub refill_is : {X : Type 0} (xs ws : List X) → length ws ≡ length xs → refill (length xs) xs ws ≡ ws
 refill_is xs ws e = take_at ws (drop (length ws) xs) (length xs) e
 
--- the body of a number is that of the field's robot, past the last one too
+-- the robot of a number is that of the field's robot, past the last one too
 pub bodies_at : (rs : List FieldRobot) (i : ℕ) →
     get_or (map robot_of rs) i (robot_of no_robot) ≡ robot_of (get_or rs i no_robot)
 bodies_at rs i = by_place (cases_lt i (length rs))
@@ -67,7 +67,7 @@ pub alive_if_lives : (g : Arena) (f : Field) (i : ℕ) → RepresentsField g f �
 unfolding lives is_alive robot_of
 alive_if_lives g f i s h = sym (ap (λ (b : Robot). nat_lt b.damage 100) (body_at g f i s)) ∙ h
 
--- the living, counted on bodies
+-- the living, counted on the robots of an arena
 fold_map : {X Y : Type 0} (f : X → Y) (g : Y → ℕ) (a : ℕ) (xs : List X) →
     fold (λ s y. s + g y) a (map f xs) ≡ fold (λ s x. s + g (f x)) a xs
 fold_map f g a [] = refl

@@ -67,7 +67,7 @@ holds_fired updates slots shots robot m inside flies holds = record {
         rw (get_or-set_other slots robot i (get_or slots robot [] ++ m ∷ []) [] (λ e. other (sym e)))
         (holds.in_air i l ∙ sym (other_shot updates i shots (shot_of robot m) other))
 
--- what stands inside a list doesn't depend on what is read past it
+-- what is inside a list doesn't depend on what is read past it
 pub inside_is : {X : Type 0} (xs : List X) (i : ℕ) (d e : X) → i < length xs → get_or xs i d ≡ get_or xs i e
 inside_is [] i d e h = absurd (omega arith)
 inside_is (x ∷ xs) zero d e h = refl

@@ -56,7 +56,7 @@ collides_not : (a b : Mover) → is_close a b ≡ false → collides a b ≡ fal
 unfolding collides
 collides_not a b h = rw h (blocked a.live b.live (moves a || moves b) (is_no_further a b))
 
--- where no pair is close, each touches none
+-- if no pair is close, each touches none
 abbrev pub AreApart : List Mover → ℕ → ℕ → Type 0
 AreApart movers a b = is_close (get_or movers a (mover no_robot)) (get_or movers b (mover no_robot)) ≡ false
 

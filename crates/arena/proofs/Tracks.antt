@@ -1,4 +1,4 @@
--- What is kept of a leg, after each step of an update.
+-- The motion that is kept of a leg, after each step of an update.
 use Rattle.std.proofs.Common.{◌≡◌, ℕ, ◌+◌, ◌≤◌, ◌<◌, ℤ, pos, ◌+ℤ◌, ◌*ℤ◌, Bool, true, false, ◌||◌, ◌==◌, add-zero, refl, sym, ap, ◌∙◌, arith}
 use Rattle.std.proofs.lemmas.Int.{ints}
 use Rattle.std.proofs.lemmas.Bool.Decides.{nat_tests}
@@ -21,7 +21,7 @@ along-none o = omega (arith, ints)
 way-none : (z : ℤ) → pos 0 *ℤ z ≡ pos 0
 way-none z = omega (arith, ints)
 
--- a track whose leg starts at a place
+-- a motion whose leg starts at a place
 abbrev pub begun : Motion → ℕ → ℕ → Motion
 begun t x y = record t {
   east = sum_from x (cosine_at t.heading) (pos 0);

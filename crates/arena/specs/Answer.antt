@@ -14,7 +14,7 @@ use Rattle.arena.specs.Shots.{shot, in_air}
 use Rattle.arena.specs.Scan.{scanned}
 use Rattle.arena.specs.Random.{random_word}
 
--- an argument by its place; a missing one is 0
+-- an argument by its number; a missing one is 0
 unfoldable pub argument_at : List ℤ → ℕ → ℤ
 argument_at arguments k = slice_index_or arguments k (pos 0)
 

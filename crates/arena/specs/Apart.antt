@@ -4,7 +4,7 @@ use Rattle.std.specs.Int.{abs_diff}
 use Rattle.arena.specs.Field.{no_robot}
 use Rattle.arena.specs.Arena.{Motion, Robot, robot_of}
 
--- the body of a number, past the last one that of no robot
+-- the robot of a number; past the last one, a dead one
 abbrev pub robot_in : List Robot → ℕ → Robot
 robot_in robots k = slice_index_or robots k (robot_of no_robot)
 
@@ -22,7 +22,7 @@ pub record IsAtPlace (before after : Motion) : Type 0 where
 abbrev pub gap : Motion → Motion → ℕ
 gap a b = max (abs_diff a.x b.x) (abs_diff a.y b.y)
 
--- the same as a difference of sums
+-- the same, as a difference of sums
 abbrev pub sum_gap : Motion → Motion → ℕ
 sum_gap a b =
     max (abs_diff (unsigned_abs a.east) (unsigned_abs b.east)) (abs_diff (unsigned_abs a.north) (unsigned_abs b.north))

@@ -7,7 +7,7 @@ use Rattle.arena.specs.Leg.{Leg, place_x, place_y}
 use Rattle.arena.specs.Sums.{sum_east, sum_north, step_east, step_north}
 use Rattle.arena.specs.Field.{Shot, FieldRobot, damage_of, no_robot}
 
--- of a leg: the sums, the place to which they lead, and how much they grow in an update
+-- a motion, of a leg: the sums, the place to which they lead, and how much they grow in an update
 pub record Motion : Type 0 where
   pub east : ℤ
   pub north : ℤ
@@ -21,7 +21,7 @@ pub record Motion : Type 0 where
   pub wanted_speed : ℕ
   pub steady : Bool
 
--- a robot keeps its heading and its speed
+-- a robot wants the heading and the speed that it has
 unfoldable pub is_steady : ℕ → ℕ → ℕ → ℕ → Bool
 is_steady heading wanted_heading speed wanted_speed = (wanted_heading == heading) && (speed == wanted_speed)
 
@@ -40,7 +40,7 @@ motion_of leg = record {
   steady = is_steady leg.heading leg.wanted_heading leg.speed leg.wanted_speed;
 }
 
--- of a robot
+-- a robot: its motion and its damage in percent
 pub record Robot : Type 0 where
   pub motion : Motion
   pub damage : ℕ
@@ -56,13 +56,13 @@ shot_of owner missile = record { owner = owner; burst = missile.burst; x = missi
 abbrev pub most_updates : ℕ
 most_updates = 66666667
 
--- of a field
+-- an arena: how many updates were done, the robots, the missiles of each in the air, and the generator
 pub record Arena : Type 0 where
   pub updates : ℕ
   pub robots : List Robot
   pub slots : List (List Missile)
   pub random : Lcg
 
--- a robot lives; there is none past the last
+-- a robot lives; past the last one none does
 unfoldable pub lives : Arena → ℕ → Bool
 lives g i = nat_lt (slice_index_or g.robots i (robot_of no_robot)).damage deadly

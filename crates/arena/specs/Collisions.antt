@@ -37,10 +37,10 @@ is_no_further a b =
 unfoldable pub collides : Mover → Mover → Bool
 collides a b = a.live && b.live && is_close a b && (moves a || moves b) && is_no_further a b
 
--- all but the one at this place
+-- all but the one with this index
 unfoldable pub others : {A : Type 0} → List A → ℕ → List A
 others xs i = take i xs ++ drop (i + 1) xs
 
--- how many others the robot at this place collides with
+-- how many others the robot with this index collides with
 unfoldable pub touches : List Mover → ℕ → ℕ
 touches movers i = count_by (collides (slice_index_or movers i (mover no_robot))) (others movers i)

@@ -1,11 +1,11 @@
--- What a motion keeps of a track, and within which limits.
+-- What is kept of a motion, and within which limits.
 use Rattle.std.specs.Prelude.{◌<◌, ◌≤◌, unsigned_abs}
 use Rattle.arena.specs.Rules.{most_speed}
 use Rattle.arena.specs.Sums.{place_of, IsInField}
 use Rattle.arena.specs.Arena.{Motion}
 use Rattle.arena.specs.declared.motion.Motion.TheInside.{Inside}
 
--- the track of what is kept: the places follow from the sums
+-- the motion of what is kept: its place follows from the sums
 abbrev pub motion_kept : Inside → Motion
 motion_kept kept = record {
   east = kept.east;
@@ -21,7 +21,7 @@ motion_kept kept = record {
   steady = kept.steady;
 }
 
--- what is kept of a track
+-- what is kept of a motion
 abbrev pub kept_of_motion : Motion → Inside
 kept_of_motion motion_kept = record {
   east = motion_kept.east;

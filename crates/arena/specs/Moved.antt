@@ -4,8 +4,8 @@
 --  3. Distance: `grown` (Leg). The three make the leg that a robot tries to drive, `tried`.
 --  4. Walls: `walled` (Leg) stops and clamps it if it `hits_wall`, which makes it `driven`, the candidate; `knocks` has
 --     what the wall takes.
--- 5. Collisions: `touches` (Collisions) counts the pairs; `leg_after` puts those back that are in one, and `knocks` has
---     what each takes.
+--  5. Collisions: `touches` (Collisions) counts the pairs; `leg_after` puts those back that are in one, and `knocks`
+--     has what each takes.
 --  6. Bursts: `bursts` (Shots), of the shots that are due, at the place of the leg after that.
 --  7. Deaths: `damage_of` and `is_alive` (Field), from the sum of all hurts.
 use Rattle.std.specs.Prelude.{ℕ, ◌+◌, nat_lt, if◌then◌else◌, List, [], ◌∷◌, ◌++◌, length, map, replicate}

@@ -25,7 +25,7 @@ square_of east north = unsigned_abs east * unsigned_abs east + unsigned_abs nort
 unfoldable pub square_to : FieldRobot → FieldRobot → ℕ
 square_to from to = square (metres_x from) (metres_y from) (metres_x to) (metres_y to)
 
--- more than any squared distance: it stands for no robot
+-- more than any squared distance: no robot is seen
 abbrev pub out_of_sight : ℕ
 out_of_sight = 4294967295
 
@@ -37,7 +37,7 @@ most_square = 2000000
 abbrev pub IsSquare : ℕ → Type 0
 IsSquare n = (n ≡ out_of_sight) ⊎ (n ≤ most_square)
 
--- the least of some squares, or none if there are none
+-- the least of some squares, or `out_of_sight` if there are none
 pub record IsLeast (n : ℕ) (squares : List ℕ) : Type 0 where
   pub least : n ≡ fold min out_of_sight squares
   pub none : n ≡ out_of_sight → squares ≡ []

@@ -1,4 +1,4 @@
--- When a field is still: an update then changes nothing but the number of updates. When the next missile bursts.
+-- When a field is still: an update then changes nothing but the number of updates. And when the next missile bursts.
 use Rattle.std.specs.Prelude.{◌≡◌, ◌⊎◌, ℕ, zero, suc, ◌≤◌, List, [], All}
 use Rattle.arena.specs.Rules.{deadly, turning_speed}
 use Rattle.arena.specs.Field.{Field}

@@ -27,9 +27,9 @@ use grammar::Intrinsic;
 use rand_pcg::Pcg32;
 use std::marker::Model;
 
-/// A field in play: two to four robots, numbered from 0, their missiles in the air, and the
-/// generator of the match. If it is known to be still, the next update only counts. In the next `calm` updates no two
-/// robots come close to each other.
+/// A field in play: two to four robots, numbered from 0, their missiles in the air, and the generator of the match. If
+/// it is known to be still, the next update only counts. In the next `updates_apart` updates no two robots come close
+/// to each other.
 #[derive(Drop)]
 pub struct Arena {
     updates: u32,
@@ -97,8 +97,8 @@ impl Arena {
         }
     }
 
-    /// Answers a live robot that calls an intrinsic function with two arguments, of which those that
-    /// the function has no use for are 0. docs/field.md has each function's reply.
+    /// Answers a live robot that calls an intrinsic function with two arguments, of which those that the function has
+    /// no use for are 0. docs/field.md has each function's reply.
     pub fn ask(&mut self, robot: usize, intrinsic: Intrinsic, arguments: [i32; 2]) -> i32
         requires { lives self.old robot ≡ true }
         ensures reply { (f : Field) → RepresentsField self.old f → result ≡ (answer f robot intrinsic arguments).0 }

@@ -1,5 +1,4 @@
-//! The field of robots: motion, walls, collisions, shots, bursts, the start of a match, and the
-//! intrinsic functions.
+//! The field of robots: motion, walls, collisions, shots, bursts, the start of a match, and the intrinsic functions.
 #![tactic(auto)]
 
 mod arcs;

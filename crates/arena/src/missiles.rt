@@ -55,7 +55,7 @@ impl Missiles {
     }
 
     /// Reports whether a missile may burst before the last update that a number can tell: a quick look before
-    /// `no_slot_flies`.
+    /// `none_flies`.
     pub fn may_burst(&self) -> bool
         ensures { result ≡ false → NoBurstBefore (2 ^ 32 - 1) self.now }
     {

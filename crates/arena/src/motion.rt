@@ -54,7 +54,7 @@ impl Default for Motion {
 }
 
 impl Motion {
-    /// Makes the motion of a robot that stands at a place, at rest.
+    /// Makes the motion of a robot at rest at a place.
     pub fn standing(place: Point) -> Motion
         ensures { result ≡ motion_of (standing place.x place.y).leg }
     {

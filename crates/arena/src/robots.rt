@@ -48,7 +48,7 @@ impl Default for Robot {
 }
 
 impl Robot {
-    /// Makes a robot that stands at a place, at rest and unhurt.
+    /// Makes a robot at rest at a place, unhurt.
     #[tactic(auto, unfolding(crate::specs::Arena::robot_of, crate::specs::Field::damage_of, crate::specs::Start::standing))]
     pub fn standing(place: Point) -> Robot
         ensures { result ≡ robot_of (standing place.x place.y) }

@@ -13,7 +13,7 @@ use crate::robots::Robot;
 use crate::rules::MOST_RESOLUTION;
 use crate::ways::{MOST_SQUARE, MetrePoint, Way};
 
-/// More than any squared distance: it stands for no robot.
+/// More than any squared distance: no robot is seen.
 const OUT_OF_SIGHT: u32 = u32::MAX;
 
 /// Returns the range in metres of the nearest live robot whose bearing differs from a degree by at most the resolution

@@ -1,4 +1,4 @@
-//! Where robots stand at the start of a match.
+//! Where robots are at the start of a match.
 
 ghost use Rattle.std.specs.Prelude.{◌≡◌, ℕ, ◌+◌, ◌*◌, ◌/◌, ◌%◌, ◌<◌, ◌≤◌, ℤ, pos, ◌≤ℤ◌, map, All, length};
 ghost use Rattle.arena.specs.Rules.{last_place};

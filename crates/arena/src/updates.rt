@@ -1,4 +1,17 @@
-//! The robots after an update.
+//! The robots after an update. Who chooses whom:
+//!
+//!     move_robots: for how many updates are the robots known to be apart?
+//!      |
+//!      +- some -> move_apart_robots: all move; if a missile bursts, hurt_near_bursts
+//!      |
+//!      +- none -> move_measured_robots: for how many are they, by the gaps between them (updates_apart)?
+//!                  |
+//!                  +- some -> move_apart_robots
+//!                  |
+//!                  +- none -> move_close_robots: all move; if two come close or a missile bursts, put_back_and_hurt
+//!
+//! `move_robots` answers for how many more updates they are known to be apart: 0 after `move_close_robots`. The arena
+//! keeps that number for the next update.
 
 ghost use Rattle.std.specs.Prelude.{◌≡◌, ℕ, ◌+◌, ◌/◌, ◌<◌, ◌≤◌, List, All, map, true, length};
 ghost use Rattle.arena.specs.Field.{Shot, FieldRobot, Field};
@@ -48,7 +61,7 @@ fn all_stay(robots: &[Robot]) -> bool
     true
 }
 
-/// Moves robots on, each as far as walls let it, and returns what collisions have to know.
+/// Moves all robots on, each as far as walls let it, and returns what collisions have to know.
 pub fn move_all_as_movers(robots: &mut [Robot]) -> ArrayVec<Mover, MOST_ROBOTS>
     requires { length robots.old ≤ MOST_ROBOTS }
     ensures ahead { (rs : List FieldRobot) → robots.old ≡ map robot_of rs → robots.new ≡ map robot_ahead rs }
@@ -93,7 +106,8 @@ fn put_back_and_hurt(robots: &mut [Robot], movers: &[Mover], missiles: &Missiles
     }
 }
 
-/// Moves robots on that may come close to each other.
+/// Moves robots on that may come close to each other. Collisions are looked for only if two are close or a missile
+/// bursts.
 #[inline(never)]
 fn move_close_robots(robots: &mut [Robot], missiles: &Missiles, update: u32)
     requires { length robots.old ≤ MOST_ROBOTS }
@@ -107,7 +121,7 @@ fn move_close_robots(robots: &mut [Robot], missiles: &Missiles, update: u32)
     put_back_and_hurt(robots, movers.as_slice(), missiles, update);
 }
 
-/// Moves robots on, each as far as walls let it.
+/// Moves all robots on, each as far as walls let it.
 fn move_all(robots: &mut [Robot])
     ensures ahead { (rs : List FieldRobot) → robots.old ≡ map robot_of rs → robots.new ≡ map robot_ahead rs }
     ensures nearby { (k : ℕ) → k < length robots.old

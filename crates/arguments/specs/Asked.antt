@@ -13,11 +13,11 @@ use Rattle.arguments.specs.CommandLine.{crobots_app}
 abbrev pub is_set : Text → List Row → Bool
 is_set id rows = option_map_or (λ text. bytes_eq text (codes "true")) (first_of id rows) false
 
--- the words that name files
+-- the file words
 abbrev pub files_in : List Row → List Text
 files_in rows = unwrap_or (all_of (codes "FILE") rows) []
 
--- what the entries give that `clap` makes of the words
+-- what the entries that `clap` makes of the words give
 abbrev pub given_by : List Row → Given
 given_by rows = record {
   listing = is_set (codes "c") rows;

@@ -16,7 +16,7 @@ use std::alloc::Global;
 ///
 /// `Usage` if the words aren't a use of the command, and else the first that applies of `Number`, `TooMany` and
 /// `NoMode`.
-/// `Memory` may come in place of any answer.
+/// `Memory` may come instead of any answer.
 pub fn read_words<'a>(alloc: Global, words: &'a [&'a str]) -> Result<Settings<'a>, UseFault>
     ensures answer { (result ≡ Err UseFault.Memory) ⊎ (result ≡ asked (map (λ word. word.now) words.now)) }
     ensures taken { takes crobots_app (map (λ word. word.now) words.now) ≡ true → result ≢ Err UseFault.Usage }
@@ -27,7 +27,7 @@ pub fn read_words<'a>(alloc: Global, words: &'a [&'a str]) -> Result<Settings<'a
     }
 }
 
-/// Returns what the matches give for each option, and the files, of which there is one at least.
+/// Returns what the matches of `clap` give for each option, and the file words, of which there is at least one.
 fn given<'w, 'a>(matches: &'w ArgMatches<'a>) -> Given<'w, 'a>
     requires { 0 < length (files_in (rows_of (found_of matches.now))) }
     ensures { result ≡ given_by (rows_of (found_of matches.now)) }

@@ -79,7 +79,7 @@ fn option<'a>(alloc: Global, id: &'a str, letter: char) -> Arg<'a>
     Arg::new(alloc, id).short(letter).action(ArgAction::Set)
 }
 
-/// Makes the argument of one or more words at any place.
+/// Makes the argument of one or more words, before, between or after the options.
 fn files<'a>(alloc: Global, id: &'a str) -> Arg<'a>
     ensures rule { rule_of result ≡ files_rule id.entry.now }
     ensures local { result.global ≡ false }

@@ -77,7 +77,7 @@ gain_from dx dy b is =
     let most = is.greatest ((b + 1) % 360) (omega arith) in
     omega (arith, ints)
 
--- so many degrees after the bearing, or before it, the next one leads or trails
+-- this many degrees after the bearing, or before it, the next one leads or trails
 after_trails : (dx dy : ℤ) (b s from to : ℕ) → (dx ≡ pos 0 → dy ≡ pos 0 → ⊥) → IsBearing dx dy b → 1 ≤ s → s ≤ 178 →
     from ≡ (b + s) % 360 → to ≡ (b + s + 1) % 360 → reach_of dx dy to <ℤ reach_of dx dy from
 after_trails dx dy b s from to some is low high p q =

@@ -1,4 +1,4 @@
--- The reaches of a point, and the first place of the greatest.
+-- The reaches of a point, and the first index of the greatest.
 use Rattle.std.proofs.Common.{◌≡◌, ℕ, zero, suc, ◌+◌, ◌*◌, ◌/◌, ◌%◌, ◌<◌, ◌≤◌, ℤ, pos, negsuc, ◌+ℤ◌, ◌*ℤ◌, ◌≤ℤ◌, ◌<ℤ◌, FitsSigned, unsigned_abs, List, [], ◌∷◌, length, get_or, map, fold, add-one, refl, sym, subst, ◌∙◌, ◌⊎◌, inl, inr, Bool, true, false, not, cond, nat_lt, Option, Some, None, ap, ◌-◌, arith}
 use Rattle.std.specs.Int.{w32, int_max}
 use Rattle.std.specs.Int.Signed.{≤ℤ_refl}
@@ -38,7 +38,7 @@ reach_fits dx dy cosine sine p q r s =
 
 pub ruleset reach_steps = (to_z-of_z, part_fits, reach_fits)
 
--- among the first n places, best is the first of the greatest
+-- among the first n indices, best is the first of the greatest
 pub record IsFirstGreatest (f : ℕ → ℤ) (n best : ℕ) : Type 0 where
   pub within : best < n
   pub greatest : (k : ℕ) → k < n → f k ≤ℤ f best
@@ -51,7 +51,7 @@ alone f = record {
   least = λ k l. absurd (omega arith);
 }
 
--- one place more, which is no greater, or is
+-- one index more, which is no greater, or is
 pub kept : (f : ℕ → ℤ) (n best : ℕ) → IsFirstGreatest f n best → f n ≤ℤ f best → IsFirstGreatest f (n + 1) best
 kept f n best is h = record {
   within = omega (arith, is.within);
@@ -78,13 +78,13 @@ first_of_greatest f (suc n) =
     (λ h. (n + 1, raised f (n + 1) b.0 b.1 h))
     (λ h. (b.0, kept f (n + 1) b.0 b.1 h)))
 
--- what stands where nothing is left out doesn't depend on what would stand there otherwise
+-- an entry that is there doesn't depend on what is answered for one that isn't
 default_is_free : (xs : List ℤ) (k : ℕ) (d e : ℤ) → k < length xs → get_or xs k d ≡ get_or xs k e
 default_is_free [] k d e h = absurd (omega arith)
 default_is_free (x ∷ xs) zero d e h = refl
 default_is_free (x ∷ xs) (suc k) d e h = default_is_free xs k d e (omega arith)
 
--- the greatest of a list is what stands at the place of its greatest
+-- the greatest of a list is the entry at the index of its greatest
 greatest_is : (x : ℤ) (xs : List ℤ) (top most : ℤ) → most ≡ fold int_max x xs → Contains (x ∷ xs) top →
     ((k : ℕ) → k < length (x ∷ xs) → get_or (x ∷ xs) k top ≤ℤ top) → most ≡ top
 greatest_is x xs top most e at bound =
@@ -114,7 +114,7 @@ lesser_fails a b h =
     is_false true h = absurd (h refl)
     is_false false h = refl
 
--- the first place of the greatest is that place
+-- the first index of the greatest is that index
 first_greatest_is : (xs : List ℤ) (best : ℕ) (top : ℤ) → best < length xs → get_or xs best top ≡ top →
     ((k : ℕ) → k < length xs → get_or xs k top ≤ℤ top) → ((k : ℕ) → k < best → get_or xs k top <ℤ top) →
     first_greatest xs ≡ best
@@ -126,7 +126,7 @@ first_greatest_is (x ∷ xs) best top within at greatest least =
     (λ k l. rw most (lesser_fails top (get_or (x ∷ xs) k top) (least k l)))
     (λ l. rw (most, at) (equal_passes top))
 
--- the same of the values at the first n places
+-- the same of the values at the first n indices
 first_greatest-map : (f : ℕ → ℤ) (n best : ℕ) → IsFirstGreatest f n best →
     first_greatest (map f (range_with_len 0 n)) ≡ best
 first_greatest-map f n best is =
@@ -305,7 +305,7 @@ by_lt a b f g = by_test (nat_lt a b) f g (grind (arith, nat_tests)) (grind (arit
     by_test true f g p q = f (p refl)
     by_test false f g p q = g (q refl)
 
--- where `position` finds none, none passes
+-- if `position` finds none, none passes
 none_passes : {X : Type 0} (p : X → Bool) (xs : List X) → None ≡ position p xs → (k : ℕ) (d : X) → k < length xs →
     p (get_or xs k d) ≡ false
 none_passes p xs e k d l =

@@ -12,7 +12,7 @@ use Rattle.std.specs.Int.{abs_diff}
 use Rattle.arith.specs.Circle.{sine_at, cosine_at, square_of, IsNearlyOnCircle}
 use Rattle.arith.proofs.Below.{passes_below, passes_at}
 
--- the sine of the degree that i stands for, once round
+-- the sine of the degree of index i, once round
 abbrev pub round_sine : ℕ → ℤ
 round_sine i = sine_at (i % 360)
 
@@ -51,7 +51,7 @@ drop-range zero a b m n p q = let from : a ≡ b = omega arith in let size : m �
 drop-range (suc i) a b zero n p q = absurd (omega arith)
 drop-range (suc i) a b (suc m) n p q = drop-range i (a + 1) b m n (omega arith) (omega arith)
 
--- eight entries in their place
+-- eight entries in order
 pub eight_are : (i : ℕ) → i + 8 ≤ 450 →
     map (to_z w32) (map (of_z w32) (take 8 (take (450 - i) (drop i ROUND)))) ≡ map round_sine (range_with_len i 8)
 eight_are i h =

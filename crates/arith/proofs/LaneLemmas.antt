@@ -111,7 +111,7 @@ greatest_of xs n most size h e =
     first_or_more (inl e) = (0, omega arith, default_is_free xs most (pos 0) (omega arith) ∙ sym e)
     first_or_more (inr c) = c
 
--- lanes are equal where their bits are
+-- lanes are equal if their bits are
 same_bits : (a b : ℤ) → FitsSigned w32 a → FitsSigned w32 b → eqb (of_z w32 b) (of_z w32 a) ≡ int_eq a b
 same_bits a b p q =
     let bits = Decides-eqb (of_z w32 b) (of_z w32 a) in
@@ -148,7 +148,7 @@ lane_within p (x ∷ xs) h = step (p x) (lane_within p xs) h
     step true rest h = omega arith
     step false rest h = let within = rest (omega arith) in omega arith
 
--- the place of a lane by how many come before it
+-- the index of a lane, by how many come before it
 place_is : {X : Type 0} (p : X → Bool) (xs : List X) (n : ℕ) (b : Bool) → n ≡ prefix_len (λ x. not (p x)) xs →
     nat_lt n (length xs) ≡ b → cond b (Some n) None ≡ position p xs
 place_is p xs n b e t = rw (← t, e)

@@ -3,8 +3,8 @@ use Rattle.std.specs.Prelude.{ℕ, suc, ◌+◌, ◌-◌, ◌/◌, List, ℤ, po
 use Rattle.std.specs.List.{count_by, range_with_len}
 use Rattle.arith.specs.Table.{tangents}
 
--- where degree k begins, for k from 1 to 90: half way between the tangents of k - 1 and k, and for 90 twice the
--- tangent of 89
+-- the number at which degree k begins, for k from 1 to 90: half way between the tangents of k - 1 and k, and for 90
+-- twice the tangent of 89
 unfoldable pub bound_of : ℕ → ℕ
 bound_of k =
     if nat_lt k 90 then (slice_index tangents (k - 1) + slice_index tangents k) / 2

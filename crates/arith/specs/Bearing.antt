@@ -9,7 +9,7 @@ use Rattle.arith.specs.Circle.{sine_at, cosine_at}
 unfoldable pub reach_of : ℤ → ℤ → ℕ → ℤ
 reach_of dx dy degree = dx *ℤ cosine_at degree +ℤ dy *ℤ sine_at degree
 
--- the first place of the greatest of some numbers
+-- the first index of the greatest of some numbers
 unfoldable pub first_greatest : List ℤ → ℕ
 first_greatest [] = 0
 first_greatest (x ∷ xs) = position_or_len (int_eq (fold int_max x xs)) (x ∷ xs)

@@ -1,4 +1,4 @@
--- The tangent of a number of degrees, scaled by 100,000. It comes back after half a round.
+-- The tangent of a number of degrees, scaled by 100,000. It repeats after half a round.
 use Rattle.std.specs.Prelude.{ℕ, ◌-◌, ◌%◌, ℤ, pos, neg_ℤ, nat_lt, ◌==◌, if◌then◌else◌, slice_index}
 use Rattle.arith.specs.Table.{tangents}
 use Rattle.arith.specs.Degree.{degree_of}

@@ -11,7 +11,7 @@ use crate::circle::{cosine_at, sine_at};
 use crate::tables::{LANES, round_entries};
 use std::simd::prelude::*;
 
-/// The greatest difference of two places on an axis that a bearing is worked out of, in whole metres.
+/// The greatest difference of two positions on an axis that a bearing is worked out of, in whole metres.
 pub const MOST_DIFFERENCE: u16 = 999;
 
 /// How often the lanes fill the round of 360 degrees.

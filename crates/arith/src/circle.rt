@@ -25,7 +25,7 @@ pub fn cos(degrees: i32) -> i32
 }
 
 /// Returns the sine of a degree from 0 to 359, scaled by 100,000 (docs/numbers.md, "Sine and cosine").
-/// For a heading, which lies on the round already.
+/// For a heading, which is a degree of the round already.
 pub fn sine_at(degree: u16) -> i32
     requires { degree < 360 }
     ensures value { result ≡ sine_at degree }
@@ -35,7 +35,7 @@ pub fn sine_at(degree: u16) -> i32
 }
 
 /// Returns the cosine of a degree from 0 to 359, scaled by 100,000 (docs/numbers.md, "Sine and cosine").
-/// For a heading, which lies on the round already.
+/// For a heading, which is a degree of the round already.
 #[tactic(auto, unfolding(crate::specs::Circle::cosine_at))]
 pub fn cosine_at(degree: u16) -> i32
     requires { degree < 360 }

@@ -2,7 +2,7 @@
 //!
 //! Nothing here allocates or refuses, and each call is proved to be its definition for every
 //! argument; only `bearing` and `bears_within` ask for differences of at most `MOST_DIFFERENCE` metres. docs/numbers.md
-//! states the rules in words. The definitions stand in `specs/`, one subject a file, for other crates to cite:
+//! states the rules in words. The definitions are in `specs/`, one subject a file, for other crates to cite:
 //! `value_of` (Op), `degree_of` and `apart` (Degree), `sines` and `tangents` (Table), `sine_at`, `cosine_at`,
 //! `sine_of` and `cosine_of` (Circle), `tangent_of` (Tangent), `arctangent_of` (Arctangent), `IsRoot`
 //! and `root_of` (Root), `reach_of` and `bearing_of` (Bearing), `IsBearing` (Furthest).

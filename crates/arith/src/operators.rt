@@ -4,8 +4,8 @@ ghost use Rattle.std.specs.Prelude.{◌≡◌};
 ghost use Rattle.std.specs.Int.{w32, int_wrap};
 ghost use Rattle.arith.specs.Op.{is_logic, value_of, quotient, remainder};
 
-/// A binary operator on two numbers `a` and `b` (docs/numbers.md, "Operators"). In the language each group binds tighter
-/// than those before it: `||`, `&&`, `|`, `^`, `&`, equality, order, shifts, sums, products.
+/// A binary operator on two numbers `a` and `b` (docs/numbers.md, "Operators"). In the language each group binds
+/// tighter than those before it: `||`, `&&`, `|`, `^`, `&`, equality, order, shifts, sums, products.
 #[derive(Clone, Copy, Debug, PartialEq, Eq)]
 pub enum Op {
     /// `||`: 1 if `a` or `b` is not 0, else 0.
@@ -55,7 +55,7 @@ impl Op {
     }
 }
 
-/// Returns what an operator makes of any two numbers. Both have been worked out before, also for `&&` and `||`
+/// Returns what an operator makes of any two numbers. Both have been evaluated before, also for `&&` and `||`
 /// (docs/numbers.md, "Operators").
 #[inline(always)]
 #[tactic(auto, using(crate::proofs::OpLemmas::op_steps))]

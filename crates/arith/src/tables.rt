@@ -7,11 +7,11 @@ ghost use Rattle.arith.specs.Circle.{sine_at};
 
 use std::simd::prelude::*;
 
-/// How many entries are read side by side.
+/// How many entries are read together.
 pub(crate) const LANES: u16 = 8;
 
 /// The sines of 0 to 449 degrees, ten a line: one round, and a quarter more, so that a cosine is
-/// read 90 places on.
+/// read 90 entries further on.
 static ROUND: [i32; 450] = [
     0, 1745, 3490, 5234, 6976, 8716, 10453, 12187, 13917, 15643, // 0 to 9
     17365, 19081, 20791, 22495, 24192, 25882, 27564, 29237, 30902, 32557, // 10 to 19

@@ -7,7 +7,7 @@ ghost use Rattle.arith.specs.Arctangent.{bound_of, degrees_reached, arctangent_o
 use crate::degrees::norm_degree;
 use crate::tables::tangent_entry;
 
-/// Where 90 degrees begin, which have no tangent of their own: at twice the tangent of 89.
+/// The number at which 90 degrees begin, which have no tangent of their own: twice the tangent of 89.
 const UPRIGHT_BOUND: u32 = 11_457_992;
 
 /// Returns the tangent of any number of degrees, scaled by 100,000; at 90 and 270 it is the greatest number of 32 bits
@@ -53,7 +53,7 @@ fn degrees_reached(size: u32) -> i32
     i32::from(reached)
 }
 
-/// Returns where a degree from 1 to 90 begins: half way between the tangent before it and its own.
+/// Returns the number at which a degree from 1 to 90 begins: half way between the tangent before it and its own.
 #[tactic(auto, unfolding(crate::specs::Arctangent::bound_of))]
 fn bound(degree: u16) -> u32
     requires from_one { 1 ≤ degree }

@@ -1,4 +1,4 @@
--- How far the robots of a window have come.
+-- How far the robots of an interval have come.
 use Rattle.std.proofs.Common.{◌≡◌, ◌≢◌, ℕ, ◌+◌, ◌*◌, ◌-◌, ◌%◌, ◌<◌, ◌≤◌, zero, suc, ℤ, List, [], ◌∷◌, length, set, get_or, Some, ◌⊎◌, inl, inr, refl, sym, ap, ◌∙◌, arith}
 use Rattle.std.specs.Prelude.{slice_get}
 use Rattle.std.proofs.lemmas.List.{get_or-set_same, get_or-set_other, length-set, set-set, set-get_or}
@@ -42,7 +42,7 @@ ran_alone robots i s n k inside runs within = λ live.
     let robot = behaviour_at robots i in
     rw (get_or-set_same s.traces i (alone robot i s.field (get_or s.traces i []) k).1 [] inside) (runs k within live)
 
--- past the longest window is past one of fewer cycles
+-- past the longest interval is past one of fewer cycles
 pub others_past : (i w : ℕ) (next : List ℕ) → w ≤ 15 → OthersArePast 60 i next → OthersArePast (4 * w) i next
 others_past i w next within past j low other = omega (arith, within, past j low other)
 
@@ -108,7 +108,7 @@ pub record Runs (free : Type 0) (i : ℕ) (exe : Executable) (n : ℕ) (runner a
       IsAheadOf runner exe trace
       → HasRunAlone free r i f trace n exe after grown
 
--- And one that takes the turn that is next before it runs.
+-- And one that takes the next turn before it runs.
 pub record GoesOn (free : Type 0) (i : ℕ) (exe : Executable) (n : ℕ) (runner after : Runner) (arena grown : Arena) :
     Type 0 where
   pub on : (r : Behaviour) (f : Field) (trace : List ℤ) → IsRobotOf exe r → RepresentsField arena f →
@@ -227,7 +227,7 @@ left_less end (a ∷ b ∷ []) i n four small within some = absurd (omega arith)
 left_less end (a ∷ []) i n four small within some = absurd (omega arith)
 left_less end [] i n four small within some = absurd (omega arith)
 
--- the window begins
+-- the interval begins
 pub opens : (robots : List Behaviour) (exes : List Executable) (next : List ℕ) (w : ℕ) (runners : List Runner)
     (arena : Arena) (s : Stage)
     → AreRobotsOf exes robots → AreTurnNumbers next → length exes ≤ 4
@@ -260,7 +260,7 @@ closes robots exes next w runners arena s past come =
       traces = rw like.traces come.reached.traces;
     }
 
--- the turn that is next is that of a robot
+-- the next turn is that of a robot
 pub is_robot : (next : List ℕ) (turn_number end n : ℕ) → get_or next (turn_number % 4) 0 ≡ turn_number →
     turn_number < end
     → ((i : ℕ) → n ≤ i → i < 4 → end ≤ get_or next i 0) → turn_number % 4 < n

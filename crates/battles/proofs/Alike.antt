@@ -37,7 +37,7 @@ like_trans f g h first second =
       };
     }
 
--- an arena of the one is one of the other
+-- an arena that represents the one represents the other
 pub stands_like : (arena : Arena) (f g : Field) → AreAlike f g → RepresentsField arena f → RepresentsField arena g
 stands_like arena f g like stands = rw like.is (record {
   updates = stands.updates;

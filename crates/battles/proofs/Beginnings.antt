@@ -53,7 +53,7 @@ pub stands_more : (runners : List Runner) (exes : List Executable) (i : ℕ) (ru
 stands_more runners exes i runner exe stands here new =
     rw add-one (stands_then runners exes i runner exe stands here new)
 
--- the codes of the files of robots are those of robots of the files
+-- the programs of the files of robots are those of robots of the files
 pub paired_codes : (p : Profile) (files : List File) → paired (map (code_of p) files) ≡ map (code_of p) (paired files)
 paired_codes p [] = refl
 paired_codes p (file ∷ []) = refl

@@ -31,7 +31,7 @@ goes_ahead runner exe r i f trace n arena within live is ground at =
       at = rw (quiet_alone r i f trace n live quiet) (at_less runner n exe trace within at);
     }
 
--- So many robots have passed the window; the others are at its begin.
+-- So many robots have passed the interval; the others are at its begin.
 pub record HavePassed (robots : List Behaviour) (exes : List Executable) (k w : ℕ) (runners : List Runner)
     (arena : Arena) (opened : Stage) : Type 0 where
   pub next : List ℕ
@@ -58,7 +58,7 @@ turn_number_own n w i small = elim (cases_lt i n) [
   | inr outside ↦ rw (turn_number_past n w i outside) (omega arith)
 ]
 
--- the numbers of the next turns, before the window
+-- the numbers of the next turns, before the interval
 turn_numbers_of : ℕ → ℕ → List ℕ
 turn_numbers_of n w = turn_number_of n w 0 ∷ turn_number_of n w 1 ∷ turn_number_of n w 2 ∷ turn_number_of n w 3 ∷ []
 
@@ -139,7 +139,7 @@ all_passed robots exes w runners arena s passed =
       | inr outside ↦ passed.past i outside small
     ]) passed.come
 
--- a robot's exe, and its runner
+-- a robot's executable, and its runner
 pub code_at : (exes : List Executable) (k : ℕ) → k < length exes →
     (exe : Executable) × (slice_get exes k ≡ Some exe)
 code_at [] k inside = absurd (omega arith)
@@ -154,7 +154,7 @@ fits_still runners exes k none after inside same fits =
     let still : EngineFits after.machine here.0 = rw same (fits_at runners exes k here.0 none fits here.1) in
     fits_set runners exes k after here.0 fits here.1 still
 
--- there is a runner for each exe
+-- there is a runner for each executable
 pub runners_length : (runners : List Runner) (exes : List Executable) (traces : List (List ℤ)) →
     EachIsAheadOf runners exes traces
     → length runners ≡ length exes

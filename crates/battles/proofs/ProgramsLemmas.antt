@@ -12,7 +12,7 @@ use Rattle.engine.specs.Executables.{Executable, IsTranslated, executable_of}
 use Rattle.battles.specs.Programs.{AllSome}
 use Rattle.battles.specs.Translated.{AreTranslated}
 
--- what is kept at a place is the program of that place
+-- what is kept at an index is the program of that index
 pub kept_here : {A : Type 0} (items : List A) (place : ℕ) (d : Option A) → place < length items
     → get_or (map (λ (x : A). Some x) items) place d ≡ slice_get items place
 kept_here [] place d within = absurd (omega arith)
@@ -25,7 +25,7 @@ kept_some [] place within none = absurd (omega arith)
 kept_some (x ∷ items) zero within none = cc
 kept_some (x ∷ items) (suc place) within none = kept_some items place (omega arith) none
 
--- what is found at a place is the program of that place
+-- what is found at an index is the program of that index
 pub kept_at : {A : Type 0} (kept shelf : List (Option A)) (items : List A) (place : ℕ) (found : Option A)
     → AllSome kept → flat_map option_to_list kept ≡ items → shelf ≡ kept → place < length items →
     found ≡ get_or shelf place found

@@ -1,4 +1,4 @@
--- Windows of a still field that pass at once: robots that ask nothing, and updates that only count.
+-- Intervals of a still field that are skipped at once: robots that ask nothing, and updates that only count.
 use Rattle.std.proofs.Common.{◌≡◌, ◌≢◌, ℕ, ◌+◌, ◌*◌, ◌<◌, ◌≤◌, zero, suc, Bool, true, false, ℤ, pos, List, [], ◌∷◌, ◌++◌, length, set, get_or, replicate, append_assoc, inl, inr, refl, sym, ap, ◌∙◌, arith, add-one}
 use Rattle.std.specs.Prelude.{nat_lt, if◌then◌else◌}
 use Rattle.std.specs.List.{count_by}
@@ -148,7 +148,7 @@ rounds_wait g robots (suc k) s ground all quiet =
     ap (behaviour_at robots i) (waits_at (lives g) (length robots) k s.traces i low (omega arith) live)
     ∙ quiet i low live k (omega arith))
 
--- If the field is still the windows follow one another in the same way.
+-- If the field is still the intervals follow one another in the same way.
 quiet_on : (g : Arena) (robots : List Behaviour) (k j : ℕ) (traces : List (List ℤ)) → length robots ≤ length traces
     → AreQuiet g robots traces (k + j) → AreQuiet g robots (waits (lives g) (length robots) k traces) j
 quiet_on g robots k j traces all quiet i low live m less =
@@ -241,7 +241,7 @@ enough : (exes : List Executable) (robots : List Behaviour) (runners : List Runn
 enough exes robots runners g s are reached =
     omega (arith, robots_length exes robots are, traces_length runners exes s.traces reached.traces)
 
--- Where the cycles of some windows lead, and as many updates: to where the windows lead.
+-- Where the cycles of some periods lead, and as many updates: to where the periods lead.
 pub skips : (exes : List Executable) (robots : List Behaviour) (runners after : List Runner) (g : Arena) (s : Stage)
     (k : ℕ)
     → AreRobotsOf exes robots → HasReached runners exes g s → IsStill g.robots g.slots
@@ -271,7 +271,7 @@ skips_alive exes robots runners g s k n are reached still ahead within =
     count_is (record g { updates = g.updates + n }) (moved_times n s.field) (only_rests g s.field n reached.field still)
     ∙ sym (count_is g s.field reached.field)
 
--- no window passes
+-- no interval is skipped
 pub skips_none : (robots : List Behaviour) (s : Stage) → periods robots 0 s ≡ s
 unfolding periods
 skips_none robots s = refl

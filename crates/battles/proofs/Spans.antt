@@ -7,7 +7,7 @@ use Rattle.battles.specs.Battle.{Behaviour, Stage, turns, is_over, stage_after, 
 use Rattle.battles.specs.Intervals.{rounds, period, periods}
 use Rattle.battles.proofs.Cycles.{cycle_alone, cycle_updates, goes_on, stage_more, over_if_few, first_later, first_none, first_is, first_more}
 
--- no update falls within a window
+-- no update falls within an interval
 pub stage_within : (robots : List Behaviour) (s : Stage) (n w : ℕ) → n % 15 ≡ 0 → w < 15
     → stage_after robots s (n + w) ≡ rounds robots w (stage_after robots s n)
 unfolding rounds
@@ -120,7 +120,7 @@ first_undecided robots s n limit last within so undecided =
     rw next (first_more (over robots s) (15 * n + 14) limit last (omega arith)
     (first_update robots s (15 * n) limit last (omega arith) within so) (few_after robots s n ∙ undecided))
 
--- and so of some windows that leave more than one alive
+-- and so of some periods that leave more than one alive
 pub first_skipped : (robots : List Behaviour) (s : Stage) (n k limit last : ℕ) → 15 * (n + k) ≤ limit
     → first_above (λ m. is_over m (stage_after robots s m)) (15 * n) (limit - 15 * n) ≡ last
     → ((j : ℕ) → j ≤ k → nat_le (live_count (periods robots j (stage_after robots s (15 * n))).field) 1 ≡ false)

@@ -1,4 +1,4 @@
--- The turns of a window: that of robot i in cycle c, counted from 0, has the number 4 * c + i.
+-- The turns of an interval: that of robot i in cycle c, counted from 0, has the number 4 * c + i.
 use Rattle.std.proofs.Common.{◌≡◌, ◌≢◌, ℕ, ◌+◌, ◌*◌, ◌%◌, ◌<◌, ◌≤◌, zero, suc, Bool, true, false, List, length, set, get_or, ◌⊎◌, inl, inr, refl, sym, ap, ◌∙◌, arith}
 use Rattle.std.specs.Prelude.{nat_lt, nat_le, min}
 use Rattle.std.proofs.lemmas.Bool.{cases_Bool, cases_eq, cases_lt, false≢true}
@@ -205,7 +205,7 @@ rows robots t (suc w) s begins most =
     ∙ rows robots (t + 1 + 1 + 1 + 1) w (turns robots (length robots) s) (omega arith) most
     ∙ rounds_first robots w s
 
--- a window begins
+-- an interval begins
 pub rest_all : (robots : List Behaviour) (next : List ℕ) (n w : ℕ) (s : Stage) → AreTurnNumbers next →
     n ≡ length robots → n ≤ 4
     → ((i : ℕ) → i < n → get_or next i 0 ≡ i) → ((i : ℕ) → n ≤ i → i < 4 → 4 * w ≤ get_or next i 0)

@@ -72,7 +72,7 @@ first_above passes n (suc count) = if passes (n + 1) then n + 1 else first_above
 unfoldable pub last_cycle : List Behaviour → Stage → ℕ → ℕ
 last_cycle robots opening limit = first_above (λ number. is_over number (stage_after robots opening number)) 0 limit
 
--- so many robots at the start of the match of this number, with no replies yet
+-- the stage at the start of the match of this number: so many robots, with no replies yet
 unfoldable pub opening : ℕ → ℕ → ℕ → Stage
 opening n seed number = record { field = start seed number n; traces = replicate n [] }
 

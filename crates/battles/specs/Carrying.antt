@@ -46,7 +46,7 @@ EachFits [] [] = Unit {0}
 EachFits (runner ∷ runners) (exe ∷ exes) = EngineFits runner.machine exe × EachFits runners exes
 EachFits _ _ = ⊥
 
--- each robot has come to the end of its trace
+-- each machine got the replies of its robot's trace, and may be ahead
 abbrev pub EachIsAheadOf : List Runner → List Executable → List (List ℤ) → Type 0
 EachIsAheadOf [] [] [] = Unit {0}
 EachIsAheadOf (runner ∷ runners) (exe ∷ exes) (trace ∷ traces) =

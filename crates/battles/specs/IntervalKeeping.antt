@@ -1,4 +1,4 @@
--- What those who run a window need of the machines and the arena, and what they keep.
+-- What playing an interval needs of the machines and the arena, and what it keeps.
 use Rattle.std.specs.Prelude.{◌≡◌, ℕ, ◌<◌, ◌≤◌, ◌*◌, List, Bool, length, slice_index_or, nat_le}
 use Rattle.arena.specs.Field.{live_count}
 use Rattle.arena.specs.Arena.{Arena}
@@ -27,7 +27,7 @@ pub record CanPlay (i : ℕ) (exe : Executable) (machine : Engine) (arena : Aren
   pub inside : i < length arena.robots
   pub fits : EngineFits machine exe
 
--- a robot's turns keep that, the robots of the field, and the number of updates
+-- a robot's turns keep that, the number of robots, and the number of updates
 pub record KeepsPlayable (exe : Executable) (machine : Engine) (before after : Arena) : Type 0 where
   pub fits : EngineFits machine exe
   pub robots : length after.robots ≡ length before.robots
@@ -38,7 +38,7 @@ pub record RanWithin (limit n : ℕ) (exe : Executable) (runner : Runner) : Type
   pub most : n ≤ limit
   pub waits : n < limit → WaitsToDraw exe runner
 
--- A window of w cycles: each robot has the number of its next turn. Those that aren't there have no turn in it.
+-- An interval of w cycles: each robot has the number of its next turn. Those that aren't there have no turn in it.
 pub record IsInterval (exes : List Executable) (next : List ℕ) (w : ℕ) (runners : List Runner)
     (arena : Arena) : Type 0 where
   pub manned : AreManned exes runners arena
@@ -51,7 +51,7 @@ pub record BeginsInterval (exes : List Executable) (next : List ℕ) (w : ℕ) (
   pub window : IsInterval exes next w runners arena
   pub first : (i : ℕ) → i < length exes → slice_index_or next i 0 ≡ i
 
--- later each robot that has turns left waits
+-- after that each robot that has turns left in it waits
 pub record IsUnderWay (exes : List Executable) (next : List ℕ) (w : ℕ) (runners : List Runner)
     (arena : Arena) : Type 0 where
   pub window : IsInterval exes next w runners arena
@@ -63,7 +63,7 @@ pub record HasUpdated (exes : List Executable) (runners : List Runner) (arena : 
   pub reached : HasReached runners exes arena stage
   pub decided : decides ≡ nat_le (live_count stage.field) 1
 
--- the stage after n windows, each with its update, in none of which a robot died
+-- the stage after n periods, in none of which a robot died
 pub record HasRested (robots : List Behaviour) (exes : List Executable) (n : ℕ)
     (runners : List Runner) (arena : Arena) (stage : Stage) : Type 0 where
   pub reached : HasReached runners exes arena (periods robots n stage)

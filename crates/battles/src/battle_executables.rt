@@ -1,4 +1,4 @@
-//! The pilots of a battle: what each robot runs, looked up once.
+//! The executables of a battle: what each robot runs, looked up once.
 
 ghost use Rattle.std.specs.Prelude.{◌≡◌, ◌<◌, ◌≤◌, length, map, slice_get, Some};
 ghost use Rattle.battles.specs.Pairing.{paired};

@@ -1,4 +1,4 @@
-//! The turns of a window, which are numbered in the order of the cycles and the robots: which one of each robot is next.
+//! The turns of an interval are numbered in the order of the cycles and the robots: which one of each robot is next.
 
 ghost use Rattle.std.specs.Prelude.{◌≡◌, ℕ, ◌+◌, ◌*◌, ◌%◌, ◌<◌, ◌≤◌, ◌^◌, true, slice_index_or, slice_set};
 ghost use Rattle.battles.specs.Intervals.{AreTurnNumbers, OthersArePast};
@@ -27,8 +27,8 @@ impl Model for NextTurns {
 }
 
 impl NextTurns {
-    /// Makes the first turns of so many robots in a window of so many cycles. Robots that aren't there have no turn in
-    /// it.
+    /// Makes the first turns of so many robots in an interval of so many cycles. Robots that aren't there have no turn
+    /// in it.
     #[inline(always)]
     pub(crate) fn new(robots: usize, cycles: u32) -> NextTurns
         requires { cycles ≤ 1000 }
@@ -58,8 +58,8 @@ impl NextTurns {
         low.min(high)
     }
 
-    /// Reports whether all robots but this one are past the turns before that of a number. Only draws ask for it: inlined
-    /// into the loop over turns, it is worked out before each loop.
+    /// Reports whether all robots but this one are past the turns before that of a number. Only draws ask for it:
+    /// inlined into the loop over turns, it is worked out before each loop.
     #[inline(never)]
     pub(crate) fn others_are_past(&self, robot: usize, end: u32) -> bool
         requires { robot < MOST_ROBOTS }

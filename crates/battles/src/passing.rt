@@ -1,5 +1,5 @@
-//! Windows in which every machine is far enough ahead: the robots go on without a look at a machine. On a still field
-//! many of them pass at once.
+//! Intervals in which every machine is far enough ahead: the robots go on without a look at a machine. On a still field
+//! many intervals are skipped at once.
 
 ghost use Rattle.std.specs.Prelude.{◌≡◌, ◌<◌, ◌≤◌, ◌+◌, ◌*◌, true, false, ℤ, List, length};
 ghost use Rattle.arena.specs.Field.{Field};
@@ -32,9 +32,8 @@ pub(crate) fn pass_interval(runners: &mut [Runner], arena: &Arena, cycles: u32) 
     true
 }
 
-/// Lets windows pass, each with its update, if the field is still: at most so many, and no more than each live robot's
-/// machine is ahead. Returns how many. Mostly not one can pass, which is
-/// seen before any division.
+/// Skips intervals, each with its update, if the field is still: at most so many, and no more than each live robot's
+/// machine is ahead. Returns how many. Mostly not one can be skipped, which is seen before any division.
 #[inline(always)]
 pub(crate) fn skip_intervals(runners: &mut [Runner], arena: &mut Arena, most: u32) -> u32
     requires places { HavePlaces runners.old arena.old }
@@ -56,7 +55,7 @@ pub(crate) fn skip_intervals(runners: &mut [Runner], arena: &mut Arena, most: u3
     intervals
 }
 
-/// Returns how many windows each live robot's machine is ahead, or `most` if that is less.
+/// Returns how many intervals each live robot's machine is ahead, or `most` if that is less.
 #[inline(always)]
 fn intervals_ahead(runners: &[Runner], arena: &Arena, most: u32) -> u32
     requires manned { length arena.now.robots ≡ length runners.now }

@@ -20,7 +20,7 @@ use std::marker::Model;
 #[derive(Drop)]
 pub struct Programs {
     programs: ArrayVec<Option<Program>, MOST_FILES>,
-    // those of each program, which are none if it couldn't be translated
+    // those of each program: none if it couldn't be translated
     operations: ArrayVec<Option<Operations>, MOST_FILES>,
 }
 
@@ -33,7 +33,7 @@ impl Model for Programs {
 }
 
 impl Programs {
-    /// Makes a series without programs.
+    /// Makes the programs of a series, none so far.
     pub fn new() -> Programs
         ensures { result ≡ [] }
     {
@@ -75,7 +75,7 @@ impl Programs {
         }
     }
 
-    /// Returns the operations of the file with this index.
+    /// Returns the operations of the program of the file with this index.
     fn translation(&self, file: usize) -> &Operations
         requires { file < length self.now }
         ensures { (code : Program) → slice_get self.now file ≡ Some code
@@ -95,7 +95,7 @@ impl Programs {
         if self.len() == 1 { 2 } else { self.len() }
     }
 
-    /// Returns what the robot with this index runs.
+    /// Returns the executable of the robot with this index.
     pub(crate) fn executable(&self, robot: usize) -> Executable<'_>
         requires { robot < length (paired self.now) }
         ensures { slice_get (paired self.now) robot ≡ Some result.program }

@@ -1,4 +1,4 @@
-//! The scheduler: windows of cycles, and the updates between them.
+//! The scheduler: intervals of cycles, and the updates between them.
 
 ghost use Rattle.std.specs.Prelude.{◌≡◌, ◌<◌, ◌≤◌, ◌+◌, List, length};
 ghost use Rattle.arena.specs.Arena.{most_updates};
@@ -14,7 +14,7 @@ use crate::runners::Runner;
 use arena::Arena;
 use settings::MOST_CYCLES;
 
-/// Runs the cycles up to the next update, and the update. Reports whether that decided the battle.
+/// Plays a period: the cycles up to the next update, and the update. Reports whether that decided the battle.
 fn play_period(
     runners: &mut [Runner],
     executables: &Executables,
@@ -38,7 +38,7 @@ fn play_period(
     !arena.has_two_live()
 }
 
-/// Runs cycles until the battle is decided, or the limit is reached. Returns how many they were.
+/// Plays cycles until the battle is decided, or the limit is reached. Returns how many they were.
 pub(crate) fn play_cycles(
     runners: &mut [Runner],
     executables: &Executables,

@@ -1,4 +1,4 @@
--- Addresses that are open stand in a list with the last opened at its end.
+-- Addresses that are open are in a list with the last opened at its end.
 use Rattle.std.specs.Prelude.{ℕ, suc, ◌-◌, ◌≡◌, ◌<◌, List, [], ◌∷◌, ◌++◌, length, take, reverse, slice_get, get_or, Option, unwrap_or}
 use Rattle.std.proofs.Common.{refl, sym, ap, ◌∙◌, arith}
 use Rattle.std.proofs.lemmas.List.{reverse-append, length-reverse}

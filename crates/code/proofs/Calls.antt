@@ -1,4 +1,4 @@
--- Calls follow their meaning, where the body of the function called does.
+-- Calls follow their meaning, if the body of the function called does.
 use Rattle.std.specs.Prelude.{ℕ, ℤ, pos, suc, ◌+◌, ◌-◌, ◌≡◌, ◌<◌, ◌≤◌, List, [], ◌∷◌, ◌++◌, Bool, true, false, Option, Some, length, map, take, replicate, get_or, nat_lt, nat_le, if◌then◌else◌}
 use Rattle.std.proofs.Common.{refl, sym, ap, ◌∙◌, subst, arith, min, zero-add, length-append, length-take}
 use Rattle.std.proofs.lemmas.Bool.Decides.{nat_tests}
@@ -48,7 +48,7 @@ Follows_sooner code file n again =
     (wants code (run at below (f ∷ fs) vars []) trace)
     (flown code (at + length (body_code code.profile b at)) below f fs)
 
--- a variable by its place: what stands there of the arguments, or 0
+-- a variable by its index: the argument there, or 0
 variable_at : (parameters variables : ℕ) (arguments : List ℤ) (j : ℕ) → parameters ≤ variables → j < variables →
     (b : Bool) → nat_lt j parameters ≡ b →
     get_or (variables_of parameters variables arguments) j (pos 0) ≡ (if b then get_or arguments j (pos 0) else pos 0)
@@ -89,7 +89,7 @@ variable_at parameters variables arguments j h within b is = by (nat_lt j (lengt
         ∙ get_or-replicate (variables - length given) (j - length given) (pos 0) (pos 0) (omega (arith, out, within))
         ∙ past out b is
 
--- what a call leaves on the stack are the variables by their places
+-- what a call leaves on the stack are the variables by their indices
 first_is : (f : Function) (arguments : List ℤ) → f.parameters ≤ length f.variables →
     variables_of f.parameters (length f.variables) arguments ≡ first_locals f arguments
 first_is f arguments h =
@@ -143,7 +143,7 @@ module _ (code : Program) (file : File) (l n : ℕ) (again : Again) (holds : Hol
   abbrev e : ℕ
   e = length file.externals
 
-  -- a call behind its arguments
+  -- a call after its arguments
   called_law : (f : Callee) → IsCallable (length file.functions) f →
       (xs : List ℤ) (below : List ℤ) (fs : List Frame) (at : ℕ) (vars : Vars) (temps : List ℤ) (depth frames : ℕ)
       (rest : List ℤ) → HasSizes e l vars → IsDepth l below temps depth → frames ≡ length fs → 0 < length fs →

@@ -114,7 +114,7 @@ bounded code file holds (suc n) l b r below f fs at vars depth frames trace base
     (effect_law code file n again holds (bounded code file holds n) l b r below f fs at vars depth frames trace base
     tied s)
 
--- a list's part behind another part stands there
+-- the part of a list after another part is there
 stands_behind : (code : Program) (front xs : List Instr) → code.instructions ≡ front ++ xs →
     StandsAt code (length front) xs
 stands_behind code front [] e = tt
@@ -129,7 +129,7 @@ stands_behind code front (x ∷ xs) e =
     (here, subst (λ (at : ℕ). StandsAt code at xs) next (stands_behind code (front ++ x ∷ []) xs whole))
 
 module _ (p : Profile) (file : File) where
-  -- each function of the order stands at its place
+  -- each function of the order is at its address
   abbrev IsPlaced : ℕ → ℕ → Type 0
   IsPlaced k at = StandsAt (code_of p file) at (function_code p (function_at file k) at)
 

@@ -20,7 +20,7 @@ use Rattle.code.proofs.Instructions.{run, IsDepth, deeper, on_const, on_fetch, o
 use Rattle.code.proofs.Pieces.{stands, ends, other_of, end_of, stands_either, ends_either, Tied, Evaluation, gone_on, gone_on_with, Evaluates, EvaluatesAll, arrives}
 
 module _ (code : Program) (e l n : ℕ) where
-  -- the tie behind a value that was pushed
+  -- the tie after a value that was pushed
   tied_behind : (below : List ℤ) (fs : List Frame) (temps : List ℤ) (depth frames : ℕ) (vars : Vars) (rest : List ℤ)
       (x : ℤ) → IsDepth l below temps depth → frames ≡ length fs → 0 < length fs → HasSizes e l vars → length rest ≤ n →
       Tied e l n below fs vars (temps ++ x ∷ []) (depth + 1) frames rest

@@ -1,6 +1,5 @@
--- The trees' outcome against what the instructions want: where the outcome is a value, the instructions go on behind
--- it;
--- where it awaits an event, they want that event.
+-- The trees' outcome against what the instructions want: if the outcome is a value, the instructions go on after
+-- it; if it awaits an event, they want that event.
 use Rattle.std.specs.Prelude.{ℕ, ℤ, suc, ◌≡◌, ◌≤◌, List, [], ◌∷◌, Bool, true, false, Option, Some, None, length, if◌then◌else◌}
 use Rattle.std.proofs.Common.{refl, ap, ◌∙◌, arith}
 use Rattle.code.specs.declared.instr.Instr.{Instr}
@@ -30,7 +29,7 @@ pub follows_from : {A : Type 0} (e l n : ℕ) (o : Evaluated A) (v w : Option Wa
 follows_from e l n (Gives x vars rest) v w k same f = record { sizes = f.sizes; short = f.short; same = same ∙ f.same }
 follows_from e l n (Awaits event) v w k same f = same ∙ f
 
--- an evaluation and what comes behind it
+-- an evaluation and what comes after it
 pub chain : {A B : Type 0} (e l e' l' n : ℕ) (o : Evaluated A) (w : Option Want) (k : A → Vars → List ℤ → Option Want)
     (go : A → Vars → List ℤ → Evaluated B) (k' : B → Vars → List ℤ → Option Want) → Follows e' l' n o w k →
     ((x : A) (vars : Vars) (rest : List ℤ) → HasSizes e' l' vars → length rest ≤ n →
@@ -46,11 +45,11 @@ follows_longer e l n (Gives x vars rest) w k f =
     record { sizes = f.sizes; short = omega (arith, f.short); same = f.same }
 follows_longer e l n (Awaits event) w k f = f
 
--- what a state shows: what it wants, or nothing where its instruction lacks what it takes
+-- what a state shows: what it wants, or nothing if its instruction lacks what it takes
 abbrev pub shown : Program → Machine → Option Want
 shown code s = if is_ready code s (instr_at code s.at) then Some (want_next code s) else None
 
--- what is shown behind replies, from a state on
+-- what is shown after replies, from a state on
 unfoldable pub wants : Program → Machine → List ℤ → Option Want
 wants code s trace = shown code (reached code s trace)
 

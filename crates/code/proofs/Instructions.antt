@@ -115,7 +115,7 @@ next_run at below fs vars words temps before e =
 
 module _ (code : Program) (e l n : ℕ) (below : List ℤ) (fs : List Frame) {A : Type 0} (at : ℕ)
     (k : A → Vars → List ℤ → Option Want) where
-  -- what comes behind a cycle
+  -- what comes after a cycle
   abbrev Next : List ℤ → (List ℤ → Evaluated A) → ℕ → Vars → List ℤ → Type 0
   Next trace go to vars temps =
       (rest : List ℤ) → suc (length rest) ≡ length trace →
@@ -272,7 +272,7 @@ opened below depth = record { base = depth; back = 0; home = length below }
 abbrev pub entered : List ℤ → ℕ → ℕ → Frame
 entered below depth back = record { base = depth; back = back; home = length below }
 
--- the state behind a return from a function that ran above `below_innermost`
+-- the state after a return from a function that ran above `below`
 abbrev pub back_with : Frame → List ℤ → List Frame → List ℤ → ℤ → Machine
 back_with f below fs externals x = record {
   at = f.back;

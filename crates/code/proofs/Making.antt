@@ -92,7 +92,7 @@ makes_if p xs ys s b first second m e =
     ∙ ap (λ (r : Maker). maker_from r ys) (closed_if m s)
     ∙ behind p m e (past s (length m.code)) ys b second
 
--- the first part of a choice is made, and a branch without a target behind it
+-- the first part of a choice is made, and a branch without a target after it
 abbrev between : Maker → List Instr → Maker
 between m inner = record {
   profile = m.profile;
@@ -228,7 +228,7 @@ makes_loop p xs ys zs c s b first second third m e =
     ∙ ap (λ (r : Maker). maker_from r zs) (closed_loop m front s)
     ∙ behind p m e (loop c s (length m.code)) zs b third
 
--- an operator that both sides stand before
+-- an operator after both of its sides
 applied : (m : Maker) (o : Op) (short : Bool) → m.profile.short_circuit ≡ short →
     maker_with m (ApplyBinop o) ≡ (if short then ended_right o m else with_code m (Binop o ∷ []))
 applied m o short is = ap (λ (c : Bool). if c then ended_right o m else with_code m (Binop o ∷ [])) is
@@ -240,7 +240,7 @@ between_sides m o short is = ap (λ (c : Bool). if c then begun_right o m else m
 makes_nothing : (p : Profile) → Makes p [] no_code
 makes_nothing p m e = ap (coded m) (sym (append-nil m.code))
 
--- where both sides are evaluated
+-- both sides are evaluated
 module _ (p : Profile) (full : p.short_circuit ≡ false) where
   is_full : (m : Maker) → m.profile ≡ p → m.profile.short_circuit ≡ false
   is_full m e = ap (λ (p : Profile). p.short_circuit) e ∙ full
@@ -260,7 +260,7 @@ module _ (p : Profile) (full : p.short_circuit ≡ false) where
       (makes_middle o (ys ++ ApplyBinop o ∷ []) (b ⨾ only (Binop o ∷ []))
       (makes_then p ys (ApplyBinop o ∷ []) b (only (Binop o ∷ [])) second last))
 
--- where the right side is left out
+-- the right side may be left out
 module _ (p : Profile) (leaves : p.short_circuit ≡ true) where
   is_short : (m : Maker) → m.profile ≡ p → m.profile.short_circuit ≡ true
   is_short m e = ap (λ (p : Profile). p.short_circuit) e ∙ leaves

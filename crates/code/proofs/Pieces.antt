@@ -1,4 +1,4 @@
--- Where pieces of code stand, and what it is for one to evaluate an expression or to have the effect of statements.
+-- Code at an address, and what it is for it to evaluate an expression or to have the effect of statements.
 use Rattle.std.specs.Prelude.{ℕ, ℤ, pos, suc, ◌+◌, ◌≡◌, ◌<◌, ◌≤◌, List, [], ◌∷◌, ◌++◌, Option, Some, length}
 use Rattle.std.proofs.Common.{ap, subst, arith, length-append}
 use Rattle.code.specs.declared.instr.Instr.{Instr}
@@ -12,12 +12,12 @@ use Rattle.code.specs.Meaning.{Vars, Evaluated, Flow, Through, Returns}
 use Rattle.code.proofs.Follows.{HasSizes, Arrives, Follows, wants}
 use Rattle.code.proofs.Instructions.{run, IsDepth, back_with}
 
--- these instructions stand in the code from this address on
+-- these instructions are in the code from this address on
 abbrev pub StandsAt : Program → ℕ → List Instr → Type 0
 StandsAt code at [] = Unit {0}
 StandsAt code at (i ∷ is) = (instr_at code at ≡ Some i) × StandsAt code (at + 1) is
 
--- the two parts of a list that stands in the code
+-- the two parts of a list that is in the code
 pub record StandsBoth (code : Program) (at : ℕ) (xs ys : List Instr) : Type 0 where
   pub first : StandsAt code at xs
   pub second : StandsAt code (at + length xs) ys
@@ -36,7 +36,7 @@ pub stands : (code : Program) (at : ℕ) (a b : PlacedCode) → StandsAt code at
     StandsBoth code at (a at) (b (at + length (a at)))
 stands code at a b s = stands_both code at (a at) (b (at + length (a at))) s
 
--- where a piece and the one behind it end
+-- where a piece and the one after it end
 pub ends : (at : ℕ) (a b : PlacedCode) → at + length (a at) + length (b (at + length (a at))) ≡ at + length ((a ⨾ b) at)
 ends at a b = omega (arith, length-append (a at) (b (at + length (a at))))
 
@@ -79,21 +79,21 @@ abbrev pub Evaluation : Type 0 → Type 0
 Evaluation A = Vars → ℕ → ℕ → List ℤ → Evaluated A
 
 module _ (code : Program) where
-  -- the run of a function goes on behind a piece, with its values pushed
+  -- the run of a function goes on after a piece, with its values pushed
   abbrev pub gone_on : ℕ → List ℤ → List Frame → List ℤ → ℤ → Vars → List ℤ → Option Want
   gone_on at below fs temps x vars rest = wants code (run at below fs vars (temps ++ x ∷ [])) rest
 
   abbrev pub gone_on_with : ℕ → List ℤ → List Frame → List ℤ → List ℤ → Vars → List ℤ → Option Want
   gone_on_with at below fs temps xs vars rest = wants code (run at below fs vars (temps ++ xs)) rest
 
-  -- behind statements: the run goes on, or the function has returned, which main never does
+  -- after statements: the run goes on, or the function has returned, which main never does
   abbrev pub flown : ℕ → List ℤ → Frame → List Frame → Flow → Vars → List ℤ → Option Want
   flown at below f fs Through vars rest = wants code (run at below (f ∷ fs) vars []) rest
   flown at below f [] (Returns x) vars rest = Some Restart
   flown at below f (g ∷ fs) (Returns x) vars rest = wants code (back_with f below (g ∷ fs) vars.externals x) rest
 
 module _ (code : Program) (e l n : ℕ) where
-  -- wherever it stands, the piece follows the evaluation and pushes its value
+  -- at any address, the piece follows the evaluation and pushes its value
   abbrev pub Evaluates : PlacedCode → Evaluation ℤ → Type 0
   Evaluates piece ev =
       (below : List ℤ) (fs : List Frame) (at : ℕ) (vars : Vars) (temps : List ℤ) (depth frames : ℕ) (trace : List ℤ) →

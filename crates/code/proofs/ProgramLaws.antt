@@ -24,7 +24,7 @@ addresses_of_file code of =
     ∙ sym (counted of.file)
     ∙ sym (ap (λ (c : Program). length c.functions) of.is)
 
--- the counts of a function that there is, whatever would stand for one that isn't
+-- the counts of a function that there is, whatever is answered for one that isn't
 pub counts_is : (fs : List FunctionCounts) (k : ℕ) (f : FunctionCounts) → f ≡ get_or fs k f → k < length fs →
     f ≡ get_or fs k no_counts
 counts_is [] k f e h = absurd (omega (arith, h))

@@ -20,7 +20,7 @@ module _ (code : Program) (e l n : ℕ) where
   same_return a b below f [] x vars rest = refl
   same_return a b below f (g ∷ fs) x vars rest = refl
 
-  -- statements and what comes behind them
+  -- statements and what comes after them
   flow_chain : (o : Evaluated Flow) (w : Option Want) (at1 at2 : ℕ) (below : List ℤ) (f : Frame) (fs : List Frame)
       (go : Vars → List ℤ → Evaluated Flow) → Follows e l n o w (flown code at1 below f fs) →
       ((vars : Vars) (rest : List ℤ) → HasSizes e l vars → length rest ≤ n →

@@ -6,7 +6,7 @@ use Rattle.grammar.specs.Resolved.{IsResolved}
 use Rattle.grammar.specs.Tree.{File}
 use Rattle.code.specs.Generation.{Program, code_of}
 
--- each code is that of the file in its place, by one profile
+-- each program is that of the file at its index, by one profile
 pub record AreProgramsOf (codes : List Program) (p : Profile) (files : List File) : Type 0 where
   pub are : codes ≡ map (code_of p) files
   pub resolved : All IsResolved files

@@ -17,7 +17,7 @@ use Rattle.code.specs.Generation.{code_of}
 use Rattle.code.specs.Machine.{want_code}
 use Rattle.code.specs.Meaning.{want, zeros}
 
--- a file of a first function, and a main behind it
+-- a file of a first function, and a main after it
 abbrev pub file_of_two : Function → Body → File
 file_of_two first main = record {
   externals = [];
@@ -44,7 +44,7 @@ asking_file = file_of_two
     })
     (ExpressionStatement (Call (callee.Function 0) (Argument (constant 5) NoMore)) Done)
 
--- int e; main(){g();} f(){} g(){e-=-1;}: g is mentioned before f, and defined behind it
+-- int e; main(){g();} f(){} g(){e-=-1;}: g is mentioned before f, and defined after it
 abbrev pub defined_behind_file : File
 defined_behind_file = record {
   externals = codes "e" ∷ [];
@@ -72,7 +72,7 @@ two a b = Argument a (Argument b NoMore)
 abbrev pub cannon_of : Expr → Expr → Expr
 cannon_of a b = ask intrinsic.Cannon (two a b)
 
--- a main with these variables and one statement of an expression, and one of two such statements
+-- a main with these variables and one expression statement, and one with two such statements
 abbrev pub says : List (List ℕ) → Expr → File
 says variables e = file_of_main variables (ExpressionStatement e Done)
 
@@ -90,7 +90,7 @@ pub record Wants (p : Profile) (file : File) (trace : List ℤ) (event : Want) :
   pub source : want p file trace ≡ event
   pub instructions : want_code (code_of p file) trace ≡ event
 
--- what is wanted in this cycle, the first of which is 1, where every reply is 0
+-- what is wanted in this cycle, counted from 1, if every reply is 0
 abbrev pub InCycle : Profile → File → ℕ → Want → Type 0
 InCycle p file cycle event = Wants p file (zeros (cycle - 1)) event
 
@@ -111,7 +111,7 @@ damage_asked = asks intrinsic.Damage (pos 0) (pos 0)
 abbrev pub shooting_file : File
 shooting_file = file_of_main [] (While (constant 1) shot_tree Done)
 
--- main(){A || cannon(0,0);}, and the same by &&
+-- main(){A || cannon(0,0);}, and the same with &&
 abbrev pub either_or_shot : Op → ℕ → File
 either_or_shot o a = says [] (Binary o (constant a) (cannon_of (constant 0) (constant 0)))
 
@@ -127,7 +127,7 @@ pub record KnownWants : Type 0 where
   pub both_sides_of_or : InCycle first_profile (either_or_shot op.Or 1) 5 shot
   pub end_of_main : InCycle first_profile (either_or_shot op.And 0) 9 Restart
 
--- What programs want where the right side of && and || is left out if the left side decides.
+-- What programs want if the right side of && and || is left out when the left side decides.
 pub record KnownChoices : Type 0 where
   pub and_is_decided : InCycle second_profile (either_or_shot op.And 0) 5 Quiet
   pub end_after_decided_and : InCycle second_profile (either_or_shot op.And 0) 6 Restart
@@ -205,7 +205,7 @@ is_restart Quiet = false
 is_restart (Ask i arguments) = false
 is_restart Restart = true
 
--- the first cycle in which a restart is wanted, of so many from this one on, where every reply is 0
+-- the first cycle in which a restart is wanted, of `count` cycles from this one on, if every reply is 0
 abbrev pub first_restart : (List ℤ → Want) → (cycle count : ℕ) → Option ℕ
 first_restart wanted cycle zero = None
 first_restart wanted cycle (suc n) = if is_restart (wanted (zeros (cycle - 1))) then Some cycle else first_restart
@@ -216,7 +216,7 @@ pub record RestartsIn (p : Profile) (cycle : ℕ) (file : File) : Type 0 where
   pub source : first_restart (want p file) 1 260 ≡ Some cycle
   pub instructions : first_restart (want_code (code_of p file)) 1 260 ≡ Some cycle
 
--- a function f with so many locals that does something, and a main that calls it
+-- a function f with this many locals that does something, and a main that calls it
 abbrev pub calls_f : ℕ → Body → File
 calls_f locals body = file_of_two
     (record { name = codes "f"; parameters = 0; variables = replicate locals (codes "a"); body = body })

@@ -1,4 +1,4 @@
--- What a maker holds behind a list of actions.
+-- What a maker holds after a list of actions.
 use Rattle.std.specs.Prelude.{ℕ, pos, ◌+◌, List, [], ◌∷◌, ◌++◌, length, replicate, slice_set, if◌then◌else◌}
 use Rattle.grammar.specs.declared.actions.Action.{Action}
 use Rattle.grammar.specs.declared.actions.Action.TheVariants.{PushConstant, FetchVariable, StoreVariable, ApplyBinop}
@@ -13,7 +13,7 @@ use Rattle.code.specs.declared.instr.Instr.{Instr}
 use Rattle.code.specs.declared.instr.Instr.TheVariants.{Fetch, Store, Const, Binop, Fcall, Retsub, Branch, Truth}
 use Rattle.code.specs.declared.instr.Instr.TheVariants as instr
 
--- The profile, the instructions so far, the address of each function by number (0 where it didn't begin), and what is
+-- The profile, the instructions so far, the address of each function by number (0 if it didn't begin), and what is
 -- open, the last first: the address of a branch that has no target yet, or of a loop's start.
 pub record Maker : Type 0 where
   pub profile : Profile
@@ -77,7 +77,7 @@ with_turn m = record {
   opened = m.opened;
 }
 
--- the second part of a choice: a branch over it, which is open then in place of the first one
+-- the second part of a choice: a branch over it, which is open then instead of the first one
 abbrev pub with_other : Maker → Maker
 with_other m = record {
   profile = m.profile;
@@ -89,14 +89,14 @@ with_other m = record {
 abbrev pub without_open : Maker → Maker
 without_open m = record { profile = m.profile; code = m.code; addresses = m.addresses; opened = others_opened m.opened }
 
--- where the right side is left out: behind the left side, a branch is taken to the value of && that is decided, and
--- else to the right side of ||, behind its value that is decided
+-- If the right side may be left out: after the left side of && a branch leads over the right side to the decided
+-- value, and after that of || a branch leads over the decided value to the right side.
 abbrev pub begun_right : Op → Maker → Maker
 begun_right op.And m = with_branch m
 begun_right op.Or m = with_other (with_code (with_branch m) (Const (pos 1) ∷ []))
 begun_right o m = m
 
--- behind the right side, whose truth is the value
+-- after the right side, whose truth is the value
 abbrev pub ended_right : Op → Maker → Maker
 ended_right op.And m = with_closed (with_code (with_other (with_code m (Truth ∷ []))) (Const (pos 0) ∷ []))
 ended_right op.Or m = with_closed (with_code m (Truth ∷ []))

@@ -1,5 +1,5 @@
--- What a program's trees want along the replies that it got. No instruction, address or stack is meant here:
--- there are only the trees, the variables, how deep the stack is, how many frames are open, and the replies.
+-- What a program's trees want along the replies that it got. There are no instructions, addresses and stack here:
+-- only the trees, the variables, the depth of the stack, how many frames are open, and the replies.
 use Rattle.std.specs.Prelude.{ℕ, ℤ, pos, zero, suc, ◌+◌, List, [], ◌∷◌, Bool, true, false, length, map, replicate, get_or, slice_set, nat_lt, nat_le, if◌then◌else◌}
 use Rattle.std.specs.List.{range_with_len}
 use Rattle.arith.specs.Op.{holds, truth}
@@ -35,12 +35,12 @@ pub data Evaluated (A : Type 0) : Type 0 where
   Gives : (value : A) (vars : Vars) (rest : List ℤ) → Evaluated A
   Awaits : (event : Want) → Evaluated A
 
--- an evaluation, and what comes behind it
+-- an evaluation, and what follows it
 abbrev pub and_then : {A B : Type 0} → Evaluated A → (A → Vars → List ℤ → Evaluated B) → Evaluated B
 and_then (Gives x vars rest) go = go x vars rest
 and_then (Awaits event) go = Awaits event
 
--- One cycle. What doesn't fit wants a restart; a reply that isn't there yet is wanted.
+-- One cycle. What doesn't fit wants a restart; a reply that isn't there yet is awaited.
 abbrev pub tick : {A : Type 0} → Bool → Want → List ℤ → (ℤ → List ℤ → Evaluated A) → Evaluated A
 tick false event trace go = Awaits Restart
 tick true event [] go = Awaits event
@@ -51,11 +51,11 @@ pub data Flow : Type 0 where
   Through : Flow
   Returns : (value : ℤ) → Flow
 
--- a body's meaning at these variables, depth and frames, along these replies
+-- a body's meaning at these variables, this depth and this many frames, along these replies
 abbrev pub Again : Type 0
 Again = Body → Vars → ℕ → ℕ → List ℤ → Evaluated Flow
 
--- the variables that a function begins with: a parameter is the argument in its place, and all else is 0
+-- the variables that a function begins with: a parameter is the argument of its number, and all others are 0
 abbrev pub first_locals : Function → List ℤ → List ℤ
 first_locals f arguments =
     map (λ j. if nat_lt j f.parameters then get_or arguments j (pos 0) else pos 0)
@@ -63,94 +63,122 @@ first_locals f arguments =
 
 -- a word is pushed
 abbrev pub push : {A : Type 0} → Profile → ℕ → List ℤ → (List ℤ → Evaluated A) → Evaluated A
-push p depth trace go = tick (nat_lt depth p.words) Quiet trace (λ reply rest. go rest)
+push p depth trace go =
+    tick (nat_lt depth p.words) Quiet trace (λ reply rest.
+    go rest)
 
 -- a cycle that always fits
 abbrev pub pass : {A : Type 0} → List ℤ → (List ℤ → Evaluated A) → Evaluated A
-pass trace go = tick true Quiet trace (λ reply rest. go rest)
+pass trace go =
+    tick true Quiet trace (λ reply rest.
+    go rest)
 
--- an operator behind both of its sides
+-- an operator after both of its sides
 abbrev pub full : Op → ℕ → Evaluated ℤ → (Vars → ℕ → List ℤ → Evaluated ℤ) → Evaluated ℤ
 full o depth left right =
     and_then left (λ x vars rest.
     and_then (right vars (depth + 1) rest) (λ y vars rest.
-    pass rest (λ rest. Gives (value_of o x y) vars rest)))
+    pass rest (λ rest.
+    Gives (value_of o x y) vars rest)))
 
--- an operator that leaves out its right side where the left decides
+-- an operator that leaves out its right side if the left one decides
 abbrev pub short : Profile → Op → ℕ → Evaluated ℤ → (Vars → ℕ → List ℤ → Evaluated ℤ) → Evaluated ℤ
 short p op.And depth left right =
     and_then left (λ x vars rest.
     pass rest (λ rest.
-    if holds x then and_then (right vars depth rest) (λ y vars rest.
+    if holds x then
+    and_then (right vars depth rest) (λ y vars rest.
     pass rest (λ rest.
     push p (depth + 1) rest (λ rest.
-    pass rest (λ rest. Gives (truth (holds y)) vars rest)))) else push p depth rest (λ rest. Gives (pos 0) vars rest)))
+    pass rest (λ rest.
+    Gives (truth (holds y)) vars rest))))
+    else
+    push p depth rest (λ rest.
+    Gives (pos 0) vars rest)))
 short p op.Or depth left right =
     and_then left (λ x vars rest.
     pass rest (λ rest.
-    if holds x then push p depth rest (λ rest.
+    if holds x then
+    push p depth rest (λ rest.
     push p (depth + 1) rest (λ rest.
-    pass rest (λ rest. Gives (pos 1) vars rest))) else and_then (right vars depth rest) (λ y vars rest.
-    pass rest (λ rest. Gives (truth (holds y)) vars rest))))
+    pass rest (λ rest.
+    Gives (pos 1) vars rest)))
+    else
+    and_then (right vars depth rest) (λ y vars rest.
+    pass rest (λ rest.
+    Gives (truth (holds y)) vars rest))))
 short p o depth left right = full o depth left right
 
 abbrev pub binary : Profile → Op → ℕ → Evaluated ℤ → (Vars → ℕ → List ℤ → Evaluated ℤ) → Evaluated ℤ
-binary p o depth left right = if p.short_circuit then short p o depth left right else full o depth left right
+binary p o depth left right =
+    if p.short_circuit then short p o depth left right else full o depth left right
 
--- what comes behind a statement that is passed through
+-- what follows a statement that is passed through
 abbrev pub on_through : Flow → Vars → List ℤ → (Vars → List ℤ → Evaluated Flow) → Evaluated Flow
 on_through Through vars rest go = go vars rest
 on_through (Returns x) vars rest go = Gives (Returns x) vars rest
 
 abbrev pub and_on : Evaluated Flow → (Vars → List ℤ → Evaluated Flow) → Evaluated Flow
-and_on outcome go = and_then outcome (λ flow vars rest. on_through flow vars rest go)
+and_on outcome go =
+    and_then outcome (λ flow vars rest.
+    on_through flow vars rest go)
 
 -- the end of a first branch, and of each turn: a push of 0, and a cycle that takes it
 abbrev pub over : Profile → ℕ → List ℤ → (List ℤ → Evaluated Flow) → Evaluated Flow
-over p depth trace go = push p depth trace (λ rest. pass rest go)
+over p depth trace go =
+    push p depth trace (λ rest.
+    pass rest go)
 
 -- the end of a function's run, with the value that it returned: a body that is passed through returns 0
 abbrev pub closed : {A : Type 0} → Profile → ℕ → ℕ → Flow → Vars → List ℤ → (ℤ → Vars → List ℤ → Evaluated A) →
     Evaluated A
 closed p depth frames (Returns x) vars rest go = go x vars rest
 closed p depth frames Through vars rest go =
-    push p depth rest (λ rest. tick (nat_lt 1 frames) Quiet rest (λ reply rest. go (pos 0) vars rest))
+    push p depth rest (λ rest.
+    tick (nat_lt 1 frames) Quiet rest (λ reply rest.
+    go (pos 0) vars rest))
 
 -- the value of a call, with the caller's variables again
 abbrev pub returned : Vars → ℤ → Vars → List ℤ → Evaluated ℤ
 returned caller x vars rest = Gives x (record { externals = vars.externals; locals = caller.locals }) rest
 
 module _ (p : Profile) (file : File) (again : Again) where
-  -- a call behind its arguments
+  -- a call after its arguments
   abbrev pub called : Callee → List ℤ → Vars → ℕ → ℕ → List ℤ → Evaluated ℤ
   called (callee.Intrinsic i) arguments vars depth frames trace =
-      tick (nat_le (depth + 1) p.words) (Ask i (asked_words i arguments)) trace (λ reply rest. Gives reply vars rest)
+      tick (nat_le (depth + 1) p.words) (Ask i (asked_words i arguments)) trace (λ reply rest.
+      Gives reply vars rest)
   called (callee.Function k) arguments vars depth frames trace =
       let f = function_at file k in
       let inside : Vars = record { externals = vars.externals; locals = first_locals f arguments } in
-      tick (nat_le (depth + length f.variables) p.words) Quiet trace
-      (λ reply rest.
+      tick (nat_le (depth + length f.variables) p.words) Quiet trace (λ reply rest.
       and_then (again f.body inside (depth + length f.variables) (frames + 1) rest) (λ flow after rest.
       closed p (depth + length f.variables) (frames + 1) flow after rest (returned vars)))
 
   abbrev mutual
     -- the value of an expression
     pub value : Expr → Vars → ℕ → ℕ → List ℤ → Evaluated ℤ
-    value (Constant n) vars depth frames trace = push p depth trace (λ rest. Gives n vars rest)
+    value (Constant n) vars depth frames trace =
+        push p depth trace (λ rest.
+        Gives n vars rest)
     value (Variable v) vars depth frames trace =
-        push p depth trace (λ rest. Gives (value_of_variable vars v) vars rest)
+        push p depth trace (λ rest.
+        Gives (value_of_variable vars v) vars rest)
     value (Binary o a b) vars depth frames trace =
-        binary p o depth (value a vars depth frames trace) (λ vars depth rest. value b vars depth frames rest)
+        binary p o depth (value a vars depth frames trace) (λ vars depth rest.
+        value b vars depth frames rest)
     value (Assign o v e) vars depth frames trace =
         and_then (value e vars depth frames trace) (λ x vars rest.
         pass rest (λ rest.
-        let y = stored o (value_of_variable vars v) x in Gives y (assigned vars v y) rest))
+        let y = stored o (value_of_variable vars v) x in
+        Gives y (assigned vars v y) rest))
     value (Postfix o v) vars depth frames trace =
         push p depth trace (λ rest.
         let x = value_of_variable vars v in
         push p (depth + 1) rest (λ rest.
         pass rest (λ rest.
-        pass rest (λ rest. Gives x (assigned vars v (stored o x (pos 1))) rest))))
+        pass rest (λ rest.
+        Gives x (assigned vars v (stored o x (pos 1))) rest))))
     value (Call f arguments) vars depth frames trace =
         tick (nat_lt frames p.frames) Quiet trace (λ reply rest.
         and_then (values arguments vars depth (frames + 1) rest) (λ xs vars rest.
@@ -161,42 +189,55 @@ module _ (p : Profile) (file : File) (again : Again) where
     values NoMore vars depth frames trace = Gives [] vars trace
     values (Argument e arguments) vars depth frames trace =
         and_then (value e vars depth frames trace) (λ x vars rest.
-        and_then (values arguments vars (depth + 1) frames rest) (λ xs vars rest. Gives (x ∷ xs) vars rest))
+        and_then (values arguments vars (depth + 1) frames rest) (λ xs vars rest.
+        Gives (x ∷ xs) vars rest))
 
   -- the effect of statements
   abbrev pub effect : Body → Vars → ℕ → ℕ → List ℤ → Evaluated Flow
   effect Done vars depth frames trace = Gives Through vars trace
   effect (ExpressionStatement e next) vars depth frames trace =
       and_then (value e vars depth frames trace) (λ x vars rest.
-      pass rest (λ rest. effect next vars depth frames rest))
+      pass rest (λ rest.
+      effect next vars depth frames rest))
   effect (IfStatement c s next) vars depth frames trace =
       and_then (value c vars depth frames trace) (λ x vars rest.
       pass rest (λ rest.
-      if holds x then and_on (effect s vars depth frames rest) (λ vars rest. effect next vars depth frames rest) else
+      if holds x then
+      and_on (effect s vars depth frames rest) (λ vars rest.
+      effect next vars depth frames rest)
+      else
       effect next vars depth frames rest))
   effect (IfElseStatement c s t next) vars depth frames trace =
       and_then (value c vars depth frames trace) (λ x vars rest.
       pass rest (λ rest.
-      if holds x then and_on (effect s vars depth frames rest) (λ vars rest.
-      over p depth rest (λ rest. effect next vars depth frames rest)) else and_on (effect t vars depth frames rest)
-      (λ vars rest. effect next vars depth frames rest)))
+      if holds x then
+      and_on (effect s vars depth frames rest) (λ vars rest.
+      over p depth rest (λ rest.
+      effect next vars depth frames rest))
+      else
+      and_on (effect t vars depth frames rest) (λ vars rest.
+      effect next vars depth frames rest)))
   effect (While c s next) vars depth frames trace =
       and_then (value c vars depth frames trace) (λ x vars rest.
       pass rest (λ rest.
-      if holds x then and_on (effect s vars depth frames rest) (λ vars rest.
-      over p depth rest (λ rest. again (While c s next) vars depth frames rest)) else effect next vars depth frames
-      rest))
+      if holds x then
+      and_on (effect s vars depth frames rest) (λ vars rest.
+      over p depth rest (λ rest.
+      again (While c s next) vars depth frames rest))
+      else
+      effect next vars depth frames rest))
   effect (Return e next) vars depth frames trace =
       and_then (value e vars depth frames trace) (λ x vars rest.
-      tick (nat_lt 1 frames) Quiet rest (λ reply rest. Gives (Returns x) vars rest))
+      tick (nat_lt 1 frames) Quiet rest (λ reply rest.
+      Gives (Returns x) vars rest))
 
 -- with at most n turns and calls inside one another
 abbrev pub effect_within : Profile → File → ℕ → Again
 effect_within p file zero body vars depth frames trace = Awaits Restart
-effect_within p file (suc n) body vars depth frames trace = effect p file (effect_within p file n) body vars depth
-    frames trace
+effect_within p file (suc n) body vars depth frames trace =
+    effect p file (effect_within p file n) body vars depth frames trace
 
--- main does not end: where it would return, it wants a restart
+-- main does not end: when it would return, it wants a restart
 abbrev pub wanted : Evaluated ℤ → Want
 wanted (Awaits event) = event
 wanted (Gives x vars rest) = Restart
@@ -212,7 +253,8 @@ want_within p file n trace =
     let vars : Vars = record { externals = zeros (length file.externals); locals = zeros depth } in
     wanted (
     and_then (effect_within p file n main.body vars depth 1 trace) (λ flow vars rest.
-    closed p depth 1 flow vars rest (λ x vars rest. Awaits Restart)))
+    closed p depth 1 flow vars rest (λ x vars rest.
+    Awaits Restart)))
 
 -- What a file wants along the replies. Each turn and each call uses up a reply, so a greater bound changes nothing
 -- (the law `MoreTurnsChangeNothing` in `Laws.antt`).

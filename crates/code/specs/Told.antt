@@ -5,7 +5,7 @@ use Rattle.grammar.specs.Actions.{code_length, ends_function}
 use Rattle.grammar.specs.Profile.{Profile}
 use Rattle.code.specs.Making.{Maker, maker_after}
 
--- no function is open behind these actions
+-- no function is open after these actions
 abbrev pub is_ended : List Action → Bool
 is_ended [] = true
 is_ended (a ∷ []) = ends_function a
@@ -15,8 +15,8 @@ is_ended (a ∷ b ∷ acts) = is_ended (b ∷ acts)
 abbrev pub FitsProfile : Profile → List Action → Type 0
 FitsProfile p acts = code_length p acts + 1 ≤ p.instructions
 
--- A maker becomes this one if so many further instructions and the last NOP have room. Else its code is full, or was.
--- As many addresses are open in any case.
+-- A maker becomes this one if `count` further instructions and the last NOP have room. Else its code is full, or was.
+-- In either case as many addresses are open.
 pub record AddsCode (old new target : Maker) (count : ℕ) : Type 0 where
   pub room : length old.code + count < old.profile.instructions → new ≡ target
   pub full : old.profile.instructions ≤ length old.code + count → old.profile.instructions ≤ length new.code

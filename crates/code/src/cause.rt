@@ -1,6 +1,6 @@
 //! Why a machine wants a restart.
 
-/// Why a machine wants a restart.
+/// The reason why a machine wants a restart.
 #[derive(Clone, Copy, Debug, PartialEq, Eq)]
 pub enum Cause {
     /// The next instruction takes more words than the stack has.

@@ -1,4 +1,4 @@
-//! The room for a program's code and for the machine. What a program may use of it goes by its profile.
+//! The room for a program's code and for the machine. The profile says how much of it a program may use.
 
 /// The most instructions of a program's code in any profile, with the NOP that ends it.
 pub const MOST_INSTRUCTIONS: usize = 4000;

@@ -1,7 +1,7 @@
 //! How many variables the functions of a program have.
 
 /// How many parameters a function has, and how many variables with them.
-#[derive(Clone, Copy, Debug, Default, PartialEq, Eq)]
+#[derive(Clone, Copy, Default, PartialEq, Eq)]
 pub struct FunctionCounts {
     /// Its parameters.
     pub parameters: u8,

@@ -1,4 +1,4 @@
-//! The cells of a machine from cycle to cycle, along the replies.
+//! The storage of a machine from cycle to cycle, along the replies.
 
 ghost use Rattle.std.specs.Prelude.{◌≡◌, true, ◌-◌, ◌<◌, ◌≤◌, ◌≢◌, ℤ, List, [], ◌∷◌, ◌++◌, Some};
 ghost use Rattle.grammar.specs.declared.resolved_names.Intrinsic.{Intrinsic};
@@ -14,7 +14,7 @@ use crate::storage::{Registers, Storage};
 use crate::want::Want;
 use grammar::Callee;
 
-/// Where a run without questions led, and how many of its cycles were left.
+/// The result of a run of quiet cycles: the registers then, and how many of its cycles were left.
 #[derive(Clone, Copy, Drop)]
 pub(crate) struct QuietRun {
     pub(crate) registers: Registers,
@@ -34,7 +34,7 @@ impl Storage {
         self.want_of_instr(program, registers, instr)
     }
 
-    /// Reports whether the next instruction asks. A machine that stands there needs no run to find it out.
+    /// Reports whether the next instruction asks. A machine at such an instruction needs no run to find it out.
     #[inline(always)]
     pub(crate) fn asks(&self, program: &Program, registers: Registers) -> bool
         requires { FitsProgram (machine_of registers self.now) program.now }
@@ -81,7 +81,7 @@ impl Storage {
         self.take_reply(registers, reply)
     }
 
-    /// Runs up to so many cycles that ask nothing: some are left only if the machine then wants a reply or a restart.
+    /// Runs up to `most` cycles that ask nothing: some are left only if the machine then wants a reply or a restart.
     #[inline(always)]
     pub(crate) fn run_quiet(&mut self, program: &Program, from: Registers, most: u32) -> QuietRun
         requires { FitsProgram (machine_of from self.old) program.now }

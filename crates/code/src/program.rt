@@ -12,7 +12,7 @@ use arrayvec::ArrayVec;
 use grammar::{MOST_NAMES, Profile};
 use std::marker::Model;
 
-/// The program of a file. It has no names: those of its file are in the `Pools` that the parse gave.
+/// The program of a file. It has no names: those of its file are in the `Pools` that the parse returned.
 #[derive(Drop)]
 pub struct Program {
     pub(crate) profile: Profile,
@@ -54,7 +54,7 @@ impl Program {
         self.profile
     }
 
-    /// Returns the words of a machine's stack.
+    /// Returns how many words the stack of a machine has.
     #[inline(always)]
     pub fn words(&self) -> usize
         ensures words { result ≡ self.now.profile.words }
@@ -72,7 +72,7 @@ impl Program {
         self.profile.frames() as usize
     }
 
-    /// Returns the instructions: the address of each is its place.
+    /// Returns the instructions: the address of each is its index.
     #[inline(always)]
     pub fn instructions(&self) -> &[Instr]
         ensures code { result.now ≡ self.now.instructions }

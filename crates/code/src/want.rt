@@ -7,7 +7,7 @@ use grammar::Intrinsic;
 pub enum Want {
     /// Nothing: the next instruction touches the machine alone.
     Quiet,
-    /// The reply of an intrinsic, whose arguments these are: 0 where one is missing or not used.
+    /// The reply of an intrinsic, with these arguments: 0 if one is missing or not used.
     Ask(Intrinsic, [i32; 2]),
     /// A restart: the next instruction doesn't fit.
     Restart,

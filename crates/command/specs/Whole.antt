@@ -19,7 +19,7 @@ use Rattle.command.specs.declared.endings.Ending.TheVariants.{Done, Faulty, Wron
 use Rattle.command.specs.Endings.{ending_line, exit_status}
 use Rattle.command.specs.Files.{Files}
 
--- the ending is that a read of the file failed whose word is in this place
+-- the ending is that a read of the file failed whose word has this index
 abbrev pub IsUnread : (List ℕ → Type 0) → List (List ℕ) → ℕ → Ending → Type 0
 IsUnread fails words place ending = (word : Bor (List ℕ)) × (ending ≡ CannotRead word)
     × (slice_get words place ≡ Some word.now) × fails word.now
@@ -41,7 +41,7 @@ pub record RunsTo (fails : List ℕ → Type 0) (settings : Settings) (known : L
       Runs settings sources answer before after
   pub devices : Counts answer failed failed_after
 
--- the file of the word in this place was refused, after those of all words before it were opened
+-- the file of this word was refused, after those of all words before it were opened
 pub record IsFirstRefused (files : Files) (words : List (List ℕ)) (word : List ℕ) : Type 0 where
   pub place : ℕ
   pub here : slice_get words place ≡ Some word

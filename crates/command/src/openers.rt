@@ -9,7 +9,7 @@ use std::rt::Files;
 use tokens::{Feed, FileFeed};
 
 /// Why a file was not opened.
-#[derive(Clone, Copy, Debug, PartialEq, Eq)]
+#[derive(Clone, Copy, PartialEq, Eq)]
 pub enum OpenFault {
     /// It can't be opened.
     Refused,

@@ -26,7 +26,7 @@ const USAGE: &[u8] =
 const EMPTY: &str =
     "Externals 0\nFunction 0 main vars 0 at 0\nCode 3\n    0 CONST 0\n    1 RETSUB\n    2 NOP\n";
 
-/// Returns the bytes that a recorder took.
+/// Returns the bytes that a sink took.
 fn taken(rt: &impl AllocGlobal, sink: &MemorySink) -> Result<Vec<u8>, Fail> {
     let mut all = Vec::new(rt.alloc());
     for portion in sink.portions() {
@@ -407,7 +407,7 @@ fn an_interrupted_read_is_not_tried_again(rt: HostRuntime) {
     assert_eq!(rt; feed.fill(&mut buf), Ok(1));
 }
 
-/// Files behind readers that give a source, or fail at their first read: those of the word `b.r`.
+/// Files that give a source, or fail at their first read: that of the word `b.r`.
 #[derive(Drop)]
 struct Failing;
 
@@ -461,7 +461,7 @@ fn a_file_whose_first_read_fails_ends_the_run(rt: HostRuntime) -> Result<(), Fai
     Ok(())
 }
 
-/// Files in memory behind readers: each word's file holds this source.
+/// Files in memory: each word's file holds this source.
 #[derive(Drop)]
 struct Everywhere {
     source: &'static [u8],

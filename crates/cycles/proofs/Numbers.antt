@@ -95,7 +95,7 @@ anything_takes (Some s) n h = h
 pub within_anything : (n : ℕ) → IsWithin anything n
 within_anything n = record { least = omega arith; most = tt }
 
--- with nothing behind it
+-- with nothing after it
 most_of_all : (a : Option ℕ) (n : ℕ) → IfSome (most_of_both a (Some 0)) (λ k. n ≤ k) → IfSome a (λ k. n ≤ k)
 most_of_all (Some j) n h = omega (arith, h)
 most_of_all None n h = tt
@@ -150,7 +150,7 @@ no_turn_takes turn o n h =
     subst (λ (k : ℕ). MayTake (before (repeated turn) o) k) all
     (before_takes (repeated turn) o 0 n (within_no_turn turn) h)
 
--- what is left of a loop behind the test of a turn: its end and the loop again, or the loop's end
+-- what is left of a loop after the test of a turn: its end and the loop again, or the loop's end
 most_by_turn : (t b w turn : ℕ) (r : Option ℕ) (n : ℕ) → turn ≡ t + (b + w) →
     IfSome (most_of_both (Some t)
     (most_of_either

@@ -123,7 +123,7 @@ module _ {A B : Type 0} (u : Counted) where
       ap (λ (o : Evaluated A). counts u (and_then o go)) waits.1 ∙
       sym (ap (λ (o : Evaluated A). counts u o) waits.1)
 
-  -- what comes behind a run that is over at once
+  -- what comes after a run that is over at once
   spent_at_once : (run : List ℤ → Evaluated A) (go : A → Vars → List ℤ → Evaluated B) (x : A) (vars : Vars)
       (more : List ℤ) → HasRun run [] x vars →
       spent u (λ t. and_then (run t) go) more ≡ spent u (λ t. go x vars t) more
@@ -170,7 +170,7 @@ module _ {A B : Type 0} (u : Counted) where
     each = λ trace y after rest e. both_ran run go f g h first second fits trace y after rest (run trace) refl e;
   }
 
-  -- a value, and what comes behind it
+  -- a value, and what comes after it
   pub spends_then : (run : List ℤ → Evaluated A) (go : A → Vars → List ℤ → Evaluated B) (s : Span)
       (g : B → Option Span) → Spends u run (λ x. Some s) →
       ((x : A) (vars : Vars) → Spends u (λ (t : List ℤ). go x vars t) g) →

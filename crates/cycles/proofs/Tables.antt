@@ -24,7 +24,7 @@ same_for_each (suc n) (suc k) s = same_for_each n k s
 pub nothing_known : (n k : ℕ) (s : Span) → s ≡ anything → get_or (replicate n s) k s ≡ told anything
 nothing_known n k s is = same_for_each n k s ∙ is
 
--- no number has a function behind the last one
+-- after the last function there is none of any number
 pub none_numbered : (u : Counted) (p : Profile) (runs : ℕ → Span) (fs : List Function) (k : ℕ) →
     told (run_of u passed) ≡ told (run_of u (ends_of u p runs (first_numbered (drop (length fs) fs) k)))
 none_numbered u p runs [] k = refl

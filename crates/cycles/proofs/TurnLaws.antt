@@ -25,7 +25,7 @@ begun u inside Begins = behind inside.through (Some (two_cycles u))
 begun u inside Leaves = Some anything
 begun u inside (GivesBack x) = Some anything
 
--- of the end behind the statements
+-- of the end after the statements
 abbrev turned_span : Counted → Flow → TurnEnd → Option Span
 turned_span u Through Begins = Some (two_cycles u)
 turned_span u Through Leaves = None
@@ -100,7 +100,7 @@ module _ (p : Profile) (file : File) (again : Again) (c : Expr) (s next : Body) 
   abbrev later : TurnEnd → Vars → List ℤ → Evaluated Flow
   later = after_turn p file again c s next depth frames
 
-  -- behind the statements
+  -- after the statements
   turned_is : (b : Bool) (vars : Vars) (trace : List ℤ) →
       tick b Quiet trace (λ reply rest. pass rest (λ rest. again (While c s next) vars depth frames rest)) ≡
       and_then (tick b Quiet trace (λ reply rest. pass rest (λ rest. Gives Begins vars rest))) later

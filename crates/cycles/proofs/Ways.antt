@@ -35,7 +35,7 @@ module _ {A : Type 0} (u : Counted) where
       (spends_tick u fits Quiet (λ reply rest. Gives x vars rest) (λ x. Some (exactly 0))
       (λ reply. spends_given u x vars (λ x. Some (exactly 0)) (within_exactly 0)))
 
-  -- a cycle that asks nothing, and what comes behind it
+  -- a cycle that asks nothing, and what comes after it
   pub behind_cycle : (fits : Bool) (go : List ℤ → Evaluated A) (s : A → Option Span) → Spends u go s →
       Spends u (λ (t : List ℤ). tick fits Quiet t (λ reply rest. go rest)) (λ x. before (cycle u) (s x))
   behind_cycle fits go s goes = spends_tick u fits Quiet (λ reply rest. go rest) s (λ reply. goes)
@@ -63,7 +63,7 @@ module _ {A : Type 0} (u : Counted) where
       (λ x. Some (cycle u)) (value_after_cycle second x vars)
 
 module _ {A B : Type 0} (u : Counted) where
-  -- a value, the cycle that takes it, and what comes behind that
+  -- a value, the cycle that takes it, and what comes after that
   pub behind_taken : (run : List ℤ → Evaluated A) (go : A → Vars → List ℤ → Evaluated B) (s : Span)
       (g : B → Option Span) →
       Spends u run (λ x. Some s) → ((x : A) (vars : Vars) → Spends u (λ (t : List ℤ). go x vars t) g) →
@@ -185,7 +185,7 @@ module _ (u : Counted) (ends : Ends) (g h : Flow → Option Span) where
   on_fits through returns (Returns x) Through m n one other = absurd other
   on_fits through returns (Returns x) (Returns y) m n one other = takes_none (h (Returns y)) m n (returns y m one) other
 
-  -- what comes behind statements that are passed through
+  -- what comes after statements that are passed through
   pub behind_on : (run : List ℤ → Evaluated Flow) (go : Vars → List ℤ → Evaluated Flow) → Spends u run (end_of ends) →
       ((vars : Vars) → Spends u (λ (t : List ℤ). go vars t) g) →
       ((flow : Flow) (m n : ℕ) → MayTake ends.through m → MayTake (g flow) n → MayTake (h flow) (m + n)) →
@@ -239,7 +239,7 @@ over_takes u p depth go ends goes =
     (end_of (after (two_cycles u) ends)) (λ flow n h. end_after (two_cycles u) ends flow n h)
     (behind_two u (nat_lt depth p.words) true go (end_of ends) goes)
 
--- what is left of a loop behind its test, if it doesn't begin again
+-- what is left of a loop after its test, if it doesn't begin again
 abbrev behind_test : Ends → Ends → Ends
 behind_test inside last = one_branch (record { through = None; returns = inside.returns }) last
 
@@ -247,7 +247,7 @@ behind_test inside last = one_branch (record { through = None; returns = inside.
 abbrev whole_loop : Counted → Span → Ends → Ends → Ends
 whole_loop u test inside last = loop_ends (turn_span u test inside) test inside last
 
--- what is left of it behind its test: it begins again, or not
+-- what is left of it after its test: it begins again, or not
 abbrev on_test : Counted → Span → Ends → Ends → Flow → Option Span
 on_test u test inside last flow =
     one_of (behind inside.through (before (two_cycles u) (end_of (whole_loop u test inside last) flow)))

@@ -29,7 +29,7 @@ four_cycles u = cycle u ⊕ three_cycles u
 abbrev pub full_span : Counted → Span → Span → Span
 full_span u left right = left ⊕ (right ⊕ cycle u)
 
--- An operator that leaves out its right side where the left decides. && tests the left side. If it goes on, it tests
+-- An operator that leaves out its right side if the left decides. && tests the left side. If it goes on, it tests
 -- the right one and makes 0 or 1 of it, by three cycles; else it is 0. || tests the left side; if it doesn't go on, it
 -- is 1, by three cycles, and else the right side is made 0 or 1.
 abbrev pub short_span : Counted → Op → Span → Span → Span
@@ -44,7 +44,7 @@ binary_span u p o left right = if p.short_circuit then short_span u o left right
 
 -- with the run of each function by number
 module _ (u : Counted) (p : Profile) (runs : ℕ → Span) where
-  -- what is called, behind its arguments
+  -- what is called, after its arguments
   abbrev pub callee_span : Callee → Span
   callee_span (callee.Function k) = runs k
   callee_span (callee.Intrinsic i) = exactly (asking u i)

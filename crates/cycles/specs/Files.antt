@@ -41,7 +41,7 @@ pub record HasRows (asked : Counted) (p : Profile) (file : File) (spans : Source
   pub runs : spans.runs.items ≡ map (run_row asked p file) file.order
   pub turns : spans.turns.items ≡ turn_rows asked p file file.order
 
--- The rows are a resolved file's. Where the device tells its bytes, they are that file.
+-- The rows are a resolved file's. If the device's contents are known, they are that file.
 pub record AreSpansOf (asked : Counted) (profile : Profile) (told : Option (List ℕ)) (spans : SourceSpans) : Type 0
   where
     pub file : File

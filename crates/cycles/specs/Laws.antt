@@ -54,7 +54,7 @@ TurnsTake = (u : Counted) (p : Profile) (file : File) (n : ℕ) (c : Expr) (s : 
     → Takes u (λ (t : List ℤ). turn p file (effect_within p file n) c s vars depth frames t)
     (turn_of u p (run_span u p file) c s) trace rest
 
--- A loop is a turn, and what comes behind it: the loop again, the next statements, or a return.
+-- A loop is a turn, and what comes after it: the loop again, the next statements, or a return.
 abbrev pub LoopsAreTurns : Type 0
 LoopsAreTurns = (p : Profile) (file : File) (n : ℕ) (c : Expr) (s next : Body) (vars : Vars) (depth frames : ℕ)
     (trace : List ℤ) → let again = effect_within p file n in

@@ -14,7 +14,7 @@ pub record Loop : Type 0 where
   pub test : Expr
   pub statements : Body
 
--- the loops, each before those inside it and those behind it, as they begin in the source
+-- the loops, each before those inside it and those after it, as they begin in the source
 abbrev pub loops_of : Body → List Loop
 loops_of Done = []
 loops_of (ExpressionStatement e next) = loops_of next

@@ -1,4 +1,4 @@
--- What a function's run takes, from the call behind its arguments to its value.
+-- What a function's run takes, from the call after its arguments to its value.
 use Rattle.std.specs.Prelude.{ℕ, zero, suc, length, Some, unwrap_or}
 use Rattle.grammar.specs.Profile.{Profile}
 use Rattle.grammar.specs.Tree.{Body, File}
@@ -16,8 +16,8 @@ use Rattle.cycles.specs.Statements.{ends_of}
 abbrev pub run_of : Counted → Ends → Span
 run_of u ends = cycle u ⊕ unwrap_or (one_of ends.returns (behind ends.through (Some (two_cycles u)))) anything
 
--- The run of a function, by the statements of each function, where at most n calls are open inside one another. What
--- is called further in may take anything.
+-- The run of a function, by the statements of each function, if at most n calls are open inside one another. What is
+-- called further in may take anything.
 abbrev pub run_within : Counted → Profile → (ℕ → Body) → ℕ → ℕ → Span
 run_within u p bodies zero k = anything
 run_within u p bodies (suc n) k = run_of u (ends_of u p (run_within u p bodies n) (bodies k))
@@ -26,7 +26,7 @@ run_within u p bodies (suc n) k = run_of u (ends_of u p (run_within u p bodies n
 abbrev pub body_at : File → ℕ → Body
 body_at file k = (function_at file k).body
 
--- Each function once inside the others: where a call is still further in, a function has come back to itself, and
--- nobody knows how often it does.
+-- Each function once inside the others: if a call is still further in, a function has come back to itself, and nobody
+-- knows how often it does.
 abbrev pub run_span : Counted → Profile → File → ℕ → Span
 run_span u p file k = run_within u p (body_at file) (length file.order) k

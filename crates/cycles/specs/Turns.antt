@@ -14,7 +14,7 @@ pub data TurnEnd : Type 0 where
   Leaves : TurnEnd
   GivesBack : (value : ℤ) → TurnEnd
 
--- the end of a turn behind its statements: a push of 0, and a cycle that takes it
+-- the end of a turn after its statements: a push of 0, and a cycle that takes it
 abbrev pub turned : Profile → ℕ → Flow → Vars → List ℤ → Evaluated TurnEnd
 turned p depth Through vars rest = push p depth rest (λ rest. pass rest (λ rest. Gives Begins vars rest))
 turned p depth (Returns x) vars rest = Gives (GivesBack x) vars rest
@@ -28,7 +28,7 @@ module _ (p : Profile) (file : File) (again : Again) where
       if holds x then and_then (effect p file again s vars depth frames rest) (turned p depth) else
       Gives Leaves vars rest))
 
-  -- what a loop does behind a turn
+  -- what a loop does after a turn
   abbrev pub after_turn : Expr → Body → Body → ℕ → ℕ → TurnEnd → Vars → List ℤ → Evaluated Flow
   after_turn c s next depth frames Begins vars rest = again (While c s next) vars depth frames rest
   after_turn c s next depth frames Leaves vars rest = effect p file again next vars depth frames rest

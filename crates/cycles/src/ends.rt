@@ -1,4 +1,4 @@
-//! The ends of statements, one behind the other.
+//! The ends of statements, one after the other.
 
 ghost use Rattle.std.specs.Prelude.{◌≡◌, Option};
 ghost use Rattle.cycles.specs.Ends.{after, before, behind, followed, one_branch, one_of, passed, repeated};
@@ -66,7 +66,7 @@ impl Ends {
         }
     }
 
-    /// Returns these ends behind a span.
+    /// Returns these ends after a span.
     pub fn after(self, first: Span) -> Ends
         ensures { (s : span.Span) (e : ends.Ends) → first ≡ told s → self ≡ told_ends e
             → result ≡ told_ends (after s e) }
@@ -110,7 +110,7 @@ impl Ends {
     }
 
     /// Returns the ends of a loop, by its turn up to where it begins again, its test, the ends inside of it, and these
-    /// ends behind it.
+    /// ends after it.
     pub fn behind_loop(self, turn: Option<Span>, test: Span, inside: Ends) -> Ends
         ensures { (o : Option span.Span) (s : span.Span) (e next : ends.Ends) → turn ≡ told_end o → test ≡ told s
             → inside ≡ told_ends e → self ≡ told_ends next → result ≡ told_ends (loop_ends o s e next) }

@@ -74,7 +74,7 @@ impl Counted {
         left.plus(right.plus(self.cycle()))
     }
 
-    /// Returns the span of `&&` that leaves out its right side where the left decides.
+    /// Returns the span of `&&` that leaves out its right side if the left decides.
     fn short_and(self, left: Span, right: Span) -> Span
         ensures { (s t : span.Span) → left ≡ told s → right ≡ told t → result ≡ told (short_span self op.And s t) }
     {
@@ -83,7 +83,7 @@ impl Counted {
         left.plus(self.cycle().plus(tested.or(decided)))
     }
 
-    /// Returns the span of `||` that leaves out its right side where the left decides.
+    /// Returns the span of `||` that leaves out its right side if the left decides.
     fn short_or(self, left: Span, right: Span) -> Span
         ensures { (s t : span.Span) → left ≡ told s → right ≡ told t → result ≡ told (short_span self op.Or s t) }
     {
@@ -106,7 +106,7 @@ impl Counted {
 }
 
 impl Runs {
-    /// Returns the span of what is called, behind its arguments.
+    /// Returns the span of what is called, after its arguments.
     fn callee(&self, callee: Callee) -> Span
         ensures { (runs : ℕ → span.Span) → HasRuns self.now runs
             → result ≡ told (callee_span self.now.counted self.now.profile runs callee) }

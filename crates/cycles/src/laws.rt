@@ -18,7 +18,7 @@ pub fn statements_take()
     ensures { StatementsTake }
 {}
 
-/// Proves that what a function takes, from the call behind its arguments to its value, is within its span.
+/// Proves that what a function takes, from the call after its arguments to its value, is within its span.
 pub fn runs_take()
     ensures { RunsTake }
 {}

@@ -20,7 +20,7 @@ use trees::{Function, Statement, TreeMaker};
 /// How many numbers a function may have.
 const NUMBERS: usize = 256;
 
-/// A function, and what its run takes, from the call behind its arguments to its value.
+/// A function, and what its run takes, from the call after its arguments to its value.
 #[derive(Clone, Copy, Debug, PartialEq, Eq, Drop)]
 pub struct Run {
     /// The function's number.
@@ -55,7 +55,7 @@ pub fn all_runs(
     Ok(rows)
 }
 
-/// What each function's run takes, from the call behind its arguments to its value, as far as that is known.
+/// What each function's run takes, from the call after its arguments to its value, as far as that is known.
 #[derive(Clone, Copy, Debug)]
 pub struct Runs {
     /// What is counted.

@@ -33,7 +33,7 @@ pub struct SourceSpans {
 ///
 /// # Errors
 ///
-/// Those of `parse`. `Memory` where the trees or the rows were refused memory.
+/// Those of `parse`. `Memory` if the trees or the rows were refused memory.
 #[inline(never)]
 pub fn source_spans<F: Feed>(
     alloc: Global,

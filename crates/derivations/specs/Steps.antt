@@ -32,7 +32,7 @@ has_step item next after = is_wanted item next
 abbrev pub stepped_if : Bool → StepEnd
 stepped_if fits = if fits then outcome.Stepped else outcome.Misfit
 
--- how a step ends with this item in front: a fault fits nothing
+-- how a step ends with this item in front: a lexical error fits nothing
 abbrev pub decided_of : table.Item → Token → Token → StepEnd
 decided_of item next after = if is_fault next then outcome.Misfit else stepped_if (has_step item next after)
 

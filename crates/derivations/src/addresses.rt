@@ -1,4 +1,4 @@
-//! The place in a source that each instruction of its program comes from.
+//! The position in a source that each instruction of its program comes from.
 
 ghost use Rattle.std.specs.Prelude.{◌≡◌, ◌≤◌, ◌==◌, length, slice_get};
 
@@ -12,7 +12,7 @@ use tokens::{Cursor, MOST_SOURCE_BYTES, MemoryFeed, WINDOW_BYTES};
 /// The most instructions of a program in any profile, with the NOP that ends it.
 pub const MOST_PLACES: usize = 4000;
 
-/// A place in a source.
+/// A position in a source.
 #[derive(Clone, Copy, Debug, Default, PartialEq, Eq)]
 pub struct SourcePosition {
     /// The line, from 1.
@@ -21,7 +21,7 @@ pub struct SourcePosition {
     pub column: u32,
 }
 
-/// The places of a program's instructions, by their addresses. Its value is the list of them.
+/// The positions of a program's instructions, by their addresses. Its value is the list of them.
 #[derive(Drop)]
 pub struct SourcePositions {
     places: ArrayVec<SourcePosition, MOST_PLACES>,
@@ -51,7 +51,7 @@ impl SourcePositions {
         self.places.is_empty()
     }
 
-    /// Returns the place of the token that made the instruction of this address: an operator's or assignment's own
+    /// Returns the position of the token that made the instruction of this address: an operator's or assignment's own
     /// token, a call's name, the word `if`, `else`, `while` or `return`, a statement's semicolon, the closing brace
     /// of a function for its last return, and the end of the source for the final NOP. `None` past the last
     /// instruction.
@@ -61,7 +61,7 @@ impl SourcePositions {
         self.places.as_slice().get(address).copied()
     }
 
-    /// Returns the places, by the addresses.
+    /// Returns the positions, by the addresses.
     pub fn places(&self) -> &[SourcePosition]
         ensures value { result.now ≡ self.now }
         ensures most { length result.now ≤ MOST_PLACES }
@@ -70,8 +70,8 @@ impl SourcePositions {
     }
 }
 
-/// Finds the place of each instruction of a source's program in a profile, for a source that compiles. `None` if a token
-/// doesn't fit, or there are more instructions than a program has. No clause says that the list is as long as the
+/// Finds the position of each instruction of a source's program in a profile, for a source that compiles. `None` if a
+/// token doesn't fit, or there are more instructions than a program has. No clause says that the list is as long as the
 /// program's code: tests do. Faults of names and levels are passed over. No memory is asked for.
 #[inline(never)]
 pub fn lines(source: &[u8], profile: Profile) -> Option<SourcePositions> {
@@ -99,7 +99,7 @@ pub fn lines(source: &[u8], profile: Profile) -> Option<SourcePositions> {
     None
 }
 
-/// Returns all places: the last instruction's is the end of the source.
+/// Returns all positions: the last instruction's is the end of the source.
 fn ended(tracker: Tracker, end: SourcePosition) -> Option<SourcePositions> {
     let mut places = tracker.into_places();
     places.try_push(end).ok()?;

@@ -1,11 +1,11 @@
-//! The tokens that fit at a place, as the grammar's table has them.
+//! The tokens that fit at a position, as the grammar's table has them.
 
 use crate::locations::Located;
 use crate::steps::Derivation;
 use arrayvec::ArrayVec;
 use tokens::{Keyword, Name, Punctuator, Token};
 
-/// The most tokens that fit at a place: all.
+/// The most tokens that fit at a position: all.
 pub const MOST_FITTING: usize = PUNCTUATORS.len() + WORDS.len() + 3;
 
 /// All punctuators, in the order of their enum.
@@ -72,10 +72,10 @@ pub fn spelled(punctuator: Punctuator) -> &'static str {
     SPELLINGS[punctuator as usize]
 }
 
-/// The tokens that fit at a place, each without a place of its own.
+/// The tokens that fit at a position, each without a position of its own.
 pub type Fitting = ArrayVec<Located, MOST_FITTING>;
 
-/// Finds the tokens that fit in place of the one of an index, if those before it fit: punctuators, words, a name, a
+/// Finds the tokens that may replace the one of an index, if those before it fit: punctuators, words, a name, a
 /// constant, the end. The table is asked for each of them. The token before decides anew what it begins, as it may be
 /// the token after it that chooses its production.
 pub fn fitting(tokens: &[Located], index: usize) -> Fitting {
@@ -93,17 +93,17 @@ pub fn fitting(tokens: &[Located], index: usize) -> Fitting {
     found
 }
 
-/// A place between two tokens.
+/// A position between two tokens.
 #[derive(Drop)]
 struct Gap<'a> {
-    /// The derivation before the token that stands before the place.
+    /// The derivation before the token that precedes the position.
     before: Derivation<'a>,
     /// That token, if there is one.
     kept: &'a [Located],
 }
 
 impl<'a> Gap<'a> {
-    /// Returns the place before the token of an index.
+    /// Returns the position before the token of an index.
     fn before(tokens: &'a [Located], index: usize) -> Gap<'a> {
         let kept = index.saturating_sub(1);
         Gap {
@@ -123,7 +123,7 @@ impl<'a> Gap<'a> {
     }
 }
 
-/// Returns a token without a place of its own.
+/// Returns a token without a position of its own.
 fn placeless(token: &Token) -> Located {
     Located {
         token: *token,

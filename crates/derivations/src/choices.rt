@@ -12,11 +12,11 @@ use crate::symbols::{Item, Production, Role, SemanticAction, Symbol};
 use grammar::{BinaryOperator, Op, StoreOp, operator_from, store_operator};
 use tokens::{Keyword, Punctuator, Token};
 
-/// The most level of the binary operators.
+/// The greatest level of the binary operators.
 const TIGHTEST: u8 = 10;
 
 /// Returns the production of a symbol, if the next token is no lexical error. If there is none, the token doesn't fit.
-/// Where the table says so, the token after the next one decides too.
+/// If the table says so, the token after the next one decides too.
 pub fn choice(symbol: Symbol, next: &Token, after: &Token) -> Option<Production>
     ensures { result ≡ table.choice (symbol_of symbol) next.now after.now }
 {
@@ -339,7 +339,7 @@ pub(crate) fn operator_at(level: u8, token: &Token) -> Option<Op>
     }
 }
 
-/// Returns the production of the operators before an operand.
+/// Returns the production of the unary operators.
 fn unary(next: &Token) -> Production
     ensures { (after : Token) → Some result ≡ table.choice table.Unary next.now after }
 {
@@ -357,7 +357,7 @@ fn unary(next: &Token) -> Production
     }
 }
 
-/// Returns the production of an operator before an operand.
+/// Returns the production of a unary operator.
 fn before(punctuator: Punctuator, action: SemanticAction) -> Production
     ensures { result ≡ table.Exactly punctuator ∷ table.Part table.Unary ∷ table.Make (action_of action) ∷ table.Close ∷ [] }
 {
@@ -397,7 +397,7 @@ fn primary(next: &Token, after: &Token) -> Option<Production>
     }
 }
 
-/// Returns the production of an operand that begins with a name: a call, a step, or a variable.
+/// Returns the production of an operand that begins with a name: a call, `v++`, `v--` or a variable.
 fn named(after: &Token) -> Production
     ensures { (name : List ℕ) → Some result ≡ table.choice table.Primary (token.Name name) after.now }
 {

@@ -19,8 +19,8 @@ pub enum Origin {
     Next,
 }
 
-/// What a step emits. All its actions come from one token. A derivation knows no numbers of names and no constants: where
-/// an action has them, they are 0.
+/// What a step emits. All its actions come from one token. A derivation knows no numbers of names and no constants: in
+/// actions that have them, they are 0.
 #[derive(Drop)]
 pub struct Emission {
     actions: ArrayVec<Action, MOST_ACTIONS>,

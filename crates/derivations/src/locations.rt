@@ -11,7 +11,7 @@ use tokens::{
 /// The most tokens that are found without asking for memory.
 pub const MOST_TOKENS: usize = 16_384;
 
-/// A token of a source in memory, with its place.
+/// A token of a source in memory, with its position.
 #[derive(Clone, Copy)]
 pub struct Located {
     /// What it is.
@@ -77,7 +77,7 @@ pub fn locate_in(tokens: &mut Tokens, source: &[u8]) -> bool {
     false
 }
 
-/// How far the places of a source's tokens are known: to the end of a token.
+/// How far the positions of a source's tokens are known: to the end of a token.
 #[derive(Drop)]
 pub(crate) struct Finder<'a> {
     source: &'a [u8],
@@ -95,7 +95,7 @@ impl<'a> Finder<'a> {
         }
     }
 
-    /// Finds the place of the next token.
+    /// Finds the position of the next token.
     pub(crate) fn place(&mut self, token: &LocatedToken) -> Located {
         let end = token.end as usize;
         let start = self.start(token);
@@ -111,7 +111,7 @@ impl<'a> Finder<'a> {
         }
     }
 
-    /// Returns where the next token begins: after the spaces and comments that follow the one before it.
+    /// Returns the offset at which the next token begins: after the spaces and comments before it.
     fn start(&self, token: &LocatedToken) -> usize {
         let end = token.end as usize;
         match token.token {
@@ -125,7 +125,7 @@ impl<'a> Finder<'a> {
         }
     }
 
-    /// Notes the line that begins last up to a place.
+    /// Notes the line that begins last up to a position.
     fn pass_lines(&mut self, to: usize) {
         if let Some(gap) = self.source.get(self.end..to) {
             for (i, byte) in gap.iter().enumerate() {
@@ -161,7 +161,7 @@ fn blank(bytes: &[u8]) -> usize {
     }
 }
 
-/// Counts the bytes of a comment, by those after its begin: 0 if it isn't closed.
+/// Counts the bytes of a comment, given those after its `/*`: 0 if it isn't closed.
 fn comment(inside: &[u8]) -> usize {
     let mut is_star = false;
     for (i, byte) in inside.iter().enumerate() {

@@ -18,7 +18,7 @@ const STORE: Action = Action::StoreVariable(Var::Local(0), StoreOp::Set);
 /// The end of a call, of any function.
 const END_CALL: Action = Action::EndCall(Callee::Function(0));
 
-/// The begin of any function.
+/// The beginning of any function.
 const BEGIN_FUNCTION: Action = Action::BeginFunction(0, 0);
 
 /// The end of any function.
@@ -63,8 +63,8 @@ fn making(action: SemanticAction, behind: [Option<Item>; 2]) -> Emission {
     }
 }
 
-/// Returns what is emitted as a body begins, by the items after it: that of an `if`, of an `else`, of a `while`, or of a
-/// function.
+/// Returns what is emitted as a body begins, by the items after it: that of an `if`, of an `else`, of a `while`, or of
+/// a function.
 fn on_body(behind: [Option<Item>; 2]) -> &'static [Action] {
     let [Some(Item::Part(Symbol::Statement)), Some(after)] = behind else {
         return &[];
@@ -86,7 +86,7 @@ fn on_choice(symbol: Symbol, next: &Token) -> &'static [Action] {
         (Symbol::Tail(level), _) => match operator_at(level, next) {
             Some(Op::And) => &[Action::LogicMiddle(Op::And)],
             Some(Op::Or) => &[Action::LogicMiddle(Op::Or)],
-            // the right side of any other operator is always worked out
+            // the right side of any other operator is always evaluated
             _ => &[],
         },
         _ => &[],

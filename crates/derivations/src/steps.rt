@@ -12,8 +12,8 @@ use crate::symbols::{Item, Production, Symbol};
 use arrayvec::ArrayVec;
 use tokens::Token;
 
-/// The most items that are pending. A source has fewer up to its first fault: each of its levels, `grammar::MOST_LEVELS` at
-/// most, has at most 30, three for each level of operators.
+/// The most items that are pending. A source has fewer up to its first fault: each of its levels,
+/// `grammar::MOST_LEVELS` at most, has at most 30, three for each level of operators.
 pub(crate) const MOST_PENDING: usize = 2048;
 
 /// How a step ended.
@@ -25,8 +25,8 @@ pub enum StepEnd {
     Misfit,
     /// Nothing is left to match. The derivation stays.
     Done,
-    /// There is no room for what is still to match: more levels are open than a source may have. The derivation is of no
-    /// more use.
+    /// There is no room for what is still to match: more levels are open than a source may have. The derivation is of
+    /// no more use.
     Full,
 }
 
@@ -58,7 +58,7 @@ impl<'a> Derivation<'a> {
         Derivation::over(tokens, &[source])
     }
 
-    /// Starts where these items are still to match, the next last.
+    /// Starts at a point at which these items are still to match, the next last.
     fn over(tokens: &'a [Located], items: &[Pending]) -> Derivation<'a> {
         let mut stack = ArrayVec::new();
         let _ = stack.try_extend_from_slice(items);
@@ -87,7 +87,7 @@ impl<'a> Derivation<'a> {
         }
     }
 
-    /// Reports whether all of these tokens fit here, in place of those that are left.
+    /// Reports whether all of these tokens would fit here instead of those that are left.
     pub(crate) fn matches_all(&self, tokens: &[Located]) -> bool {
         let mut derivation = Derivation::over(tokens, self.stack());
         derivation.run_to(tokens.len());
@@ -158,7 +158,7 @@ impl<'a> Derivation<'a> {
         }
     }
 
-    /// Goes past the item in front, and so many tokens.
+    /// Goes past the item in front, and this many tokens.
     fn pass(&mut self, tokens: usize) -> StepEnd
         ensures { result ≡ StepEnd.Stepped }
     {
@@ -231,7 +231,7 @@ pub(crate) fn fits(item: Item, next: &Token) -> bool
 
 /// What a step does with the item in front.
 pub(crate) enum Move {
-    /// It goes past the item, and so many tokens.
+    /// It goes past the item, and this many tokens.
     Pass(usize),
     /// It replaces the item by this production.
     Replace(Production),

@@ -62,7 +62,7 @@ pub enum Symbol {
     Level(u8),
     /// Further operators of this level, 1 to 10.
     Tail(u8),
-    /// The operators before an operand.
+    /// The unary operators.
     Unary,
     /// An operand.
     Primary,
@@ -95,7 +95,7 @@ pub enum SemanticAction {
     Pass,
     /// The end of a call.
     Invoke,
-    /// The begin of a body, without statements.
+    /// The beginning of a body, without statements.
     Empty,
     /// An expression statement.
     Evaluate,
@@ -118,7 +118,7 @@ pub enum SemanticAction {
 pub enum Item {
     /// This punctuator comes next.
     Exactly(Punctuator),
-    /// This word comes next.
+    /// This keyword comes next.
     AKeyword(Keyword),
     /// A name comes next, in this role.
     Naming(Role),

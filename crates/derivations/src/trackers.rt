@@ -1,5 +1,5 @@
-//! Where each instruction comes from: a tracker follows the derivation token by token, in memory of fixed size, and keeps
-//! a place for each instruction of the actions that are emitted.
+//! Where each instruction comes from: a tracker follows the derivation token by token, in memory of fixed size, and
+//! keeps a position for each instruction of the actions that are emitted.
 
 use crate::addresses::{MOST_PLACES, SourcePosition};
 use crate::emissions::{Emission, Origin};
@@ -10,8 +10,8 @@ use crate::symbols::{Item, Production, Symbol};
 use arrayvec::ArrayVec;
 use grammar::Profile;
 
-/// An item that is still to be matched or done, and the places of the token at which its production was chosen and of the
-/// one after that.
+/// An item that is still to be matched or done, and the positions of the token at which its production was chosen and
+/// of the one after that.
 #[derive(Clone, Copy, Default)]
 struct Pending {
     item: Item,
@@ -19,7 +19,7 @@ struct Pending {
     after_chosen: SourcePosition,
 }
 
-/// Follows the derivation of a source, and keeps the place of each instruction that it makes.
+/// Follows the derivation of a source, and keeps the position of each instruction that it makes.
 #[derive(Drop)]
 pub(crate) struct Tracker {
     profile: Profile,
@@ -45,7 +45,7 @@ impl Tracker {
         }
     }
 
-    /// Returns the places of the instructions so far.
+    /// Returns the positions of the instructions so far.
     pub(crate) fn into_places(self) -> ArrayVec<SourcePosition, MOST_PLACES> {
         self.places
     }
@@ -78,7 +78,7 @@ impl Tracker {
         false
     }
 
-    /// Keeps the places of the instructions that the next step makes. Answers whether there was room.
+    /// Keeps the positions of the instructions that the next step makes. Answers whether there was room.
     fn emit(&mut self, front: &Pending, next: &Located) -> bool {
         let emission = emitted(front.item, &next.token, self.behind());
         let place = self.origin(&emission, front, place_of(next));
@@ -103,7 +103,7 @@ impl Tracker {
         [first, items.next()]
     }
 
-    /// Returns the place that an emission of the item in front comes from.
+    /// Returns the position that an emission of the item in front comes from.
     fn origin(&self, emission: &Emission, front: &Pending, next: SourcePosition) -> SourcePosition {
         match emission.origin() {
             Origin::Chosen => front.chosen,
@@ -113,7 +113,7 @@ impl Tracker {
         }
     }
 
-    /// Keeps the place of so many instructions. Answers whether there was room.
+    /// Keeps the position for this many instructions. Answers whether there was room.
     fn keep(&mut self, count: u16, place: SourcePosition) -> bool {
         for _ in 0..count {
             if self.places.try_push(place).is_err() {
@@ -145,7 +145,7 @@ impl Tracker {
     }
 }
 
-/// Returns where a token begins.
+/// Returns the position at which a token begins.
 pub(crate) fn place_of(token: &Located) -> SourcePosition {
     SourcePosition {
         line: token.line,

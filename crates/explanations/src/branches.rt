@@ -29,8 +29,8 @@ pub fn warn_of_branch(out: &mut Warnings, subject: &Subject<'_>, index: usize, n
     }
 }
 
-/// Warns of the body that begins at the token of an index: of a `;` alone, and of a statement behind it that looks as if it
-/// were a part of it.
+/// Warns of the body that begins at the token of an index: of a `;` alone, and of a statement after it that looks as if
+/// it were a part of it.
 fn warn_of_body(out: &mut Warnings, tokens: &[Located], node: &Node, body: usize) {
     let behind = token_at(tokens, body.saturating_add(1));
     if token_at(tokens, body) != Token::Punctuator(Punctuator::Semicolon) {
@@ -50,7 +50,7 @@ fn warn_of_body(out: &mut Warnings, tokens: &[Located], node: &Node, body: usize
     }
 }
 
-/// Warns of the statement behind a body without braces that begins below the body's begin.
+/// Warns of the statement after a body without braces that begins below the body's beginning.
 fn warn_of_indentation(out: &mut Warnings, tokens: &[Located], head: usize, body: usize) {
     let Some(behind) = behind_simple(tokens, body) else {
         return;
@@ -113,8 +113,8 @@ fn is_in_brackets(tokens: &[Located], token: usize) -> bool {
     true
 }
 
-/// Returns what is said of the condition of the loop of a node's index, if that can't change: constants that say that the
-/// loop is to go on forever are meant.
+/// Returns what is said of the condition of the loop of a node's index, if that can't change: constants that say that
+/// the loop is to go on forever are meant.
 fn on_condition(
     nodes: &Nodes,
     index: usize,
@@ -145,8 +145,8 @@ fn asks(condition: &[Node]) -> bool {
     false
 }
 
-/// Reports whether the condition of a loop reads variables, calls nothing, and sets none, and the whole loop sets none of
-/// those that it reads.
+/// Reports whether the condition of a loop reads variables, calls nothing, and sets none, and the whole loop sets none
+/// of those that it reads.
 fn is_fixed(condition: &[Node], whole: &[Node]) -> bool {
     let mut is_read = false;
     for node in condition {

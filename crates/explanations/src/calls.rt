@@ -10,7 +10,7 @@ use tokens::Name;
 /// How far a shot flies at most, in metres.
 const MOST_RANGE: i32 = 700;
 
-/// Warns of the call of a node's index, which has so many arguments.
+/// Warns of the call of a node's index, which has `count` arguments.
 pub fn warn_of_call(
     out: &mut Warnings,
     subject: &Subject<'_>,
@@ -82,7 +82,7 @@ fn has_return(nodes: &[Node]) -> bool {
     false
 }
 
-/// Returns what is said of the node of an index that stands on the right of `&&` or `||`, both of whose sides are always
+/// Returns what is said of the node of an index that is on the right of `&&` or `||`, both of whose sides are always
 /// evaluated.
 fn on_right_side(nodes: &Nodes, index: usize) -> Option<&'static str> {
     for node in nodes.within(index, nodes.all().len()) {

@@ -1,16 +1,16 @@
-//! A line of a source with a mark below it.
+//! A line of a source with a caret below it.
 
 ghost use Rattle.std.specs.Prelude.{◌≡◌, ◌+◌, ◌<◌, ◌≤◌};
 
 use crate::notes::Note;
 
-/// The most bytes of a line that are shown before the marked one.
+/// The most bytes of a line that are shown before the byte above the caret.
 const MOST_BEFORE: usize = 70;
 
 /// The most bytes of a line that are shown.
 const MOST_SHOWN: usize = 110;
 
-/// Adds the line of a source that has the byte of an index, and a mark below that byte. A long line is cut. A line of
+/// Adds the line of a source that has the byte of an index, and a caret below that byte. A long line is cut. A line of
 /// spaces alone is left out.
 pub fn add_marked(note: &mut Note, source: &[u8], at: usize) {
     let start = line_start(source, at);
@@ -56,7 +56,7 @@ fn line_from(bytes: &[u8]) -> &[u8] {
     bytes
 }
 
-/// Returns how many bytes of a line are cut off at its begin, by how many are before the marked one.
+/// Returns how many bytes of a line are cut off at its beginning, by how many are before the byte above the caret.
 fn first_shown(marked: usize) -> usize
     ensures within { result ≤ marked }
     ensures near { marked ≤ result + MOST_BEFORE }

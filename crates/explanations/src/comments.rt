@@ -11,8 +11,8 @@ struct Comment<'a> {
     behind: &'a [u8],
 }
 
-/// Returns the line on which a comment begins that has a name in it, and after the name the begin of another comment: it
-/// was hardly meant to go so far.
+/// Returns the line on which a comment begins that has a name in it, and after the name the beginning of another
+/// comment: it probably wasn't meant to go so far.
 pub fn swallowed(source: &[u8], name: &[u8]) -> Option<u32> {
     let (mut line, mut rest) = (1u32, source);
     for _ in 0..source.len() {
@@ -26,7 +26,7 @@ pub fn swallowed(source: &[u8], name: &[u8]) -> Option<u32> {
     None
 }
 
-/// Reports whether a text has a name in it, and after that the begin of a comment.
+/// Reports whether a text has a name in it, and after that the beginning of a comment.
 fn begins_behind(text: &[u8], name: &[u8]) -> bool {
     match after(text, name) {
         Some(behind) => after(behind, b"/*").is_some(),
@@ -34,8 +34,8 @@ fn begins_behind(text: &[u8], name: &[u8]) -> bool {
     }
 }
 
-/// Returns the line on which a comment begins that has the begin of another one in it, if a place stands between the end
-/// of that comment and a further `*/`: it was hardly meant to end so early.
+/// Returns the line on which a comment begins that has the beginning of another one in it, if a position is between the
+/// end of that comment and a further `*/`: it probably wasn't meant to end so early.
 pub fn nested(source: &[u8], at: usize) -> Option<u32> {
     let (mut line, mut rest) = (1u32, source);
     for _ in 0..source.len() {
@@ -52,7 +52,7 @@ pub fn nested(source: &[u8], at: usize) -> Option<u32> {
     None
 }
 
-/// Reports whether a `*/` follows a comment without a `/*` between, and a place stands before the end of that `*/`.
+/// Reports whether a `*/` follows a comment without a `/*` between, and a position is before the end of that `*/`.
 fn is_before_end(source: &[u8], comment: &Comment<'_>, at: usize) -> bool {
     let Some(rest) = after(comment.behind, b"*/") else {
         return false;
@@ -72,7 +72,7 @@ fn first_comment(text: &[u8], line: u32) -> Option<Comment<'_>> {
     })
 }
 
-/// Returns what follows the first place at which some bytes stand. It isn't inlined, since the page's module is to be small.
+/// Returns what follows the first occurrence of some bytes. It isn't inlined, since the page's module is to be small.
 #[inline(never)]
 fn after<'a>(text: &'a [u8], wanted: &[u8]) -> Option<&'a [u8]> {
     for at in 0..text.len() {

@@ -31,7 +31,8 @@ pub struct Found<'a> {
 }
 
 /// Explains the fault of a source, which `compile` found by the same profile; the tokens are the source's. The note has
-/// the line with the column, in bytes from 1, the source's line with a mark, what was met and what fits there, and a hint.
+/// the line with the column, in bytes from 1, the source's line with a caret, what was met and what fits there, and a
+/// hint.
 pub fn explain(
     source: &[u8],
     tokens: &[Located],
@@ -52,7 +53,7 @@ pub fn explain(
     note
 }
 
-/// Adds what is known of a fault beside its place.
+/// Adds what is known of a fault beside its position.
 fn add_reason(note: &mut Note, found: &Found<'_>, search: &Search<'_>) {
     match found.code {
         Code::SyntaxError | Code::ReservedWord | Code::BadCharacter => {
@@ -74,7 +75,7 @@ fn add_reason(note: &mut Note, found: &Found<'_>, search: &Search<'_>) {
     }
 }
 
-/// Adds the first line, and the source's line with a mark.
+/// Adds the first line, and the source's line with a caret.
 fn add_head(note: &mut Note, diagnostic: &Diagnostic, found: &Found<'_>) {
     let (column, start) = match found.tokens.get(found.index) {
         Some(located) => (located.column, located.start),
@@ -86,7 +87,7 @@ fn add_head(note: &mut Note, diagnostic: &Diagnostic, found: &Found<'_>) {
     add_marked(note, found.source, start);
 }
 
-/// Adds what was met in place of what fits, and the hint on it.
+/// Adds what was met instead of what fits, and the hint on it.
 fn add_misfit(note: &mut Note, found: &Found<'_>, search: &Search<'_>) {
     let fits = fitting(found.tokens, found.index);
     add_met(note, found);
@@ -121,7 +122,7 @@ fn hint_for(found: &Found<'_>, scene: &Scene<'_>) -> Option<Hint> {
             let words = on_character(found.source, found.tokens, found.index)?;
             Some(Hint::Text(words))
         }
-        // of any other fault that has a hint here, the token doesn't fit where it stands
+        // of any other fault that has a hint here, the token doesn't fit
         _ => hint_on(scene),
     }
 }
@@ -135,7 +136,7 @@ pub fn add_met(note: &mut Note, found: &Found<'_>) {
     }
 }
 
-/// Adds the limit that a source passes.
+/// Adds the limit that a source exceeds.
 fn add_limit(note: &mut Note, found: &Found<'_>) {
     note.add("  hint: ");
     match found.code {
@@ -181,7 +182,7 @@ fn add_limit(note: &mut Note, found: &Found<'_>) {
             usize::from(found.profile.instructions()),
             " instructions in this profile: leave some out, or make a function of what is repeated",
         ),
-        // no limit is passed: `add_reason` asks others for these
+        // no limit is exceeded: `add_reason` asks others for these
         Code::SyntaxError
         | Code::ReservedWord
         | Code::BadCharacter
@@ -201,7 +202,7 @@ fn add_most(note: &mut Note, before: &str, most: usize, behind: &str) {
     note.add(behind);
 }
 
-/// Returns where the fault's token begins.
+/// Returns how many bytes of the source are before the fault's token.
 pub fn start_of(found: &Found<'_>) -> usize {
     match found.tokens.get(found.index) {
         Some(located) => located.start,

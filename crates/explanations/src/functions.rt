@@ -1,4 +1,4 @@
-//! Hints on functions: one that begins inside another one, their heads, and what stands outside of them.
+//! Hints on functions: one that begins inside another one, their heads, and what is outside of them.
 
 use crate::heads::{is_behind_block, is_call, is_head};
 use crate::hints::Hint;
@@ -7,7 +7,7 @@ use crate::scenes::Scene;
 use derivations::{Item, Symbol};
 use tokens::{Punctuator, Token};
 
-/// Returns the hint on a function that begins where a block is still open.
+/// Returns the hint on a function that begins while a block is still open.
 pub fn on_inner_functions(scene: &Scene<'_>) -> Option<Hint> {
     let begin = scene.pending_at(Item::Exactly(Punctuator::Semicolon))?;
     if scene.is_outside() || is_misspelled(scene, begin) || !is_head(scene.tokens, begin) {
@@ -16,7 +16,7 @@ pub fn on_inner_functions(scene: &Scene<'_>) -> Option<Hint> {
     Some(Hint::Text("a function can't begin inside another one: a `}` may be missing above"))
 }
 
-/// Reports whether the token of an index is a name that is written for a word, and stands nowhere else.
+/// Reports whether the token of an index is a name that is written for a word, and is nowhere else.
 fn is_misspelled(scene: &Scene<'_>, index: usize) -> bool {
     match scene.name(index) {
         Some(name) => scene.is_lone(&name) && meant_by(name.as_bytes()).is_some(),
@@ -24,7 +24,7 @@ fn is_misspelled(scene: &Scene<'_>, index: usize) -> bool {
     }
 }
 
-/// Returns the hint on a call behind the last function.
+/// Returns the hint on a call after the last function.
 pub fn on_outer_calls(scene: &Scene<'_>) -> Option<Hint> {
     let name = scene.pending_at(Item::Part(Symbol::FunctionBlock))?;
     let lacks_block = scene.is_behind_head() && !scene.is_mark(Punctuator::Semicolon);
@@ -32,7 +32,7 @@ pub fn on_outer_calls(scene: &Scene<'_>) -> Option<Hint> {
     (is_stray && !lacks_block).then_some(Hint::Text(STRAY_CALL))
 }
 
-/// What is said of a call outside of functions, behind the last of them.
+/// What is said of a call outside of functions, after the last of them.
 pub const STRAY_CALL: &str = "a call stands inside of a function: a `}` above may be one too many";
 
 /// Returns the hint on the heads of functions.
@@ -51,7 +51,7 @@ pub fn on_heads(scene: &Scene<'_>) -> Option<Hint> {
     None
 }
 
-/// Returns the hint on what stands outside functions.
+/// Returns the hint on what is outside functions.
 pub fn on_the_outside(scene: &Scene<'_>) -> Option<Hint> {
     if !scene.is_outside() {
         return None;

@@ -1,10 +1,10 @@
-//! Heads of functions, and calls that stand where a head might.
+//! Heads of functions, and calls at which a head may have been meant.
 
 use derivations::Located;
 use tokens::{Keyword, Punctuator, Token};
 
-/// Returns the index after the bracket that closes the one right after a token. It isn't inlined, since the page's module is
-/// to be small.
+/// Returns the index after the bracket that closes the one right after a token. It isn't inlined, since the page's
+/// module is to be small.
 #[inline(never)]
 pub fn behind_brackets(tokens: &[Located], before: usize) -> Option<usize> {
     let open = before.saturating_add(1);
@@ -23,7 +23,7 @@ pub fn behind_brackets(tokens: &[Located], before: usize) -> Option<usize> {
     None
 }
 
-/// Reports whether a function's head begins at an index: type words, a name and brackets, and behind them its block, or
+/// Reports whether a function's head begins at an index: type words, a name and brackets, and after them its block, or
 /// the types of its parameters and then its block.
 pub fn is_head(tokens: &[Located], index: usize) -> bool {
     let name = behind_types(tokens, index);
@@ -33,7 +33,7 @@ pub fn is_head(tokens: &[Located], index: usize) -> bool {
     }
 }
 
-/// Returns the index after the type words that stand at an index.
+/// Returns the index after the type words that begin at an index.
 fn behind_types(tokens: &[Located], index: usize) -> usize {
     let mut behind = index;
     for located in from(tokens, index) {
@@ -45,7 +45,7 @@ fn behind_types(tokens: &[Located], index: usize) -> usize {
     behind
 }
 
-/// Reports whether a block begins at an index, or declarations do with a block behind them.
+/// Reports whether a block begins at an index, or declarations do with a block after them.
 fn begins_block(tokens: &[Located], index: usize) -> bool {
     let open = Token::Punctuator(Punctuator::OpenCurly);
     let first = token_at(tokens, index);
@@ -73,7 +73,7 @@ fn is_declaring(token: &Token) -> bool {
     )
 }
 
-/// Reports whether a name outside of functions is called rather than defined: no type word stands before it, and behind
+/// Reports whether a name outside of functions is called rather than defined: no type word is before it, and after
 /// its brackets neither a block nor a type begins.
 pub fn is_call(tokens: &[Located], name: usize) -> bool {
     match behind_brackets(tokens, name) {
@@ -82,7 +82,7 @@ pub fn is_call(tokens: &[Located], name: usize) -> bool {
     }
 }
 
-/// Reports whether a type word stands right before an index.
+/// Reports whether a type word is right before an index.
 fn follows_type(tokens: &[Located], index: usize) -> bool {
     match tokens.get(..index) {
         Some([.., before]) => before.token == Token::Keyword(Keyword::Type),
@@ -90,7 +90,7 @@ fn follows_type(tokens: &[Located], index: usize) -> bool {
     }
 }
 
-/// Reports whether a token may stand behind the brackets of a definition.
+/// Reports whether a token may follow the brackets of a definition.
 fn may_define(token: &Token) -> bool {
     matches!(
         token,
@@ -101,7 +101,7 @@ fn may_define(token: &Token) -> bool {
     )
 }
 
-/// Reports whether a `}` stands before an index.
+/// Reports whether a `}` is before an index.
 pub fn is_behind_block(tokens: &[Located], index: usize) -> bool {
     for located in tokens.get(..index).unwrap_or(tokens) {
         if located.token == Token::Punctuator(Punctuator::CloseCurly) {
@@ -111,7 +111,8 @@ pub fn is_behind_block(tokens: &[Located], index: usize) -> bool {
     false
 }
 
-/// Returns the token of an index: after the last one, the end. It isn't inlined, since the page's module is to be small.
+/// Returns the token of an index: after the last one, the end. It isn't inlined, since the page's module is to be
+/// small.
 #[inline(never)]
 pub fn token_at(tokens: &[Located], index: usize) -> Token {
     match tokens.get(index) {

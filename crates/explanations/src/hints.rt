@@ -38,7 +38,7 @@ impl Hint {
         note.add(behind);
     }
 
-    /// Returns its words, with the number that stands between them.
+    /// Returns its words, with the number between them.
     fn parts(self) -> (&'static str, Option<u32>, &'static str) {
         match self {
             Hint::Text(words) => (words, None, ""),
@@ -89,7 +89,7 @@ pub fn hint_on(scene: &Scene<'_>) -> Option<Hint> {
         .or(on_ends(scene))
 }
 
-/// Returns the hint on `//`, and on `*/` without its begin.
+/// Returns the hint on `//`, and on `*/` without a `/*`.
 fn on_comments(scene: &Scene<'_>) -> Option<Hint> {
     let is_next_slash = scene.token(scene.index.saturating_add(1))
         == Token::Punctuator(Punctuator::Slash);
@@ -135,7 +135,7 @@ fn hexadecimal(digits: &[u8]) -> Option<u32> {
     value
 }
 
-/// Returns the hint on declarations: with values, of parameters in their list, and behind statements.
+/// Returns the hint on declarations: with values, of parameters in their list, and after statements.
 fn on_declarations(scene: &Scene<'_>) -> Option<Hint> {
     if scene.is_mark(Punctuator::Equals) && declares(scene) {
         return Some(Hint::Text(
@@ -161,7 +161,8 @@ fn on_declarations(scene: &Scene<'_>) -> Option<Hint> {
     None
 }
 
-/// Returns the hint on names of a declaration: with a digit in front, with a `-` in them, and without a `,` between them.
+/// Returns the hint on names of a declaration: with a digit in front, with a `-` in them, and without a `,` between
+/// them.
 fn on_declared_names(scene: &Scene<'_>) -> Option<Hint> {
     let is_number = matches!(scene.met(), Token::Constant(_));
     if is_number && scene.fits(&Token::Name(Name::new())) && !scene.kinds.expression {
@@ -193,12 +194,12 @@ fn declares(scene: &Scene<'_>) -> bool {
     scene.wants(Punctuator::Semicolon) && (is_typed || is_external)
 }
 
-/// Reports whether the next token stands in a list of parameters.
+/// Reports whether the next token is in a list of parameters.
 fn is_in_list(scene: &Scene<'_>) -> bool {
     scene.wants(Punctuator::CloseRound) || scene.wants_item(Item::Naming(Role::Parameter))
 }
 
-/// Operators as beginners spell them: two marks, of which the second doesn't fit, and what is meant.
+/// Operators as beginners spell them: two punctuators, of which the second doesn't fit, and what is meant.
 static MISSPELLED: [(Punctuator, Punctuator, &str); 6] = [
     (Punctuator::Less, Punctuator::Greater, "`!=` is meant"),
     (Punctuator::Equals, Punctuator::Less, "`<=` is meant"),
@@ -212,7 +213,7 @@ static MISSPELLED: [(Punctuator, Punctuator, &str); 6] = [
     (Punctuator::Equals, Punctuator::Plus, "`+=` is meant"),
 ];
 
-/// Returns the hint on marks that are no operators here.
+/// Returns the hint on punctuators that are no operators here.
 fn on_operators(scene: &Scene<'_>) -> Option<Hint> {
     for (first, second, meant) in &MISSPELLED {
         if scene.follows_mark(*first) && scene.is_mark(*second) {
@@ -235,8 +236,8 @@ fn on_operators(scene: &Scene<'_>) -> Option<Hint> {
     None
 }
 
-/// Returns the hint on a name that is written for a word: the one before, the one met, or that of the statement. A name that
-/// stands at several places is no misspelled word.
+/// Returns the hint on a name that is written for a word: the one before, the one met, or that of the statement. A name
+/// that occurs several times is no misspelled word.
 fn on_names(scene: &Scene<'_>) -> Option<Hint> {
     let names = [
         scene.index.saturating_sub(1),
@@ -314,7 +315,7 @@ fn on_brackets(scene: &Scene<'_>) -> Option<Hint> {
     None
 }
 
-/// Reports whether a `;` stands where a `,` may, with a whole argument behind it.
+/// Reports whether a `;` is at a point at which a `,` may be, with a whole argument after it.
 fn parts_arguments(scene: &Scene<'_>) -> bool {
     let behind = scene.token(scene.index.saturating_add(2));
     let ends = matches!(

@@ -1,5 +1,5 @@
-//! Explains the faults of robots' sources in words for beginners, and warns of what compiles and is hardly meant. No memory is
-//! asked for: the caller has the source's tokens, which `derivations` finds.
+//! Explains the faults of robots' sources in words for beginners, and warns of what compiles but is probably a mistake.
+//! No memory is asked for: the caller has the source's tokens, which `derivations` finds.
 #![tactic(auto)]
 
 mod branches;

@@ -5,7 +5,7 @@ use crate::spelling::{is_near, is_same_but_for_case};
 /// What a name may be written for.
 #[derive(Clone, Copy)]
 pub enum Lookalike {
-    /// A misspelled word: what is said of it behind 'perhaps'.
+    /// A misspelled word: what is said of it after 'perhaps'.
     Word(&'static str),
     /// Something that this language says otherwise: a hint on it.
     Foreign(&'static str),

@@ -71,7 +71,7 @@ fn add_reason(note: &mut Note, found: &Found<'_>, defined: &[usize], name: &Name
     }
 }
 
-/// Returns the hint on a name that was hardly meant to be defined: it stands in a comment that has ended, or a call stands
+/// Returns the hint on a name that probably wasn't meant to be defined: it is in a comment that has ended, or a call is
 /// outside of functions.
 fn on_stray_code(found: &Found<'_>) -> Option<Hint> {
     if matches!(found.code, Code::FunctionNotDefined | Code::NoMainFunction) {
@@ -119,7 +119,7 @@ pub fn name_at(tokens: &[Located], index: usize) -> Option<Name> {
     }
 }
 
-/// Adds where a function is defined first.
+/// Adds the position of a function's first definition.
 fn add_first(note: &mut Note, tokens: &[Located], defined: &[usize], name: &Name) {
     for index in defined {
         if let Some(first) = tokens.get(*index)
@@ -212,7 +212,7 @@ fn add_unknown(note: &mut Note, found: &Found<'_>, name: &Name) {
     }
 }
 
-/// Reports whether a name stands somewhere without a bracket behind it.
+/// Reports whether a name is somewhere without a bracket after it.
 fn is_variable(tokens: &[Located], name: &Name) -> bool {
     let open = Token::Punctuator(Punctuator::OpenRound);
     let mut follows_name = false;

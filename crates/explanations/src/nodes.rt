@@ -28,11 +28,11 @@ pub enum Kind {
     Store(Var, StoreOp),
     /// `++` or `--`.
     Step(Var),
-    /// A sign before an operand.
+    /// A unary operator.
     Sign,
     /// A binary operator.
     Binary(Op),
-    /// A call with so many arguments.
+    /// A call with this many arguments.
     Call(Callee, usize),
     /// An expression that is a statement.
     Evaluate,
@@ -44,7 +44,7 @@ pub enum Kind {
     Return,
 }
 
-/// A node. Those below it stand before it, from `first` on.
+/// A node. Those below it are before it, from `first` on.
 #[derive(Clone, Copy)]
 pub struct Node {
     /// What it is.
@@ -53,7 +53,7 @@ pub struct Node {
     pub token: usize,
     /// The index of the first node below it, or its own.
     pub first: usize,
-    /// Where its second part begins: the right side of an operator, or the body of an `if` or a `while`.
+    /// The index of its second part: the right side of an operator, or the body of an `if` or a `while`.
     pub middle: usize,
     /// Whether its value is used: that of an expression that is a statement isn't.
     pub is_used: bool,
@@ -109,8 +109,8 @@ pub struct Body {
     pub falls: bool,
 }
 
-/// What still has no node above it: a node, or where a body begins, with the token that its `if`, `while` or function is
-/// named by.
+/// What still has no node above it: a node, or the beginning of a body, with the token that its `if`, `while` or
+/// function is named by.
 #[derive(Clone, Copy)]
 enum Root {
     Node(usize),
@@ -341,13 +341,13 @@ impl Nodes {
         self.get(index)?.value
     }
 
-    /// Adds the node of a sign.
+    /// Adds the node of a unary operator.
     fn sign(&mut self, action: SemanticAction, token: usize) {
         let operand = self.last_value();
         let value = match action {
             SemanticAction::Negate => operated(Op::Subtract, Some(0), operand),
             SemanticAction::Not => operated(Op::Equal, operand, Some(0)),
-            // (it is called of the three signs alone: this is `~`)
+            // (it is called for the three unary operators alone: this is `~`)
             _ => operated(Op::BitXor, operand, Some(-1)),
         };
         self.above(Kind::Sign, token, true);
@@ -449,8 +449,8 @@ impl Nodes {
         self.add_branch(Kind::While, body, is_sure);
     }
 
-    /// Takes the body of an `if` without `else` or of a `while`, and reports whether its condition is known and isn't 0.
-    /// The body doesn't run if it is known to be 0.
+    /// Takes the body of an `if` without `else` or of a `while`, and reports whether its condition is known and isn't
+    /// 0. The body doesn't run if it is known to be 0.
     fn take_tested(&mut self) -> (Taken, bool) {
         let end = self.list.len();
         let body = self.take_body(end);
@@ -547,7 +547,7 @@ impl Nodes {
         }
     }
 
-    /// Returns where the nodes below one of an index begin.
+    /// Returns the index of the first node below one of an index.
     fn first_of(&self, index: usize) -> usize {
         match self.get(index) {
             Some(node) => node.first,

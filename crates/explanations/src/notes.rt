@@ -53,7 +53,7 @@ impl Note {
         self.push('`');
     }
 
-    /// Adds a place, as a line and a column.
+    /// Adds a position, as a line and a column.
     pub(crate) fn place(&mut self, line: u32, column: u32) {
         self.number(u64::from(line));
         self.push(':');

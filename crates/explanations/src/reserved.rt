@@ -136,7 +136,7 @@ fn follows(source: &[u8], located: &Located, byte: u8) -> bool {
     source.get(located.end) == Some(&byte)
 }
 
-/// Reports whether the last of some tokens is a number, and nothing stands between it and a further token.
+/// Reports whether the last of some tokens is a number, and nothing is between it and a further token.
 fn follows_number(tokens: &[Located], located: &Located) -> bool {
     match tokens {
         [.., before] => {

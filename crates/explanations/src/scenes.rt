@@ -7,7 +7,7 @@ use crate::wanted::{Kinds, has};
 use derivations::{Derivation, Item, Located, Pending, Symbol};
 use tokens::{Keyword, Name, Punctuator, Token};
 
-/// A place at which a token doesn't fit.
+/// A position at which a token doesn't fit.
 #[derive(Clone, Copy)]
 pub struct Scene<'a> {
     /// The source's bytes.
@@ -55,7 +55,7 @@ impl<'a> Scene<'a> {
         token_at(self.tokens, index)
     }
 
-    /// Returns the token before the one that doesn't fit, with its place.
+    /// Returns the token before the one that doesn't fit, with its position.
     pub fn before(&self) -> Option<&'a Located> {
         self.tokens.get(self.index.checked_sub(1)?)
     }
@@ -69,17 +69,17 @@ impl<'a> Scene<'a> {
         }
     }
 
-    /// Reports whether the token before is this mark.
+    /// Reports whether the token before is this punctuator.
     pub fn follows_mark(&self, punctuator: Punctuator) -> bool {
         self.follows(&Token::Punctuator(punctuator))
     }
 
-    /// Reports whether the token before is this mark, and nothing stands between.
+    /// Reports whether the token before is this punctuator, and nothing is between.
     pub fn touches_mark(&self, punctuator: Punctuator) -> bool {
         self.follows_mark(punctuator) && self.touches()
     }
 
-    /// Reports whether nothing stands between the token before and the one that doesn't fit.
+    /// Reports whether nothing is between the token before and the one that doesn't fit.
     pub fn touches(&self) -> bool {
         match (self.before(), self.tokens.get(self.index)) {
             (Some(before), Some(here)) => before.end == here.start,
@@ -87,7 +87,7 @@ impl<'a> Scene<'a> {
         }
     }
 
-    /// Reports whether the token that doesn't fit is this mark.
+    /// Reports whether the token that doesn't fit is this punctuator.
     #[inline(never)]
     pub fn is_mark(&self, punctuator: Punctuator) -> bool {
         self.met() == Token::Punctuator(punctuator)
@@ -104,7 +104,7 @@ impl<'a> Scene<'a> {
         has(self.fitting, token)
     }
 
-    /// Reports whether this mark fits.
+    /// Reports whether this punctuator fits.
     pub fn fits_mark(&self, punctuator: Punctuator) -> bool {
         self.fits(&Token::Punctuator(punctuator))
     }
@@ -114,7 +114,7 @@ impl<'a> Scene<'a> {
         self.stack.last().copied()
     }
 
-    /// Reports whether the derivation wanted this mark first.
+    /// Reports whether the derivation wanted this punctuator first.
     pub fn wants(&self, punctuator: Punctuator) -> bool {
         self.wants_item(Item::Exactly(punctuator))
     }
@@ -150,7 +150,7 @@ impl<'a> Scene<'a> {
         }
     }
 
-    /// Reports whether a name stands at no more than one place.
+    /// Reports whether a name occurs at most once.
     pub fn is_lone(&self, name: &Name) -> bool {
         let mut places: usize = 0;
         for located in self.tokens {

@@ -25,8 +25,8 @@ impl<'a> Search<'a> {
         }
     }
 
-    /// Returns the index of the token of the source's fault, and stops there: the first that has this fault, or else the
-    /// last token.
+    /// Returns the index of the token of the source's fault, and stops there: the first that has this fault, or else
+    /// the last token.
     pub fn find(&mut self, wanted: &Diagnostic) -> usize {
         for _ in 0..u64::MAX {
             match self.walk.step() {

@@ -13,7 +13,7 @@ pub fn is_near(left: &[u8], right: &[u8]) -> bool
     }
 }
 
-/// Reports whether two texts differ at their begin by one letter, and are the same after it.
+/// Reports whether two texts differ at their beginning by one letter, and are the same after it.
 fn differs_once(left: &[u8], right: &[u8]) -> bool
     ensures { result ≡ differ_once left.now right.now }
 {

@@ -76,7 +76,8 @@ fn has_effect(node: &Node) -> bool {
     }
 }
 
-/// Reports whether an intrinsic function does more than answer. `rand` takes one of the random numbers, which are in a row.
+/// Reports whether an intrinsic function does more than answer. `rand` takes one of the random numbers, which are in a
+/// row.
 fn acts(intrinsic: Intrinsic) -> bool {
     matches!(
         intrinsic,

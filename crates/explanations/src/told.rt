@@ -26,7 +26,7 @@ pub fn add_token(note: &mut Note, source: &[u8], located: &Located) {
     }
 }
 
-/// Adds the character that a place of a source has: one that isn't ASCII by its number in Unicode.
+/// Adds the character at a position of a source: one that isn't ASCII by its number in Unicode.
 fn add_character(note: &mut Note, source: &[u8], at: usize) {
     match character_at(source, at) {
         Some(character) => add_known(note, character),
@@ -73,7 +73,7 @@ fn add_hexadecimal(note: &mut Note, number: u32) {
     }
 }
 
-/// Returns the character that begins at a place of a source, if its bytes are one in UTF-8.
+/// Returns the character that begins at a position of a source, if its bytes are one in UTF-8.
 pub fn character_at(source: &[u8], at: usize) -> Option<char> {
     for size in 1..5usize {
         let bytes = source.get(at..at.saturating_add(size))?;

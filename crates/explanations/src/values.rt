@@ -1,4 +1,4 @@
-//! Warnings about operators and assignments that are hardly meant as they are written.
+//! Warnings about operators and assignments that probably aren't meant as they are written.
 
 use crate::heads::token_at;
 use crate::nodes::{Kind, Node, Nodes};
@@ -112,12 +112,12 @@ pub fn warn_of_store(out: &mut Warnings, subject: &Subject<'_>, node: &Node) {
     }
 }
 
-/// Reports whether the token of an index is this mark.
+/// Reports whether the token of an index is this punctuator.
 fn is_mark(tokens: &[Located], index: usize, punctuator: Punctuator) -> bool {
     token_at(tokens, index) == Token::Punctuator(punctuator)
 }
 
-/// Reports whether nothing stands between the token of an index and the one before it.
+/// Reports whether nothing is between the token of an index and the one before it.
 fn touches(tokens: &[Located], index: usize) -> bool {
     match (tokens.get(index.saturating_sub(1)), tokens.get(index)) {
         (Some(before), Some(here)) => before.end == here.start,

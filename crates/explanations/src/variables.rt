@@ -1,5 +1,5 @@
-//! Warnings about variables: set and never read, read and never set or before they are set, and names of the file's that
-//! mean another variable.
+//! Warnings about variables: set and never read, read and never set or before they are set, and names of the file's
+//! that mean another variable.
 
 use crate::misnamed::{is_intrinsic, may_mean, name_at};
 use crate::nodes::{Body, Kind, Node, Nodes};
@@ -9,14 +9,14 @@ use derivations::Located;
 use grammar::{MOST_NAMES, StoreOp, Var};
 use tokens::Name;
 
-/// Where a variable of a function is first read and first set, by the indices of its nodes.
+/// The first read and the first setting of a function's variable, by the indices of their nodes.
 #[derive(Clone, Copy, Default)]
 struct Use {
     read: Option<usize>,
     set: Option<usize>,
 }
 
-/// Where the variables of a function are first read and first set, by their numbers.
+/// The first read and the first setting of a function's variables, by their numbers.
 type Uses = [Use; MOST_NAMES];
 
 /// Warns of the variables of all functions.
@@ -113,7 +113,7 @@ fn meant(subject: &Subject<'_>, uses: &Uses, token: usize, name: &Name) -> Meant
     }
 }
 
-/// Reports whether a variable of the file that is declared behind a token has this name.
+/// Reports whether a variable of the file that is declared after a token has this name.
 fn is_declared_below(subject: &Subject<'_>, token: usize, name: &Name) -> bool {
     for external in subject.nodes.externals() {
         if *external > token && name_at(subject.tokens, *external) == Some(*name) {
@@ -156,7 +156,7 @@ fn may_be_meant(tokens: &[Located], index: usize, name: &Name) -> bool {
     }
 }
 
-/// Finds where the variables of a function are read and set.
+/// Finds at which nodes the variables of a function are read and set.
 fn uses_of(nodes: &Nodes, body: &Body) -> Uses {
     let mut uses = [Use::default(); MOST_NAMES];
     for (number, node) in nodes.within(body.first, body.end).iter().enumerate() {

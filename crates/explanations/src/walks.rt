@@ -1,10 +1,10 @@
-//! A walk along the derivation of a source, with what each name means where it stands.
+//! A walk along the derivation of a source, with what each name means at its token.
 
 use derivations::{Derivation, Item, Located, Role, SemanticAction, StepEnd};
 use grammar::{Callee, Code, MOST_LEVELS, Profile, Scope, Var, lexical_error_code};
 use tokens::{Keyword, Name, Token};
 
-/// What a name means where it stands.
+/// What a name means at its token.
 #[derive(Clone, Copy)]
 pub enum Meaning {
     /// A variable is mentioned.
@@ -193,7 +193,7 @@ impl<'a> Walk<'a> {
         }
     }
 
-    /// Ends a function, whose code may be the one that is too much.
+    /// Ends a function, whose code may be what exceeds the limit.
     fn define(&mut self, chosen_at: usize, token: usize) -> Event {
         self.scope.end_definition();
         if self.code.saturating_add(2) > usize::from(self.profile.instructions()) {

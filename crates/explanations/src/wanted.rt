@@ -1,4 +1,4 @@
-//! What may stand at a place, in few words, by the tokens that fit there.
+//! What may come at a position, in few words, by the tokens that fit there.
 
 use crate::notes::Note;
 use arrayvec::ArrayVec;
@@ -6,10 +6,10 @@ use derivations::{Located, MOST_FITTING, spelled};
 use grammar::{operator_from, store_operator};
 use tokens::{Keyword, Punctuator, Token};
 
-/// A kind of what may stand at a place.
+/// A kind of what may come at a position.
 #[derive(Clone, Copy, PartialEq, Eq)]
 enum Wanted {
-    /// This mark.
+    /// This punctuator.
     Exactly(Punctuator),
     /// A name alone.
     Name,
@@ -35,14 +35,14 @@ impl Default for Wanted {
     }
 }
 
-/// Which large kinds fit at a place: a token of theirs isn't named alone.
+/// Which large kinds fit at a position: a token of theirs isn't named alone.
 #[derive(Clone, Copy)]
 pub struct Kinds {
     /// A statement may begin there.
     pub statement: bool,
     /// An expression may begin there.
     pub expression: bool,
-    /// A binary operator may stand there.
+    /// A binary operator may come there.
     pub operator: bool,
 }
 
@@ -70,7 +70,7 @@ impl Kinds {
         }
     }
 
-    /// Returns the kind of what begins an expression: this one, if none may stand there.
+    /// Returns the kind of what begins an expression: this one, if none may come there.
     fn operand(self, alone: Wanted) -> Wanted {
         if self.statement {
             Wanted::Statement
@@ -81,7 +81,7 @@ impl Kinds {
         }
     }
 
-    /// Returns the kind of a mark.
+    /// Returns the kind of a punctuator.
     fn mark(self, punctuator: Punctuator) -> Wanted {
         let token = Token::Punctuator(punctuator);
         match punctuator {
@@ -135,7 +135,7 @@ pub fn has(fitting: &[Located], token: &Token) -> bool {
     false
 }
 
-/// Adds what may stand at a place, by the tokens that fit there: marks and names first.
+/// Adds what may come at a position, by the tokens that fit there: punctuators and names first.
 pub fn add_wanted(note: &mut Note, fitting: &[Located]) {
     let kinds = Kinds::of(fitting);
     let mut wanted: ArrayVec<Wanted, MOST_FITTING> = ArrayVec::new();

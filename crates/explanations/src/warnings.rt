@@ -14,7 +14,7 @@ use arrayvec::ArrayVec;
 use derivations::Located;
 use grammar::Profile;
 
-/// The most warnings of a source: those that are found after so many are left out.
+/// The most warnings of a source: those that are found after this many are left out.
 const MOST_WARNINGS: usize = 1000;
 
 /// A source that compiles: its tokens, and the nodes that were made of them.
@@ -73,7 +73,7 @@ impl Default for Warning {
 }
 
 impl Warning {
-    /// Returns the warning as a line, with the place of its token, which is one of these: the source's.
+    /// Returns the warning as a line, with the position of its token, which is one of these: the source's.
     pub fn note(&self, tokens: &[Located]) -> Note {
         let mut note = Note::new();
         if let Some(located) = tokens.get(self.token) {
@@ -161,7 +161,7 @@ impl Warnings {
         self.list.as_slice()
     }
 
-    /// Adds a warning. Those about a token are told in the order in which they are found. It isn't inlined, since the page's
+    /// Adds a warning. Those about a token are in the order in which they are found. It isn't inlined, since the page's
     /// module is to be small.
     #[inline(never)]
     pub(crate) fn warn(&mut self, token: usize, said: Said) {

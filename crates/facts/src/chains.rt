@@ -22,7 +22,7 @@ pub struct Chain {
 }
 
 impl Chain {
-    /// Makes a chain of functions, of which the last one calls the one behind so many of them, if it calls one.
+    /// Makes a chain of functions, of which the last one calls the one after so many of them, if it calls one.
     pub fn new(links: Vec<Link>, again: Option<usize>) -> Chain {
         Chain { links, again }
     }

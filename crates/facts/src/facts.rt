@@ -53,7 +53,7 @@ impl Facts {
     ///
     /// # Errors
     ///
-    /// Those of `parse`; `Memory` also where a list of parts was refused it.
+    /// Those of `parse`; `Memory` also if a list of parts was refused it.
     pub fn of(alloc: Global, source: &[u8], profile: Profile) -> Result<Facts, ParseFault> {
         let bound = bounds(alloc, &mut MemoryFeed::new(source, WINDOW_BYTES), profile)?;
         let numbers = chain(alloc, &mut MemoryFeed::new(source, WINDOW_BYTES), profile)?;

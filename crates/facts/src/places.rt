@@ -75,7 +75,7 @@ impl Places {
     }
 }
 
-/// Returns how many braces are open behind a token.
+/// Returns how many braces are open after a token.
 fn depth_behind(depth: u32, token: &Token) -> u32 {
     match token {
         Token::Punctuator(Punctuator::OpenCurly) => depth.saturating_add(1),

@@ -57,7 +57,7 @@ pub fn function_at(addresses: &[u16], address: usize) -> usize
 }
 
 /// Reports whether a function that begins at `begin` is nearer to an address than another one: it begins there or
-/// before, and the other one begins earlier, or behind the address.
+/// before, and the other one begins earlier, or after the address.
 fn is_nearer(begin: usize, other: usize, address: usize) -> bool
     ensures { IsTrue result ↔ ((begin ≤ address) × ((other < begin) ⊎ (address < other))) }
 {

@@ -12,9 +12,9 @@ use grammar::{Action, Op, Watch};
 /// The most values that are known at once.
 const MOST_KNOWN: usize = 64;
 
-/// A folder: it finds out which code is constant, beside a builder that takes each action as it is.
+/// A folder: it finds which code is constant, beside a builder that takes each action as it is.
 ///
-/// It passes no value on in place of the actions that compute it: a builder has to represent the file's actions, and a
+/// It passes no value on instead of the actions that compute it: a builder has to represent the file's actions, and a
 /// `Maker` with others gives no program.
 #[derive(Drop)]
 pub struct Folder {

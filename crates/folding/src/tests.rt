@@ -33,7 +33,7 @@ fn folded_code_of_small_robots(rt: HostRuntime) -> Result<(), Fail> {
     9 NOP
 ",
         ),
-        // signs, which are operators on constants
+        // unary operators, which are operators on constants
         (
             Profile::first(),
             b"main(){ return -(2 + 3) + !4 + ~0; }",

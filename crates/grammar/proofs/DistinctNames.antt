@@ -1,4 +1,4 @@
--- Names that are there once, and their places.
+-- Names that are there once, and their indices.
 use Rattle.std.proofs.Common.{◌≡◌, ℕ, zero, suc, ◌+◌, ◌<◌, ◌⊎◌, List, [], ◌∷◌, ◌++◌, refl, sym, ap, ◌∙◌, subst, inl, inr, Bool, true, false, arith, length, cond, lt-ltb}
 use Rattle.std.proofs.lemmas.Bool.{false≢true}
 use Rattle.std.proofs.lemmas.Bool.Decides.{nat_tests}
@@ -46,7 +46,7 @@ distinct_front (x ∷ ns) n h = (λ i. h.0 (among_front x n ns i), distinct_fron
     among_front k m (y ∷ xs) (inl e) = inl e
     among_front k m (y ∷ xs) (inr i) = inr (among_front k m xs i)
 
--- Places of names.
+-- Indices of names.
 
 pub less_of : (n m : ℕ) → nat_lt n m ≡ true → n < m
 less_of n m h = grind (arith, nat_tests)
@@ -55,7 +55,7 @@ less_of n m h = grind (arith, nat_tests)
 abbrev pub names : List FunctionNames → List (List ℕ)
 names functions = map (λ (f : FunctionNames). f.name) functions
 
--- what is there has a place
+-- what is there has an index
 has_place : (name : List ℕ) (all : List (List ℕ)) → IsAmong name all → position_or_len (bytes_eq name) all < length all
 has_place name [] i = absurd i
 has_place name (x ∷ all) i = at (λ among. has_place name all among) (bytes_eq name x) refl i
@@ -75,7 +75,7 @@ not_named name all none i =
     at : Some (position_or_len (bytes_eq name) all) ≡ None → ⊥
     at e = cc
 
--- in its place the name stands
+-- the name is at its index
 stands_there : (name : List ℕ) (all : List (List ℕ)) → position_or_len (bytes_eq name) all < length all
     → slice_get all (position_or_len (bytes_eq name) all) ≡ Some name
 stands_there name [] h = absurd (omega (arith, h))

@@ -51,7 +51,7 @@ pub fails_stuck : (profile : Profile) (s : State) (rest : List LocatedToken) (c 
 fails_stuck profile s rest c still faults =
     record { fault = fault rest c; first = stuck profile s (fault rest c) still faults; line = refl; code = refl }
 
--- a fault fits nothing
+-- a lexical error fits nothing
 pub at_fault : (profile : Profile) (stack : List Item) (rest : List LocatedToken) (values : List Value) (scope : Scope)
     (functions : List Definition) →
     is_fault (next_token rest) ≡ true →
@@ -285,7 +285,7 @@ too_deep profile symbol m items stack located_token rest values scope functions 
   code = refl;
 }
 
--- By a word.
+-- By a keyword.
 pub too_deep_word : (profile : Profile) (symbol : Symbol) (w : Keyword) (items stack : List Item)
     (located_token : LocatedToken) (rest : List LocatedToken) (values : List Value) (scope : Scope)
     (functions : List Definition) →

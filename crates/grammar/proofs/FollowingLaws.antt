@@ -215,7 +215,7 @@ behind_body (IfElseStatement c s t rest) o = behind_body rest (settled false o)
 behind_body (While c s rest) o = behind_body rest (settled false o)
 behind_body (Return e rest) o = behind_body rest (settled (is_number 0 (origin_of e)) o)
 
--- an expression at a statement's place
+-- an expression at a point at which a statement may come
 value_leads : (e : Expr) (o : Opened) → may_take_statement o ≡ true → InExpr 64 64 64 e →
     open_count o + nesting e ≤ 200 →
     Leads (expr_actions e) o (AValue (origin_of e) ∷ o)

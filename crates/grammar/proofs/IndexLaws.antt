@@ -32,7 +32,7 @@ stays name number b index e most =
 
 pub ruleset notes = (noted, stays)
 
--- no function with a name is before the one from which on it is looked for
+-- no function with a name is before the one from which on it is searched for
 pub none_before : (name : List ℕ) (functions : List FunctionNames) (index : List ℕ) → IsIndexed functions index →
     NoFunctionBefore (start_of name index) name functions
 none_before name functions index kept =

@@ -21,7 +21,7 @@ pub judges_other : {A : Type 0} (result : Result A BuildFault) (denied : Type 0)
 judges_other result denied before (EndFunction variables) e refuses = absurd (cc)
 judges_other result denied before action e refuses = refuses
 
--- the end of a function where the code fits
+-- the end of a function if the code fits
 pub measures_fitting : {A : Type 0} (result : Result A BuildFault) (denied : Type 0) (before : Representation) →
     FitsWithin before → Refuses result denied → Measures result denied before
 measures_fitting (Ok x) denied before fits refuses = fits

@@ -135,7 +135,7 @@ choice_inner Arguments next after h = refl
 choice_inner MoreArguments (token.Punctuator punctuator.Comma) after h = refl
 choice_inner MoreArguments next after h = refl
 
--- What an inner name or rule does to the scope.
+-- What an inner name or semantic action does to the scope.
 
 kept : (scope : Scope) → KeepsFunction scope scope
 kept scope = record { number = refl; begun = refl; name = refl; parameters = refl }

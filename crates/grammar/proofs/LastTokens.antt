@@ -26,7 +26,7 @@ cut_ends (suc n) line place [] t h = last-is_last token.End line (at_end (here l
 cut_ends (suc n) line place (b ∷ bytes) t h = by (front (b ∷ bytes)) (front-is_piece (b ∷ bytes)) (λ count c.
     let p = ahead_after count a in
     let e = length-ahead_after count a in
-    cut_ends n p.line p.place p.bytes p.too_long (omega (arith, e, h, c)))
+    cut_ends n p.line p.offset p.bytes p.too_long (omega (arith, e, h, c)))
   where
     a : Ahead
     a = here line place (b ∷ bytes) t
@@ -48,4 +48,4 @@ pub tokens_end : (bytes : List ℕ) → EndsWithLast (tokens bytes)
 unfolding tokens located_tokens
 tokens_end bytes =
     let a = ahead_of_source (source bytes) in
-    cut_ends (suc (length a.bytes)) a.line a.place a.bytes a.too_long (omega arith)
+    cut_ends (suc (length a.bytes)) a.line a.offset a.bytes a.too_long (omega arith)

@@ -75,7 +75,7 @@ some_same c d e = cc
 pub same_code : (c d : Code) → code_number c ≡ code_number d → c ≡ d
 same_code c d e = some_same c d (sym (found c) ∙ ap (λ n. slice_get all_codes n) e ∙ found d)
 
--- two faults that each come first are at one place, with one code
+-- two faults that each come first are at one token, with one code
 pub same_place : (f g : Fault) → is_first f g ≡ true → is_first g f ≡ true →
     (length f.rest ≡ length g.rest) × (f.code ≡ g.code)
 same_place f g p q =

@@ -1,4 +1,4 @@
--- Elements of lists by their places.
+-- Elements of lists by their indices.
 use Rattle.std.proofs.Common.{◌≡◌, ℕ, zero, suc, ◌<◌, List, [], ◌∷◌, ◌++◌, refl, ap, ap₂, arith, length}
 use Rattle.std.specs.Prelude.{Some, slice_get, set, map}
 

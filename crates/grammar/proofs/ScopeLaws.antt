@@ -199,7 +199,7 @@ not_begun functions lines begun kept = by (list_any (λ k. eqb k (length functio
         absurd (omega (arith, less))
     by false e = sym e
 
--- a function of the pools changes in its place
+-- a function of the pools changes in place
 pub ruleset in_place = (take-set-lt)
 
 pub ruleset beginnings = (kept_begun, room_begun)

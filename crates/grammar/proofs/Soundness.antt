@@ -23,7 +23,7 @@ use Rattle.grammar.proofs.DistinctNames.{among_append, distinct_append, less_of,
 use Rattle.grammar.proofs.Places.{get_append}
 use Rattle.grammar.proofs.Widening.{IsWider, expr_wider, args_wider, body_wider, variable_wider, callable_wider, function_wider}
 
--- Trees among so many names.
+-- Trees among this many names.
 
 pub record IsCallIn (e l n : ℕ) (f : Callee) (args : Args) : Type 0 where
   pub callable : IsCallable n f
@@ -72,7 +72,7 @@ pub last_body_in : (e l n : ℕ) (values : List Value) → ValuesIn e l n values
 last_body_in e l n (ABody b ∷ values) h = h.0
 last_body_in e l n values h = tt
 
--- what a rule makes is among the same names
+-- what a semantic action makes is among the same names
 pub made_in : (e l n : ℕ) (rule : SemanticAction) (values : List Value) → ValuesIn e l n values →
     ValuesIn e l n (trees_after rule values)
 made_in e l n (Operate o) (AnExpr b ∷ AnExpr a ∷ values) h = ((h.1.0, h.0), h.1.1)
@@ -126,7 +126,7 @@ not_among k (n ∷ ns) e h = at_test (λ g i. not_among k ns g i) (n == k) refl 
     at_test again false is h (inl same) = differs k (subst (λ (x : ℕ). (x == k) ≡ false) (sym same) is)
     at_test again false is h (inr i) = again h i
 
--- Places of names.
+-- Indices of names.
 
 chosen_below : (n m k : ℕ) (b : Bool) → nat_lt n m ≡ b → cond b (Some n) None ≡ Some k → k < m
 chosen_below n m k true less e = let same : n ≡ k = cc in subst (λ (x : ℕ). x < m) same (less_of n m less)
@@ -220,7 +220,7 @@ external_grows name scope ds k less new =
       same = λ n name e. e;
     }
 
--- one variable more, of which so many are parameters
+-- one variable more, of which this many are parameters
 local_grows : (name : List ℕ) (parameters : ℕ) (scope : Scope) (ds : List Definition) → Known scope ds →
     length scope.current.variables < 64 → parameters ≤ length scope.current.variables + 1 →
     (IsAmong name scope.current.variables → ⊥) →
@@ -418,7 +418,7 @@ pub record BeginsWell (name : List ℕ) (line : ℕ) (scope : Scope) (ds : List 
   pub begun : (begin_definition name line scope).begun ≡ scope.begun ++ number_or_next name scope ∷ []
   pub named : slice_get (names (begin_definition name line scope).functions) (number_or_next name scope) ≡ Some name
 
--- the name for a number stands at it after its mention
+-- the name for a number is at it after its mention
 named_at : (name : List ℕ) (line : ℕ) (scope : Scope) → is_intrinsic name ≡ false →
     slice_get (names (with_function name line scope).functions) (number_or_next name scope) ≡ Some name
 named_at name line scope own = at_place (function_number name scope) refl

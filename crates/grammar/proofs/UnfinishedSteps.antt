@@ -353,7 +353,7 @@ chop_place o (InFirst c b outer) = refl
 chop_place o (InSecond c s b outer) = refl
 chop_place o (InLoop c b outer) = refl
 
--- a value over another is dropped where v++ and v-- end
+-- at the end of v++ and v-- a value over another is dropped
 chop_step : (x y : Expr) (h : Hole) (q : Opened) → HoleFits (Behind x (Behind y h)) →
     follow Chop (open_hole (Behind x (Behind y h))) ≡ Some q → open_count q ≤ 200 → Steps Chop (Behind x (Behind y h)) q
 chop_step (Assign op v e) y h q fits is small =

@@ -3,7 +3,8 @@ use Rattle.std.specs.Prelude.{ℕ, ◌+◌, ◌-◌, ◌*◌, List, [], ◌∷�
 use Rattle.grammar.specs.Derivation.{State}
 use Rattle.grammar.specs.Grammar.{Item, AnEnd, Part, Make, Close, Symbol, Source, Types, Head, More, Parameters, ParameterTypes, FunctionBlock, Block, Declarations, Statements, Statement, ElsePart, Back, Expression, Level, Tail, Unary, Primary, Arguments, MoreArguments}
 
--- each item costs a step; the end's makes up for what follows it, and of two symbols for the rule that is all they push
+-- each item costs a step; the end's makes up for what follows it, and of two symbols for the semantic action that is
+-- all they push
 abbrev pub cost : Item → ℕ
 cost AnEnd = 41
 cost (Part Source) = 60

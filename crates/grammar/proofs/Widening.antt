@@ -1,4 +1,4 @@
--- What is among so many names is among more.
+-- What is among this many names is among more.
 use Rattle.std.proofs.Common.{ℕ, ◌≤◌, arith, length}
 use Rattle.grammar.specs.declared.resolved_names.Callee.{Callee}
 use Rattle.grammar.specs.declared.resolved_names.Callee.TheVariants as callee

@@ -15,8 +15,8 @@ abbrev pub ends_function : Action → Bool
 ends_function (EndFunction variables) = true
 ends_function _ = false
 
--- If the right side of && and || is left out: how many instructions are made between the sides. That generation makes
--- so many is the law `length_of_code` of `code`.
+-- How many instructions are made between the sides of && and ||, if the right side may be left out. The law
+-- `length_of_code` of `code` says that generation makes this many.
 abbrev pub middle_length : Op → ℕ
 middle_length op.And = 1
 middle_length op.Or = 4

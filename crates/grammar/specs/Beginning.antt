@@ -7,8 +7,8 @@ use Rattle.grammar.specs.NameLimits.{most_names, most_open}
 use Rattle.grammar.specs.Nesting.{body_nesting}
 use Rattle.grammar.specs.Resolved.{InBody}
 
--- a function whose numbers are within the limits, its own among them, and in which no more calls, ifs, whiles and right
--- sides of && and || are open at once than may be
+-- a function whose numbers are within the limits, its own among them, and in which at most as many calls, ifs, whiles
+-- and right sides of && and || are open at once as may be
 pub record IsTellable (d : Definition) : Type 0 where
   pub number : d.number < most_names
   pub parameters : d.function.parameters ≤ length d.function.variables
@@ -20,7 +20,7 @@ abbrev pub AreTellable : List Definition → Type 0
 AreTellable [] = Unit {0}
 AreTellable (d ∷ ds) = IsTellable d × AreTellable ds
 
--- there are functions whose actions begin so
+-- there are functions whose actions begin with these
 pub record IsBeginning (acts : List Action) : Type 0 where
   pub functions : List Definition
   pub tellable : AreTellable functions

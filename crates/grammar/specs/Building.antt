@@ -1,4 +1,4 @@
--- What an action does to the lists of actions that it represents.
+-- What an action does to the lists of actions that a builder represents.
 use Rattle.std.specs.Prelude.{◌≡◌, ◌+◌, ◌<◌, ◌≤◌, List, [], ◌∷◌, ◌++◌, Some, Result, Ok, Err}
 use Rattle.grammar.specs.declared.build.BuildFault.{BuildFault}
 use Rattle.grammar.specs.declared.build.BuildFault.TheVariants as fault
@@ -9,18 +9,18 @@ use Rattle.grammar.specs.Beginning.{IsBeginning}
 use Rattle.grammar.specs.Following.{Opened, follow_all}
 use Rattle.grammar.specs.Profile.{Profile}
 
--- the profiles by which a builder goes, with the lists of actions that it represents
+-- the profiles that a builder goes by, with the lists of actions that it represents
 abbrev pub Representation : Type 1
 Representation = Profile → List Action → Type 0
 
--- a list is represented after which the action may follow
+-- a list is represented that the action may follow
 pub record MayFollow (before : Representation) (action : Action) : Type 0 where
   pub profile : Profile
   pub acts : List Action
   pub stood : before profile acts
   pub begins : IsBeginning (acts ++ action ∷ [])
 
--- a list is represented after which these actions may follow, one after another
+-- a list is represented that these actions may follow, one after another
 pub record MayFollowAll (before : Representation) (more : List Action) : Type 0 where
   pub profile : Profile
   pub acts : List Action
@@ -47,7 +47,7 @@ abbrev pub FitsWithin : Representation → Type 0
 FitsWithin before = (profile : Profile) (acts : List Action) → before profile acts
     → code_length profile acts + 1 ≤ profile.instructions
 
--- they pass it
+-- they exceed it
 abbrev pub IsOver : Representation → Type 0
 IsOver before = (profile : Profile) (acts : List Action) → before profile acts
     → profile.instructions < code_length profile acts + 1
@@ -65,8 +65,8 @@ Measures (Ok x) denied before = FitsWithin before
 Measures (Err fault.Full) denied before = IsOver before
 Measures (Err fault.Memory) denied before = denied × FitsWithin before
 
--- What the answer to an action says: the end of a function alone measures the code. Any other action refuses for want
--- of memory alone.
+-- What the answer to an action says: only the end of a function measures the code. Any other action is refused only for
+-- want of memory.
 abbrev pub Judges : {A : Type 0} → Result A BuildFault → Type 0 → Representation → Action → Type 0
 Judges result denied before (EndFunction variables) = Measures result denied before
 Judges result denied before action = Refuses result denied

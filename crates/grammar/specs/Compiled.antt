@@ -61,8 +61,8 @@ verdict located_tokens [] scope definitions = resolved located_tokens scope defi
 verdict located_tokens (f ∷ faults) scope definitions =
     let first = first_fault f faults in Err (diagnostic (line_at first.rest) first.code)
 
--- A derivation of so many tokens has ended after this many steps: at most 40 a token, and 71 for the whole. That it has
--- is the law `EachDerivationEnds` (`Laws.antt`), so the two numbers decide nothing.
+-- This many steps are enough for a derivation of these tokens: at most 40 a token, and 71 for the whole. That the
+-- derivation has then ended is the law `EachDerivationEnds` (`Laws.antt`), so the two numbers decide nothing.
 abbrev pub enough_steps : List LocatedToken → ℕ
 enough_steps located_tokens = 40 * length located_tokens + 71
 

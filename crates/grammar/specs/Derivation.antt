@@ -69,7 +69,7 @@ function_of names body = record {
 abbrev pub definition_of : Scope → Body → Definition
 definition_of scope body = record { number = scope.number; function = function_of scope.current body }
 
--- what a semantic action leaves of the trees; after a function there are none
+-- what a semantic action makes of the trees; after a function there are none
 abbrev pub trees_after : SemanticAction → List Value → List Value
 trees_after (Operate o) (AnExpr b ∷ AnExpr a ∷ values) = AnExpr (tree.Binary o a b) ∷ values
 trees_after Negate (AnExpr e ∷ values) = AnExpr (tree.Binary op.Subtract (tree.Constant (pos 0)) e) ∷ values
@@ -148,7 +148,7 @@ abbrev pub replaced : Production → List Item → List LocatedToken → List Va
 replaced None stack rest values scope functions = None
 replaced (Some items) stack rest values scope functions = Some (state (items ++ stack) rest values scope functions)
 
--- One step if the next token is no fault: none if the derivation is done, or the token doesn't fit.
+-- One step if the next token is no lexical error: none if the derivation is done, or the token doesn't fit.
 abbrev pub item_step : List Item → List LocatedToken → List Value → Scope → List Definition → Option State
 item_step [] rest values scope functions = None
 item_step (Exactly m ∷ stack) rest values scope functions =
@@ -174,7 +174,7 @@ item_step (Make rule ∷ stack) rest values scope functions =
     (functions ++ functions_defined rule values scope))
 item_step (Close ∷ stack) rest values scope functions = Some (state stack rest values scope functions)
 
--- One step. A fault fits nothing: the derivation stops if one is next.
+-- One step. A lexical error fits nothing: the derivation stops if one is next.
 abbrev pub step : State → Option State
 step s = if is_fault (next_token s.rest) then None else item_step s.stack s.rest s.values s.scope s.functions
 

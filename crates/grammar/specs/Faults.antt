@@ -75,7 +75,7 @@ level_faults symbol stack rest =
     only_if (enters symbol (next_token rest) (token_after_next rest))
     (only_if (nat_le most_levels (levels stack)) (fault rest code.NestedTooDeeply ∷ []))
 
--- a new name for which there is no room after so many
+-- a new name for which there is no room after this many
 abbrev pub no_room : Bool → ℕ → Code → List LocatedToken → List Fault
 no_room new count c rest = only_if new (only_if (nat_le most_names count) (fault rest c ∷ []))
 
@@ -120,7 +120,7 @@ definitions_actions (d ∷ ds) = function_actions d.number d.function ++ definit
 abbrev pub is_too_long : Profile → List Definition → Bool
 is_too_long profile functions = nat_lt profile.instructions (code_length profile (definitions_actions functions) + 1)
 
--- the code with the function that is about to be defined passes the limit, at its closing brace
+-- the code with the function that is about to be defined exceeds the limit, at its closing brace
 abbrev pub length_faults : Profile → Scope → List Definition → List Value → List LocatedToken → List Fault
 length_faults profile scope functions values rest =
     only_if (is_too_long profile (functions ++ definition_of scope (last_body values) ∷ []))

@@ -47,7 +47,7 @@ abbrev pub open_count : Opened → ℕ
 open_count [] = 0
 open_count (inner ∷ opened) = open_weight inner + open_count opened
 
--- where a statement may be
+-- whether a statement may come next
 abbrev pub may_take_statement : Opened → Bool
 may_take_statement (InFunction parameters returned ∷ opened) = true
 may_take_statement (InBranch ∷ opened) = true
@@ -63,7 +63,7 @@ abbrev pub opens_within : Open → Opened → Option Opened
 opens_within inner [] = None
 opens_within inner (outer ∷ opened) = Some (inner ∷ outer ∷ opened)
 
--- after a statement, which is `return 0;` or not
+-- what is open after a statement, which is `return 0;` or not
 abbrev pub statement_done : Bool → Opened → Option Opened
 statement_done returned (InFunction parameters before ∷ opened) = Some (InFunction parameters returned ∷ opened)
 statement_done returned opened = only_on (may_take_statement opened) opened

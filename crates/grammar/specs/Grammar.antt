@@ -1,5 +1,5 @@
 -- The grammar as a table: what each symbol is replaced by, chosen by the next token and the one after it.
--- `Productions` of the crate `grammar_laws` is the same as a plain grammar, without semantic actions and roles.
+-- `Productions` of the crate `grammar_laws` is the same table as a plain grammar, without semantic actions and roles.
 use Rattle.std.specs.Prelude.{ℕ, ◌+◌, List, [], ◌∷◌, Bool, true, false, Option, Some, None, nat_lt, is_some}
 use Rattle.std.specs.Prelude.{if◌then◌else◌}
 use denote.Enum.Bare.{sameb}
@@ -43,7 +43,7 @@ pub data Symbol : Type 0 where
   Expression : Symbol
   Level : (n : ℕ) → Symbol  -- operators of level n and of tighter ones: levels 1 to 11
   Tail : (n : ℕ) → Symbol  -- further operators of level n
-  Unary : Symbol  -- the operators before an operand: level 11
+  Unary : Symbol  -- the unary operators: level 11
   Primary : Symbol
   Arguments : Symbol
   MoreArguments : Symbol
@@ -72,7 +72,7 @@ pub data SemanticAction : Type 0 where
 -- what a derivation still has to match or to do
 pub data Item : Type 0 where
   Exactly : (m : Punctuator) → Item  -- this punctuator comes next
-  AKeyword : (w : Keyword) → Item  -- this word
+  AKeyword : (w : Keyword) → Item  -- this keyword
   AName : (role : Role) → Item  -- a name, in this role
   AConstant : Item  -- a constant comes next
   AnEnd : Item  -- the end comes next
@@ -111,7 +111,7 @@ abbrev pub tail_production : ℕ → Option Op → Punctuator → List Item
 tail_production n None m = []
 tail_production n (Some op) m = Exactly m ∷ Part (Level (n + 1)) ∷ Make (Operate op) ∷ Part (Tail n) ∷ []
 
--- the production of a symbol if the next token is no fault
+-- the production of a symbol if the next token is no lexical error
 abbrev pub choice : Symbol → Token → Token → Production
 choice Source token.End after = Some (AnEnd ∷ [])
 choice Source (token.Keyword keyword.Type) after =

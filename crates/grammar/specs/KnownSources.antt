@@ -38,7 +38,7 @@ from_line line (t ∷ ts) = record { token = t; line = line; end = line } ∷ fr
 abbrev pub on_lines : List Token → List LocatedToken
 on_lines ts = from_line 1 (ts ++ token.End ∷ [])
 
--- with a fault after them
+-- with a lexical error after them
 abbrev pub broken_off : List Token → LexicalError → List LocatedToken
 broken_off ts fault = from_line 1 (ts ++ token.Fault fault ∷ [])
 
@@ -136,7 +136,7 @@ local n = Variable (var.Local n)
 abbrev pub constant : ℕ → Expr
 constant n = Constant (pos n)
 
--- the source is this file, with so many instructions
+-- the source is this file, with this many instructions
 pub record IsFile (source : List LocatedToken) (file : File) (instructions : ℕ) : Type 0 where
   pub compiled : compiled_tokens first_profile source ≡ Ok file
   pub code : code_length first_profile (actions file) + 1 ≡ instructions
@@ -315,7 +315,7 @@ pub record KnownMisfits : Type 0 where
   pub misfit_before_a_fault : HasFault (broken_off (int ∷ int ∷ end ∷ []) lexical_error.ConstantTooLarge) 3
       code.SyntaxError
 
--- so many brackets round a constant
+-- n brackets round a constant
 abbrev pub bracketed : ℕ → List Token
 bracketed n = replicate n ro ++ number 1 ∷ (replicate n rc ++ end ∷ [])
 
@@ -332,12 +332,12 @@ abbrev pub calls_of_names : ℕ → List Token
 calls_of_names zero = []
 calls_of_names (suc n) = letter n ∷ ro ∷ rc ∷ end ∷ calls_of_names n
 
--- so many statements `1;`
+-- n statements `1;`
 abbrev pub ones : ℕ → List Token
 ones zero = []
 ones (suc n) = number 1 ∷ end ∷ ones n
 
--- the source is a file with so many instructions
+-- the source is a file with this many instructions
 abbrev pub length_of : Result File Diagnostic → Option ℕ
 length_of (Ok file) = Some (code_length first_profile (actions file) + 1)
 length_of (Err d) = None
@@ -345,7 +345,7 @@ length_of (Err d) = None
 abbrev pub HasLength : List LocatedToken → ℕ → Type 0
 HasLength source instructions = length_of (compiled_tokens first_profile source) ≡ Some instructions
 
--- the first profile with so many instructions
+-- the first profile with n instructions
 abbrev pub limited : ℕ → Profile
 limited n = record first_profile { instructions = n }
 
@@ -384,7 +384,7 @@ pub record KnownNameFaults : Type 0 where
   pub external_main : HasFault (on_lines (int ∷ main ∷ end ∷ [])) 4 code.NoMainFunction
   pub empty_source : HasFault (on_lines []) 1 code.NoMainFunction
 
--- How far a source need be read, and what a builder has by then: here a token ends where its line says.
+-- How far a source need be read, and what a builder has by then: here a token ends at the byte of its line.
 pub record KnownNeeds : Type 0 where
   pub all : need_tokens first_profile (in_main []) ≡ 6
   pub misfit : need_tokens first_profile (in_main (token.Keyword keyword.Refused ∷ end ∷ end ∷ [])) ≡ 6
@@ -403,7 +403,7 @@ opened_by acts = follow_all (BeginFunction 0 0 ∷ acts) []
 abbrev pub IsClosed : File → Type 0
 IsClosed file = follow_all (actions file) [] ≡ Some []
 
--- so many calls, one in the arguments of the other
+-- n calls, each one in the arguments of the one before
 abbrev pub calls_begun : ℕ → List Action
 calls_begun n = replicate n BeginCall
 

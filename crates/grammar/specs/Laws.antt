@@ -1,5 +1,5 @@
 -- Laws on the definitions: a derivation ends, and a source is what its derivation leads to.
--- The folder Laws has the definitions that laws, proofs and private functions need: a reader needn't believe them.
+-- The folder Laws has the definitions that laws, proofs and private functions need: readers needn't believe them.
 pub mod Naming
 pub mod Climbing
 pub mod Index

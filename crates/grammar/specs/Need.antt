@@ -12,13 +12,13 @@ use Rattle.grammar.specs.Grammar.{Item, Make, Define}
 use Rattle.grammar.specs.Profile.{Profile}
 use Rattle.grammar.specs.Scope.{Scope}
 
--- where the last token ends: at the source's end
+-- the end of the last token: the source's end
 abbrev pub last_end : List LocatedToken → ℕ
 last_end [] = 0
 last_end (located_token ∷ []) = located_token.end
 last_end (located_token ∷ other ∷ rest) = last_end (other ∷ rest)
 
--- up to the token after the first fault; if there is none, all of the source
+-- the bytes up to the token after the first fault; if there is none, all of the source
 abbrev pub needed : List LocatedToken → List Fault → ℕ
 needed located_tokens [] = last_end located_tokens
 needed located_tokens (f ∷ faults) = reach_of (first_fault f faults).rest
@@ -33,13 +33,13 @@ need profile bytes = need_tokens profile (tokens bytes)
 abbrev pub ends_by : ℕ → LocatedToken → Bool
 ends_by count located_token = not (is_end located_token.token) && nat_le located_token.end count
 
--- so many more tokens, the end not among them, end within these bytes
+-- n more tokens, the end not among them, end within `count` bytes
 abbrev pub has_ahead : ℕ → ℕ → List LocatedToken → Bool
 has_ahead zero count rest = true
 has_ahead (suc n) count [] = false
 has_ahead (suc n) count (located_token ∷ rest) = ends_by count located_token && has_ahead n count rest
 
--- three tokens after a function's closing brace, which is next
+-- three tokens after a function's closing brace, which is next, end within `count` bytes
 abbrev pub is_behind_brace : ℕ → List LocatedToken → Bool
 is_behind_brace count [] = false
 is_behind_brace count (brace ∷ rest) = has_ahead 3 count rest
@@ -51,7 +51,7 @@ built_of count (Make Define ∷ stack) rest values scope =
     else []
 built_of count stack rest values scope = []
 
--- the functions of the first n states
+-- the actions of the functions that are defined in the first n states
 abbrev pub built_in : ℕ → ℕ → State → List Action
 built_in count zero s = []
 built_in count (suc n) s = built_of count s.stack s.rest s.values s.scope ++ built_in count n (stepped s)
@@ -59,6 +59,6 @@ built_in count (suc n) s = built_of count s.stack s.rest s.values s.scope ++ bui
 abbrev pub built_tokens : List LocatedToken → ℕ → List Action
 built_tokens located_tokens count = built_in count (enough_steps located_tokens) (initial_state located_tokens)
 
--- what has been reported to a builder for certain once so many bytes of a source were read
+-- what has been reported to a builder for certain once `count` bytes of a source were read
 unfoldable pub built : List ℕ → ℕ → List Action
 built bytes count = built_tokens (tokens bytes) count

@@ -1,4 +1,4 @@
--- The names of a file by number, as a parse gives them.
+-- The names of a file by number, as a parse returns them.
 use Rattle.std.specs.Prelude.{ℕ, List, map}
 use Rattle.grammar.specs.Tree.{Function, File}
 

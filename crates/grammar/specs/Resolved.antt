@@ -1,4 +1,4 @@
--- What a file is whose names are resolved: each number is one of a variable or function that there is, and each name
+-- What a resolved file is: each number is one of a variable or function that there is, and each name
 -- names one thing.
 use Rattle.std.specs.Prelude.{ℕ, ◌≡◌, ◌<◌, ◌≤◌, ◌⊎◌, List, [], ◌∷◌, length, map, Some, slice_get}
 use Rattle.grammar.specs.declared.resolved_names.Callee.{Callee}
@@ -9,17 +9,17 @@ use Rattle.grammar.specs.NameLimits.{most_names}
 use Rattle.grammar.specs.Tree.{Expr, Constant, Variable, Binary, Assign, Postfix, Call, Args, NoMore, Argument, Body}
 use Rattle.grammar.specs.Tree.{Done, ExpressionStatement, IfStatement, IfElseStatement, While, Return, Function, File}
 
--- one of so many externals and locals
+-- one of this many externals and locals
 abbrev pub IsVariable : (externals locals : ℕ) → Var → Type 0
 IsVariable e l (var.External j) = j < e
 IsVariable e l (var.Local j) = j < l
 
--- one of so many functions, or an intrinsic one
+-- one of this many functions, or an intrinsic one
 abbrev pub IsCallable : (functions : ℕ) → Callee → Type 0
 IsCallable n (callee.Function k) = k < n
 IsCallable n (callee.Intrinsic i) = Unit {0}
 
--- the expression's names are among so many externals, locals and functions
+-- the expression's names are among this many externals, locals and functions
 abbrev mutual
   pub InExpr : (externals locals functions : ℕ) → Expr → Type 0
   InExpr e l n (Constant value) = Unit {0}
@@ -50,7 +50,7 @@ abbrev pub AreDistinct : {A : Type 0} → List A → Type 0
 AreDistinct [] = Unit {0}
 AreDistinct (x ∷ others) = (IsAmong x others → ⊥) × AreDistinct others
 
--- a function among so many externals and functions
+-- a function among this many externals and functions
 pub record InFile (externals functions : ℕ) (f : Function) : Type 0 where
   pub parameters : f.parameters ≤ length f.variables
   pub variables : length f.variables ≤ most_names

@@ -1,4 +1,4 @@
--- The names that are known at a place of a source, and what each names there.
+-- The names that are known at a point of a source, and what each names there.
 use Rattle.std.specs.Prelude.{ℕ, List, [], ◌∷◌, ◌++◌, Bool, Option, Some, None, map, length, set, unwrap_or, is_none}
 use Rattle.std.specs.Prelude.{if◌then◌else◌, ◌+◌, ◌==◌}
 use Rattle.std.specs.List.{position, list_any}

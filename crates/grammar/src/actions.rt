@@ -43,9 +43,9 @@ pub enum Action {
     GiveBack,
     /// Drops the last value: that of a statement, or the new one of `v++` and `v--`.
     Chop,
-    /// Begins the function of this number, with so many parameters.
+    /// Begins the function of this number, with this many parameters.
     BeginFunction(u8, u8),
-    /// Ends the function, with so many variables, parameters among them.
+    /// Ends the function, with this many variables, parameters among them.
     EndFunction(u8),
 }
 

@@ -7,16 +7,16 @@ ghost use Rattle.grammar.specs.Profile.{Profile};
 
 use crate::actions::Action;
 
-/// Why a builder refused an action. Nothing is promised then of what it represents: its owner gives it up.
+/// Why a builder refused an action. What it represents is unknown then: its owner gives it up.
 #[derive(Clone, Copy, Debug, PartialEq, Eq)]
 pub enum BuildFault {
-    /// The code so far and the final NOP pass the most instructions of a file.
+    /// The code so far and the final NOP exceed the most instructions of a file.
     Full,
     /// Memory was refused.
     Memory,
 }
 
-/// What the actions of a file are reported to.
+/// A builder: the actions of a file are reported to it.
 ///
 /// A builder represents lists of actions: those reported to it since it was new. Its caller shows that the action
 /// may follow one of them. Each call that answers `Ok` adds its action at the end of each.
@@ -28,8 +28,8 @@ pub trait Build {
 
     /// Takes the next action.
     ///
-    /// Answers `Full` exactly if it ends a function, and the code so far and the final NOP pass the most instructions of
-    /// a file.
+    /// Answers `Full` exactly if the action ends a function, and the code so far and the final NOP exceed the most
+    /// instructions of a file.
     fn act(&mut self, action: Action) -> Result<(), BuildFault>
         requires follows { MayFollow (stands self.old) action }
         ensures ok { OnOk result (Appends (stands self.old) (stands self.new) action) }

@@ -36,7 +36,7 @@ pub enum Code {
     IntrinsicRedefined,
     /// A name twice in a parameter list, or one declared before the body that is not in the list.
     BadParameterDeclaration,
-    /// The closing brace of the function with which the code passes its limit.
+    /// The closing brace of the function with which the code exceeds its limit.
     TooMuchCode,
     /// The first mention of a function that the file doesn't define.
     FunctionNotDefined,
@@ -84,7 +84,7 @@ pub fn lexical_error_code(lexical_error: LexicalError) -> Code
     }
 }
 
-/// Why a parse gave no pools. The builder is given up then.
+/// Why a parse returned no pools. The builder is given up then.
 #[derive(Clone, Copy, Debug, PartialEq, Eq)]
 pub enum ParseFault {
     /// The source has a fault, and this is its first.
@@ -119,7 +119,7 @@ impl From<BuildFault> for ParseFault {
 
     ghost from_gives = { λ _ e. e ≡ Memory };
 
-    /// Makes it a refusal of memory: `Full` comes from a function's end alone, and becomes a diagnostic there.
+    /// Makes it a refusal of memory: `Full` is only answered at a function's end, and becomes a diagnostic there.
     fn from(_fault: BuildFault) -> ParseFault {
         ParseFault::Memory
     }

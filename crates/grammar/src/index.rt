@@ -1,4 +1,4 @@
-//! An index of the functions by their names: it says from which function on a name is looked for.
+//! An index of the functions by their names: the function from which on a name is searched for.
 
 ghost use Rattle.std.specs.Prelude.{◌≡◌, ◌<◌, []};
 ghost use Rattle.grammar.specs.Laws.Index.{IsIndexed, Notes, bucket_of, start_of};

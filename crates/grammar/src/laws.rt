@@ -25,7 +25,7 @@ pub fn finished()
     ensures without_main { WithoutMain }
 {}
 
-/// Proves that what was read of a source is needed: if no fault is before the tokens that are next, up to the second of
+/// Proves that what was read of a source is needed: up to the second of the tokens that are next, if no fault is before
 /// them.
 pub fn reach()
     ensures { WhatWasReadIsNeeded }

@@ -1,4 +1,4 @@
-//! The eighteen binary operators and the eleven of assignments, with the punctuators that spell them.
+//! The eighteen binary operators and the eleven assignment operators, with the punctuators that spell them.
 
 ghost use Rattle.std.specs.Prelude.{◌≡◌, ◌≤◌, length};
 ghost use Rattle.tokens.specs.Punctuators.{spelling};
@@ -8,7 +8,7 @@ ghost use Rattle.grammar.specs.Laws.Climbing.{operator_from};
 use arith::Op;
 use tokens::{Punctuator, Token};
 
-/// What a store does to a variable: it takes the word as it is, or the operator's result of the variable and the word.
+/// What a store does to a variable: it sets it to the word, or to the operator's result of the variable and the word.
 #[derive(Clone, Copy, Debug, PartialEq, Eq)]
 pub enum StoreOp {
     /// `=`
@@ -36,7 +36,7 @@ pub enum StoreOp {
 }
 
 /// A binary operator with its level: 1 binds loosest, 10 tightest.
-#[derive(Clone, Copy, Debug, PartialEq, Eq)]
+#[derive(Clone, Copy, PartialEq, Eq)]
 pub struct BinaryOperator {
     /// The level, from 1 to 10.
     pub level: u8,

@@ -83,7 +83,7 @@ impl FunctionNames {
         self.variables.push(*name);
     }
 
-    /// Becomes a function without variables, in its place: only the names that were there are blanked.
+    /// Becomes a function without variables, in place: only the names that were there are cleared.
     pub(crate) fn become_new(&mut self, name: &Name)
         ensures { self.new ≡ record { name = name.now; parameters = 0; variables = [] } }
     {
@@ -92,7 +92,7 @@ impl FunctionNames {
         self.variables.clear();
     }
 
-    /// Becomes the same as another function, in its place: only the names that are there are copied.
+    /// Becomes the same as another function, in place: only the names that are there are copied.
     pub(crate) fn copy_from(&mut self, other: &FunctionNames)
         ensures { self.new ≡ other.now }
     {
@@ -118,7 +118,7 @@ impl FunctionNames {
 
 /// The names of a file: its externals and its functions by number.
 ///
-/// A function is made in its place: the places after the functions hold blank ones.
+/// A function is made in place: the entries after the functions are blank.
 #[derive(Drop)]
 pub struct Pools {
     externals: ArrayVec<Name, MOST_NAMES>,

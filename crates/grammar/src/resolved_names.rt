@@ -12,7 +12,7 @@ pub enum Var {
     Local(u8),
 }
 
-/// A function of the machine's own.
+/// An intrinsic function: one of the machine's own.
 #[derive(Clone, Copy, Debug, PartialEq, Eq)]
 pub enum Intrinsic {
     /// `scan(degree, resolution)`

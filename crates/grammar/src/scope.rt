@@ -1,4 +1,4 @@
-//! The names that are known at a place of a source, and what a name in each role names.
+//! The names that are known at a point of a source, and what a name in each role names.
 
 ghost use Rattle.std.specs.Prelude.{◌≡◌, ◌<◌, ◌≤◌, ℕ, List, [], ◌∷◌, ◌++◌, length, Option, Some, None, IfOk, IfErr};
 ghost use Rattle.std.specs.Prelude.{IfSome, OnOk, map, nat_le, is_some, ◌==◌, true, false};
@@ -59,7 +59,7 @@ fn if_named(intrinsic: Intrinsic, name: &Name) -> Option<Intrinsic>
     }
 }
 
-/// What is known of the names of a file at a place of its source.
+/// What is known of the names of a file at a point of its source.
 #[derive(Drop)]
 pub struct Scope {
     pools: Pools,
@@ -263,7 +263,7 @@ impl Scope {
         self.function_number(&name_of_bytes(b"main")).is_some()
     }
 
-    /// Shows the names of the file, where they are.
+    /// Returns the names of the file, without a copy.
     pub fn pools(&self) -> &Pools
         ensures { result.now ≡ record { externals = self.now.externals; functions = self.now.functions } }
     {
@@ -409,7 +409,7 @@ impl Scope {
     }
 }
 
-/// Checks that a list of so many variables, a function's or the externals, has room for one more.
+/// Checks that a list of `variables` variables, a function's or the externals, has room for one more.
 fn check_variable_room(variables: usize) -> Result<(), Code>
     ensures room { OnOk result (nat_le MOST_NAMES variables ≡ false) }
     ensures full { IfErr result (λ c. (c ≡ Code.TooManyVariables) × (nat_le MOST_NAMES variables ≡ true)) }

@@ -98,7 +98,7 @@ statement_first (Evaluate e) rest =
 statement_first s rest =
     record { sound = refl; no_declaration = λ after. refl; no_else = λ after. refl; one_more = λ after. refl }
 
--- what stands behind a statement: another one, or the brace
+-- what follows a statement: another one, or the brace
 pub record Follows (tokens : List Token) : Type 0 where
   pub sound : is_fault (first tokens) ≡ false
   pub no_declaration : choice Declarations (first tokens) (second tokens) ≡ Some []

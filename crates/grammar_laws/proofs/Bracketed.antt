@@ -1,4 +1,4 @@
--- What is spelled, the derivation gives back, wherever the tokens stand.
+-- The round-trip law: the derivation returns what is spelled, on any lines.
 use Rattle.std.proofs.Common.{◌≡◌, ℕ, zero, suc, ◌+◌, List, [], ◌∷◌, refl, sym, ap, ◌∙◌, subst, arith}
 use Rattle.std.specs.Prelude.{None}
 use Rattle.tokens.specs.declared.located_tokens.LocatedToken.{LocatedToken}
@@ -36,7 +36,7 @@ none_left : (rest : List LocatedToken) → bare_rest rest ≡ [] → rest ≡ []
 none_left [] e = refl
 none_left (l ∷ rest) e = absurd (cc)
 
--- a state that is over but for the places of its tokens
+-- a state that is over but for the lines and ends of its tokens
 record IsOver (s : State) (body : Body) (learnt : Scope) : Type 0 where
   stack : s.stack ≡ []
   rest : s.rest ≡ []

@@ -1,4 +1,4 @@
--- Distinct names, and the places of names.
+-- Distinct names, and the indices of names.
 use Rattle.std.proofs.Common.{◌≡◌, ℕ, zero, suc, ◌+◌, List, [], ◌∷◌, ◌++◌, refl, sym, ap, ◌∙◌, subst, Bool, true, false, arith, length, append-nil}
 use Rattle.std.proofs.lemmas.Slice.Eq.{bytes_eq-Decides}
 use Rattle.std.proofs.lemmas.Iterator.Adapters.{position_from-zero}
@@ -90,7 +90,7 @@ distinct_last (x ∷ xs) y = by (is_among y xs) (bytes_eq y x) refl refl (distin
     by false false e f again = ap (λ names. x ∷ without x names) (again ∙ rw e refl)
         ∙ ap (λ names. x ∷ names) (without_last x (distinct xs) y ∙ rw (turned x y ∙ f) refl)
 
--- Places.
+-- Indices.
 
 record IsPlace (name : List ℕ) (first : ℕ) (names : List (List ℕ)) (k : ℕ) : Type 0 where
   place : ℕ
@@ -122,7 +122,7 @@ found name names =
     subst (λ (o : Option ℕ). Found name 0 names o) (sym (position_from-zero (bytes_eq name) names))
     (found_from name 0 names)
 
--- the number of a name is its place
+-- the number of a name is its index
 pub number_found : (name : List ℕ) (names : List (List ℕ)) (k : ℕ) → number_of_name name names ≡ Some k →
     slice_get names k ≡ Some name
 number_found name names k e =
@@ -143,7 +143,7 @@ among_at name (x ∷ names) (suc k) e = by (bytes_eq name x) (among_at name name
     by true again = refl
     by false again = again
 
--- a name has no number exactly where it isn't among them
+-- a name has no number exactly if it isn't among them
 pub missing : (name : List ℕ) (names : List (List ℕ)) → is_none (number_of_name name names) ≡ not (is_among name names)
 missing name names = by (number_of_name name names) refl
   where

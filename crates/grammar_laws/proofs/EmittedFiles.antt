@@ -24,7 +24,7 @@ use Rattle.grammar.proofs.Runs.{append_empty, faults_in-add, derived-add}
 use Rattle.grammar.proofs.Verdicts.{weighs}
 use Rattle.grammar.proofs.Weight.{weight}
 
--- Where a derivation ends without a fault, nothing is left to match.
+-- If a derivation ends without a fault, nothing is left to match.
 
 nothing_left : (stack : List Item) (rest : List LocatedToken) (fault : Bool) (xs : List Fault) (o : Option State) →
     (if fault then None else o) ≡ None → (if fault then misfit rest else xs ++ misfits stack rest o) ≡ [] → stack ≡ []

@@ -50,7 +50,7 @@ binary o a b is_a is_b c rest stack values scope functions =
     (up goes.level 1 c stack rest (AnExpr (tree_of (Binary o a b) scope) ∷ values) (behind (Binary o a b) scope)
     functions)))))))
 
--- an operator in front
+-- a unary operator
 
 sign_rule : Sign → SemanticAction
 sign_rule Minus = Negate
@@ -181,7 +181,7 @@ assignment o name e is c rest stack values scope functions =
 
 -- a call
 
--- arguments behind others
+-- arguments after others
 abbrev with_arguments : Args → Args → Args
 with_arguments tree.NoMore more = more
 with_arguments (tree.Argument e rest) more = tree.Argument e (with_arguments rest more)
@@ -195,7 +195,7 @@ with_one_more : (arguments : Args) (e : Expr) (more : Args) →
 with_one_more tree.NoMore e more = refl
 with_one_more (tree.Argument a rest) e more = ap (tree.Argument a) (with_one_more rest e more)
 
--- behind an argument stands a comma or the bracket
+-- a comma or the bracket follows an argument
 record Stops (tokens : List Token) : Type 0 where
   closing : Closing
   behind : List Token
@@ -264,7 +264,7 @@ arguments_begin (Constant value) rest = refl
 arguments_begin (Variable name) rest = refl
 arguments_begin e rest = refl
 
--- up to the bracket behind the name
+-- up to the bracket after the name
 call_begins : (name : List ℕ) (tokens : List Token) (stack : List Item) (values : List Value) (scope : Scope)
     (functions : List Definition) →
     Leads
@@ -274,7 +274,7 @@ call_begins : (name : List ℕ) (tokens : List Token) (stack : List Item) (value
     (ACall (callee_of name scope) tree.NoMore ∷ values) (called name scope) functions)
 call_begins name tokens stack values scope functions = record { steps = 16; leads = refl }
 
--- from the bracket behind the arguments
+-- from the bracket after the arguments
 call_ends : (callee : Callee) (arguments : Args) (c : Closing) (rest : List Token) (stack : List Item)
     (values : List Value) (scope : Scope) (functions : List Definition) →
     Leads

@@ -1,4 +1,4 @@
--- Segments of a derivation one behind another.
+-- Segments of a derivation one after another.
 use Rattle.std.proofs.Common.{◌≡◌, ℕ, ◌+◌, List, ◌∷◌, ◌++◌, refl, ap, ◌∙◌, [], false, map}
 use Rattle.std.proofs.lemmas.List.{append-nil}
 use Rattle.std.specs.Prelude.{Some}
@@ -20,7 +20,7 @@ then s t u a b = record {
   leads = derived-add a.steps b.steps s ∙ ap (λ v. derived b.steps v) a.leads ∙ b.leads;
 }
 
--- a token in a place of no meaning
+-- a token whose line and end mean nothing
 abbrev pub placed : Token → LocatedToken
 placed t = record { token = t; line = 0; end = 0 }
 
@@ -45,7 +45,7 @@ pub part : (symbol : Symbol) (items stack : List Item) (tokens : List Token) (va
 part symbol items stack tokens values scope functions sound chosen =
     record { steps = 1; leads = rw (sound, chosen) refl }
 
--- a tree is made; no rule but that of a function's end adds to the functions
+-- a tree is made; only the semantic action of a function's end adds to the functions
 pub make : (rule : SemanticAction) (stack : List Item) (tokens : List Token) (values left : List Value) (scope : Scope)
     (functions : List Definition) →
     is_fault (first tokens) ≡ false → trees_after rule values ≡ left → functions_defined rule values scope ≡ [] →

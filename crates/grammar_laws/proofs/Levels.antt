@@ -1,4 +1,4 @@
--- From a level of operators down to its first operand, and up again behind the last one.
+-- From a level of operators down to its first operand, and up again after the last one.
 use Rattle.std.proofs.Common.{◌≡◌, ℕ, zero, suc, ◌+◌, List, [], ◌∷◌, refl, false, true, arith}
 use Rattle.std.proofs.lemmas.Bool.Decides.{nat_tests}
 use Rattle.std.specs.Prelude.{nat_lt}
@@ -40,7 +40,7 @@ down (suc m) n stack tokens values scope functions sum sound = then _ _ _
     (rw (tighter m n sum) refl))
     (down m (n + 1) (Part (Tail n) ∷ stack) tokens values scope functions (next_sum m n sum) sound)
 
--- a punctuator behind an expression
+-- a punctuator after an expression
 pub data Closing : Type 0 where
   Round : Closing
   Comma : Closing
@@ -67,7 +67,7 @@ up (suc m) n c stack tokens values scope functions = then _ _ _
     (up m (n + 1) c (Part (Tail n) ∷ stack) tokens values scope functions)
     (no_tail n c stack tokens values scope functions)
 
--- up to the level of an operator, and behind its punctuator
+-- up to the level of an operator, and after its punctuator
 pub record Operates (o : Op) : Type 0 where
   pub level : ℕ
   pub above : ℕ

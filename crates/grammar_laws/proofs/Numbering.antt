@@ -54,7 +54,7 @@ external_current : (b : Bool) (name : List ℕ) (scope : Scope) →
 external_current true name scope = refl
 external_current false name scope = refl
 
--- a scope with a variable more where it is new
+-- a scope with a variable more if it is new
 record HasVariable (b : Bool) (name : List ℕ) (scope more : Scope) : Type 0 where
   externals : more.externals ≡ scope.externals
   variables : more.current.variables ≡ (if b then scope.current.variables ++ name ∷ [] else scope.current.variables)
@@ -81,7 +81,7 @@ parameter_more : (b : Bool) (name : List ℕ) (scope : Scope) →
 parameter_more true name scope = refl
 parameter_more false name scope = refl
 
--- whether a name stands for no variable
+-- whether a name represents no variable
 variable_new : (name : List ℕ) (scope : Scope) →
     is_variable_new name scope ≡
     (is_none (number_of_name name scope.current.variables) && is_none (number_of_name name scope.externals))

@@ -18,7 +18,7 @@ use Rattle.grammar_laws.specs.Resolving.{tree_of, behind, mentioned}
 use Rattle.grammar_laws.proofs.Leading.{Leads, then, at, first, second, part, make}
 use Rattle.grammar_laws.proofs.Levels.{tails, down, up, Closing, Round, closing_punctuator}
 
--- in front of this punctuator a name is a variable, and begins no assignment
+-- before this punctuator a name is a variable, and begins no assignment
 pub record EndsPart (m : Punctuator) : Type 0 where
   pub fetches : (name : List ℕ) →
       choice Primary (token.Name name) (token.Punctuator m) ≡ Some (AName Mentioned ∷ Make Fetch ∷ [])
@@ -33,7 +33,7 @@ pub operator_ends : (o : Op) → EndsPart (binary_punctuator o)
 operator_ends op.Or = record { fetches = λ name. refl; begins = λ name. refl }
 operator_ends o = record { fetches = λ name. refl; begins = λ name. refl }
 
--- the derivation takes an expression as it is spelled, up to the punctuator behind it
+-- the derivation takes an expression as it is spelled, up to the punctuator after it
 abbrev pub IsTaken : Expression → Type 0
 IsTaken e =
     (c : Closing) (rest : List Token) (stack : List Item) (values : List Value) (scope : Scope)
@@ -103,7 +103,7 @@ pub part_begins : (e : Expression) (m : Punctuator) (rest : List Token) → Ends
 part_begins (Variable name) m rest ends = ends.begins name
 part_begins e m rest ends = refl
 
--- a part behind which a level of operators ends
+-- a part after which a level of operators ends
 pub part_at_level : (e : Expression) → IsOperand e → (m n : ℕ) → m + n ≡ 11 →
     (c : Closing) (rest : List Token) (stack : List Item) (values : List Value) (scope : Scope)
     (functions : List Definition) →

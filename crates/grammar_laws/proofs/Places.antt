@@ -1,4 +1,4 @@
--- Where the tokens stand decides nothing but the lines of first mentions.
+-- The lines of tokens decide nothing but the lines of first mentions.
 use Rattle.std.proofs.Common.{◌≡◌, ℕ, zero, suc, List, [], ◌∷◌, refl, ap, ◌∙◌, Bool, true, false, map, drop}
 use Rattle.std.proofs.lemmas.List.{map-append}
 use Rattle.std.specs.Prelude.{Option, Some, None, unwrap_or, if◌then◌else◌}
@@ -17,7 +17,7 @@ no_line line = 0
 abbrev pub bare_scope : Scope → Scope
 bare_scope scope = record scope { lines = map no_line scope.lines }
 
--- the same tokens in places of no meaning
+-- the same tokens, with lines and ends that mean nothing
 abbrev pub bare_rest : List LocatedToken → List LocatedToken
 bare_rest rest = located_tokens_of (tokens_of rest)
 

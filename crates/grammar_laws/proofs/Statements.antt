@@ -81,7 +81,7 @@ evaluate e rest f stack before values scope functions =
     (ABody (join before (tree.ExpressionStatement (tree_of e scope) tree.Done)) ∷ values) (behind e scope)
     functions f.sound refl refl refl))))
 
--- a condition in brackets, and the body behind it
+-- a condition in brackets, and the body after it
 conditioned : (c : Expression) (body : Statements) → AreAdded body → (rest : List Token) →
     is_fault (first rest) ≡ false →
     (stack : List Item) (values : List Value) (scope : Scope) (functions : List Definition) →
@@ -104,7 +104,7 @@ conditioned c body added rest sound stack values scope functions =
     refl refl refl)
     (block body added rest sound stack tree.Done test (behind c scope) functions)))
 
--- ( condition ) .. with what stands behind it
+-- ( condition ) .. with what follows it
 opened : (c : Expression) (more rest : List Token) →
     ((spell c ++ token.Punctuator punctuator.CloseRound ∷ []) ++ more) ++ rest ≡
     spell c ++ token.Punctuator punctuator.CloseRound ∷ (more ++ rest)
@@ -183,7 +183,7 @@ repeat c body added rest f stack before values scope functions =
     (then _ _ _ (make Repeat (Close ∷ stack) rest parts (ABody all ∷ values) known functions f.sound refl refl refl)
     (close stack rest (ABody all ∷ values) known functions f.sound))))
 
--- the semicolon behind a return
+-- the semicolon after a return
 return_ends : (e : Expr) (rest : List Token) → is_fault (first rest) ≡ false →
     (stack : List Item) (before : Body) (values : List Value) (scope : Scope) (functions : List Definition) →
     Leads

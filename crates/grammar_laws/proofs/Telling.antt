@@ -35,7 +35,7 @@ pub record BodyFits (A : Type 0) (room : ℕ) (b : Body) : Type 0 where
   pub names : A → InBody 64 64 64 b
   pub few : A → body_nesting b ≤ room
 
--- what holds of the trees, of the number and the parameters of the function that is being defined, of the functions
+-- what is true of the trees, of the number and the parameters of the function that is being defined, of the functions
 -- defined, and of the actions
 abbrev pub Fact : Type 1
 Fact = List Value → ℕ → ℕ → List Definition → List Action → Type 0
@@ -155,7 +155,7 @@ Listed Called next values n k ds acts = ⊥
 Listed Mentioned next values n k ds acts = ⊥
 Listed role next values n k ds acts = next values n k ds acts
 
--- how much may be open at once within so many levels, without the right sides of && and ||
+-- how much may be open at once within this many levels, without the right sides of && and ||
 abbrev pub room_in : List Item → ℕ
 room_in stack = 3 * (64 - levels stack)
 

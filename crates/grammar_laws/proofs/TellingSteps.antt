@@ -1,4 +1,4 @@
--- A step keeps what holds of the actions emitted, with those that it emits.
+-- A step keeps what is true of the actions emitted, with those that it emits.
 use Rattle.std.proofs.Common.{◌≡◌, ℕ, ◌+◌, ◌≤◌, List, [], ◌∷◌, ◌++◌, refl, sym, ap, ◌∙◌, subst, Bool, true, false}
 use Rattle.std.proofs.Common.{append_assoc, append-nil, length}
 use Rattle.std.specs.Prelude.{pos, Option, Some, None, if◌then◌else◌, unwrap_or}
@@ -31,11 +31,11 @@ use Rattle.grammar_laws.proofs.TellingOperands.{Begins, part_tells}
 use Rattle.grammar_laws.proofs.TellingProductions.{and_then, and_then_is, Produced, Enters}
 use Rattle.grammar_laws.proofs.Telling.{Defines, Named, Tells}
 
--- what holds of a state and the actions emitted before it
+-- what is true of a state and the actions emitted before it
 abbrev pub StateTells : Type 0 → State → List Action → Type 0
 StateTells A s acts = Tells A s.stack s.values s.scope.number s.scope.current.parameters s.functions acts
 
--- after a step that emits more; where there is none, nothing is emitted
+-- after a step that emits more; if there is none, nothing is emitted
 abbrev After : Type 0 → Option State → List Action → List Action → Type 0
 After A None acts more = more ≡ []
 After A (Some s) acts more = StateTells A s (and_then acts more)

@@ -52,7 +52,7 @@ on_body (Part Statement ∷ Make DecideElse ∷ stack) = action.ElsePart ∷ []
 on_body (Part Statement ∷ Make Repeat ∷ stack) = WhileTest ∷ []
 on_body stack = []
 
--- as a tree is made, in a function with so many variables; a name's number is that of its tree
+-- as a tree is made, in a function with this many variables; a name's number is that of its tree
 abbrev pub on_rule : SemanticAction → List Item → List Value → (variables : ℕ) → List Action
 on_rule (Operate o) stack values variables = ApplyBinop o ∷ []
 on_rule Negate stack values variables = ApplyBinop op.Subtract ∷ []
@@ -74,7 +74,7 @@ on_rule GiveBack stack values variables = action.GiveBack ∷ []
 on_rule Define stack values variables = PushConstant (pos 0) ∷ action.GiveBack ∷ EndFunction variables ∷ []
 on_rule rule stack values variables = []
 
--- by the item in front and the next token, if it is no fault
+-- by the item in front and the next token, if it is no lexical error
 abbrev pub on_item : List Item → Token → List Value → Scope → List Action
 on_item (Part symbol ∷ stack) next values scope = on_choice symbol next scope
 on_item (AName role ∷ stack) next values scope = on_name role (name_of_token next)
@@ -82,7 +82,7 @@ on_item (AConstant ∷ stack) next values scope = on_constant (constant_value ne
 on_item (Make rule ∷ stack) next values scope = on_rule rule stack values (length scope.current.variables)
 on_item stack next values scope = []
 
--- what the step from a state emits; where there is no step, nothing is emitted
+-- what the step from a state emits; if there is no step, nothing is emitted
 abbrev pub emitted : State → List Action
 emitted s = if is_fault (next_token s.rest) then [] else on_item s.stack (next_token s.rest) s.values s.scope
 

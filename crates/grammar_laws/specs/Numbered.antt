@@ -1,4 +1,4 @@
--- The law on numbers: the variables and functions of a derivation have the numbers of the rules on names.
+-- The law on numbers: the variables and functions of a derivation have the numbers that the rules on names give.
 use Rattle.std.specs.Prelude.{◌≡◌, ℕ, zero, suc, List, [], ◌∷◌, ◌++◌, false, Option, Some, None, Ok, map, if◌then◌else◌}
 use Rattle.tokens.specs.declared.located_tokens.LocatedToken.{LocatedToken}
 use Rattle.grammar.specs.declared.resolved_names.Callee.{Callee}
@@ -13,7 +13,7 @@ use Rattle.grammar_laws.specs.Numbering.{Says, Ends, History, HasNumber, IsVaria
 use Rattle.grammar_laws.specs.Numbering.{defined_name, distinct, external_names, function_names, own_names}
 use Rattle.grammar_laws.specs.Numbering.{parameter_count}
 
--- What a derivation said.
+-- The names that a derivation said.
 
 abbrev pub says : Role → Option (List ℕ) → History
 says role None = []
@@ -24,7 +24,7 @@ said_of (AName role ∷ stack) rest = says role (name_of_token (next_token rest)
 said_of (Make Define ∷ stack) rest = Ends ∷ []
 said_of stack rest = []
 
--- in one step: none is taken if a fault is next
+-- in one step: none is taken if a lexical error is next
 abbrev pub said : State → History
 said s = if is_fault (next_token s.rest) then [] else said_of s.stack s.rest
 

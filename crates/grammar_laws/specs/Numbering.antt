@@ -1,5 +1,5 @@
 -- The numbers of names by the rules on names. A source says names one after another. The number of a variable or of a
--- function is the place of its name among the distinct names that were said up to there.
+-- function is the index of its name among the distinct names that were said up to there.
 use Rattle.std.specs.Prelude.{◌≡◌, ℕ, ◌+◌, List, [], ◌∷◌, ◌++◌, Bool, true, false, Some, slice_get, if◌then◌else◌}
 use Rattle.std.specs.Str.{bytes_eq}
 use Rattle.grammar.specs.declared.resolved_names.Callee.{Callee}
@@ -14,7 +14,7 @@ pub data Saying : Type 0 where
   Says : (role : Role) (name : List ℕ) → Saying  -- a name, and what it is there for
   Ends : Saying  -- the definition of a function ends
 
--- what was said up to a place, the last first
+-- what was said up to a point, the last first
 abbrev pub History : Type 0
 History = List Saying
 
@@ -27,12 +27,12 @@ abbrev pub without : List ℕ → List (List ℕ) → List (List ℕ)
 without name [] = []
 without name (other ∷ names) = if bytes_eq name other then without name names else other ∷ without name names
 
--- each name once, where it is first
+-- each name once, at its first occurrence
 abbrev pub distinct : List (List ℕ) → List (List ℕ)
 distinct [] = []
 distinct (name ∷ names) = name ∷ without name (distinct names)
 
--- the number of a name is its place among the distinct names
+-- the number of a name is its index among the distinct names
 abbrev pub HasNumber : List (List ℕ) → List ℕ → ℕ → Type 0
 HasNumber names name number = slice_get (distinct names) number ≡ Some name
 

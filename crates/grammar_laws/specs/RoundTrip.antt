@@ -11,7 +11,7 @@ use Rattle.grammar_laws.specs.Written.{Expression, Statement}
 use Rattle.grammar_laws.specs.Spelling.{spell, spell_statement, closed, in_main}
 use Rattle.grammar_laws.specs.Resolving.{tree_of, behind, body_of, behind_statement}
 
--- tokens, wherever they stand
+-- tokens, on any lines
 abbrev pub tokens_of : List LocatedToken → List Token
 tokens_of located_tokens = map (λ (l : LocatedToken). l.token) located_tokens
 
@@ -19,7 +19,7 @@ tokens_of located_tokens = map (λ (l : LocatedToken). l.token) located_tokens
 abbrev pub without_lines : Scope → Scope
 without_lines scope = record scope { lines = [] }
 
--- what is known where the body of main begins
+-- what is known at the beginning of the body of main
 abbrev pub in_body : Scope
 in_body = begin_definition main_name 0 no_names
 

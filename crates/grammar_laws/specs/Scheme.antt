@@ -21,7 +21,7 @@ use Rattle.grammar.specs.Grammar.{Define, Item, Exactly, AKeyword, AName, AConst
 use Rattle.grammar.specs.Grammar.{choice}
 use Rattle.grammar_laws.specs.Productions.{Row, rows}
 
--- a symbol, a production of it, and its semantic actions, each after so many words; the end of a level is one of them
+-- a symbol, a production of it, and its semantic actions, each after this many words; the end of a level is one of them
 abbrev pub ActionRow : Type 0
 ActionRow = String × String × List (ℕ × Item)
 
@@ -190,12 +190,12 @@ IsSymbol symbol = Unit
 abbrev pub plain : Symbol → Token → Token → Option (List ℕ)
 plain symbol next after = found (of_symbol symbol) next after rows
 
--- without its semantic actions, what `choice` gives is the plain production
+-- without its semantic actions, what `choice` answers is the plain production
 abbrev pub ChoosesRows : Type 0
 ChoosesRows = (symbol : Symbol) (next after : Token) → IsSymbol symbol
     → option_map in_words (choice symbol next after) ≡ plain symbol next after
 
--- the semantic actions of what `choice` gives are those of the plain production
+-- the semantic actions of what `choice` answers are those of the plain production
 abbrev pub ActsByRows : Type 0
 ActsByRows = (symbol : Symbol) (next after : Token) → IsSymbol symbol
     → option_map (actions_after 0) (choice symbol next after)
@@ -205,7 +205,7 @@ abbrev pub roles_of : Production → List Role
 roles_of None = []
 roles_of (Some items) = roles_in items
 
--- the names in what `choice` gives are there for what `role_of` says
+-- the names in what `choice` answers are there for what `role_of` says
 abbrev pub HasOneRole : Type 0
 HasOneRole = (symbol : Symbol) (next after : Token) → let roles = roles_of (choice symbol next after) in
     roles ≡ replicate (length roles) (role_of symbol after)

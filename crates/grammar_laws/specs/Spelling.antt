@@ -28,7 +28,7 @@ brackets tokens = token.Punctuator punctuator.OpenRound ∷ (tokens ++ token.Pun
 abbrev pub braces : List Token → List Token
 braces tokens = token.Punctuator punctuator.OpenCurly ∷ (tokens ++ token.Punctuator punctuator.CloseCurly ∷ [])
 
--- an expression, spelled by these tokens, as a part of a larger one: a constant or a variable stands as it is
+-- an expression, spelled by these tokens, as a part of a larger one: a constant or a variable has no brackets
 abbrev pub as_part : Expression → List Token → List Token
 as_part (Constant value) tokens = tokens
 as_part (Variable name) tokens = tokens

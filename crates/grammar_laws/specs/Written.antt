@@ -1,15 +1,15 @@
--- Expressions and statements as they are meant, with names in place of numbers.
+-- Expressions and statements as they are meant, with names instead of numbers.
 use Rattle.std.specs.Prelude.{ℕ, List}
 use Rattle.arith.specs.declared.operators.Op.{Op}
 use Rattle.grammar.specs.declared.operators.StoreOp.{StoreOp}
 
--- -, ! or ~ in front of an operand
+-- -, ! or ~ before an operand
 pub data Sign : Type 0 where
   Minus : Sign
   Not : Sign
   Tilde : Sign
 
--- ++ is up by 1, -- is down by 1
+-- ++ adds 1, -- subtracts 1
 pub data Step : Type 0 where
   Up : Step
   Down : Step

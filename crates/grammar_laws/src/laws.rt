@@ -1,4 +1,4 @@
-//! Laws on the grammar: what is spelled comes back, names are numbered by the rules on names, levels are closed, productions
+//! Laws on the grammar: the round-trip law, names are numbered by the rules on names, levels are closed, productions
 //! are those of the plain grammar, and derivations emit the actions of the functions that they define.
 
 ghost use Rattle.grammar_laws.specs.ClosedLevels.{LevelsAreClosed};
@@ -25,7 +25,7 @@ pub fn bracketed()
 }
 
 /// Proves that the variables and functions of a derivation have the numbers of the rules on names: the number of a name
-/// is its place among the distinct names that were said up to its token. A mention means a variable of the function, or
+/// is its index among the distinct names that were said up to its token. A mention means a variable of the function, or
 /// else an external.
 pub fn numbered()
     ensures mentions { MentionsAreNumbered }
@@ -48,9 +48,9 @@ pub fn productions()
 {}
 
 /// Proves that a derivation emits the actions of the functions that it defines: when it is done these and no more, and
-/// at each state those of the functions defined so far and a part of one more. No premise is on faults. The derivation
-/// of a file emits the file's actions. What is emitted before the first fault may be reported to a builder, and its
-/// numbers of variables and functions are below the limits.
+/// at each state those of the functions defined so far and a part of one more. It holds with faults too. The
+/// derivation of a file emits the file's actions. What is emitted before the first fault may be reported to a builder,
+/// and its numbers of variables and functions are below the limits.
 pub fn emissions()
     ensures whole { EmitsItsFunctions }
     ensures file { EmitsItsFile }

@@ -1,4 +1,4 @@
-//! The language's public face: the parser, the trees of programs with their builder, the laws on spelling, and what
+//! The language's public interface: the parser, the trees of programs with their builder, the round-trip law, and what
 //! callers need of the crates below.
 #![tactic(auto)]
 

@@ -1,5 +1,5 @@
 //! The tests, by what they try: builders, devices, large files, limits, refused memory, pieces and trees; tokens; and
-//! the places of instructions.
+//! the positions of instructions.
 
 mod builder_tests;
 mod checks;

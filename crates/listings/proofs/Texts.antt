@@ -18,7 +18,7 @@ numbered_more text first (y ∷ xs) (suc n) x within is =
     ∙ sym (append_assoc (text first y) (numbered text (first + 1) (take n xs)) (text (first + 1 + n) x))
     ∙ ap (λ (k : ℕ). (text first y ++ numbered text (first + 1) (take n xs)) ++ text k x) (omega arith)
 
--- the first members behind other bytes, with one member more
+-- the first members after other bytes, with one member more
 pub numbered_then : {A : Type 0} (text : ℕ → A → List ℕ) (before : List ℕ) (xs : List A) (n : ℕ) (x : A) →
     n < length xs → x ≡ get_or xs n x
     → before ++ numbered text 0 (take (n + 1) xs) ≡ (before ++ numbered text 0 (take n xs)) ++ text n x

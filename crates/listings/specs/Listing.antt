@@ -9,7 +9,7 @@ use Rattle.code.specs.Generation.{Program, code_of}
 use Rattle.sinks.specs.Texts.{column}
 use Rattle.listings.specs.Spelling.{instr_text}
 
--- the texts of members in order: each is told its member's number, of which the first is this one
+-- the texts of members in order: each has its member's number, of which the first is this one
 abbrev pub numbered : {A : Type 0} → (ℕ → A → List ℕ) → ℕ → List A → List ℕ
 numbered text n [] = []
 numbered text n (x ∷ xs) = text n x ++ numbered text (n + 1) xs

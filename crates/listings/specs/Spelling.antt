@@ -22,7 +22,7 @@ unfoldable pub callee_text : Callee → List ℕ
 callee_text (callee.Function k) = decimal k
 callee_text (callee.Intrinsic i) = intrinsic_name i
 
--- an instruction's word, and its operand where it has one
+-- an instruction's word, and its operand if it has one
 unfoldable pub instr_text : Instr → List ℕ
 instr_text (Fetch v) = codes "FETCH " ++ variable_text v
 instr_text (Store v o) = codes "STORE " ++ variable_text v ++ codes " " ++ spelling (store_punctuator o)

@@ -88,7 +88,7 @@ fn add_function<S: Sink>(
     add_names(pen, sink, function.variables());
 }
 
-/// Returns the address of the function of this number, 0 where there is none.
+/// Returns the address of the function of this number, 0 if there is none.
 fn address_at(addresses: &[u16], number: usize) -> u32
     ensures { result ≡ get_or addresses.now number 0 }
 {

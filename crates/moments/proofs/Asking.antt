@@ -24,7 +24,7 @@ use Rattle.playing.proofs.Playing.{code_same, lives_are, robot_wants, robots_as_
 use Rattle.moments.specs.Moments.{asked_in, last_of, question_in, replies_of, wanted}
 use Rattle.moments.proofs.Replies.{reply_comes}
 
--- the last of some numbers with one behind them
+-- the last of some numbers with one after them
 at_end : (l : List ℤ) (x : ℤ) → get_or (l ++ x ∷ []) (length l) (pos 0) ≡ x
 at_end [] x = refl
 at_end (y ∷ l) x = at_end l x

@@ -1,4 +1,4 @@
--- The first cycle behind one and the last one before one, found by going through a match from its begin.
+-- The first cycle later than one and the last one before one, found by going through a match from its begin.
 use Rattle.std.proofs.Common.{◌≡◌, ◌≢◌, ◌⊎◌, ℕ, ◌+◌, ◌<◌, ◌≤◌, Bool, true, false, Option, Some, None, inl, inr, refl, subst, arith}
 use Rattle.std.specs.Prelude.{◌&&◌, if◌then◌else◌, is_some, nat_lt}
 use Rattle.std.specs.Option.{option_or}
@@ -8,11 +8,11 @@ use Rattle.playing.specs.Played.{EndsAt}
 use Rattle.playing.specs.declared.games.PlayEnd.{PlayEnd}
 use Rattle.moments.specs.Searches.{IsFound, IsLast, IsNext}
 
--- nothing was found in so many cycles behind one
+-- nothing was found in so many cycles, in those later than one
 abbrev pub NoneIn : (ℕ → Type 0) → (after count : ℕ) → Type 0
 NoneIn H after count = (n : ℕ) → after ≤ n → n < count → H n → ⊥
 
--- nor in one cycle more, if it doesn't happen there or isn't behind that one
+-- nor in one cycle more, if it doesn't happen there or isn't later than that one
 pub none_more : (H : ℕ → Type 0) (after count : ℕ) → NoneIn H after count → (after ≤ count → H count → ⊥)
     → NoneIn H after (count + 1)
 none_more H after count none here n behind within happens = elim (cases_eq n count) [

@@ -17,7 +17,7 @@ use Rattle.moments.specs.declared.sought.Sought.{Sought}
 use Rattle.moments.specs.declared.sought.Sought.TheVariants.{Place, Question, Restart, Hurt, Change, Value, LocalChange, LocalValue}
 use Rattle.moments.specs.Moments.{last_of, replies_of, wanted}
 
--- where a robot's code stands at a stage
+-- where a robot's program is at a stage
 abbrev pub state_at : Program → ℕ → Stage → Machine
 state_at code i stage = reached code (started_machine code) (replies_of stage i)
 
@@ -51,7 +51,7 @@ pub record Happens (robots : List Behaviour) (code : Program) (opening : Stage) 
   pub lives : is_live (stage_after robots opening n).field i ≡ true
   pub shows : Shows sought robots code i (stage_after robots opening n) (stage_after robots opening (n + 1))
 
--- The least cycle behind one, up to the last of a match, in which something happens: `Happens n` is of cycle n + 1.
+-- The least cycle later than one, up to a match's last, in which something happens: `Happens n` is of cycle n + 1.
 abbrev pub IsNext : (ℕ → Type 0) → (after last : ℕ) → Option ℕ → Type 0
 IsNext H after last None = (n : ℕ) → after ≤ n → n < last → H n → ⊥
 IsNext H after last (Some cycle) = (before : ℕ) × (cycle ≡ before + 1) × (after ≤ before) × (before < last) × H before
@@ -63,7 +63,7 @@ IsLast H limit last None = (n : ℕ) → n + 1 < limit → n < last → H n → 
 IsLast H limit last (Some cycle) = (before : ℕ) × (cycle ≡ before + 1) × (cycle < limit) × (before < last) × H before
     × ((n : ℕ) → before < n → n + 1 < limit → n < last → H n → ⊥)
 
--- it happens in the cycle after so many, which is behind another one, or isn't found there
+-- it happens in the cycle after so many, which is later than another one, or isn't found there
 abbrev pub IsFound : (ℕ → Type 0) → (n after : ℕ) → Option ℕ → Type 0
 IsFound H n after None = after ≤ n → H n → ⊥
 IsFound H n after (Some cycle) = (cycle ≡ n + 1) × (after < cycle) × H n

@@ -13,8 +13,8 @@ use arena::MOST_ROBOTS;
 use playing::{Game, Pilot};
 use settings::MOST_CYCLES;
 
-/// Returns the first cycle behind `after` in which what is sought happens to a robot, in the match of this number and seed
-/// of at most `limit` cycles. `None` if it happens in none.
+/// Returns the first cycle later than `after` in which what is sought happens to a robot, in the match of this number
+/// and seed of at most `limit` cycles. `None` if it happens in none.
 pub fn next_cycle(
     pilots: &mut [Pilot<'_>],
     robot: usize,
@@ -61,7 +61,8 @@ pub fn previous_cycle(
     last_in(&mut game, pilots, robot, sought, before)
 }
 
-/// Plays a match that has begun on to the first cycle behind one in which what is sought happens, and returns its number.
+/// Plays a match that has begun on to the first cycle later than `after` in which what is sought happens, and returns
+/// its number.
 fn next_in(
     game: &mut Game,
     pilots: &mut [Pilot<'_>],
@@ -118,8 +119,8 @@ fn last_in(
     found
 }
 
-/// Plays the next cycle of a match that isn't over. Returns its number if what is sought happens in it, and it is behind
-/// `after`.
+/// Plays the next cycle of a match that isn't over. Returns its number if what is sought happens in it, and it is later
+/// than `after`.
 fn step(
     game: &mut Game,
     pilots: &mut [Pilot<'_>],
@@ -145,7 +146,7 @@ fn step(
     found_behind(happens, game.ending().cycles, after)
 }
 
-/// Returns the number of a cycle in which it happens, if that is behind another one.
+/// Returns the number of a cycle in which it happens, if it is later than another one.
 fn found_behind(happens: bool, cycle: u32, after: u32) -> Option<u32>
     ensures { result ≡ (if happens && nat_lt after cycle then Some cycle else None) }
 {

@@ -61,7 +61,7 @@ one_grows Faults bytes t f after (takes, same) = record {
   lines = grown f after.faults bytes takes;
 }
 
--- bytes behind bytes behind bytes
+-- bytes after bytes after bytes
 behind : (a b c x y : List ℕ) → b ≡ a ++ x → c ≡ b ++ y → c ≡ a ++ (x ++ y)
 behind a b c x y first second = second ∙ ap (λ (l : List ℕ). l ++ y) first ∙ append_assoc a x y
 

@@ -18,9 +18,9 @@ pub struct RobotFile {
     pub name_size: u32,
     /// How many bytes the source has.
     pub source_size: u32,
-    /// The name, and what lies behind it.
+    /// The name, and what lies after it.
     pub name: [u8; NAME_MAX],
-    /// The source, and what lies behind it.
+    /// The source, and what lies after it.
     pub source: [u8; SOURCE_MAX],
 }
 

@@ -18,7 +18,7 @@ pub const FRAMES: usize = 32_768;
 pub struct SheetBlock {
     /// How many bytes it has.
     pub size: u8,
-    /// The bytes, and what lies behind them.
+    /// The bytes, and what lies after them.
     pub bytes: [u8; FRAME_BYTES],
 }
 

@@ -11,12 +11,12 @@ use Rattle.parser.specs.Advancing.{Advances, IsReady, HasStayedOrAdvanced, Stopp
 takes_then : (a b c : ℕ) (x y z : Option (List ℕ)) → TakesBytes a b x y → TakesBytes b c y z → TakesBytes a c x z
 takes_then a b c x y z h i = record { rest = λ total e. i.rest total (h.rest total e) }
 
--- a parser that does nothing
+-- a cursor that does nothing
 pub stays_ready : (at : ScopedCursor) → IsReady at → HasStayedOrAdvanced at at
 stays_ready at ready =
     record { borrows = refl; account = refl; took = record { rest = λ total h. h }; falls = le_refl _; ready = ready }
 
--- a call that went on, where none was needed
+-- a call that advanced, though it didn't have to
 pub on : (a b : ScopedCursor) → HasAdvanced a b → HasStayedOrAdvanced a b
 on a b h =
     record { borrows = h.borrows; account = h.account; took = h.took; falls = omega (arith, h.falls); ready = h.ready }
@@ -48,7 +48,7 @@ kept_on a b c h i = record {
   ready = i.ready;
 }
 
--- a refusal after calls that went on
+-- a refusal after calls that advanced
 pub stopped_then : (f : ParseFault) (a b c : ScopedCursor) → HasStayedOrAdvanced a b → Stopped f b c → Stopped f a c
 stopped_then f a b c h i = record {
   borrows = i.borrows ∙ h.borrows;

@@ -1,4 +1,4 @@
--- How the reading of a file goes on, and where it stops.
+-- How the parse of a file goes on, and where it stops.
 use Rattle.std.proofs.Common.{◌≡◌, List, [], ◌∷◌, ◌++◌, refl, sym, ap, ◌∙◌, subst, append_assoc, append-nil, ℕ}
 use Rattle.tokens.specs.declared.located_tokens.LocatedToken.{LocatedToken}
 use Rattle.grammar.specs.declared.diagnostics.Diagnostic.{Diagnostic}
@@ -43,7 +43,7 @@ advances_stay before front at = record {
       (state front rest [] (scope_at at) fs)) (sym (append-nil functions)) (here profile _);
 }
 
--- two readings one behind another
+-- two parts of a parse, one after the other
 pub advances_then : (before mid after : Representation) (front between pending : List Item) (at now there : Position) →
     ReadsOn before mid front between at now → ReadsOn mid after between pending now there →
     ReadsOn before after front pending at there
@@ -76,7 +76,7 @@ advances_then before mid after front between pending at now there a b = record {
       (b.passes rest g profile (functions ++ a.more) told));
 }
 
--- Where a reading stops.
+-- Where a parse stops.
 
 -- where it stops goes back along a segment without faults
 pub telling_back : (after : Representation) (profile : Profile) (s t : State) (stop : Stop)
@@ -112,7 +112,7 @@ pub told_grown : (before after : Representation) (profile : Profile) (functions 
     before profile (definitions_actions functions) → HasTold after profile functions
 told_grown before after profile functions grown h = record { more = grown.more; stands = grown.added profile _ h }
 
--- a fault behind a reading
+-- a fault after a part of a parse
 pub stops_then : (before mid after : Representation) (front between : List Item) (at now : Position) (d : Stop) →
     ReadsOn before mid front between at now → StopsPart mid after between now d →
     StopsPart before after front at d
@@ -152,7 +152,7 @@ segment_stops before front stack at d depths fails located_tokens is profile fun
     telling_inside before profile _ d (λ device. told_alone before profile functions h)
     (fails located_tokens is profile stack [] functions depths)
 
--- a refusal behind a reading
+-- a refusal after a part of a parse
 pub leave : (used : ℕ) (before mid after : Representation) (front between : List Item) (at now : Position)
     (denied more : Type 0)
     (f : ParseFault) → ReadsOn before mid front between at now →
@@ -161,7 +161,7 @@ pub leave : (used : ℕ) (before mid after : Representation) (front between : Li
 leave used before mid after front between at now denied more f a memory =
     refused_map used _ _ denied more f (λ d. stops_then before mid after front between at now d a) memory
 
--- the first fault stands at the next token
+-- the first fault is at the next token
 pub reading_fails_at_next : (before after : Representation) (front : List Item) (at : Position) (d : Diagnostic)
     (used : ℕ) →
     IsNearTo at.lookahead.cursor used →

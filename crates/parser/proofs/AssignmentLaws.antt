@@ -48,7 +48,7 @@ plain_enters : (t after : Token) → (is_some (name_of_token t) ≡ true → sto
 plain_enters (token.Name name) (token.Punctuator m) none = let e : store_of m ≡ None = none refl in rw e refl
 plain_enters t after none = refl
 
--- no operator of an assignment stands behind a name
+-- no operator of an assignment follows a name
 abbrev pub NoAssignment : Position → Type 0
 NoAssignment at = is_some (name_of_token (next_at at).token) ≡ true → store_operator (after_at at) ≡ None
 
@@ -129,7 +129,7 @@ store_enters : (name : List ℕ) (m : Punctuator) (o : StoreOp) → store_of m �
     enters Expression (token.Name name) (token.Punctuator m) ≡ true
 store_enters name m o is = rw is refl
 
--- a name is next, and the operator of an assignment behind it
+-- a name is next, and the operator of an assignment after it
 pub record IsAssignment (at : Position) (o : StoreOp) : Type 0 where
   pub named : IsNamed (next_at at).token
   pub is : store_operator (after_at at) ≡ Some o
@@ -190,7 +190,7 @@ target_past at now depth o v a shallow item s =
     (Exactly s.m ∷ Part Expression ∷ Make (Store o) ∷ Close ∷ []) [] (AVariable v ∷ []) [] at at now
     (store_stands at depth o a shallow s) (item (depth + 1)) (λ stack same. ap (λ n. n + 1) same)
 
--- the operator is next behind the name
+-- the operator is next after the name
 next_is : (at now : Position) (o : StoreOp) (v : Var) → IsAssignment at o →
     DerivesItem (AName Mentioned) [] (AVariable v ∷ []) at now → (next_at now).token ≡ after_at at
 next_is at now o v a item =

@@ -1,4 +1,4 @@
--- What the reading of a function derives.
+-- What the parse of a function derives.
 use Rattle.std.proofs.Common.{◌≡◌, ℕ, ◌+◌, ◌<◌, ◌≤◌, List, [], ◌∷◌, ◌++◌, refl, sym, ap, ◌∙◌, subst, true, false, arith, append_assoc, append-nil, le_refl}
 use Rattle.std.proofs.lemmas.Bool.Decides.{nat_tests}
 use Rattle.std.specs.Prelude.{length, nat_lt}
@@ -144,7 +144,7 @@ close_step : (profile : Profile) (located_tokens : List LocatedToken) (scope : S
 close_step profile located_tokens scope functions stack next tail e sound =
     rw e (close profile stack (next ∷ tail) [] scope functions sound)
 
--- the place at the closing brace, and the same behind the function's end
+-- the position at the closing brace, and the same after the function's end
 pub record IsEnded (brace ended : Position) : Type 0 where
   pub cursor : ended.lookahead.cursor ≡ brace.lookahead.cursor
   pub to_come : ended.to_come ≡ brace.to_come
@@ -165,7 +165,7 @@ renamed at new ready is = rw is (record {
   ready = record { sound = ready.sound; near = ready.near; count = ready.count };
 })
 
--- a refusal that is not the device's, at a parser that did nothing
+-- a refusal that is not the device's, at a cursor that did nothing
 pub short : (f : ParseFault) (at : ScopedCursor) (before : Representation) (line : ℕ) (denied : Type 0) →
     RefusesEnd before line denied f → Stopped f at at
 short (refusal.Source d) at before line denied ends =
@@ -176,7 +176,7 @@ short refusal.Memory at before line denied ends =
 
 goes_ended : (brace ended : Position) (rest : List LocatedToken) → IsEnded brace ended → MayContinue ended rest →
     MayContinue brace rest
-goes_ended brace ended rest s g = record { window = g.window; is = g.is ∙ rw s.cursor refl }
+goes_ended brace ended rest s g = record { behind = g.behind; is = g.is ∙ rw s.cursor refl }
 
 tokens_ended : (brace ended : Position) → IsEnded brace ended → tokens_at ended ≡ tokens_at brace
 tokens_ended brace ended s = rw (s.cursor, s.to_come) refl
@@ -234,7 +234,7 @@ function_advances first second third fourth at now brace ended there number para
           sound))));
     }
 
--- Where the reading of a function stops.
+-- Where the parse of a function stops.
 
 heading_stops : (before : Representation) (at : Position) (d : Stop) → FailsAt 0 header_items [] at d →
     StopsPart before before at_definition at d
@@ -336,7 +336,8 @@ too_much_refused used first second third after at now brace number parameters f 
           (braced second third at now brace h b) near,
     )
 
--- the closing brace itself is always there, but the token behind it may be a fault; the builder was told the function
+-- The closing brace itself is always there, but the token after it may be a lexical error. The builder was told the
+-- function.
 brace_stops : (first second third fourth : Representation) (at now brace ended : Position)
     (number parameters variables : ℕ)
     (d : Stop) →
@@ -384,7 +385,7 @@ brace_refused used first second third fourth at now brace ended number parameter
     (λ d. brace_stops first second third fourth at now brace ended number parameters variables d h b same s told c
     sound) (λ never. absurd never)
 
--- A closing brace is no fault.
+-- A closing brace is no lexical error.
 pub closing_sound : (t : Token) → is_punctuator punctuator.CloseCurly t ≡ true → is_fault t ≡ false
 closing_sound (token.Punctuator m) is = refl
 closing_sound (token.Name name) is = refl

@@ -156,7 +156,7 @@ block_adds at now later behind there before after depth sound is shallow goes de
 
 -- The condition of an `if` or a `while`, and its first statement.
 
--- an `if` or a `while` goes on behind its word
+-- an `if` or a `while` goes on after its keyword
 abbrev pub Conditioned : ℕ → List Item → Position → Position → Type 0
 Conditioned depth items at now =
     (b : Body) →
@@ -210,7 +210,7 @@ while_too_deep at used near depth sound is deep b =
     word_too_deep at used near depth Statement keyword.While (in_brackets ++ behind_while) (ABody b ∷ []) sound
     (while_chosen _ is) is (while_enters _ is) deep
 
--- the items behind the first statement keep one level open
+-- the items after the first statement keep one level open
 abbrev pub ClosesOne : List Item → Type 0
 ClosesOne items = (stack : List Item) → levels (items ++ stack) ≡ levels stack + 1
 
@@ -222,7 +222,7 @@ test_fails at now depth items closes begun d fails b =
     (ABody b ∷ []) [] (ABody b ∷ []) at now d (begun b)
     (λ stack same. closes stack ∙ deeper depth stack same) fails
 
--- the condition, and an empty body behind it
+-- the condition, and an empty body after it
 test_past : (at now later : Position) (before after : Representation) (depth : ℕ) (items : List Item) (b : Body) →
     ClosesOne items → Conditioned depth items at now →
     (c : AddsExpr before after (depth + 1) 1 in_brackets [] now later) → is_fault (next_at later).token ≡ false →
@@ -348,7 +348,7 @@ else_stops at depth sound is d stop s c b =
     word_stops at d depth ElsePart keyword.Else (Make Empty ∷ Part Statement ∷ Make DecideElse ∷ []) (before_else s c b)
     sound (else_chosen _ is) is (free_of depth ElsePart (next_at at) (λ after. refl)) stop
 
--- the word and an empty body behind it; the token that follows is no fault
+-- the keyword and an empty body after it; the token that follows is no lexical error
 else_past : (at now : Position) (depth : ℕ) (s : Body) (c : Expr) (b : Body) → is_fault (next_at at).token ≡ false →
     is_keyword keyword.Else (next_at at).token ≡ true → GoesPast at now → is_fault (next_at now).token ≡ false →
     Derives depth (Part ElsePart ∷ []) (Part Statement ∷ Make DecideElse ∷ []) (before_else s c b)
@@ -425,7 +425,7 @@ repetition_adds at now later there before m1 m2 m3 m4 after depth shallow begun 
           (close_stands there depth (ABody (join b (While c.tree s.tree Done)) ∷ []) sound_behind) (λ stack same. same);
     }
 
--- Statements, one behind another.
+-- Statements, one after another.
 
 pub statements_begin : (at : Position) (before : Representation) (depth : ℕ) →
     AddsBody before before depth (Part Statements ∷ []) (Part Statements ∷ []) at at

@@ -19,7 +19,7 @@ use Rattle.grammar.proofs.Verdicts.{IsRest, run_rests}
 use Rattle.parser.proofs.Advancing.{definitions_actions-append}
 use Rattle.parser.proofs.StrictEnds.{IsCut, IsCutBehind, cut_behind, tokens_cut}
 
--- Where three tokens behind a brace end.
+-- Where three tokens after a brace end.
 
 both_true : (a b : Bool) → (a && b) ≡ true → (a ≡ true) × (b ≡ true)
 both_true true b e = (refl, e)
@@ -55,7 +55,7 @@ fewer_ahead (suc n) count (x ∷ xs) h =
     both_true (ends_by count x) (has_ahead (suc n) count xs) h in
     rw (p.0, fewer_ahead n count xs p.1) refl
 
--- a token ends by this place where the one behind it does
+-- a token ends by this offset if the one after it does
 ends_sooner : (place count : ℕ) (x y : LocatedToken) (ys : List LocatedToken) → IsCut place (x ∷ y ∷ ys) →
     ends_by count y ≡ true → ends_by count x ≡ true
 ends_sooner place count x y ys cut h = by (is_last x.token) refl
@@ -80,7 +80,7 @@ sooner_brace : (count place : ℕ) (x : LocatedToken) (xs : List LocatedToken) �
 sooner_brace count place x [] cut h = absurd (cc)
 sooner_brace count place x (y ∷ ys) cut h = more_ahead 2 count x.end y ys cut.1.1.1 h
 
--- where too little lies behind a brace, so it does behind each later one
+-- if too little follows a brace, too little follows each later one
 later_brace : (count place : ℕ) (x : LocatedToken) (xs : List LocatedToken) → IsCut place (x ∷ xs) →
     is_behind_brace count (x ∷ xs) ≡ false → is_behind_brace count xs ≡ false
 later_brace count place x xs cut h = by (is_behind_brace count xs) refl
@@ -95,7 +95,7 @@ later_braces count place [] rest cut h = h
 later_braces count place (x ∷ before) rest cut h =
     later_braces count x.end before rest cut.1.1.1 (later_brace count place x (before ++ rest) cut h)
 
--- no brace from the stop on has three tokens behind it that were read
+-- no brace from the stop on has three tokens after it that were read
 at_stop : (count place : ℕ) (rest : List LocatedToken) → IsCut place rest → count ≤ reach_of rest →
     is_behind_brace count rest ≡ false
 at_stop count place [] cut h = refl
@@ -131,7 +131,7 @@ none_of count (AnEnd ∷ stack) rest values scope h = refl
 none_of count (Part symbol ∷ stack) rest values scope h = refl
 none_of count (Close ∷ stack) rest values scope h = refl
 
--- the tokens left behind a step
+-- the tokens left after a step
 pub record IsStepped (count : ℕ) (s : State) : Type 0 where
   pub position : ℕ
   pub cut : IsCut position (stepped s).rest
@@ -157,9 +157,9 @@ none_in count (suc n) place s cut h =
     let t : IsStepped count s = steps_on count place s cut in
     rw (none_of count s.stack s.rest s.values s.scope h, none_in count n t.position (stepped s) t.cut (t.later h)) refl
 
--- What a step defines.
+-- What a step of the derivation defines.
 
--- the functions defined, whose actions are built, or nothing is, and too little lies behind the brace
+-- the functions defined, whose actions are built; or nothing is, and too little follows the brace
 pub record Defines (count : ℕ) (s : State) : Type 0 where
   pub more : List Definition
   pub functions : (stepped s).functions ≡ s.functions ++ more
@@ -203,7 +203,7 @@ plain : (count : ℕ) (s : State) → built_of count s.stack s.rest s.values s.s
 plain count s none keeps =
     record { more = []; functions = kept (is_fault (next_token s.rest)) _ s keeps; built = inl none }
 
--- a fault has nothing behind it
+-- a lexical error has nothing after it
 behind_fault : (count place : ℕ) (rest : List LocatedToken) → IsCut place rest → is_fault (next_token rest) ≡ true →
     is_behind_brace count rest ≡ false
 behind_fault count place [] cut e = refl
@@ -337,7 +337,7 @@ built_in-add count (suc m) n s =
     (append_assoc (built_of count s.stack s.rest s.values s.scope) (built_in count m (stepped s))
     (built_in count n (derived m (stepped s))))
 
--- the functions defined by then are those built, and others behind them
+-- the functions defined by then are those built, and others after them
 pub record IsAmongDefined (bytes : List ℕ) (count steps : ℕ) : Type 0 where
   pub more : List Action
   pub is : definitions_actions (derived steps (initial_state (tokens bytes))).functions ≡ built bytes count ++ more

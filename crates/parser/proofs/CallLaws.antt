@@ -109,7 +109,7 @@ first_refused used at depth denied f sound other =
     (Make Pass ∷ Part MoreArguments ∷ []) (ACall callee NoMore ∷ []) [] (ACall callee NoMore ∷ []) at at d
     (first_stands at depth callee sound other) (λ stack same. same) h) (λ same. same)
 
--- an argument stands behind those so far
+-- an argument follows those so far
 passed : (at now there : Position) (depth : ℕ) (callee : Callee) (args : Args) (front : List Item) (e : Expr) →
     Derives depth front (Part Expression ∷ Make Pass ∷ Part MoreArguments ∷ []) (ACall callee NoMore ∷ [])
     (ACall callee args ∷ []) at now →
@@ -306,7 +306,7 @@ callee_past at now depth callee c item =
     (ACall callee NoMore ∷ []) [] at at now
     (call_stands at depth c) (item (depth + 1)) (λ stack same. ap (λ n. n + 1) same)
 
--- the builder was refused memory behind the name
+-- the builder was refused memory after the name
 pub callee_halts : (used : ℕ) (at now : Position) (depth : ℕ) (callee : Callee) → IsCall at depth →
     DerivesItem (AName Called) [] (ACall callee NoMore ∷ []) at now → IsNearTo now.lookahead.cursor used →
     FailsAt depth (Part Primary ∷ []) [] at (stop_with refusal.Memory used)

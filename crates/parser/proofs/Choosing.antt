@@ -77,7 +77,7 @@ source_misfits before at used near sound end type name =
     (λ tail profile functions. no_part profile Source [] (next_at at ∷ tail) [] (scope_at at) functions sound
     (source_none (next_at at).token _ end type name) refl)
 
--- Behind the type words.
+-- After the type words.
 
 abbrev pub at_head : List Item
 at_head = Part Head ∷ at_source
@@ -210,7 +210,7 @@ externals_refused used before at name f more same other =
     (head_external before at name same other) (segment_stops before external_items at_source at d refl (fails 0)))
     (λ never. absurd never)
 
--- a function was read behind what leads to it
+-- a function was read after what leads to it
 pub function_read : (before after : Representation) (front : List Item) (at there : Position) →
     ReadsOn before before front at_definition at at → ReadsOn before after at_definition at_source at there →
     ReadsOn before after front at_source at there

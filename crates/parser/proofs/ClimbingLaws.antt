@@ -106,7 +106,7 @@ found n t b is = by (operator_of t) is
     by None h = absurd (cc)
     by (Some c) h = tested c (nat_le n c.level) refl h
 
--- where none is found from a level on, the token's is of a looser level
+-- if none is found from a level on, the token's is of a looser level
 pub all_looser : (n : ℕ) (t : Token) (b : AnOperator) → operator_from n t ≡ None → operator_of t ≡ Some b → b.level < n
 all_looser n t b none is = by (operator_of t) none is
   where
@@ -131,7 +131,7 @@ none_past n t past = by (operator_of t) (ten_levels t)
         let level : b.level ≤ 10 = most b refl in
         let less : b.level < n = omega arith in rw (looser n b.level less) refl
 
--- where none is found from a level on, there is none of any tighter level
+-- if none is found from a level on, there is none of any tighter level
 none_at : (n l : ℕ) (t : Token) → operator_from n t ≡ None → n ≤ l → operator_at l t ≡ None
 none_at n l (token.Punctuator m) none tighter = by (binary_of m) (λ b is. all_looser n (token.Punctuator m) b none is)
   where
@@ -159,7 +159,7 @@ one_then depth front mid pending taken between left at now there a b =
     joined depth depth front mid pending [] taken between left [] at now there first b (λ stack same. same) in
     rw (append-nil pending, append-nil left) at both
 
--- the tails of so many levels from one on, the tightest first
+-- the tails of `count` levels from one on, the tightest first
 abbrev pub tails : (count n : ℕ) → List Item
 tails zero n = []
 tails (suc count) n = Part (Tail (n + count)) ∷ tails count n
@@ -232,7 +232,7 @@ reaches at depth n sound = by (nat_le n 11) refl
         subst (λ (c : ℕ). Derives depth (Part (Level n) ∷ []) (Part Unary ∷ tails c n) [] [] at at) none
         (last_stands at depth n (omega arith) sound)
 
--- Shutting levels.
+-- Closing levels.
 
 no_operator : (n : ℕ) (t after : Token) → operator_at n t ≡ None → choice (Tail n) t after ≡ Some []
 no_operator n (token.Punctuator m) after none = rw none refl
@@ -281,8 +281,7 @@ drops at depth n kept (suc count) trees less none sound =
 -- Climbing.
 
 -- An expression of the operators from level n on was read so far. The tails of some levels wait, and no operator that
--- is tighter than
--- these follows.
+-- is tighter than these follows.
 pub record Climbs (before after : Representation) (depth n : ℕ) (here there : Position) : Type 0 where
   pub count : ℕ
   pub none : operator_from (n + count) (next_at there).token ≡ None

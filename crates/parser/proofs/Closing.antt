@@ -1,4 +1,4 @@
--- What a builder may be told of a function: its begin, the return at its end, and its end.
+-- What a builder may be told of a function: its beginning, the return at its end, and its end.
 use Rattle.std.proofs.Common.{◌≡◌, ℕ, pos, ◌+◌, ◌<◌, ◌≤◌, List, [], ◌∷◌, ◌++◌, refl, ◌∙◌, subst, true, false, arith, append_assoc}
 use Rattle.grammar.specs.declared.actions.Action.{Action}
 use Rattle.grammar.specs.declared.actions.Action.TheVariants.{BeginFunction, EndFunction, GiveBack, PushConstant}
@@ -112,7 +112,7 @@ closes before mid between after variables a b c fits = record {
         append_assoc (acts ++ PushConstant (pos 0) ∷ []) (GiveBack ∷ []) (EndFunction variables ∷ []) ∙
         append_assoc acts (PushConstant (pos 0) ∷ []) (GiveBack ∷ EndFunction variables ∷ [])
 
--- Behind it nothing is open.
+-- After it nothing is open.
 pub closed : (before after : Representation) (number parameters variables : ℕ) (body : Body) → LeavesOpen before [] →
     number < 64 → parameters ≤ variables → variables ≤ 64 → InBody 64 64 64 body → body_nesting body ≤ 200 →
     AppendsAll before after

@@ -9,7 +9,7 @@ use Rattle.std.specs.Prelude.{List}
 use Rattle.parser.specs.Forms.{begins_statement}
 use Rattle.parser.proofs.Parts.{Chooses, punctuator_is, word_is}
 
--- An expression for its effect.
+-- An expression statement.
 
 -- a token that begins no form of its own
 pub record Evaluates (t : Token) : Type 0 where
@@ -60,7 +60,7 @@ no_else_chosen (token.Constant value) other = λ after. refl
 no_else_chosen token.End other = λ after. refl
 no_else_chosen (token.Fault lexical_error) other = λ after. refl
 
--- What a return gives back.
+-- What a return returns.
 
 pub zero_chosen : (t : Token) → is_punctuator punctuator.Semicolon t ≡ true → Chooses Back t (Make Zero ∷ [])
 zero_chosen t is after =
@@ -75,7 +75,7 @@ value_chosen (token.Constant value) other = λ after. refl
 value_chosen token.End other = λ after. refl
 value_chosen (token.Fault lexical_error) other = λ after. refl
 
--- The forms that a punctuator or a word begins.
+-- The forms that a punctuator or a keyword begins.
 
 pub empty_chosen : (t : Token) → is_punctuator punctuator.Semicolon t ≡ true →
     Chooses Statement t (Exactly punctuator.Semicolon ∷ [])
@@ -87,7 +87,7 @@ pub empty_shallow : (t : Token) → is_punctuator punctuator.Semicolon t ≡ tru
 empty_shallow t is after =
     let at : t ≡ token.Punctuator punctuator.Semicolon = punctuator_is punctuator.Semicolon t is in rw at refl
 
--- what stands behind the opening brace of a block
+-- what follows the opening brace of a block
 abbrev pub in_braces : List Item
 in_braces = Part Declarations ∷ Part Statements ∷ Exactly punctuator.CloseCurly ∷ Close ∷ []
 
@@ -107,7 +107,7 @@ begins_block t is =
       opened = λ after. rw at refl;
     }
 
--- what stands behind the condition of an `if`
+-- what follows the condition of an `if`
 abbrev pub behind_if : List Item
 behind_if = Make Empty ∷ Part Statement ∷ Part ElsePart ∷ Close ∷ []
 

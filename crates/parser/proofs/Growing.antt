@@ -20,7 +20,7 @@ grown_nothing before = record {
 pub grown : (before after : Representation) (more : List Action) → AppendsAll before after more → HasGrown before after
 grown before after more told = record { more = more; added = told }
 
--- and further ones behind them
+-- and further ones after them
 pub grown_then : (before mid after : Representation) → HasGrown before mid → HasGrown mid after → HasGrown before after
 grown_then before mid after a b = record {
   more = a.more ++ b.more;
@@ -29,13 +29,13 @@ grown_then before mid after a b = record {
       (b.added profile _ (a.added profile acts h));
 }
 
--- behind these actions further ones
+-- after these actions further ones
 pub grown_behind : (before mid after : Representation) (more : List Action) → AppendsAll before mid more →
     HasGrown mid after →
     HasGrown before after
 grown_behind before mid after more told h = grown_then before mid after (grown before mid more told) h
 
--- A builder that was refused memory: of what it stands for nothing is known.
+-- A builder that was refused memory: what it represents is unknown.
 
 abbrev pub unknown : Representation
 unknown profile acts = Unit {0}
@@ -45,7 +45,7 @@ pub refuses : (e : BuildFault) (denied : Type 0) → Refuses {A = Unit {0}} (Err
 refuses fault.Memory denied h = h
 refuses fault.Full denied h = absurd h
 
--- It is asked how a builder has grown only where the device failed.
+-- It is asked how a builder has grown only if the device failed.
 
 pub source_grown : (before after : Representation) (d : Diagnostic) → refusal.Device ≡ refusal.Source d →
     HasGrown before after

@@ -1,4 +1,4 @@
--- What a heading derives, call by call.
+-- What a function's header derives, call by call.
 use Rattle.std.proofs.Common.{◌≡◌, ℕ, List, [], ◌∷◌, refl, false}
 use Rattle.tokens.specs.declared.located_tokens.Punctuator.TheVariants as punctuator
 use Rattle.tokens.specs.declared.located_tokens.Token.{Token}
@@ -17,7 +17,7 @@ pub parameters_end : (t : Token) → ((bytes : List ℕ) → t ≡ token.Name by
 parameters_end (token.Name bytes) other = absurd (other bytes refl)
 parameters_end t other = record { chosen = λ after. refl; plain = λ after. refl }
 
--- parameters, where a name is next
+-- parameters, if a name is next
 pub parameters_open : (at : Position) (bytes : List ℕ) → is_fault (next_at at).token ≡ false →
     (next_at at).token ≡ token.Name bytes →
     Goes (Part Parameters ∷ []) (AName Parameter ∷ Part (More Parameter) ∷ []) at at
@@ -32,7 +32,7 @@ parameter_first at there bytes sound is b =
     item_on (Part Parameters ∷ []) (AName Parameter) (Part (More Parameter) ∷ []) at at there (λ stack. refl)
     (parameters_open at bytes sound is) b
 
--- and where none is
+-- and if none is
 pub no_parameters : (at : Position) → is_fault (next_at at).token ≡ false →
     ((bytes : List ℕ) → (next_at at).token ≡ token.Name bytes → ⊥) → Goes (Part Parameters ∷ []) [] at at
 no_parameters at sound other depth = replaces at depth Parameters [] sound (parameters_end (next_at at).token other)

@@ -1,4 +1,4 @@
--- What the reading of a function's block derives, up to its closing brace.
+-- What the parse of a function's block derives, up to its closing brace.
 use Rattle.std.proofs.Common.{◌≡◌, ℕ, ◌+◌, List, [], ◌∷◌, ◌++◌, refl, ap, subst, Bool, true, false, arith, append-nil}
 use Rattle.std.specs.Prelude.{Option, None, nat_le}
 use Rattle.tokens.specs.Cursors.{Cursor, IsNearTo}
@@ -96,7 +96,7 @@ brace_stops cursor known more is d stop =
     stops cursor known known more d 0 (Part FunctionBlock ∷ []) (Make Empty ∷ inside_items) [] []
     (λ rest b. brace_leads cursor.next is known rest) stop
 
--- behind the opening brace
+-- after the opening brace
 pub block_opened : (cursor : Cursor) (known : Scope) (more : Option (List ℕ)) (now : Position) →
     is_punctuator punctuator.OpenCurly cursor.next.token ≡ true → is_fault (next_at now).token ≡ false →
     GoesPast (position_of (record { cursor = cursor; scope = known }) more) now →
@@ -110,7 +110,7 @@ block_opened cursor known more now is sound goes =
     (stand now 0 (Make Empty ∷ inside_items) inside_items [] (ABody Done ∷ [])
     (λ tail b. empty_leads (next_at now) sound (scope_at now) tail)) (λ stack same. same)
 
--- behind the declarations
+-- after the declarations
 pub block_declared : (at now then : Position) →
     Derives 0 (Part FunctionBlock ∷ []) inside_items [] (ABody Done ∷ []) at now →
     Derives 1 (Part Declarations ∷ []) [] [] [] now then →
@@ -119,12 +119,12 @@ block_declared at now then a b =
     joined 0 1 (Part FunctionBlock ∷ []) (Part Declarations ∷ []) [] (Part Statements ∷ at_brace) [] [] []
     (ABody Done ∷ []) at now then a b (λ stack same. ap (λ n. n + 1) same)
 
--- the tokens that a place may have: the two that were read, and no more
+-- the tokens that a position may have: the two that were read, and no more
 abbrev some_tokens : Position → List LocatedToken
 some_tokens at = followed_by at.lookahead.cursor.next (followed_by at.lookahead.cursor.after [])
 
 some_goes : (at : Position) → MayContinue at (some_tokens at)
-some_goes at = record { window = []; is = refl }
+some_goes at = record { behind = []; is = refl }
 
 -- declarations and statements keep the function that is being defined
 kept_between : (before after : Representation) (now mid there : Position) →

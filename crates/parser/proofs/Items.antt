@@ -1,4 +1,4 @@
--- What it takes to match one item, and what happens where the next token doesn't fit.
+-- What it takes to match one item, and what happens if the next token doesn't fit.
 use Rattle.std.proofs.Common.{◌≡◌, ℕ, List, [], ◌∷◌, refl, true, false}
 use Rattle.std.specs.Prelude.{Option, Some}
 use Rattle.tokens.specs.Cursors.{Cursor, IsNearTo}
@@ -105,7 +105,7 @@ name_leads : (located_token : LocatedToken) (role : Role) (bytes : List ℕ) (de
 name_leads located_token role bytes depth known learnt rest is knows = record {
   passes = λ profile stack values functions depths.
       let found : name_of_token located_token.token ≡ Some bytes = rw is refl in
-      rw knows.window
+      rw knows.behind
       (name profile role bytes stack (located_token ∷ rest) values known functions (rw is refl) found
       (knows.clean (located_token ∷ rest)));
 }
@@ -121,7 +121,7 @@ name_derives cursor known learnt more there role bytes left is knows same goes d
     (past cursor known learnt more there depth (AName role ∷ []) [] [] (name_tree role bytes known) goes
     (λ rest b. name_leads cursor.next role bytes depth known learnt rest is knows))
 
--- the token behind it is a fault
+-- the token after it is a lexical error
 pub name_stops : (cursor : Cursor) (known learnt : Scope) (more : Option (List ℕ)) (role : Role) (bytes : List ℕ) →
     cursor.next.token ≡ token.Name bytes →
     LearnsName role bytes cursor.next.line known learnt → (d : Stop) →

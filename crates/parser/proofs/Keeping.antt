@@ -1,4 +1,4 @@
--- One call of a reader after another: what they keep.
+-- One call of a parser after another: what they keep.
 use Rattle.std.proofs.Common.{◌≡◌, ℕ, ◌+◌, ◌-◌, List, refl, ◌∙◌, arith}
 use Rattle.std.specs.Prelude.{Option}
 use Rattle.grammar.specs.declared.diagnostics.ParseFault.{ParseFault}
@@ -13,11 +13,11 @@ use Rattle.parser.specs.ParsedFiles.{IsFile, ParseIsRefused}
 use Rattle.parser.specs.Parsers.{ParserKept}
 use Rattle.parser.proofs.Advances.{kept_then, on, on_then, stays_ready}
 
--- a reader that does nothing
+-- a parser that does nothing
 pub nothing_read : {F B : Type 0} → (at : Parser F B) → IsReady at.tokens → ParserKept HasStayedOrAdvanced at at
 nothing_read at ready = record { tokens = stays_ready _ ready; depth = refl; builder = refl }
 
--- a call that went on, where none was needed
+-- a call that went on, though it didn't have to
 pub went : {F B : Type 0} → (a b : Parser F B) → ParserKept HasAdvanced a b → ParserKept HasStayedOrAdvanced a b
 went a b h = record { tokens = on _ _ h.tokens; depth = h.depth; builder = h.builder }
 
@@ -38,7 +38,7 @@ went_then a b c h i = record {
   builder = i.builder ∙ h.builder;
 }
 
--- What is said of a builder as a reader left it is true of it when the reader is gone.
+-- What is said of a builder as a parser left it is true of it when the parser is gone.
 pub file_left : {B : Type 0} →
     (stands : B → Representation) (before : Representation) (last left : B) (told : Option (List ℕ))
     (names : Pools) → last ≡ left → IsFile before (stands left) told names → IsFile before (stands last) told names
@@ -55,6 +55,6 @@ refused_left before after left denied told to_come refusal.Device same h = λ by
     record { count = built.count; took = built.took; more = built.more; stands = same profile _ built.stands }
 refused_left before after left denied told to_come refusal.Memory same h = h
 
--- a level that was opened is shut
+-- a level that was opened is closed
 pub shut : (depth opened : ℕ) → opened ≡ depth + 1 → opened - 1 ≡ depth
 shut depth opened same = omega arith

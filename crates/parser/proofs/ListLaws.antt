@@ -18,7 +18,7 @@ use Rattle.parser.proofs.Parts.{Chooses, free_of, part_stands}
 use Rattle.parser.proofs.Segments.{fails_behind, joined, refused_map, stay}
 use Rattle.parser.specs.Declarations.{IsInFunction, declaration_items, declarations_of, names_items}
 
--- the symbol is replaced by these items, whatever stands behind the next token, and no level is opened
+-- the symbol is replaced by these items, whatever follows the next token, and no level is opened
 pub record Gives (symbol : Symbol) (next : Token) (items : List Item) : Type 0 where
   pub chosen : Chooses symbol next items
   pub plain : (after : Token) → enters symbol next after ≡ false
@@ -74,14 +74,14 @@ declarations_end kind.Locals t h other = record { chosen = λ after. refl; plain
 abbrev pub AreLevel : List Item → Type 0
 AreLevel below = (stack : List Item) → levels (below ++ stack) ≡ levels stack
 
--- one segment behind another, with items left below it
+-- one segment after another, with items left below it
 pub goes_on : (depth : ℕ) (front mid pending below : List Item) (at now there : Position) → AreLevel below →
     Derives depth front (mid ++ below) [] [] at now → Derives depth mid pending [] [] now there →
     Derives depth front (pending ++ below) [] [] at there
 goes_on depth front mid pending below at now there level a b =
     joined depth depth front mid pending below [] [] [] [] at now there a b (λ stack same. level stack ∙ same)
 
--- behind a segment the symbol in front is replaced
+-- after a segment the symbol in front is replaced
 pub opens_on : (depth : ℕ) (front : List Item) (symbol : Symbol) (items : List Item) (at now : Position) →
     is_fault (next_at now).token ≡ false → Gives symbol (next_at now).token items →
     Derives depth front (Part symbol ∷ []) [] [] at now → Derives depth front (items ++ []) [] [] at now
@@ -89,7 +89,7 @@ opens_on depth front symbol items at now sound gives a =
     goes_on depth front (Part symbol ∷ []) items [] at now now (λ stack. refl) a
     (replaces now depth symbol items sound gives)
 
--- a refusal behind a segment
+-- a refusal after a segment
 pub leaves : (used : ℕ) (front mid below : List Item) (at now : Position) (f : ParseFault) → AreLevel below →
     ((depth : ℕ) → Derives depth front (mid ++ below) [] [] at now) →
     Refused (λ d. (depth : ℕ) → FailsAt depth mid [] now d) ⊥ used f →
@@ -100,7 +100,7 @@ leaves used front mid below at now f level a =
     (λ d fails depth. fails_behind depth depth front mid below [] [] [] at now d (a depth)
     (λ stack same. level stack ∙ same) (fails depth)) (λ same. same)
 
--- behind a comma of a list
+-- after a comma of a list
 pub more_behind : (depth : ℕ) (role : Role) (at now there : Position) → is_fault (next_at now).token ≡ false →
     is_punctuator punctuator.Comma (next_at now).token ≡ true →
     Derives depth (Part (More role) ∷ []) (Part (More role) ∷ []) [] [] at now →

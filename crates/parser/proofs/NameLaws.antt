@@ -1,4 +1,4 @@
--- Where a name was matched, the token that stood behind it is next.
+-- If a name was matched, the token after it is next.
 use Rattle.std.proofs.Common.{◌≡◌, ℕ, zero, suc, List, [], ◌∷◌, ◌++◌, refl, sym, ap, ◌∙◌, Bool, true, false, drop}
 use Rattle.std.specs.Prelude.{Some}
 use Rattle.tokens.specs.Tokens.{followed_by}
@@ -51,7 +51,7 @@ name_runs (suc n) role bytes rest others values left scope learnt functions soun
 first_of : (x : LocatedToken) (xs ys : List LocatedToken) (y : LocatedToken) → x ∷ xs ≡ y ∷ ys → x ≡ y
 first_of x xs ys y e = cc
 
--- the fewest tokens that a place may have
+-- the fewest tokens that a position may have
 abbrev fewest : Position → List LocatedToken
 fewest at = followed_by (next_at at) (followed_by at.lookahead.cursor.after [])
 
@@ -59,12 +59,12 @@ pub behind_name_is : (at there : Position) (role : Role) (left : List Value) →
     DerivesItem (AName role) [] left at there → next_at there ≡ at.lookahead.cursor.after
 behind_name_is at there role left n item =
     let d : Derives 0 (AName role ∷ []) [] [] left at there = item 0 in
-    let g : MayContinue there (fewest there) = record { window = []; is = refl } in
+    let g : MayContinue there (fewest there) = record { behind = []; is = refl } in
     let f : MayContinue at (d.consumed ++ fewest there) = d.follows (fewest there) g in
     let p : Passes first_profile (state (AName role ∷ []) (d.consumed ++ fewest there) [] (scope_at at) [])
     (state [] (fewest there) (left ++ []) (scope_at there) []) =
     d.passes (fewest there) g first_profile [] [] [] refl in
-    let whole : d.consumed ++ fewest there ≡ next_at at ∷ followed_by at.lookahead.cursor.after f.window =
+    let whole : d.consumed ++ fewest there ≡ next_at at ∷ followed_by at.lookahead.cursor.after f.behind =
     f.is ∙ rw (named_goes_on (next_at at).token n) refl in
     let sound : is_fault (next_token (d.consumed ++ fewest there)) ≡ false =
     ap (λ (ls : List LocatedToken). is_fault (next_token ls)) whole ∙ named_sound (next_at at).token n in

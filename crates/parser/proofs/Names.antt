@@ -82,28 +82,28 @@ begun_within : (own begun new : Bool) (name : List ℕ) (line : ℕ) (scope : Sc
 begun_within own begun new name line scope c rest d e clean w =
     (functions_within new name line scope c rest (first own begun d e _ clean).clean w).functions
 
--- behind a name without a fault the limits hold
+-- after a name without a fault the limits hold
 pub within : (role : Role) (name : List ℕ) (line : ℕ) (old new : Scope) → LearnsName role name line old new →
     IsWithin old →
     IsWithin new
-within External name line old new k w = rw k.window (with_external_within (is_external_new name old) name old w)
+within External name line old new k w = rw k.behind (with_external_within (is_external_new name old) name old w)
 within Parameter name line old new k w =
-    rw k.window (with_parameter_within (is_local_new name old) name old [] _ (k.clean []) w)
-within Typed name line old new k w = rw k.window w
+    rw k.behind (with_parameter_within (is_local_new name old) name old [] _ (k.clean []) w)
+within Typed name line old new k w = rw k.behind w
 within Local name line old new k w =
-    rw k.window (with_variable_within (is_local_new name old) name old code.TooManyVariables [] (k.clean []) w)
+    rw k.behind (with_variable_within (is_local_new name old) name old code.TooManyVariables [] (k.clean []) w)
 within Mentioned name line old new k w =
-    rw k.window (with_variable_within (is_variable_new name old) name old code.TooManyVariables [] (k.clean []) w)
+    rw k.behind (with_variable_within (is_variable_new name old) name old code.TooManyVariables [] (k.clean []) w)
 within Called name line old new k w =
-    rw k.window (functions_within (is_function_new name old) name line old code.TooManyFunctions [] (k.clean []) w)
-within Defined name line old new k w = rw k.window (record {
+    rw k.behind (functions_within (is_function_new name old) name line old code.TooManyFunctions [] (k.clean []) w)
+within Defined name line old new k w = rw k.behind (record {
   functions = begun_within (is_intrinsic name) (has_begun name old) (is_function_new name old) name line old
       code.TooManyFunctions [] _ _ (k.clean []) w;
   parameters = omega arith;
   variables = omega arith;
 })
 
--- The function that is being defined stays, but where another begins.
+-- The function that is being defined stays, unless another begins.
 
 -- two sets of names are of one function, whatever their limits
 record AreOfOne (old new : Scope) : Type 0 where
@@ -179,21 +179,21 @@ function_stays new name line old after is k =
 pub declared_stays : (declared : Declared) (name : List ℕ) (line : ℕ) (old new : Scope) →
     LearnsName (role_of declared) name line old new → StaysAt declared old new
 declared_stays kind.Externals name line old new k =
-    external_stays (is_external_new name old) name line old new k.window k
+    external_stays (is_external_new name old) name line old new k.behind k
 declared_stays kind.Parameters name line old new k =
-    parameter_stays (is_local_new name old) name line old new k.window k
-declared_stays kind.TypedParameters name line old new k = typed_stays name line old new k.window k
-declared_stays kind.Locals name line old new k = local_stays Local (is_local_new name old) name line old new k.window k
+    parameter_stays (is_local_new name old) name line old new k.behind k
+declared_stays kind.TypedParameters name line old new k = typed_stays name line old new k.behind k
+declared_stays kind.Locals name line old new k = local_stays Local (is_local_new name old) name line old new k.behind k
 
 -- a variable is mentioned
 pub mentioned_stays : (name : List ℕ) (line : ℕ) (old new : Scope) → LearnsName Mentioned name line old new →
     StaysInBody old new
-mentioned_stays name line old new k = local_stays Mentioned (is_variable_new name old) name line old new k.window k
+mentioned_stays name line old new k = local_stays Mentioned (is_variable_new name old) name line old new k.behind k
 
 -- a function is called
 pub called_stays : (name : List ℕ) (line : ℕ) (old new : Scope) → LearnsName Called name line old new →
     StaysInBody old new
-called_stays name line old new k = function_stays (is_function_new name old) name line old new k.window k
+called_stays name line old new k = function_stays (is_function_new name old) name line old new k.behind k
 
 -- another definition begins
 pub begins : (number : ℕ) (name : List ℕ) (line : ℕ) (old new : Lookahead) (learnt : Scope) →
@@ -203,13 +203,13 @@ begins number name line old new learnt k same is few =
     let own : is_intrinsic name ≡ false =
     (first (is_intrinsic name) (has_begun name old.scope) _ _ _ (k.clean [])).other in
     record {
-      is = rw (same, k.window) (sym is);
+      is = rw (same, k.behind) (sym is);
       few = few;
-      mentioned = rw (same, k.window, is) (number_in name line old.scope own);
+      mentioned = rw (same, k.behind, is) (number_in name line old.scope own);
       within = λ w. rw same (within Defined name line old.scope learnt k w);
     }
 
--- One call behind another.
+-- One call after another.
 
 pub stays_then : (a b c : Scope) → StaysIn a b → StaysIn b c → StaysIn a c
 stays_then a b c h i = record {

@@ -135,7 +135,7 @@ pub inside_room : (before : Representation) (depth : ℕ) → depth < 64 → Has
     HasRoom before (room (depth + 1) 1)
 inside_room before depth shallow h = room_within before (room (depth + 1) 1) (room depth 11) h (omega arith)
 
--- An operand without an operator before it is a primary.
+-- An operand without a unary operator is a primary.
 
 primary_choice : (t after : Token) → ((s : UnaryOp) → is_punctuator (unary_punctuator s) t ≡ false) →
     ((s : IncrementOp) → is_punctuator (increment_punctuator s) t ≡ false) →
@@ -178,7 +178,7 @@ primary_enters (token.Punctuator punctuator.Tilde) after signs =
     absurd (cc)
 primary_enters t after signs = refl
 
--- the next token is no operator before an operand
+-- the next token is no unary operator
 pub record NoOperator (t : Token) : Type 0 where
   pub sound : is_fault t ≡ false
   pub signs : (s : UnaryOp) → is_punctuator (unary_punctuator s) t ≡ false

@@ -1,4 +1,4 @@
--- What is open behind the actions of statements so far, and which actions may follow.
+-- What is open after the actions of statements so far, and which actions may follow.
 use Rattle.std.proofs.Common.{◌≡◌, ℕ, pos, ◌+◌, ◌≤◌, [], ◌∷◌, refl, ap, ◌∙◌, Bool, true, false, arith}
 use Rattle.std.specs.Prelude.{Option, Some, None}
 use Rattle.grammar.specs.declared.actions.Action.{Action}
@@ -15,7 +15,7 @@ use Rattle.grammar.proofs.StandingLaws.{may_follow, stands_then}
 use Rattle.parser.specs.Room.{HasStatementRoom, HasRoom}
 use Rattle.parser.specs.Branches.{HasInside, IsElseNumbered, else_actions, else_nesting}
 
--- Behind statements a statement may stand, and no more is open.
+-- After statements a further one may come, and no more is open.
 
 record Keeps (b : Body) (o : Opened) : Type 0 where
   position : may_take_statement (behind_body b o) ≡ true
@@ -56,7 +56,7 @@ place_behind before now n b h numbered narrow added =
       few = omega (arith, k.count, h.few);
     }
 
--- Places where an expression may stand.
+-- Points at which an expression may come.
 
 room_at : (before : Representation) (o : Opened) (n : ℕ) → may_take_statement o ≡ true → LeavesOpen before o →
     open_count o + n ≤ 200 →
@@ -81,7 +81,7 @@ may_push before n h =
     may_follow before (h.outer ∷ h.opened) (AValue (Number (pos 0)) ∷ h.outer ∷ h.opened) (PushConstant (pos 0))
     h.stands refl (omega (arith, h.few))
 
--- behind an expression at a statement's place
+-- after an expression at a point at which a statement may come
 pub value_inside : (before now : Representation) (n : ℕ) (e : Expr) → HasStatementRoom before n → InExpr 64 64 64 e →
     nesting e ≤ n →
     AppendsAll before now (expr_actions e) →
@@ -93,7 +93,7 @@ value_inside before now n e h numbered narrow added = record {
   few = omega (arith, h.few);
 }
 
--- Inside of something that is open at a statement's place.
+-- Inside of something that is open at a point at which a statement may come.
 
 pub inside_room : (inner : Open) (before : Representation) (n : ℕ) → HasInside inner before n → HasRoom before n
 inside_room inner before n h = record { outer = inner; opened = h.opened; stands = h.stands; few = h.few }

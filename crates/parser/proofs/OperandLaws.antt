@@ -60,7 +60,7 @@ named_sound t n = rw n.is refl
 pub named_found : (t : Token) (n : IsNamed t) → name_of_token t ≡ Some n.name
 named_found t n = rw n.is refl
 
--- the token behind a name
+-- the token after a name
 pub after_name : (at : Position) (after : Token) → IsNamed (next_at at).token →
     (is_last (next_at at).token ≡ false → after ≡ after_at at) → after ≡ after_at at
 after_name at after n more = more (named_goes_on (next_at at).token n)
@@ -212,7 +212,7 @@ fetch_adds before after at there v n call none item numbered sound told depth = 
       (λ stack same. same);
 }
 
--- ++ or -- behind a variable.
+-- ++ or -- after a variable.
 
 behind_choice : (name : List ℕ) (s : IncrementOp) →
     choice Primary (token.Name name) (token.Punctuator (increment_punctuator s)) ≡
@@ -274,7 +274,7 @@ behind_past_name at now s v n fits item depth =
     at now
     (behind_stands at s n fits depth) (item depth) (λ stack same. same)
 
--- the builder was refused memory behind the name
+-- the builder was refused memory after the name
 pub behind_halts : (used : ℕ) (at now : Position) (s : IncrementOp) (v : Var) → IsNamed (next_at at).token →
     is_punctuator (increment_punctuator s) (after_at at) ≡ true →
     DerivesItem (AName Mentioned) [] (AVariable v ∷ []) at now →

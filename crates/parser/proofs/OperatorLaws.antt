@@ -105,7 +105,7 @@ operate_makes o left right =
       defines = λ values scope. refl;
     }
 
--- && and || stand on the first two levels
+-- && and || are on the first two levels
 
 same_numbers : (k n : ℕ) → (k == n) ≡ true → k ≡ n
 same_numbers k n e = grind (arith, nat_tests)
@@ -168,7 +168,7 @@ right_room depth n o t is = by_logic (is_logic o) refl
     by_logic true e = let side : right_side o ≡ 1 = rw e refl in let low : n ≤ 2 = logic_level n o t is e in omega arith
     by_logic false e = let side : right_side o ≡ 0 = rw e refl in omega arith
 
--- what is open where the right side begins
+-- what is open at the beginning of the right side
 abbrev right_open : (o : Op) (logic : Bool) (origin : Origin) → Open
 right_open o true origin = BeforeRight o
 right_open o false origin = AValue origin

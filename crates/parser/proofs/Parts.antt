@@ -49,7 +49,7 @@ word_is w (token.Fault lexical_error) is = absurd (cc)
 
 -- Levels.
 
--- with so many levels open the symbol enters none beyond the last
+-- with `depth` levels open the symbol enters none beyond the last
 abbrev pub IsFree : ℕ → Symbol → LocatedToken → Type 0
 IsFree depth symbol located_token =
     (stack : List Item) (rest : List LocatedToken) → levels stack ≡ depth →
@@ -86,7 +86,7 @@ free_of depth symbol located_token none stack rest depths = rw (none (next_token
 
 -- Productions.
 
--- the production of a symbol at this token, whatever stands behind it
+-- the production of a symbol at this token, whatever follows it
 abbrev pub Chooses : Symbol → Token → List Item → Type 0
 Chooses symbol t items = (after : Token) → choice symbol t after ≡ Some items
 
@@ -203,7 +203,7 @@ punctuator_too_deep at n near depth symbol m items trees sound chosen fits opene
 
 -- Trees.
 
--- a rule that makes these trees of those, and nothing else
+-- a semantic action that makes these trees of those, and nothing else
 pub record MakesOnly (rule : SemanticAction) (taken left : List Value) : Type 0 where
   pub makes : (values : List Value) → trees_after rule (taken ++ values) ≡ left ++ values
   pub learns : (scope : Scope) → scope_after_action rule scope ≡ scope

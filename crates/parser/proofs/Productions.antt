@@ -1,5 +1,5 @@
 -- What a production adds to a segment of the derivation: its choice, its punctuators, the trees made and the level
--- close.
+-- closed.
 use Rattle.std.proofs.Common.{◌≡◌, ℕ, ◌+◌, ◌<◌, ◌≤◌, List, [], ◌∷◌, ◌++◌, refl, ap, Bool, true, false, arith, eqb}
 use Rattle.std.proofs.lemmas.Bool.Decides.{nat_tests}
 use Rattle.std.specs.Prelude.{Some, None, nat_le}
@@ -50,7 +50,7 @@ punctuator_past at there m fits goes =
     punctuator_derives at.lookahead.cursor (scope_at at) at.to_come there m (punctuator_sound m (next_at at).token fits)
     fits goes
 
--- the token behind it is a fault
+-- the token after it is a lexical error
 pub punctuator_ends : (used : ℕ) (at : Position) (m : Punctuator) (f : ParseFault) →
     is_punctuator m (next_at at).token ≡ true → Refused (StopsAt at) ⊥ used f →
     Refused (FailsItem (Exactly m) at) ⊥ used f
@@ -61,11 +61,11 @@ punctuator_ends used at m f fits =
 
 -- The choice of a production.
 
--- whatever it stands for, this is so of the token behind the next one
+-- whatever it represents, this is so of the token after the next one
 abbrev pub WithAfter : Position → (Token → Type 0) → Type 0
 WithAfter at P = (after : Token) → (is_last (next_at at).token ≡ false → after ≡ after_at at) → P after
 
--- the next token is no fault, and the symbol is replaced by these items
+-- the next token is no lexical error, and the symbol is replaced by these items
 pub record Chooses (at : Position) (symbol : Symbol) (items : List Item) : Type 0 where
   pub sound : is_fault (next_at at).token ≡ false
   pub is : WithAfter at (λ after. choice symbol (next_at at).token after ≡ Some items)
@@ -94,7 +94,7 @@ chosen at depth symbol items kept c none = stand at depth (Part symbol ∷ []) i
       (none (next_token tail) (next_behind at tail b)));
 })
 
--- one that may open a level, where there is a level left
+-- one that may open a level, if there is a level left
 pub chosen_within : (at : Position) (depth : ℕ) (symbol : Symbol) (items : List Item) → Chooses at symbol items →
     depth < 64 → Derives depth (Part symbol ∷ []) items [] [] at at
 chosen_within at depth symbol items c shallow = stand at depth (Part symbol ∷ []) items [] [] (λ tail b. record {
@@ -147,7 +147,7 @@ none_chosen at used near depth symbol sound none opened =
 
 -- The trees made.
 
--- a tree is made, and the level is close
+-- a tree is made, and the level is closed
 pub makes_and_closes : (at : Position) (depth : ℕ) (rule : SemanticAction) (taken left : List Value) →
     is_fault (next_at at).token ≡ false → MakesOnly rule taken left →
     Derives depth (Make rule ∷ Close ∷ []) [] taken left at at
@@ -174,7 +174,7 @@ item_exit used whole item below under at now more f a enters =
     (λ d h depth. fails_behind depth depth (whole ∷ []) (item ∷ []) below [] [] under at now d (a depth) (enters depth)
     (h depth)) (λ never. absurd never)
 
--- the next item is done, and its trees stand on the others
+-- the next item is done, and its trees are on top of the others
 pub item_done : (depth inner : ℕ) (front : List Item) (item : Item) (below : List Item) (taken left under : List Value)
     (at now there : Position) →
     Derives depth front (item ∷ below) taken under at now → Derives inner (item ∷ []) [] [] left now there →

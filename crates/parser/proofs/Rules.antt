@@ -1,4 +1,4 @@
--- What each rule of statements makes.
+-- What each semantic action of statements makes.
 use Rattle.std.proofs.Common.{pos, [], ◌∷◌, refl}
 use Rattle.grammar.specs.Derivation.{ABody, AnExpr}
 use Rattle.grammar.specs.Grammar.{Decide, DecideElse, Empty, Evaluate, GiveBack, Repeat, Zero}

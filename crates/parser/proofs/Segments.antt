@@ -1,4 +1,4 @@
--- Segments of the derivation between two places of a parser.
+-- Segments of the derivation between two positions of a cursor.
 use Rattle.std.proofs.Common.{◌≡◌, ℕ, ◌+◌, ◌≤◌, drop, length, List, [], ◌∷◌, ◌++◌, refl, sym, ap, ◌∙◌, subst, Bool, true, false, append_assoc, arith}
 use Rattle.std.specs.Prelude.{Option, Some, None, cond}
 use Rattle.std.specs.Option.{option_map}
@@ -24,9 +24,9 @@ use Rattle.parser.specs.ScopedCursors.{Lookahead, Position, position_of, MayCont
 use Rattle.parser.specs.Stopping.{IfSource, NoFaultBefore, Stop, Stops, StopsInside, most_taken, stop_with}
 use Rattle.parser.specs.Segment.{Derives, FailsAt, FailsItem, GoesPast, HasLexicalError, Refused, StopsAt, StopsAtFirst, TakesTokens}
 
--- The tokens at a place.
+-- The tokens at a position.
 
--- the token behind the next one, where the next isn't the last
+-- the token after the next one, unless the next is the last
 pub record IsBehind (r : Cursor) (tail : List LocatedToken) : Type 0 where
   pub others : List LocatedToken
   pub is : is_last r.next.token ≡ false → tail ≡ r.after ∷ others
@@ -35,21 +35,21 @@ pub record IsBehind (r : Cursor) (tail : List LocatedToken) : Type 0 where
 pub record Begins (r : Cursor) (located_tokens : List LocatedToken) : Type 0 where
   pub tail : List LocatedToken
   pub is : located_tokens ≡ r.next ∷ tail
-  pub window : IsBehind r tail
+  pub behind : IsBehind r tail
 
 pub next_behind : (at : Position) (tail : List LocatedToken) → IsBehind at.lookahead.cursor tail →
     is_last (next_at at).token ≡ false → next_token tail ≡ after_at at
 next_behind at tail b more = ap next_token (b.is more)
 
--- tokens, if there are any behind this one
+-- tokens, if there are any after this one
 abbrev until_last : Token → List LocatedToken → List LocatedToken
 until_last t others = cond (is_last t) [] others
 
 pub goes_begins : (at : Position) (rest : List LocatedToken) → MayContinue at rest → Begins at.lookahead.cursor rest
 goes_begins at rest g = record {
-  tail = until_last (next_at at).token (followed_by at.lookahead.cursor.after g.window);
+  tail = until_last (next_at at).token (followed_by at.lookahead.cursor.after g.behind);
   is = g.is;
-  window = record { others = until_last at.lookahead.cursor.after.token g.window; is = λ more. rw more refl };
+  behind = record { others = until_last at.lookahead.cursor.after.token g.behind; is = λ more. rw more refl };
 }
 
 some_same : {A : Type 0} → (x y : A) → Some x ≡ Some y → x ≡ y
@@ -58,15 +58,15 @@ some_same x y e = cc
 goes_told : (position : Lookahead) (more : Option (List ℕ)) (located_tokens : List LocatedToken) →
     shown position.cursor more ≡ Some located_tokens → MayContinue (position_of position more) located_tokens
 goes_told position None located_tokens e = absurd (cc)
-goes_told position (Some bytes) located_tokens e = record { window = _; is = sym (some_same _ _ e) }
+goes_told position (Some bytes) located_tokens e = record { behind = _; is = sym (some_same _ _ e) }
 
--- tokens that are told are such as the place may have
+-- tokens that are known are such as the position may have
 pub told_goes : (at : Position) (located_tokens : List LocatedToken) → tokens_at at ≡ Some located_tokens →
     MayContinue at located_tokens
 told_goes at located_tokens e =
     let g : MayContinue (position_of at.lookahead at.to_come) located_tokens =
     goes_told at.lookahead at.to_come located_tokens e in
-    record { window = g.window; is = g.is }
+    record { behind = g.behind; is = g.is }
 
 pub told_begins : (at : Position) (located_tokens : List LocatedToken) → tokens_at at ≡ Some located_tokens →
     Begins at.lookahead.cursor located_tokens
@@ -74,20 +74,20 @@ told_begins at located_tokens e = goes_begins at located_tokens (told_goes at lo
 
 -- Steps of the derivation.
 
--- these items in front, with these trees on top and these names known, pass to those, whatever stands below and behind
-pub record Leads (depth : ℕ) (front pending : List Item) (bytes_taken left : List Value) (known learnt : Scope)
+-- these items in front, with these trees on top and these names known, pass to those, whatever is below and after
+pub record Leads (depth : ℕ) (front pending : List Item) (taken left : List Value) (known learnt : Scope)
     (located_tokens rest : List LocatedToken) : Type 0 where
   pub passes : (profile : Profile) (stack : List Item) (values : List Value) (functions : List Definition) →
       levels stack ≡ depth →
-      Passes profile (state (front ++ stack) located_tokens (bytes_taken ++ values) known functions)
+      Passes profile (state (front ++ stack) located_tokens (taken ++ values) known functions)
       (state (pending ++ stack) rest (left ++ values) learnt functions)
 
 -- no token is passed
-pub stand : (at : Position) (depth : ℕ) (front pending : List Item) (bytes_taken left : List Value) →
+pub stand : (at : Position) (depth : ℕ) (front pending : List Item) (taken left : List Value) →
     ((tail : List LocatedToken) → IsBehind at.lookahead.cursor tail →
-    Leads depth front pending bytes_taken left (scope_at at) (scope_at at) (next_at at ∷ tail) (next_at at ∷ tail)) →
-    Derives depth front pending bytes_taken left at at
-stand at depth front pending bytes_taken left leads = record {
+    Leads depth front pending taken left (scope_at at) (scope_at at) (next_at at ∷ tail) (next_at at ∷ tail)) →
+    Derives depth front pending taken left at at
+stand at depth front pending taken left leads = record {
   consumed = [];
   told = λ located_tokens is. record { rest = located_tokens; is = refl; shows = is };
   follows = λ rest g. g;
@@ -95,16 +95,16 @@ stand at depth front pending bytes_taken left leads = record {
       let b : Begins at.lookahead.cursor rest = goes_begins at rest g in
       subst
       (λ (ls : List LocatedToken). Passes profile
-      (state (front ++ stack) ls (bytes_taken ++ values) (scope_at at) functions)
+      (state (front ++ stack) ls (taken ++ values) (scope_at at) functions)
       (state (pending ++ stack) ls (left ++ values) (scope_at at) functions))
-      (sym b.is) ((leads b.tail b.window).passes profile stack values functions depths);
+      (sym b.is) ((leads b.tail b.behind).passes profile stack values functions depths);
 }
 
 -- nothing happens
-pub stay : (at : Position) (depth : ℕ) (front : List Item) (bytes_taken : List Value) →
-    Derives depth front front bytes_taken bytes_taken at at
-stay at depth front bytes_taken =
-    stand at depth front front bytes_taken bytes_taken
+pub stay : (at : Position) (depth : ℕ) (front : List Item) (taken : List Value) →
+    Derives depth front front taken taken at at
+stay at depth front taken =
+    stand at depth front front taken taken
     (λ tail b. record { passes = λ profile stack values functions depths. here profile _ })
 
 with_scope : Cursor → Scope → Option (List ℕ) → Position
@@ -114,7 +114,7 @@ behind_past : (cursor : Cursor) (learnt : Scope) (more : Option (List ℕ)) (the
     GoesPast (position_of (record { cursor = cursor; scope = learnt }) more) there →
     (rest : List LocatedToken) → MayContinue there rest → IsBehind cursor rest
 behind_past cursor learnt more there goes rest g = record {
-  others = until_last cursor.after.token (followed_by there.lookahead.cursor.after g.window);
+  others = until_last cursor.after.token (followed_by there.lookahead.cursor.after g.behind);
   is = λ last. g.is ∙ rw goes.next refl;
 }
 
@@ -125,7 +125,7 @@ follows_past : (cursor : Cursor) (known learnt : Scope) (more : Option (List ℕ
 follows_past cursor known learnt more there goes rest g =
     let last : is_last cursor.next.token ≡ false = goes.more in
     record {
-      window = followed_by there.lookahead.cursor.after g.window;
+      behind = followed_by there.lookahead.cursor.after g.behind;
       is = rw last (ap (λ (ls : List LocatedToken). cursor.next ∷ ls) (g.is ∙ rw goes.next refl));
     }
 
@@ -139,14 +139,14 @@ takes_past cursor known learnt more there goes located_tokens is =
     told_begins (position_of (record { cursor = cursor; scope = known }) more) located_tokens is in
     record { rest = b.tail; is = b.is; shows = goes.told cursor.next b.tail (is ∙ ap Some b.is) }
 
--- one token is passed, behind which these names are known
+-- one token is passed, after which these names are known
 pub past : (cursor : Cursor) (known learnt : Scope) (more : Option (List ℕ)) (there : Position) (depth : ℕ)
-    (front pending : List Item) (bytes_taken left : List Value) →
+    (front pending : List Item) (taken left : List Value) →
     GoesPast (position_of (record { cursor = cursor; scope = learnt }) more) there →
     ((rest : List LocatedToken) → IsBehind cursor rest →
-    Leads depth front pending bytes_taken left known learnt (cursor.next ∷ rest) rest) →
-    Derives depth front pending bytes_taken left (position_of (record { cursor = cursor; scope = known }) more) there
-past cursor known learnt more there depth front pending bytes_taken left goes leads = record {
+    Leads depth front pending taken left known learnt (cursor.next ∷ rest) rest) →
+    Derives depth front pending taken left (position_of (record { cursor = cursor; scope = known }) more) there
+past cursor known learnt more there depth front pending taken left goes leads = record {
   consumed = cursor.next ∷ [];
   told = takes_past cursor known learnt more there goes;
   follows = follows_past cursor known learnt more there goes;
@@ -154,14 +154,14 @@ past cursor known learnt more there depth front pending bytes_taken left goes le
       let b : IsBehind cursor rest = behind_past cursor learnt more there goes rest g in
       subst
       (λ (s : Scope). Passes profile
-      (state (front ++ stack) (cursor.next ∷ rest) (bytes_taken ++ values) known functions)
+      (state (front ++ stack) (cursor.next ∷ rest) (taken ++ values) known functions)
       (state (pending ++ stack) rest (left ++ values) s functions))
       (sym goes.scope) ((leads rest b).passes profile stack values functions depths);
 }
 
--- Where a reading stops.
+-- Where a derivation stops.
 
--- behind these there is none before
+-- after these there is none before
 pub none_before : (profile : Profile) (s : State) → NoFaultBefore profile s s.rest
 none_before profile s = record {
   each =
@@ -172,7 +172,7 @@ none_before profile s = record {
 -- it stops at the next token
 pub stops_here : (profile : Profile) (s : State) (stop : Stop) → IfSource stop.fault (Fails profile s) →
     stop.taken ≤ most_taken stop.fault s.rest → Stops profile s stop
-stops_here profile s stop fails bytes_taken = record {
+stops_here profile s stop fails taken = record {
   passed = [];
   rest = s.rest;
   is = refl;
@@ -180,7 +180,7 @@ stops_here profile s stop fails bytes_taken = record {
   comes = refl;
   none_before = none_before profile s;
   fails = fails;
-  taken = bytes_taken;
+  taken = taken;
 }
 
 fails_back : (profile : Profile) (s t : State) (f : ParseFault) → Passes profile s t → IfSource f (Fails profile t) →
@@ -197,7 +197,7 @@ none_back profile s t rest p h = record {
       (subst (λ (v : State). IsFault profile v f) p.leads (later profile p.steps s f p.clean from.steps from.here));
 }
 
--- the state so many steps behind a segment
+-- the state n steps after a segment
 pub run_behind : (profile : Profile) (s t : State) (n : ℕ) (p : Passes profile s t) →
     derived (p.steps + n) s ≡ derived n t
 run_behind profile s t n p = derived-add p.steps n s ∙ ap (λ (v : State). derived n v) p.leads
@@ -244,7 +244,7 @@ inside_back profile s t stop consumed is same p h = record {
   functions = functions_back profile s t stop consumed is p h.stops ∙ h.functions ∙ same;
 }
 
--- the two tokens that a place holds end where those told end
+-- the two tokens that a position holds end where those known end
 reach_told_at : (next after : LocatedToken) (others located_tokens : List LocatedToken) (last : Bool) →
     is_last next.token ≡ last → located_tokens ≡ followed_by next (followed_by after others) →
     reach_of located_tokens ≡ cond last next.end after.end
@@ -256,50 +256,50 @@ pub reach_told : (at : Position) (located_tokens : List LocatedToken) → tokens
 reach_told at located_tokens is =
     let g : MayContinue at located_tokens = told_goes at located_tokens is in
     sym
-    (reach_told_at (next_at at) at.lookahead.cursor.after g.window located_tokens (is_last (next_at at).token) refl
+    (reach_told_at (next_at at) at.lookahead.cursor.after g.behind located_tokens (is_last (next_at at).token) refl
     g.is)
 
 pub near_told : (at : Position) (located_tokens : List LocatedToken) (used : ℕ) → tokens_at at ≡ Some located_tokens →
     IsNearTo at.lookahead.cursor used → used ≤ reach_of located_tokens + 4096
 near_told at located_tokens used is near = subst (λ (k : ℕ). used ≤ k + 4096) (reach_told at located_tokens is) near
 
--- the first fault stands at the next token
-pub fails_at_next : (depth : ℕ) (front : List Item) (bytes_taken : List Value) (at : Position) (d : Diagnostic) (n : ℕ)
+-- the first fault is at the next token
+pub fails_at_next : (depth : ℕ) (front : List Item) (taken : List Value) (at : Position) (d : Diagnostic) (n : ℕ)
     →
     IsNearTo at.lookahead.cursor n →
     ((tail : List LocatedToken) → IsBehind at.lookahead.cursor tail →
     (profile : Profile) (stack : List Item) (values : List Value) (functions : List Definition) →
     levels stack ≡ depth →
-    Fails profile (state (front ++ stack) (next_at at ∷ tail) (bytes_taken ++ values) (scope_at at) functions) d) →
-    FailsAt depth front bytes_taken at (stop_with (refusal.Source d) n)
-fails_at_next depth front bytes_taken at d n near fails located_tokens is profile stack values functions depths =
+    Fails profile (state (front ++ stack) (next_at at ∷ tail) (taken ++ values) (scope_at at) functions) d) →
+    FailsAt depth front taken at (stop_with (refusal.Source d) n)
+fails_at_next depth front taken at d n near fails located_tokens is profile stack values functions depths =
     let b : Begins at.lookahead.cursor located_tokens = told_begins at located_tokens is in
     let bound : n ≤ reach_of located_tokens + 4096 = near_told at located_tokens n is near in
-    let here : Fails profile (state (front ++ stack) located_tokens (bytes_taken ++ values) (scope_at at) functions) d =
-    rw b.is (fails b.tail b.window profile stack values functions depths) in
-    inside_here profile (state (front ++ stack) located_tokens (bytes_taken ++ values) (scope_at at) functions)
+    let here : Fails profile (state (front ++ stack) located_tokens (taken ++ values) (scope_at at) functions) d =
+    rw b.is (fails b.tail b.behind profile stack values functions depths) in
+    inside_here profile (state (front ++ stack) located_tokens (taken ++ values) (scope_at at) functions)
     (stop_with (refusal.Source d) n) here bound
 
--- the token behind the one that was passed is a fault, or the device failed
+-- the token after the one that was passed is a lexical error, or the device failed
 pub stops : (cursor : Cursor) (known learnt : Scope) (more : Option (List ℕ)) (d : Stop) (depth : ℕ)
-    (front pending : List Item) (bytes_taken left : List Value) →
+    (front pending : List Item) (taken left : List Value) →
     ((rest : List LocatedToken) → IsBehind cursor rest →
-    Leads depth front pending bytes_taken left known learnt (cursor.next ∷ rest) rest) →
+    Leads depth front pending taken left known learnt (cursor.next ∷ rest) rest) →
     StopsAt (position_of (record { cursor = cursor; scope = learnt }) more) d →
-    FailsAt depth front bytes_taken (position_of (record { cursor = cursor; scope = known }) more) d
-stops cursor known learnt more d depth front pending bytes_taken left leads stop located_tokens is profile stack values
+    FailsAt depth front taken (position_of (record { cursor = cursor; scope = known }) more) d
+stops cursor known learnt more d depth front pending taken left leads stop located_tokens is profile stack values
     functions depths =
     let b : Begins cursor located_tokens =
     told_begins (position_of (record { cursor = cursor; scope = known }) more) located_tokens is in
-    let behind : b.tail ≡ cursor.after ∷ b.window.others = b.window.is stop.more in
+    let behind : b.tail ≡ cursor.after ∷ b.behind.others = b.behind.is stop.more in
     let t : State = state (pending ++ stack) b.tail (left ++ values) learnt functions in
     let fails : IfSource d.fault (Fails profile t) =
-    lexical_error_fails d.fault b.tail b.window.others behind stop.lexical_error in
+    lexical_error_fails d.fault b.tail b.behind.others behind stop.lexical_error in
     let last : d.taken ≤ most_taken d.fault b.tail = stop.taken cursor.next b.tail (is ∙ ap Some b.is) in
-    rw b.is (inside_back profile (state (front ++ stack) (cursor.next ∷ b.tail) (bytes_taken ++ values) known functions)
+    rw b.is (inside_back profile (state (front ++ stack) (cursor.next ∷ b.tail) (taken ++ values) known functions)
     t d
     (cursor.next ∷ []) refl refl
-    ((leads b.tail b.window).passes profile stack values functions depths) (inside_here profile t d fails last))
+    ((leads b.tail b.behind).passes profile stack values functions depths) (inside_here profile t d fails last))
   where
     lexical_error_fails : (f : ParseFault) (tail others : List LocatedToken) → tail ≡ cursor.after ∷ others →
         IfSource f (HasLexicalError (position_of (record { cursor = cursor; scope = learnt }) more)) →
@@ -311,7 +311,7 @@ stops cursor known learnt more d depth front pending bytes_taken left leads stop
         let lexical_error : is_fault (next_token tail) ≡ true = rw behind h.lexical_error in
         rw same (at_fault profile _ tail _ learnt functions lexical_error)
 
--- Segments one behind another.
+-- Segments one after another.
 
 takes_join : (first second located_tokens : List LocatedToken) (between there : Position)
     (t : TakesTokens first located_tokens between) → TakesTokens second t.rest there →
@@ -323,13 +323,13 @@ takes_join first second located_tokens between there t u = record {
 }
 
 -- the second over more items and trees
-pub joined : (depth inner : ℕ) (front mid pending below : List Item) (bytes_taken between left under : List Value)
+pub joined : (depth inner : ℕ) (front mid pending below : List Item) (taken between left under : List Value)
     (at now there : Position) →
-    Derives depth front (mid ++ below) bytes_taken (between ++ under) at now →
+    Derives depth front (mid ++ below) taken (between ++ under) at now →
     Derives inner mid pending between left now there →
     ((stack : List Item) → levels stack ≡ depth → levels (below ++ stack) ≡ inner) →
-    Derives depth front (pending ++ below) bytes_taken (left ++ under) at there
-joined depth inner front mid pending below bytes_taken between left under at now there a b opens = record {
+    Derives depth front (pending ++ below) taken (left ++ under) at there
+joined depth inner front mid pending below taken between left under at now there a b opens = record {
   consumed = a.consumed ++ b.consumed;
   told = λ located_tokens is.
       let t : TakesTokens a.consumed located_tokens now = a.told located_tokens is in
@@ -350,11 +350,11 @@ joined depth inner front mid pending below bytes_taken between left under at now
       (b.passes rest g profile (below ++ stack) (under ++ values) functions (opens stack depths))));
 }
 
--- a fault behind a segment
-pub fails_then : (depth : ℕ) (front mid : List Item) (bytes_taken between : List Value) (at now : Position) (d : Stop) →
-    Derives depth front mid bytes_taken between at now → FailsAt depth mid between now d →
-    FailsAt depth front bytes_taken at d
-fails_then depth front mid bytes_taken between at now d a fails located_tokens is profile stack values functions depths
+-- a fault after a segment
+pub fails_then : (depth : ℕ) (front mid : List Item) (taken between : List Value) (at now : Position) (d : Stop) →
+    Derives depth front mid taken between at now → FailsAt depth mid between now d →
+    FailsAt depth front taken at d
+fails_then depth front mid taken between at now d a fails located_tokens is profile stack values functions depths
     =
     let t : TakesTokens a.consumed located_tokens now = a.told located_tokens is in
     rw t.is
@@ -363,41 +363,41 @@ fails_then depth front mid bytes_taken between at now d a fails located_tokens i
     (fails t.rest t.shows profile stack values functions depths))
 
 -- the same fault, over more items and trees
-pub under_more : (depth inner : ℕ) (front below : List Item) (bytes_taken beneath : List Value) (at : Position)
+pub under_more : (depth inner : ℕ) (front below : List Item) (taken beneath : List Value) (at : Position)
     (d : Stop) →
     ((stack : List Item) → levels stack ≡ depth → levels (below ++ stack) ≡ inner) →
-    FailsAt inner front bytes_taken at d → FailsAt depth (front ++ below) (bytes_taken ++ beneath) at d
-under_more depth inner front below bytes_taken beneath at d opens fails located_tokens is profile stack values functions
+    FailsAt inner front taken at d → FailsAt depth (front ++ below) (taken ++ beneath) at d
+under_more depth inner front below taken beneath at d opens fails located_tokens is profile stack values functions
     depths =
-    rw (append_assoc front below stack, append_assoc bytes_taken beneath values)
+    rw (append_assoc front below stack, append_assoc taken beneath values)
     (fails located_tokens is profile (below ++ stack) (beneath ++ values) functions (opens stack depths))
 
--- a fault behind a segment, over more items and trees
-pub fails_behind : (depth inner : ℕ) (front mid below : List Item) (bytes_taken between under : List Value)
+-- a fault after a segment, over more items and trees
+pub fails_behind : (depth inner : ℕ) (front mid below : List Item) (taken between under : List Value)
     (at now : Position)
     (d : Stop) →
-    Derives depth front (mid ++ below) bytes_taken (between ++ under) at now →
+    Derives depth front (mid ++ below) taken (between ++ under) at now →
     ((stack : List Item) → levels stack ≡ depth → levels (below ++ stack) ≡ inner) →
-    FailsAt inner mid between now d → FailsAt depth front bytes_taken at d
-fails_behind depth inner front mid below bytes_taken between under at now d a opens fails =
-    fails_then depth front (mid ++ below) bytes_taken (between ++ under) at now d a
+    FailsAt inner mid between now d → FailsAt depth front taken at d
+fails_behind depth inner front mid below taken between under at now d a opens fails =
+    fails_then depth front (mid ++ below) taken (between ++ under) at now d a
     (under_more depth inner mid below between under now d opens fails)
 
 -- A builder was refused memory.
 
--- at this place
-pub halts_here : (depth : ℕ) (front : List Item) (bytes_taken : List Value) (at : Position) (n : ℕ) →
-    IsNearTo at.lookahead.cursor n → FailsAt depth front bytes_taken at (stop_with refusal.Memory n)
-halts_here depth front bytes_taken at n near located_tokens is profile stack values functions depths =
-    inside_here profile (state (front ++ stack) located_tokens (bytes_taken ++ values) (scope_at at) functions)
+-- at this position
+pub halts_here : (depth : ℕ) (front : List Item) (taken : List Value) (at : Position) (n : ℕ) →
+    IsNearTo at.lookahead.cursor n → FailsAt depth front taken at (stop_with refusal.Memory n)
+halts_here depth front taken at n near located_tokens is profile stack values functions depths =
+    inside_here profile (state (front ++ stack) located_tokens (taken ++ values) (scope_at at) functions)
     (stop_with refusal.Memory n) tt (near_told at located_tokens n is near)
 
--- behind a segment
-pub halts : (depth : ℕ) (front mid : List Item) (bytes_taken between : List Value) (at now : Position) (n : ℕ) →
-    Derives depth front mid bytes_taken between at now → IsNearTo now.lookahead.cursor n →
-    FailsAt depth front bytes_taken at (stop_with refusal.Memory n)
-halts depth front mid bytes_taken between at now n d near =
-    fails_then depth front mid bytes_taken between at now (stop_with refusal.Memory n) d
+-- after a segment
+pub halts : (depth : ℕ) (front mid : List Item) (taken between : List Value) (at now : Position) (n : ℕ) →
+    Derives depth front mid taken between at now → IsNearTo now.lookahead.cursor n →
+    FailsAt depth front taken at (stop_with refusal.Memory n)
+halts depth front mid taken between at now n d near =
+    fails_then depth front mid taken between at now (stop_with refusal.Memory n) d
     (halts_here depth mid between now n near)
 
 -- Refusals.
@@ -408,28 +408,28 @@ refused_map n P Q denied more (refusal.Source d) each memory h = each (stop_with
 refused_map n P Q denied more refusal.Device each memory h = each (stop_with refusal.Device n) h
 refused_map n P Q denied more refusal.Memory each memory h = (memory h.0, each (stop_with refusal.Memory n) h.1)
 
--- a refusal of a callee behind a segment is one of the caller's
-pub exit : (n : ℕ) (depth inner : ℕ) (front mid below : List Item) (bytes_taken between under : List Value)
+-- a refusal of a callee after a segment is one of the caller's
+pub exit : (n : ℕ) (depth inner : ℕ) (front mid below : List Item) (taken between under : List Value)
     (at now : Position)
     (denied more : Type 0) (f : ParseFault) →
-    Derives depth front (mid ++ below) bytes_taken (between ++ under) at now →
+    Derives depth front (mid ++ below) taken (between ++ under) at now →
     ((stack : List Item) → levels stack ≡ depth → levels (below ++ stack) ≡ inner) →
     (denied → more) → Refused (FailsAt inner mid between now) denied n f →
-    Refused (FailsAt depth front bytes_taken at) more n f
-exit n depth inner front mid below bytes_taken between under at now denied more f a opens memory =
+    Refused (FailsAt depth front taken at) more n f
+exit n depth inner front mid below taken between under at now denied more f a opens memory =
     refused_map n _ _ denied more f
-    (λ d. fails_behind depth inner front mid below bytes_taken between under at now d a opens)
+    (λ d. fails_behind depth inner front mid below taken between under at now d a opens)
     memory
 
 -- of one that matches an item
 pub exit_item : (n : ℕ) (depth inner : ℕ) (front : List Item) (item : Item) (below : List Item)
-    (bytes_taken under : List Value) (at now : Position) (more : Type 0) (f : ParseFault) →
-    Derives depth front (item ∷ below) bytes_taken under at now →
+    (taken under : List Value) (at now : Position) (more : Type 0) (f : ParseFault) →
+    Derives depth front (item ∷ below) taken under at now →
     ((stack : List Item) → levels stack ≡ depth → levels (below ++ stack) ≡ inner) →
-    Refused (FailsItem item now) ⊥ n f → Refused (FailsAt depth front bytes_taken at) more n f
-exit_item n depth inner front item below bytes_taken under at now more f a opens =
-    refused_map n (FailsItem item now) (FailsAt depth front bytes_taken at) ⊥ more f
-    (λ d h. fails_behind depth inner front (item ∷ []) below bytes_taken [] under at now d a opens (h inner))
+    Refused (FailsItem item now) ⊥ n f → Refused (FailsAt depth front taken at) more n f
+exit_item n depth inner front item below taken under at now more f a opens =
+    refused_map n (FailsItem item now) (FailsAt depth front taken at) ⊥ more f
+    (λ d h. fails_behind depth inner front (item ∷ []) below taken [] under at now d a opens (h inner))
     (λ never. absurd never)
 
 -- At the first token.
@@ -456,14 +456,14 @@ no_opening (Some bytes) told' h =
       };
     }
 
--- the first token is a fault
+-- the first token is a lexical error
 pub opens_at_lexical_error : (cursor : Cursor) (told told' : Option (List ℕ)) →
     shown cursor told' ≡ option_map tokens told → told' ≡ option_map (drop (bytes_taken cursor)) told → IsNear cursor →
-    bytes_taken cursor ≤ 1048577 →
+    taken cursor ≤ 1048577 →
     is_fault cursor.next.token ≡ true →
     StopsAtFirst told told' (refusal.Source (diagnostic cursor.next.line (misfit_code cursor.next.token)))
 opens_at_lexical_error cursor told told' shows took near limited lexical_error = record {
-  taken = bytes_taken cursor;
+  taken = taken cursor;
   took = λ bytes e. took ∙ rw e refl;
   limited = limited;
   refused = record {
@@ -471,7 +471,7 @@ opens_at_lexical_error cursor told told' shows took near limited lexical_error =
         let b : Begins cursor located_tokens = told_begins at located_tokens (shows ∙ e) in
         (rw b.is lexical_error, rw b.is refl);
     taken =
-        λ located_tokens e. subst (λ (k : ℕ). bytes_taken cursor ≤ k + 4096) (reach_told at located_tokens (shows ∙ e))
+        λ located_tokens e. subst (λ (k : ℕ). taken cursor ≤ k + 4096) (reach_told at located_tokens (shows ∙ e))
         near;
   };
 }

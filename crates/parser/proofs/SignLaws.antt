@@ -1,4 +1,4 @@
--- The operators before an operand.
+-- The unary operators.
 use Rattle.std.proofs.Common.{◌≡◌, ℕ, pos, ◌+◌, ◌<◌, ◌≤◌, List, [], ◌∷◌, ◌++◌, refl, sym, ap, subst, true, false, arith}
 use Rattle.std.specs.Prelude.{Some}
 use Rattle.tokens.specs.declared.located_tokens.Token.{Token}
@@ -180,7 +180,7 @@ operand_room before now sign.Complement depth shallow h told =
     room_behind before now (room (depth + 1) 11) [] (h.outer ∷ h.opened) h.outer h.opened h.stands told
     (record { is = refl }) (omega arith)
 
--- the operand was told; what stands behind it may follow
+-- the operand was told; what follows it may follow
 pub behind_follows : (before told now : Representation) (s : UnaryOp) (e : Expr) (depth : ℕ) → depth < 64 →
     HasRoom before (room depth 11) → AppendsAll before told (actions_before_operand s) →
     InExpr 64 64 64 e → nesting e ≤ room (depth + 1) 11 → AppendsAll told now (expr_actions e) →

@@ -55,7 +55,7 @@ empty_adds at there before depth sound is matched = record {
       (empty_stands at depth b sound is) (matched depth) (λ stack same. same));
 }
 
--- An expression for its effect.
+-- An expression statement.
 
 evaluation_stands : (at : Position) (depth : ℕ) (b : Body) → is_fault (next_at at).token ≡ false →
     begins_statement (next_at at).token ≡ false →
@@ -117,7 +117,7 @@ evaluation_adds at now there before mid after depth sound plain h matched sound_
       (λ stack same. same);
 }
 
--- What a return gives back.
+-- What a return returns.
 
 pub zero_adds : (at : Position) (before after : Representation) (depth : ℕ) → is_fault (next_at at).token ≡ false →
     is_punctuator punctuator.Semicolon (next_at at).token ≡ true → Appends before after (PushConstant (pos 0)) →

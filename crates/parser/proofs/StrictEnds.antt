@@ -1,4 +1,4 @@
--- Tokens end strictly one behind the other, but for the source's end, and none stands behind the last.
+-- Tokens end strictly one after the other, but for the source's end, and none follows the last.
 use Rattle.std.proofs.Common.{◌≡◌, ℕ, zero, suc, ◌+◌, ◌<◌, ◌≤◌, Bool, true, false, cond, List, [], ◌∷◌, ◌++◌, length, take, refl, ap, arith, subst, length-take}
 use Rattle.tokens.specs.Ends.{AllEndBy}
 use Rattle.tokens.specs.Cursors.{reach_of}
@@ -13,7 +13,7 @@ use Rattle.tokens.proofs.LocatedTokensLemmas.{IsPiece, front-is_piece, here}
 use Rattle.tokens.proofs.TakenLemmas.{place-ahead_after}
 use Rattle.grammar.specs.Derivation.{is_end}
 
--- each token ends behind this place and behind the one ahead of it, the source's end perhaps with it; the last is last
+-- each token ends after this offset and after the one ahead of it, the source's end perhaps with it; the last is last
 abbrev pub IsCut : ℕ → List LocatedToken → Type 0
 IsCut place [] = Unit {0}
 IsCut place (x ∷ others) =
@@ -27,22 +27,22 @@ cut_sooner p q (x ∷ xs) h r = (omega (arith, h, r.0), ((λ other. omega (arith
 -- The last token.
 
 -- the source's end
-closing_end : (place line : ℕ) (end : Ahead) → place ≤ end.position →
+closing_end : (place line : ℕ) (end : Ahead) → place ≤ end.offset →
     IsCut place (last_located_token variant.End line end ∷ [])
 closing_end place line end h = by end.too_long
   where
-    by : (t : Bool) → IsCut place (last_located_token variant.End line (here end.line end.position end.bytes t) ∷ [])
+    by : (t : Bool) → IsCut place (last_located_token variant.End line (here end.line end.offset end.bytes t) ∷ [])
     by true = (omega (arith, h), ((λ other. omega (arith, h)), ((λ last. refl), tt)))
     by false = (h, ((λ other. absurd (cc)), ((λ last. refl), tt)))
 
 -- a comment that is open there, of which something was passed
-closing_open : (place line : ℕ) (end : Ahead) → place < end.position →
+closing_open : (place line : ℕ) (end : Ahead) → place < end.offset →
     IsCut place (last_located_token (variant.Fault CommentNotClosed) line end ∷ [])
 closing_open place line end h = by end.too_long
   where
     by : (t : Bool) →
         IsCut place
-        (last_located_token (variant.Fault CommentNotClosed) line (here end.line end.position end.bytes t) ∷ [])
+        (last_located_token (variant.Fault CommentNotClosed) line (here end.line end.offset end.bytes t) ∷ [])
     by true = (omega (arith, h), ((λ other. omega (arith, h)), ((λ last. refl), tt)))
     by false = (omega (arith, h), ((λ other. h), ((λ last. refl), tt)))
 
@@ -94,7 +94,7 @@ tokens_cut bytes =
     let a = ahead_of_source (source bytes) in
     cut_strictly (suc (length a.bytes)) a.line a.position a.bytes a.too_long
 
--- The tokens behind some of them.
+-- The tokens after some of them.
 
 pub record IsCutBehind (rest : List LocatedToken) : Type 0 where
   pub position : ℕ
@@ -104,7 +104,7 @@ pub cut_behind : (place : ℕ) (before rest : List LocatedToken) → IsCut place
 cut_behind place [] rest h = record { position = place; is = h }
 cut_behind place (x ∷ before) rest h = cut_behind x.end before rest h.1.1.1
 
--- No token ends behind the longest source and one byte more.
+-- No token ends after the longest source and one byte more.
 
 reach_by : (limit : ℕ) (xs : List LocatedToken) → AllEndBy limit xs → reach_of xs ≤ limit
 reach_by limit [] h = omega arith

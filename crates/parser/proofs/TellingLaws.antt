@@ -1,4 +1,4 @@
--- Which actions may follow what a builder stands for.
+-- Which actions may follow what a builder represents.
 use Rattle.std.proofs.Common.{ℕ, ◌+◌, ◌≤◌, List, [], ◌∷◌, ◌++◌, refl, ◌∙◌, arith}
 use Rattle.grammar.specs.declared.actions.Action.{Action}
 use Rattle.grammar.specs.Building.{Representation, AppendsAll, MayFollow, MayFollowAll, LeavesOpen}
@@ -9,7 +9,7 @@ use Rattle.grammar.proofs.FollowingLaws.{Leads, follow_append, origin_of, pushed
 use Rattle.grammar.proofs.StandingLaws.{stands_then, may_first, may_then}
 use Rattle.parser.specs.Room.{HasRoom}
 
--- one behind others that were told
+-- one after others that were told
 pub next_follows : (before now : Representation) (acts : List Action) (action : Action) (more : List Action) →
     MayFollowAll before (acts ++ action ∷ more) → AppendsAll before now acts → MayFollow now action
 next_follows before now acts action more f told =
@@ -32,7 +32,7 @@ room_within before m n h less = record { outer = h.outer; opened = h.opened; sta
     few : open_count (h.outer ∷ h.opened) + m ≤ 200
     few = let most : open_count (h.outer ∷ h.opened) + n ≤ 200 = h.few in omega arith
 
--- room behind actions
+-- room after actions
 pub room_behind : (before now : Representation) (n : ℕ) (acts : List Action) (opened : Opened) (inner : Open)
     (next : Opened) →
     LeavesOpen before opened → AppendsAll before now acts →
@@ -44,7 +44,7 @@ room_behind before now n acts opened inner next s told leads small = record {
   few = small;
 }
 
--- room behind the values of arguments
+-- room after the values of arguments
 pub room_behind_args : (now : Representation) (n : ℕ) (args : Args) (outer : Open) (o : Opened) →
     LeavesOpen now (pushed args (outer ∷ o)) → open_count (outer ∷ o) + n ≤ 200 → HasRoom now n
 room_behind_args now n NoMore outer o s small = record { outer = outer; opened = o; stands = s; few = small }

@@ -32,7 +32,7 @@ pub room_in_brackets : (before : Representation) (depth : ℕ) → depth < 64 �
 room_in_brackets before depth shallow h =
     place_room before (room depth 1) (room (depth + 1) 1) (omega (arith, room_deeper depth shallow)) h
 
--- Behind statements there is the same room.
+-- After statements there is the same room.
 pub place_kept : (before now : Representation) (depth : ℕ) (front pending : List Item) (at there : Position) →
     HasStatementRoom before (room depth 1) → AddsBody before now depth front pending at there →
     HasStatementRoom now (room depth 1)

@@ -1,4 +1,4 @@
--- What a file is whose reading came to its end.
+-- What a file is whose parse came to its end.
 use Rattle.std.proofs.Common.{◌≡◌, ℕ, List, [], ◌∷◌, ◌++◌, refl, sym, ap, ◌∙◌, subst, true, false, drop, ◌+◌, ◌≤◌, append_assoc, arith}
 use Rattle.std.specs.Option.{option_map}
 use Rattle.std.specs.Prelude.{Option, Some, None, Ok, Err, Result, is_some}
@@ -60,7 +60,7 @@ ends_alone at rest is g =
 goes_alone : (at : Position) → is_end (next_at at).token ≡ true → MayContinue at (next_at at ∷ [])
 goes_alone at is =
     let last : is_last (next_at at).token ≡ true = rw (end_is (next_at at).token is) refl in
-    record { window = []; is = rw last refl }
+    record { behind = []; is = rw last refl }
 
 end_steps : (profile : Profile) (next : LocatedToken) (scope : Scope) (functions : List Definition) →
     is_end next.token ≡ true →
@@ -76,7 +76,7 @@ last_line_is [] next = refl
 last_line_is (located_token ∷ []) next = refl
 last_line_is (located_token ∷ other ∷ consumed) next = last_line_is (other ∷ consumed) next
 
--- A reading from the start of a file to its end.
+-- A parse from the start of a file to its end.
 pub record IsWhole (before after : Representation) (told : Option (List ℕ)) (at there : Position) : Type 0 where
   pub reads : ReadsOn before after at_source at_source at there
   pub nothing : scope_at at ≡ no_names
@@ -98,7 +98,7 @@ passes_all before after told at there w profile h =
     (w.reads.passes (next_at there ∷ []) (goes_alone there w.ends) profile [] h))
     (end_steps profile (next_at there) (scope_at there) w.reads.more w.ends)
 
--- where the device tells its bytes, their tokens are those
+-- if the device's bytes are known, their tokens are those
 tokens_all : (before after : Representation) (told : Option (List ℕ)) (at there : Position)
     (w : IsWhole before after told at there) (bytes : List ℕ) → told ≡ Some bytes →
     tokens bytes ≡ all_of before after told at there w
@@ -178,7 +178,7 @@ lacking before after told to_come at there f denied w (ADefinition line is same)
 lacking before after told to_come at there f denied w (AMain defined none same) =
     rw same (lacks_main before after told at there w defined none)
 
--- Where the reading stops, the file's first fault is there.
+-- If the parse stops, the file's first fault is there.
 
 stops_bytes : (before after : Representation) (told : Option (List ℕ)) (at : Position) (d : Diagnostic) (used : ℕ) →
     scope_at at ≡ no_names → tokens_at at ≡ option_map tokens told →
@@ -208,7 +208,7 @@ takes_up_to profile bytes to_come used more passed rest is none took limited tak
     let needed : reach_of rest ≤ need profile bytes = what_was_read_is_needed profile bytes passed rest is none.each in
     record { count = used; took = took; needed = omega (arith, needed, taken); limited = limited }
 
--- so many bytes were taken from a device that tells its bytes
+-- `used` bytes were taken from a device whose bytes are known
 pub record HasTaken (used : ℕ) (told to_come : Option (List ℕ)) : Type 0 where
   pub took : (bytes : List ℕ) → told ≡ Some bytes → to_come ≡ Some (drop used bytes)
   pub limited : used ≤ 1048577
@@ -313,7 +313,7 @@ lacks_taking used before after told to_come at there f w (ADefinition line is sa
 lacks_taking used before after told to_come at there f w (AMain defined none same) near taken =
     rw same (whole_takes used before after told to_come at there w near taken)
 
--- What was built where the device failed.
+-- What was built if the device failed.
 
 builds_by : (after : Representation) (profile : Profile) (bytes : List ℕ) (to_come : Option (List ℕ)) (used : ℕ)
     (s : Stops profile (initial_state (tokens bytes)) (stop_with refusal.Device used)) →
@@ -345,7 +345,7 @@ stops_building used before after told to_come at nothing tells taken stops bytes
     (stops (tokens bytes) (tells ∙ ap (option_map tokens) shows) profile [] h) in
     builds_by after profile bytes to_come used s.stops (taken.took bytes shows) (s.told refl)
 
--- what is said where the reading stops
+-- what is said if the parse stops
 pub stopped : (used : ℕ) (before after : Representation) (told to_come : Option (List ℕ)) (at : Position)
     (f : ParseFault)
     (denied : Type 0) → scope_at at ≡ no_names → tokens_at at ≡ option_map tokens told →
@@ -374,7 +374,7 @@ opening_builds before told to_come used taken stops bytes shows profile h =
         rw (functions_here profile (initial_state (tokens bytes)) (stop_with refusal.Device used) tt some)
         (record { more = []; stands = h })
 
--- the same at the first token, where nothing was told
+-- the same at the first token, when nothing was told
 pub first_refused : (before : Representation) (told to_come : Option (List ℕ)) (f : ParseFault) (denied : Type 0) →
     StopsAtFirst told to_come f → ParseIsRefused before before denied told to_come f
 first_refused before told to_come (refusal.Source d) denied stops = first_fails before told to_come d stops

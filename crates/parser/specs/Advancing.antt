@@ -1,4 +1,4 @@
--- What each call of a parser needs and keeps. Every contract of the front end cites these facts.
+-- What each call of a scoped cursor needs and keeps. Every contract of the front end cites these facts.
 use Rattle.std.specs.Prelude.{ℕ, ◌-◌, ◌^◌, ◌≡◌, ◌<◌, ◌≤◌, false, true, Result, Ok, Err}
 use Rattle.tokens.specs.WindowLimits.{most_taken_bytes}
 use Rattle.tokens.specs.Cursors.{IsNear, Cursor, bytes_taken}
@@ -14,15 +14,15 @@ use Rattle.parser.specs.Segment.{account_after}
 abbrev pub most_failures : ℕ
 most_failures = 2 ^ 64 - 1
 
--- A cursor that a parser can be made of: its next token is no lexical error, and no more bytes were taken than a window
--- past the two tokens that it holds, and than the most.
+-- A cursor that a scoped cursor can be made of: its next token is no lexical error, and no more bytes were taken than a
+-- window past the two tokens that it holds, and no more than the most.
 pub record IsReadable (cursor : Cursor) : Type 0 where
   pub sound : is_fault cursor.next.token ≡ false
   pub near : IsNear cursor
   pub limited : bytes_taken cursor ≤ most_taken_bytes
 
--- A parser is ready for a call: its next token is no lexical error, no more bytes were taken than a window past the
--- two tokens that it holds, and a further failure of the device can be counted.
+-- A scoped cursor is ready for a call: its next token is no lexical error, no more bytes were taken than a window past
+-- the two tokens that it holds, and a further failure of the device can be counted.
 pub record IsReady (at : ScopedCursor) : Type 0 where
   pub sound : is_fault (token_of at) ≡ false
   pub near : IsNear at.position.lookahead.cursor
@@ -36,12 +36,12 @@ Anywhere at = Unit {0}
 abbrev pub IsNextPunctuator : Punctuator → ScopedCursor → Type 0
 IsNextPunctuator punctuator at = is_punctuator punctuator (token_of at) ≡ true
 
--- the next token is this word
+-- the next token is this keyword
 abbrev pub IsNextKeyword : Keyword → ScopedCursor → Type 0
 IsNextKeyword word at = is_keyword word (token_of at) ≡ true
 
--- A parser went on: it has the same borrows, the device did not fail and still has all but the bytes taken, fewer
--- tokens can come, and the parser is ready for the next call.
+-- A cursor advanced: it has the same borrows, the device did not fail and has still to give all but the bytes taken,
+-- fewer tokens can come, and the cursor is ready for the next call.
 pub record HasAdvanced (old new : ScopedCursor) : Type 0 where
   pub borrows : new.borrows ≡ old.borrows
   pub account : new.account ≡ old.account
@@ -49,7 +49,7 @@ pub record HasAdvanced (old new : ScopedCursor) : Type 0 where
   pub falls : to_go new < to_go old
   pub ready : IsReady new
 
--- The same where it may have consumed no token.
+-- The same if it may have consumed no token.
 pub record HasStayedOrAdvanced (old new : ScopedCursor) : Type 0 where
   pub borrows : new.borrows ≡ old.borrows
   pub account : new.account ≡ old.account
@@ -58,7 +58,7 @@ pub record HasStayedOrAdvanced (old new : ScopedCursor) : Type 0 where
   pub ready : IsReady new
 
 -- What a refusal leaves: the same borrows, one failure more if it is the device that failed, and all but the bytes
--- taken still to come. The parser is of no more use.
+-- taken still to come. The cursor is of no more use.
 pub record Stopped (fault : ParseFault) (old new : ScopedCursor) : Type 0 where
   pub borrows : new.borrows ≡ old.borrows
   pub account : new.account ≡ account_after old.account fault

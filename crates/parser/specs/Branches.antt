@@ -1,4 +1,4 @@
--- What may stand behind the first branch of an `if`: nothing, or an `else` with a second branch.
+-- What may follow the first branch of an `if`: nothing, or an `else` with a second branch.
 use Rattle.std.specs.Prelude.{ℕ, ◌+◌, ◌≡◌, ◌≤◌, true, List, [], ◌∷◌, Option, Some, None, Result, Ok, Err}
 use Rattle.parser.specs.Stopping.{Stop}
 use Rattle.grammar.specs.declared.diagnostics.ParseFault.{ParseFault}
@@ -20,7 +20,7 @@ use Rattle.parser.specs.Room.{room}
 use Rattle.parser.specs.Parsers.{BreaksOffFrom}
 use Rattle.parser.specs.Segment.{Derives, FailsAt}
 
--- the actions of a second branch, where there is one
+-- the actions of a second branch, if there is one
 abbrev pub else_actions : Option Body → List Action
 else_actions None = []
 else_actions (Some t) = BetweenBranches ∷ body_actions t
@@ -38,7 +38,7 @@ abbrev pub else_nesting : Option Body → ℕ
 else_nesting None = 0
 else_nesting (Some t) = body_nesting t
 
--- the trees of an `if` so far: its first branch, its condition, and the body that it stands in
+-- the trees of an `if` so far: its first branch, its condition, and the body that it is in
 abbrev pub before_else : Body → Expr → Body → List Value
 before_else s c body = ABody s ∷ AnExpr c ∷ ABody body ∷ []
 
@@ -57,7 +57,7 @@ abbrev pub FailsElse : ℕ → Position → Stop → Type 0
 FailsElse depth here d =
     (s : Body) (c : Expr) (body : Body) → FailsAt depth (Part ElsePart ∷ []) (before_else s c body) here d
 
--- What a parse of a second branch says by its result.
+-- What the parse of a second branch says by its result.
 abbrev pub ParsesElse : {A F B : Type 0} → Result A ParseFault → Type 0 → (B → Representation) →
     (old new : Parser F B) → Type 0
 ParsesElse (Ok x) denied stands old new =
@@ -65,7 +65,8 @@ ParsesElse (Ok x) denied stands old new =
 ParsesElse (Err fault) denied stands old new =
     BreaksOffFrom (FailsElse old.depth old.tokens.position) denied stands old new fault
 
--- A list is stood for that leaves this open, where a statement stands, and room for so many more.
+-- The builder represents a list that leaves this open, at a point at which a statement may come, and has room for
+-- `count` more.
 pub record HasInside (inner : Open) (before : Representation) (count : ℕ) : Type 0 where
   pub opened : Opened
   pub position : may_take_statement opened ≡ true

@@ -1,4 +1,4 @@
--- The items of lists of names, of declarations and of a function's heading, by what the names are declared as.
+-- The items of lists of names, of declarations and of a function's header, by what the names are declared as.
 use Rattle.std.specs.Prelude.{List, [], ◌∷◌}
 use Rattle.tokens.specs.declared.located_tokens.Punctuator.TheVariants as punctuator
 use Rattle.tokens.specs.declared.located_tokens.Keyword.TheVariants as keyword
@@ -8,7 +8,7 @@ use Rattle.parser.specs.Roles.{role_of}
 use Rattle.parser.specs.declared.roles.Declared.{Declared}
 use Rattle.parser.specs.declared.roles.Declared.TheVariants as kind
 
--- locals at the begin of a block, and parameters behind their list
+-- locals at the beginning of a block, and parameters after their list
 abbrev pub IsInFunction : Declared → Type 0
 IsInFunction kind.Locals = Unit {0}
 IsInFunction kind.TypedParameters = Unit {0}

@@ -22,7 +22,7 @@ use Rattle.parser.specs.Stopping.{Stop}
 use Rattle.parser.specs.Parsers.{BreaksOffFrom}
 use Rattle.parser.specs.Segment.{Derives, FailsAt, FailsItem}
 
--- An expression was read, by the items in front, of operators from a level on, with so many levels of nesting open.
+-- An expression was read, by the items in front, of operators from `level` on, with `depth` levels of nesting open.
 pub record AddsExpr (before after : Representation) (depth level : ℕ) (front pending : List Item)
     (here there : Position)
     : Type 0 where
@@ -60,7 +60,7 @@ pub record AddsArgs (before after : Representation) (depth : ℕ) (front pending
 abbrev pub FailsArgs : ℕ → Position → Stop → Type 0
 FailsArgs depth here d = (callee : Callee) → FailsAt depth (Part Arguments ∷ []) (ACall callee NoMore ∷ []) here d
 
--- What a parse of an expression says, by its result.
+-- What the parse of an expression says, by its result.
 
 -- An expression was read by this symbol, at a level of the operators. Or the derivation stops within it, as the refusal
 -- says.

@@ -1,4 +1,4 @@
--- Which tokens begin a statement of a form of its own, and what stands behind `if` and `while`.
+-- Which tokens begin a statement other than an expression statement, and what follows `if` and `while`.
 use Rattle.std.specs.Prelude.{◌≡◌, List, [], ◌∷◌, Bool, true, false, Result, Ok, Err}
 use Rattle.tokens.specs.declared.located_tokens.Punctuator.TheVariants as punctuator
 use Rattle.tokens.specs.declared.located_tokens.Token.{Token}
@@ -13,7 +13,7 @@ use Rattle.parser.specs.Parsers.{BreaksOffFrom}
 use Rattle.parser.specs.Segment.{FailsAt}
 use Rattle.parser.specs.Expressions.{AddsExpr}
 
--- ; { if while return: any other token begins an expression, for its effect
+-- ; { if while return: any other token begins an expression statement
 abbrev pub begins_statement : Token → Bool
 begins_statement (token.Punctuator punctuator.Semicolon) = true
 begins_statement (token.Punctuator punctuator.OpenCurly) = true
@@ -22,7 +22,7 @@ begins_statement (token.Keyword keyword.While) = true
 begins_statement (token.Keyword keyword.Return) = true
 begins_statement next = false
 
--- an expression for its effect
+-- an expression statement
 abbrev pub StartsEvaluation : ScopedCursor → Type 0
 StartsEvaluation at = begins_statement (token_of at) ≡ false
 
@@ -30,7 +30,8 @@ StartsEvaluation at = begins_statement (token_of at) ≡ false
 abbrev pub in_brackets : List Item
 in_brackets = Exactly punctuator.OpenRound ∷ Part Expression ∷ Exactly punctuator.CloseRound ∷ []
 
--- What a parse of a condition says by its result: it was read, or the derivation stops within it, as the refusal says.
+-- What the parse of a condition says by its result: it was read, or the derivation stops within it, as the refusal
+-- says.
 abbrev pub ParsesCondition : {A F B : Type 0} → Result A ParseFault → Type 0 → (B → Representation) →
     (old new : Parser F B) → Type 0
 ParsesCondition (Ok x) denied stands old new =

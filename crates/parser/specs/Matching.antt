@@ -1,4 +1,4 @@
--- What a call of the parser says of the derivation, by its result.
+-- What a call of the scoped cursor says of the derivation, by its result.
 use Rattle.std.specs.Prelude.{ℕ, List, [], Result, Ok, Err}
 use Rattle.grammar.specs.declared.diagnostics.ParseFault.{ParseFault}
 use Rattle.grammar.specs.Derivation.{Value}

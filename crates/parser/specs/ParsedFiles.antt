@@ -1,4 +1,4 @@
--- What a parse gives: a file, or its first fault.
+-- What a parse answers: a file, or its first fault.
 use Rattle.std.specs.Prelude.{ℕ, ◌+◌, ◌≡◌, ◌≤◌, List, [], ◌++◌, drop, map, Option, Some}
 use Rattle.std.specs.Prelude.{Result, Ok, Err}
 use Rattle.tokens.specs.Ends.{last_undecided_until}
@@ -18,13 +18,13 @@ use Rattle.grammar.specs.Resolved.{IsResolved}
 use Rattle.grammar.specs.Scope.{number_of_name}
 use Rattle.grammar.specs.Tree.{File}
 
--- by some profile the builder stands for no action
+-- by some profile the builder represents no action
 pub record IsNew (before : Representation) : Type 0 where
   pub profile : Profile
   pub stands : before profile []
 
--- The names are those of a resolved file, and a builder that stood for no action stands for the file's actions, which
--- leave nothing open, whatever the device tells. Where it tells its bytes, they are that file.
+-- The names are those of a resolved file, and a builder that represented no action represents the file's actions, which
+-- leave nothing open, whether the device's bytes are known or not. If they are, the file is what they compile to.
 pub record IsFile (before after : Representation) (told : Option (List ℕ)) (names : Pools) : Type 0 where
   pub file : File
   pub resolved : IsResolved file
@@ -35,21 +35,21 @@ pub record IsFile (before after : Representation) (told : Option (List ℕ)) (na
   pub is : (bytes : List ℕ) → told ≡ Some bytes → (profile : Profile) → before profile [] →
       compiled profile bytes ≡ Ok file
 
--- where the device tells its bytes, the diagnostic is that of their first fault
+-- if the device's bytes are known, the diagnostic is that of their first fault
 abbrev pub FailsBytes : Representation → Option (List ℕ) → Diagnostic → Type 0
 FailsBytes before told d =
     (bytes : List ℕ) → told ≡ Some bytes → (profile : Profile) → before profile [] → compiled profile bytes ≡ Err d
 
--- from a device that tells its bytes no more were taken than decide what they are, and so many more; and never more
--- than the longest source and one byte
+-- From a device whose bytes are known at most `more` bytes were taken past those that decide what they are, and never
+-- more than the longest source and one byte.
 pub record TakesUpTo (profile : Profile) (bytes : List ℕ) (to_come : Option (List ℕ)) (more : ℕ) : Type 0 where
   pub count : ℕ
   pub took : to_come ≡ Some (drop count bytes)
   pub needed : count ≤ need profile bytes + more
   pub limited : count ≤ most_taken_bytes
 
--- from a device that tells its bytes no more were taken than may leave open what they are: none past what decides that,
--- and if they have a bad character, fewer than with this one
+-- From a device whose bytes are known so few were taken that they may leave open what the source is: none past those
+-- that decide it, and if it has a bad character, not that one.
 pub record LeavesUndecided (profile : Profile) (bytes : List ℕ) (to_come : Option (List ℕ)) : Type 0 where
   pub count : ℕ
   pub took : to_come ≡ Some (drop count bytes)
@@ -57,20 +57,20 @@ pub record LeavesUndecided (profile : Profile) (bytes : List ℕ) (to_come : Opt
   pub undecided : count ≤ last_undecided_until (tokens bytes)
   pub limited : count ≤ most_taken_bytes
 
--- so few were taken by each profile that the builder goes by, where the device tells its bytes
+-- so few were taken by each profile that the builder goes by, if the device's bytes are known
 abbrev pub TakesNoMore : Representation → (told to_come : Option (List ℕ)) → ℕ → Type 0
 TakesNoMore before told to_come more =
     (bytes : List ℕ) → told ≡ Some bytes → (profile : Profile) → before profile [] →
     TakesUpTo profile bytes to_come more
 
--- so they may leave it open by each profile that the builder goes by, where the device tells its bytes
+-- so they may leave it open by each profile that the builder goes by, if the device's bytes are known
 abbrev pub LeavesSourceUndecided : Representation → (told to_come : Option (List ℕ)) → Type 0
 LeavesSourceUndecided before told to_come =
     (bytes : List ℕ) → told ≡ Some bytes → (profile : Profile) → before profile [] →
     LeavesUndecided profile bytes to_come
 
--- what was taken where no file is answered: a window past what decides the source at most, and where the device failed,
--- so few bytes that they may leave it open
+-- What was taken if no file is answered: at most a window past what decides the source; if the device failed, so few
+-- bytes that they may leave the source open.
 abbrev pub StopsTaking : Representation → (told to_come : Option (List ℕ)) → ParseFault → Type 0
 StopsTaking before told to_come (refusal.Source d) = TakesNoMore before told to_come window_bytes
 StopsTaking before told to_come refusal.Device = LeavesSourceUndecided before told to_come
@@ -81,8 +81,8 @@ abbrev pub TakesEnough : {A : Type 0} → Result A ParseFault → Representation
 TakesEnough (Ok x) before told to_come = TakesNoMore before told to_come window_bytes
 TakesEnough (Err fault) before told to_come = StopsTaking before told to_come fault
 
--- From a device that tells its bytes so many were taken, and the builder stands for the actions of the functions that
--- these decide for certain, and further ones.
+-- From a device whose bytes are known `count` bytes were taken, and the builder represents the actions of the functions
+-- that these decide for certain, and further ones.
 pub record HasBuilt (after : Representation) (profile : Profile) (bytes : List ℕ) (to_come : Option (List ℕ)) : Type 0
   where
     pub count : ℕ
@@ -90,14 +90,14 @@ pub record HasBuilt (after : Representation) (profile : Profile) (bytes : List �
     pub more : List Action
     pub stands : after profile (built bytes count ++ more)
 
--- the same of each profile that the builder goes by, where the device tells its bytes
+-- the same by each profile that the builder goes by, if the device's bytes are known
 abbrev pub BuildsAhead : (before after : Representation) (told to_come : Option (List ℕ)) → Type 0
 BuildsAhead before after told to_come =
     (bytes : List ℕ) → told ≡ Some bytes → (profile : Profile) → before profile [] →
     HasBuilt after profile bytes to_come
 
--- what a refusal says: of a source its fault, of a device what was built until it failed, of memory that it was
--- refused to the builder
+-- What a refusal says: of a source, its fault; of a device, what was built until it failed; of memory, that the builder
+-- was refused it.
 abbrev pub ParseIsRefused : (before after : Representation) (denied : Type 0) (told to_come : Option (List ℕ)) →
     ParseFault
     → Type 0

@@ -1,4 +1,4 @@
--- What each method of a reader needs and keeps. Every contract of the grammar's productions cites these facts.
+-- What each method of a parser needs and keeps. Every contract of the grammar's productions cites these facts.
 use Rattle.std.specs.Prelude.{ℕ, ◌≡◌, ◌≤◌, [], Result, Ok, Err}
 use Rattle.grammar.specs.declared.diagnostics.Code.TheVariants as code
 use Rattle.grammar.specs.declared.diagnostics.ParseFault.{ParseFault}
@@ -18,16 +18,16 @@ pub record IsTooDeep {F B : Type 0} (at : Parser F B) (fault : ParseFault) : Typ
   pub deep : MOST_LEVELS ≤ at.depth
   pub is : fault ≡ refusal.Source (diagnostic (next_at at.tokens.position).line code.NestedTooDeeply)
 
--- What a method needs: this room in the builder for the operators from a level on, where so many levels of nesting are
--- open, a parser that is ready, and these next tokens.
+-- What a method needs: room in the builder for the operators from this level on, at the depth at which the parser is, a
+-- scoped cursor that is ready, and these next tokens.
 pub record IsAt {F B : Type 0} (stands : B → Representation) (has_room : Representation → ℕ → Type 0) (level : ℕ)
     (starts : ScopedCursor → Type 0) (at : Parser F B) : Type 0 where
   pub builder : has_room (stands at.builder.now) (room at.depth level)
   pub ready : IsReady at.tokens
   pub is : starts at.tokens
 
--- What it needs between functions: a builder in which nothing is open, no open level, a parser that is ready, and these
--- next tokens.
+-- What it needs between functions: a builder in which nothing is open, no open level, a scoped cursor that is ready,
+-- and these next tokens.
 pub record IsBetween {F B : Type 0} (stands : B → Representation) (starts : ScopedCursor → Type 0) (at : Parser F B)
     : Type 0 where
   pub builder : LeavesOpen (stands at.builder.now) []
@@ -41,13 +41,13 @@ pub record IsAtBlock {F B : Type 0} (stands : B → Representation) (at : Parser
   pub flat : at.depth ≡ 0
   pub ready : IsReady at.tokens
 
--- A reader went on so far: as many levels are open, and it reports to the same builder.
+-- A parser went on, and its cursor as `went` says: as many levels are open, and it reports to the same builder.
 pub record ParserKept {F B : Type 0} (went : ScopedCursor → ScopedCursor → Type 0) (old new : Parser F B) : Type 0 where
   pub tokens : went old.tokens new.tokens
   pub depth : new.depth ≡ old.depth
   pub builder : new.builder.ghost_name ≡ old.builder.ghost_name
 
--- What a refusal leaves: the parser that stopped, and the same builder. The reader is of no more use.
+-- What a refusal leaves: the cursor that stopped, and the same builder. The parser is of no more use.
 pub record GaveUp {F B : Type 0} (fault : ParseFault) (old new : Parser F B) : Type 0 where
   pub tokens : Stopped fault old.tokens new.tokens
   pub builder : new.builder.ghost_name ≡ old.builder.ghost_name
@@ -62,13 +62,13 @@ abbrev pub MayProceed : {A F B : Type 0} → Result A ParseFault → (old new : 
 MayProceed (Ok x) old new = ParserKept HasStayedOrAdvanced old new
 MayProceed (Err fault) old new = GaveUp fault old new
 
--- what a refusal says of where the derivation stops, and of the builder
+-- what a refusal says of the point at which the derivation stops, and of the builder
 abbrev pub BreaksOffFrom : {F B : Type 0} → (Stop → Type 0) → (denied : Type 0) → (B → Representation) →
     (old new : Parser F B) → ParseFault → Type 0
 BreaksOffFrom stops denied stands old new fault =
     BreaksOff stops denied (stands old.builder.now) (stands new.builder.now) (taken_at new.tokens.position) fault
 
--- a call that leaves the parser as it is
+-- a call that reports to the builder alone: the cursor stays as it is
 pub record OnlyTells {F B : Type 0} (old new : Parser F B) : Type 0 where
   pub tokens : new.tokens ≡ old.tokens
   pub depth : new.depth ≡ old.depth

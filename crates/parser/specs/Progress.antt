@@ -34,8 +34,8 @@ use Rattle.parser.specs.ScopedCursors.{MayContinue, Position, Lookahead, ScopedC
 use Rattle.parser.specs.Stopping.{Stop, Stops}
 use Rattle.parser.specs.Segment.{Derives, FailsAt, Refused, TakesTokens}
 
--- From one place between functions to another the builder was told further functions, and the derivation, which goes
--- from these items to those, defines them. It takes the same tokens whether the device tells them or not.
+-- From one position between functions to another the builder was told further functions, and the derivation, which goes
+-- from these items to those, defines them. It consumes the same tokens whether the device's bytes are known or not.
 pub record ReadsOn (before after : Representation) (front pending : List Item) (here there : Position) : Type 0 where
   pub consumed : List LocatedToken
   pub more : List Definition
@@ -48,17 +48,17 @@ pub record ReadsOn (before after : Representation) (front pending : List Item) (
       Passes profile (state front (consumed ++ rest) [] (scope_at here) functions)
       (state pending rest [] (scope_at there) (functions ++ more))
 
--- the builder stands for the actions of these functions, and further ones
+-- the builder represents the actions of these functions, and further ones
 pub record HasTold (after : Representation) (profile : Profile) (functions : List Definition) : Type 0 where
   pub more : List Action
   pub stands : after profile (definitions_actions functions ++ more)
 
--- The derivation from s stops so. Where the device failed, the builder was told the functions defined up to there.
+-- The derivation from s stops so. If the device failed, the builder was told the functions defined up to there.
 pub record StopsTelling (after : Representation) (profile : Profile) (s : State) (stop : Stop) : Type 0 where
   pub stops : Stops profile s stop
   pub told : refusal.Device ≡ stop.fault → HasTold after profile (derived stops.steps s).functions
 
--- where the tokens are told, the derivation from these items on stops so
+-- if the tokens are known, the derivation from these items on stops so
 abbrev pub StopsPart : (before after : Representation) → List Item → Position → Stop → Type 0
 StopsPart before after front here stop =
     (located_tokens : List LocatedToken) → tokens_at here ≡ Some located_tokens
@@ -74,19 +74,19 @@ at_source = Part Source ∷ []
 abbrev pub HasMore : ScopedCursor → Type 0
 HasMore at = token_of at ≡ token.End → ⊥
 
--- where a function's definition begins
+-- the items at which a function's definition begins
 abbrev pub at_definition : List Item
 at_definition =
     AName Defined ∷ Exactly punctuator.OpenRound ∷ Part Parameters ∷ Exactly punctuator.CloseRound
     ∷ Part ParameterTypes ∷
     Part FunctionBlock ∷ at_source
 
--- what a function's block is up to its closing brace
+-- the items left of a function's block at its closing brace
 abbrev pub at_brace : List Item
 at_brace = Make Define ∷ Exactly punctuator.CloseCurly ∷ Close ∷ []
 
--- A function's block was read up to its closing brace: the builder was told its statements, and the function stayed the
--- same.
+-- A function's block was read up to its closing brace: the builder was told its statements, and the function that is
+-- being defined stayed the same.
 pub record AddsBlock (before after : Representation) (here there : Position) : Type 0 where
   pub tree : Body
   pub numbered : InBody MOST_NAMES MOST_NAMES MOST_NAMES tree
@@ -96,7 +96,7 @@ pub record AddsBlock (before after : Representation) (here there : Position) : T
   pub derives : Derives 0 (Part FunctionBlock ∷ []) at_brace [] (ABody tree ∷ []) here there
   pub closed : is_punctuator punctuator.CloseCurly (next_at there).token ≡ true
 
--- a list is stood for that leaves a function open, which may end with so many variables
+-- the builder represents actions that leave a function open, which may end with this many variables
 pub record MayEnd (before : Representation) (variables : ℕ) : Type 0 where
   pub parameters : ℕ
   pub returned : Bool
@@ -110,7 +110,7 @@ pub record ClosesFunction (before after : Representation) (variables : ℕ) : Ty
   pub fits : (profile : Profile) (acts : List Action) → before profile acts →
       code_length profile (acts ++ last_return) + 1 ≤ profile.instructions
 
--- The code passes the limit, and the diagnostic says so at this line.
+-- The code exceeds the limit, and the diagnostic says so at this line.
 pub record IsTooMuch (before : Representation) (line : ℕ) (d : Diagnostic) : Type 0 where
   pub is : d ≡ diagnostic line code.TooMuchCode
   pub over : (profile : Profile) (acts : List Action) → before profile acts →
@@ -144,7 +144,7 @@ pub data Lacks (position : Lookahead) (fault : ParseFault) : Type 0 where
       is_some (function_number main_name position.scope) ≡ false →
       fault ≡ refusal.Source (diagnostic position.cursor.next.line code.NoMainFunction) → Lacks position fault
 
--- What a parse of a file's parts says, by its result.
+-- What the parse of a file's parts says, by its result.
 
 -- Parts of a file were read from these items on, and the builder has nothing open. Or the derivation stops within them,
 -- as the refusal says.

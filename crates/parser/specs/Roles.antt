@@ -1,4 +1,4 @@
--- What the names of a list are declared as, in the grammar's words.
+-- What the names of a list are declared as, as a role of the grammar.
 use Rattle.grammar.specs.Grammar.{Role, External, Parameter, Typed, Local}
 use Rattle.parser.specs.declared.roles.Declared.{Declared}
 use Rattle.parser.specs.declared.roles.Declared.TheVariants as kind

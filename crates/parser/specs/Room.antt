@@ -1,16 +1,16 @@
--- How much may still be opened where a builder stands: calls, branches, loops and right sides of && and ||.
+-- How much may still be opened in a builder: calls, branches, loops and right sides of && and ||.
 use Rattle.std.specs.Prelude.{ℕ, ◌+◌, ◌-◌, ◌*◌, ◌≡◌, ◌≤◌, ◌∷◌, true}
 use Rattle.grammar.specs.Building.{Representation, LeavesOpen}
 use Rattle.grammar.specs.Following.{Open, AValue, Opened, Origin, may_take_statement, open_count}
 use Rattle.grammar.specs.NameLimits.{most_open}
 use Rattle.grammar.specs.declared.name_limits.TheConstants.{MOST_LEVELS}
 
--- the most that the operators from a level on can open, where so many levels of nesting are taken:
--- each further level of nesting opens a call and the right sides of && and || at most
+-- the most that the operators from `level` on can open, with `depth` levels of nesting open:
+-- each further level of nesting opens at most a call and the right sides of && and ||
 abbrev pub room : (depth level : ℕ) → ℕ
 room depth level = 3 * (MOST_LEVELS - depth) + (3 - level)
 
--- a list is stood for that leaves something open, and room for so many more
+-- the builder represents a list that leaves something open, and has room for `count` more
 pub record HasRoom (before : Representation) (count : ℕ) : Type 0 where
   pub outer : Open
   pub opened : Opened
@@ -25,7 +25,7 @@ pub record HasLeftSide (before : Representation) (count : ℕ) : Type 0 where
   pub stands : LeavesOpen before (AValue origin ∷ outer ∷ opened)
   pub few : open_count (outer ∷ opened) + count ≤ most_open
 
--- the same where a statement may stand
+-- the same at a point at which a statement may come
 pub record HasStatementRoom (before : Representation) (count : ℕ) : Type 0 where
   pub opened : Opened
   pub position : may_take_statement opened ≡ true

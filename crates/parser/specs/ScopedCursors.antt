@@ -1,4 +1,4 @@
--- Where a parser is: the next tokens, the names known, and the device that it reads.
+-- What a scoped cursor is at: the next tokens, the names known there, and the bytes that the device has still to give.
 use Rattle.std.specs.Prelude.{ℕ, ◌≡◌, List, Option}
 use Rattle.tokens.specs.Feed.{Account}
 use Rattle.tokens.specs.Cursors.{Cursor, most_left, shown, bytes_taken}
@@ -12,7 +12,7 @@ pub record Lookahead : Type 0 where
   pub cursor : Cursor
   pub scope : Scope
 
--- a position, and the bytes that the device has still to give, where it tells them
+-- a lookahead, and the bytes that the device has still to give, if they are known
 pub record Position : Type 0 where
   pub lookahead : Lookahead
   pub to_come : Option (List ℕ)
@@ -20,7 +20,7 @@ pub record Position : Type 0 where
 abbrev pub position_of : Lookahead → Option (List ℕ) → Position
 position_of position to_come = record { lookahead = position; to_come = to_come }
 
--- how many bytes were taken from the device by then
+-- how many bytes were taken from the device so far
 abbrev pub taken_at : Position → ℕ
 taken_at here = bytes_taken here.lookahead.cursor
 
@@ -28,32 +28,32 @@ taken_at here = bytes_taken here.lookahead.cursor
 abbrev pub next_at : Position → LocatedToken
 next_at here = here.lookahead.cursor.next
 
--- the token behind it, where the next isn't the last
+-- the token after it, unless the next is the last
 abbrev pub after_at : Position → Token
 after_at here = here.lookahead.cursor.after.token
 
 abbrev pub scope_at : Position → Scope
 scope_at here = here.lookahead.scope
 
--- the tokens from there on, where the device tells them
+-- the tokens from there on, if the device's bytes are known
 abbrev pub tokens_at : Position → Option (List LocatedToken)
 tokens_at here = shown here.lookahead.cursor here.to_come
 
--- What a contract sees of a parser: its place, what is known of its device's failures, and which borrows it has, of the
--- names and of the device.
+-- What a contract sees of a scoped cursor: its position, what is known of its device's failures, and which borrows it
+-- has, of the names and of the device.
 pub record ScopedCursor : Type 0 where
   pub position : Position
   pub account : Account
   pub borrows : ℕ × ℕ
 
--- the next token of a parser, and the one after it
+-- the next token of a scoped cursor, and the one after it
 abbrev pub token_of : ScopedCursor → Token
 token_of at = (next_at at.position).token
 
 abbrev pub token_after : ScopedCursor → Token
 token_after at = after_at at.position
 
--- the names that a parser knows
+-- the names that a scoped cursor knows
 abbrev pub scope_of : ScopedCursor → Scope
 scope_of at = scope_at at.position
 
@@ -61,7 +61,7 @@ scope_of at = scope_at at.position
 abbrev pub pools_in : Scope → Pools
 pools_in scope = record { externals = scope.externals; functions = scope.functions }
 
--- the same with these names known
+-- the same cursor with these names known
 abbrev pub with_scope : Scope → ScopedCursor → ScopedCursor
 with_scope scope at =
     record at
@@ -71,7 +71,7 @@ with_scope scope at =
 abbrev pub to_go : ScopedCursor → ℕ
 to_go at = most_left at.position.lookahead.cursor
 
--- the tokens that a silent device may have from there on: the two that were read, and any behind them
+-- the tokens from there on that a device of unknown bytes may have: the two that were read, and any after them
 pub record MayContinue (here : Position) (rest : List LocatedToken) : Type 0 where
-  pub window : List LocatedToken
-  pub is : rest ≡ followed_by here.lookahead.cursor.next (followed_by here.lookahead.cursor.after window)
+  pub behind : List LocatedToken
+  pub is : rest ≡ followed_by here.lookahead.cursor.next (followed_by here.lookahead.cursor.after behind)

@@ -21,14 +21,14 @@ use Rattle.parser.specs.Defining.{IsWithin}
 use Rattle.parser.specs.ScopedCursors.{Position, Lookahead, MayContinue, tokens_at, next_at, scope_at}
 use Rattle.parser.specs.Stopping.{IfSource, Stop, StopsInside, most_taken, stop_with}
 
--- the tokens told at a place are those that a segment took, and then those told behind it
+-- these tokens are those that a segment consumed, followed by those known at its end
 pub record TakesTokens (consumed located_tokens : List LocatedToken) (there : Position) : Type 0 where
   pub rest : List LocatedToken
   pub is : located_tokens ≡ consumed ++ rest
   pub shows : tokens_at there ≡ Some rest
 
--- From one place to another the derivation goes from these items in front to those, with so many levels open below
--- them, and leaves these trees in the place of those. It takes the same tokens whether the device tells them or not.
+-- From one position to another the derivation replaces these items in front by those, with `depth` levels open below
+-- them, and these trees by those. It consumes the same tokens whether the device's bytes are known or not.
 pub record Derives (depth : ℕ) (front pending : List Item) (taken left : List Value) (here there : Position) : Type 0
   where
     pub consumed : List LocatedToken
@@ -41,8 +41,8 @@ pub record Derives (depth : ℕ) (front pending : List Item) (taken left : List 
         Passes profile (state (front ++ stack) (consumed ++ rest) (taken ++ values) (scope_at here) functions)
         (state (pending ++ stack) rest (left ++ values) (scope_at there) functions)
 
--- where the tokens are told, the derivation from these items on stops so, with so many levels open, and before a
--- further function is defined
+-- if the tokens are known, the derivation from these items on stops so, with `depth` levels open, and before a further
+-- function is defined
 abbrev pub FailsAt : ℕ → List Item → List Value → Position → Stop → Type 0
 FailsAt depth front taken here stop =
     (located_tokens : List LocatedToken) → tokens_at here ≡ Some located_tokens →
@@ -64,19 +64,19 @@ pub record GoesPast (here there : Position) : Type 0 where
       → tokens_at there ≡ Some rest
   pub scope : scope_at there ≡ scope_at here
 
--- the token behind the next is a fault, which stops any derivation
+-- the token after the next is a lexical error, which stops any derivation
 pub record HasLexicalError (here : Position) (d : Diagnostic) : Type 0 where
   pub lexical_error : is_fault here.lookahead.cursor.after.token ≡ true
   pub is : d ≡ diagnostic here.lookahead.cursor.after.line (misfit_code here.lookahead.cursor.after.token)
 
--- the next token fits, and behind it a fault is the next, or the device failed
+-- the next token fits, and the one after it is a lexical error, or the device failed
 pub record StopsAt (here : Position) (stop : Stop) : Type 0 where
   pub more : is_last (next_at here).token ≡ false
   pub lexical_error : IfSource stop.fault (HasLexicalError here)
   pub taken : (next : LocatedToken) (others : List LocatedToken) → tokens_at here ≡ Some (next ∷ others) →
       stop.taken ≤ most_taken stop.fault others
 
--- the first token is a fault, or the device failed
+-- the first token is a lexical error, or the device failed
 pub record StopsFirst (told : Option (List LocatedToken)) (stop : Stop) : Type 0 where
   pub lexical_error : (located_tokens : List LocatedToken) → told ≡ Some located_tokens → IfSource stop.fault (λ d.
       (is_fault (next_token located_tokens) ≡ true)
@@ -103,21 +103,21 @@ pub record BeginsDefinition (number : ℕ) (old new : Lookahead) : Type 0 where
   pub mentioned : number < length new.scope.functions
   pub within : IsWithin old.scope → IsWithin new.scope
 
--- What a refusal says, with so many bytes taken: where the derivation stops, and of memory that it was refused to the
--- builder.
+-- What a refusal says with `taken` bytes taken: where the derivation stops; of memory also that the builder was refused
+-- it.
 abbrev pub Refused : (Stop → Type 0) → Type 0 → ℕ → ParseFault → Type 0
 Refused stops denied taken (refusal.Source d) = stops (stop_with (refusal.Source d) taken)
 Refused stops denied taken refusal.Device = stops (stop_with refusal.Device taken)
 Refused stops denied taken refusal.Memory = denied × stops (stop_with refusal.Memory taken)
 
--- what a refusal at the first token says, by the bytes to come before and behind
+-- what a refusal at the first token says, by the bytes to come before and after
 pub record StopsAtFirst (told told' : Option (List ℕ)) (fault : ParseFault) : Type 0 where
   pub taken : ℕ
   pub took : (bytes : List ℕ) → told ≡ Some bytes → told' ≡ Some (drop taken bytes)
   pub limited : taken ≤ most_taken_bytes
   pub refused : Refused (StopsFirst (option_map tokens told)) ⊥ taken fault
 
--- the same device, of which one more read has failed if it is the device that is answered
+-- the account of the device after this refusal: one more read has failed if the device failed
 abbrev pub account_after : Account → ParseFault → Account
 account_after account refusal.Device = failed_again account
 account_after account (refusal.Source d) = account

@@ -1,4 +1,4 @@
--- With which two tokens a form of an expression starts.
+-- The two tokens with which a form of an expression starts.
 use Rattle.std.specs.Prelude.{◌≡◌, ℕ, Some, None, is_some, true, false}
 use Rattle.tokens.specs.declared.located_tokens.Punctuator.TheVariants as punctuator
 use Rattle.tokens.specs.declared.located_tokens.Token.TheVariants as token

@@ -1,4 +1,4 @@
--- What the parse of statements did: the builder was told their actions, and the derivation put them behind the body so
+-- What the parse of statements did: the builder was told their actions, and the derivation put them after the body so
 -- far.
 use Rattle.std.specs.Prelude.{ℕ, ◌≤◌, List, [], ◌∷◌, Result, Ok, Err}
 use Rattle.tokens.specs.declared.located_tokens.Punctuator.TheVariants as punctuator
@@ -19,7 +19,7 @@ use Rattle.parser.specs.Room.{room}
 use Rattle.parser.specs.Parsers.{BreaksOffFrom}
 use Rattle.parser.specs.Segment.{Derives, FailsAt}
 
--- Statements were read, by the items in front, with so many levels of nesting open, whatever the body is so far.
+-- Statements were read, by the items in front, with `depth` levels of nesting open, whatever the body is so far.
 pub record AddsBody (before after : Representation) (depth : ℕ) (front pending : List Item) (here there : Position) :
     Type 0 where
   pub tree : Body
@@ -32,7 +32,7 @@ pub record AddsBody (before after : Representation) (depth : ℕ) (front pending
 abbrev pub FailsBody : ℕ → List Item → Position → Stop → Type 0
 FailsBody depth front here d = (body : Body) → FailsAt depth front (ABody body ∷ []) here d
 
--- What a parse of statements says by its result: they were read, or the derivation stops within them, as the refusal
+-- What the parse of statements says by its result: they were read, or the derivation stops within them, as the refusal
 -- says.
 abbrev pub ParsesBody : {A F B : Type 0} → Result A ParseFault → Type 0 → (B → Representation) → Symbol →
     (old new : Parser F B) → Type 0

@@ -1,4 +1,4 @@
--- Where a derivation stops: at its first fault, or where the device failed or a builder was refused memory.
+-- Where a derivation stops: at its first fault, when the device failed, or when a builder was refused memory.
 use Rattle.std.specs.Prelude.{ℕ, ◌+◌, ◌≡◌, ◌≤◌, List, ◌++◌, length}
 use Rattle.tokens.specs.Cursors.{undecided_reach_of, reach_of}
 use Rattle.tokens.specs.declared.token_limits.TheConstants.{WINDOW_BYTES}
@@ -11,7 +11,7 @@ use Rattle.grammar.specs.Faults.{Fault}
 use Rattle.grammar.specs.Laws.Parsing.{Fails, IsFault}
 use Rattle.grammar.specs.Profile.{Profile}
 
--- why, and how many bytes were taken from the device by then
+-- why it stops, and how many bytes were taken from the device by then
 pub record Stop : Type 0 where
   pub fault : ParseFault
   pub taken : ℕ
@@ -19,24 +19,24 @@ pub record Stop : Type 0 where
 abbrev pub stop_with : ParseFault → ℕ → Stop
 stop_with fault taken = record { fault = fault; taken = taken }
 
--- what is said where a source's fault is told
+-- what is said of a source's fault, and of no other refusal
 abbrev pub IfSource : ParseFault → (Diagnostic → Type 0) → Type 0
 IfSource (refusal.Source d) says = says d
 IfSource refusal.Device says = Unit {0}
 IfSource refusal.Memory says = Unit {0}
 
--- How many bytes may have been taken where these tokens are next. Where the device failed, no more than may leave the
--- second of them open; else a window past it.
+-- How many bytes may have been taken if these tokens are next. If the device failed, no more than may leave the second
+-- of them open; else a window past it.
 abbrev pub most_taken : ParseFault → List LocatedToken → ℕ
 most_taken (refusal.Source d) rest = reach_of rest + WINDOW_BYTES
 most_taken refusal.Device rest = undecided_reach_of rest
 most_taken refusal.Memory rest = reach_of rest + WINDOW_BYTES
 
--- no fault of the derivation stands before these last tokens of the source
+-- no fault of the derivation is before these last tokens of the source
 pub record NoFaultBefore (profile : Profile) (s : State) (rest : List LocatedToken) : Type 0 where
   pub each : (f : Fault) → IsFault profile s f → length f.rest ≤ length rest
 
--- The derivation from s comes to these of its tokens and stops there. The fault that is told is its first, and no more
+-- The derivation from s comes to these of its tokens and stops there. A fault of the source is its first, and no more
 -- bytes were taken than decide that.
 pub record Stops (profile : Profile) (s : State) (stop : Stop) : Type 0 where
   pub passed : List LocatedToken

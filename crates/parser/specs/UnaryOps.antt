@@ -1,4 +1,4 @@
--- The operators before an operand: their punctuators, the actions around the operand's, and the trees that they make.
+-- The unary operators: their punctuators, the actions around the operand's, and the trees that they make.
 use Rattle.std.specs.Prelude.{pos, negsuc, List, [], ◌∷◌}
 use Rattle.tokens.specs.declared.located_tokens.Punctuator.{Punctuator}
 use Rattle.tokens.specs.declared.located_tokens.Punctuator.TheVariants as punctuator

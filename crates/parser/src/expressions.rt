@@ -1,4 +1,4 @@
-//! Assignments, the ten levels of binary operators, signs, brackets and calls.
+//! Assignments, the ten levels of binary operators, unary operators, brackets and calls.
 
 ghost use Rattle.std.specs.Prelude.{IfNone, IfSome, OnOk};
 ghost use Rattle.tokens.specs.declared.located_tokens.Punctuator.TheVariants as punctuator;
@@ -56,7 +56,7 @@ impl<F: Feed, B: Build> Parser<'_, '_, '_, F, B> {
         Ok(self.builder.act(Action::StoreVariable(var, op))?)
     }
 
-    /// `expr`, behind the operator of an assignment: most often no further assignment, which is parsed with no further call
+    /// `expr`, after the operator of an assignment: most often no further assignment, which takes no further call
     #[inline(always)]
     #[cycle(expressions)]
     fn right_side(&mut self) -> Result<(), ParseFault>
@@ -151,7 +151,7 @@ impl<F: Feed, B: Build> Parser<'_, '_, '_, F, B> {
         Ok(sign.tell_after_operand(self.builder)?)
     }
 
-    /// `primary → constant`, `name ( args )`, `name operator`, `next_name` and `( expr )`
+    /// `primary → constant`, `name ( args )`, `name operator`, `name` and `( expr )`
     #[inline(always)]
     #[cycle(expressions)]
     fn primary(&mut self) -> Result<(), ParseFault>
@@ -238,7 +238,7 @@ fn assignment_operator<F: Feed>(parser: &ScopedCursor<'_, '_, F>) -> Option<Stor
     }
 }
 
-/// Reports the middle between the sides of `&&` and `||` to the builder, and nothing for other operators.
+/// Reports to the builder what comes between the sides of `&&` or `||`, and nothing for other operators.
 fn tell_middle<B: Build>(build: &mut B, op: Op) -> Result<(), BuildFault>
     requires follow { MayFollowAll (B.stands build.old) (middle op) }
     ensures told { OnOk result (AppendsAll (B.stands build.old) (B.stands build.new) (middle op)) }

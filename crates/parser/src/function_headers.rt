@@ -1,4 +1,4 @@
-//! What stands in front of a function's block, and declarations of externals.
+//! Function headers: what comes before a function's block. Declarations of externals.
 
 ghost use Rattle.std.specs.Prelude.{◌≡◌, [], ◌∷◌, OnOk, IfOk};
 ghost use Rattle.grammar.specs.Grammar.{Parameters, Part};
@@ -25,7 +25,7 @@ pub fn external_declaration<F: Feed>(parser: &mut ScopedCursor<'_, '_, F>) -> Re
     names_to_semicolon(parser, Declared::Externals)
 }
 
-/// `name ( params ) pdecls`, in front of a function's block
+/// `name ( params ) pdecls`, before a function's block
 ///
 /// Returns the function's number.
 pub fn function_header<F: Feed>(parser: &mut ScopedCursor<'_, '_, F>) -> Result<u8, ParseFault>
@@ -43,7 +43,7 @@ pub fn function_header<F: Feed>(parser: &mut ScopedCursor<'_, '_, F>) -> Result<
     Ok(number)
 }
 
-/// `params → name more`, and empty where no name is next
+/// `params → name more`, and empty if no name is next
 fn parameter_list<F: Feed>(parser: &mut ScopedCursor<'_, '_, F>) -> Result<(), ParseFault>
     requires ready { IsReady parser.old }
     ensures matches { Matches result (Part Parameters ∷ []) (λ _. []) parser.old parser.new }

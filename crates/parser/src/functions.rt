@@ -1,4 +1,4 @@
-//! Functions: their headings, blocks and ends.
+//! Functions: their headers, blocks and ends.
 
 ghost use Rattle.parser.specs.Advancing.{Anywhere};
 ghost use Rattle.parser.specs.Parsers.{IsAtBlock, IsBetween, OnlyTells, Proceeds};
@@ -46,7 +46,7 @@ impl<F: Feed, B: Build> Parser<'_, '_, '_, F, B> {
         Ok(())
     }
 
-    /// Ends a function with so many variables, with a return, and judges its length at the closing brace, the next token.
+    /// Ends a function of this many variables with a return. Checks its length at the closing brace, the next token.
     fn end_function(&mut self, variables: u8) -> Result<(), ParseFault>
         requires open { MayEnd (B.stands self.old.builder.now) variables }
         ensures ends { EndsFunction result B.denied B.stands variables self.old self.new }

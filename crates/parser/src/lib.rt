@@ -1,4 +1,4 @@
-//! Parses a robot program in one pass: it reads the bytes of a device, reports to a builder, and returns the names of
+//! Parses a robot program in one pass: reads the bytes of a device, reports to a builder, and returns the names of
 //! the file or the first diagnostic.
 #![tactic(auto)]
 

@@ -1,4 +1,4 @@
-//! A reader: a parser, the builder that it reports to, and how many levels are open.
+//! A parser: a scoped cursor, the builder that it reports to, and how many levels are open.
 
 ghost use Rattle.std.specs.Prelude.{◌<◌, IfErr, OnOk};
 ghost use Rattle.parser.specs.Parsers.{IsTooDeep};
@@ -9,12 +9,12 @@ use tokens::Feed;
 
 /// Reads a file by its grammar: each production is a method, in the module of its part of the grammar.
 ///
-/// After an `Err` a reader is of no more use.
+/// After an `Err` a parser is of no more use.
 #[derive(Drop)]
 pub struct Parser<'s, 'a, 'b, F: Feed, B: Build> {
-    /// Where it is in the file.
+    /// The next tokens, and the names known there.
     pub tokens: ScopedCursor<'s, 'a, F>,
-    /// What each action is reported to.
+    /// The builder that each action is reported to.
     pub builder: &'b mut B,
     /// How many levels are open.
     pub depth: u8,

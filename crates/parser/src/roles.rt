@@ -1,14 +1,14 @@
 //! What the names of a list are declared as.
 
 /// What the names of a list are declared as.
-#[derive(Clone, Copy, Debug, PartialEq, Eq)]
+#[derive(Clone, Copy, PartialEq, Eq)]
 pub enum Declared {
     /// Externals, at the level of a file.
     Externals,
-    /// Parameters, in the list behind a function's name.
+    /// Parameters, in the list after a function's name.
     Parameters,
-    /// Parameters again, between the list and the body.
+    /// Parameters again, between the list and the body, with their types.
     TypedParameters,
-    /// Locals, at the begin of a block.
+    /// Locals, at the beginning of a block.
     Locals,
 }

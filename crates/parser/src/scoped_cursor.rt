@@ -1,4 +1,4 @@
-//! A parser's state: a cursor over the tokens of a device and the names known, with the calls that consume one token.
+//! A cursor over the tokens of a device with the names known there, and the calls that consume one token.
 
 ghost use Rattle.std.specs.Prelude.{ℕ, ◌≡◌, ◌<◌, ◌≤◌, [], ◌∷◌, length, false, true, is_some, Ok, OnOk, IfOk, IfErr};
 ghost use Rattle.tokens.specs.Cursors.{OpensCursor, beyond};
@@ -29,7 +29,7 @@ use tokens::{Cursor, Feed, Keyword, LocatedToken, Name, Punctuator, Token};
 /// The next tokens of a device's bytes, and the names known there. Neither the next token nor one that was consumed is
 /// a lexical error. A device that has ended is not asked again.
 ///
-/// After an `Err` a parser is of no more use.
+/// After an `Err` a scoped cursor is of no more use.
 #[derive(Drop)]
 pub struct ScopedCursor<'s, 'a, F: Feed> {
     cursor: Cursor,
@@ -57,7 +57,7 @@ impl<'s, 'a, F: Feed> Model for ScopedCursor<'s, 'a, F> {
         × KnowsEnd (beyond p.cursor) (F.device p.feed.now).ended × (bytes_taken p.cursor ≤ most_taken_bytes) };
 }
 
-/// Reads the first tokens of a device's bytes, for a parser.
+/// Reads the first tokens of a device's bytes, for a scoped cursor.
 ///
 /// # Errors
 /// `Source` if the first token is a lexical error, `Device` if the device failed.
@@ -85,9 +85,9 @@ impl<'s, 'a, F: Feed> ScopedCursor<'s, 'a, F> {
     ghost use Rattle.parser.specs.ScopedCursors.{token_of};
     ghost use Rattle.parser.specs.Segment.{BeginsDefinition};
 
-    /// Makes a parser at the first token of a device, with the names known there.
+    /// Makes a scoped cursor at the first token of a device, with the names known there.
     ///
-    /// `cursor` is what `open_cursor` gave for the same device. The names are large, so they stay where they are.
+    /// `cursor` is what `open_cursor` returned for the same device. The names are large, so the caller keeps them.
     pub fn new(cursor: Cursor, scope: &'s mut Scope, feed: &'a mut F) -> ScopedCursor<'s, 'a, F>
         requires ready { IsReadable cursor }
         requires known { KnowsEnd (beyond cursor) (F.device feed.old).ended }
@@ -141,7 +141,8 @@ impl<'s, 'a, F: Feed> ScopedCursor<'s, 'a, F> {
     /// Consumes the next token.
     ///
     /// # Errors
-    /// `Source` if the token after it is a lexical error, before the parser is at it; `Device` if the device failed.
+    /// `Source` if the token after it is a lexical error, which the cursor doesn't reach; `Device` if the device
+    /// failed.
     #[inline(always)]
     pub fn advance(&mut self) -> Result<(), ParseFault>
         requires more { is_last (token_of self.old) ≡ false }
@@ -274,14 +275,14 @@ impl<'s, 'a, F: Feed> ScopedCursor<'s, 'a, F> {
         self.scope.undefined_line()
     }
 
-    /// Returns whether a function main was mentioned.
+    /// Reports whether a function main was mentioned.
     pub fn has_main(&self) -> bool
         ensures { result ≡ is_some (function_number main_name (scope_of self.now)) }
     {
         self.scope.has_main()
     }
 
-    /// Takes the parser apart: the names known, and the device.
+    /// Takes the scoped cursor apart: the names known, and the device.
     pub fn into_parts(self) -> (&'s mut Scope, &'a mut F)
         ensures names { result.0.now ≡ scope_of self.entry }
         ensures scope { result.0.ghost_name ≡ self.entry.borrows.0 }
@@ -309,7 +310,7 @@ fn next_name(cursor: &Cursor) -> Result<&Name, ParseFault>
     }
 }
 
-/// Returns what a scope answered of the name that the next token is, or else the refusal of this token.
+/// Returns what a scope answered about the name that is the next token, or else the refusal of this token.
 #[inline(always)]
 fn or_refusal<T>(answer: Result<T, Code>, next: &LocatedToken) -> Result<T, ParseFault>
     ensures ok { IfOk result (λ known. answer ≡ Ok known) }

@@ -1,4 +1,4 @@
-//! Files: one pass from a device's bytes to a builder, and the names of the file.
+//! Sources: one pass from a device's bytes to a builder, and the names of the file.
 
 ghost use Rattle.std.specs.Prelude.{◌≡◌, ◌∷◌, IfErr, IfOk, OnOk};
 ghost use Rattle.tokens.specs.Feed.{MayRead};
@@ -22,18 +22,18 @@ use tokens::{Feed, Keyword, Punctuator, Token};
 
 /// Reads a source from the device in one pass, reports its actions to the builder, and returns its names.
 ///
-/// The device gives its bytes in pieces of any size. The source ends before the first byte 26, or where the device has
-/// no more bytes; it is too long past 1,048,576 bytes. At most `MOST_LEVELS` levels may be open at once, which bounds the
-/// recursion. No more bytes are taken than decide the answer and a window of 4,096 bytes. A device that has given no
-/// byte has ended, and is not asked again.
+/// The device gives its bytes in pieces of any size. The source ends before the first byte 26, or when the device has
+/// no more bytes; it is too long past 1,048,576 bytes. At most `MOST_LEVELS` levels may be open at once, which bounds
+/// the recursion. No more bytes are taken than decide the answer and a window of 4,096 bytes. A device that has given
+/// no byte has ended, and is not asked again.
 ///
-/// The builder is new: it stands for no action yet. On `Ok` it stands for those of the whole file, and nothing is left
-/// open in it. No memory is asked for but by the builder.
+/// The builder is new: it represents no action yet. On `Ok` it represents those of the whole file, and nothing is left
+/// open in it. Only the builder asks for memory.
 ///
 /// # Errors
-/// `Source` with the first fault; `Device` where the device failed before that, or the end, was known; `Memory` where
-/// the builder was refused memory. With `Device` the builder stands for the actions of each function after whose
-/// closing brace three more tokens were read, and perhaps for further ones. Of a builder that refused an action nothing
+/// `Source` with the first fault; `Device` if the device failed before that, or the end, was known; `Memory` if
+/// the builder was refused memory. With `Device` the builder represents the actions of each function after whose
+/// closing brace three more tokens were read, and perhaps further ones. Of a builder that refused an action nothing
 /// is promised: it is given up.
 #[inline(never)]
 pub fn parse<F: Feed, B: Build>(feed: &mut F, build: &mut B) -> Result<Pools, ParseFault>
@@ -54,7 +54,7 @@ pub fn parse<F: Feed, B: Build>(feed: &mut F, build: &mut B) -> Result<Pools, Pa
 
 /// Reads a source as `parse` does, and leaves its names in a scope that knew none.
 ///
-/// Names are large, so they stay where the caller has them.
+/// Names are large, so they stay in the caller's memory.
 ///
 /// # Errors
 /// Those of `parse`. Of the names in the scope nothing is promised then.

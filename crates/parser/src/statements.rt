@@ -1,4 +1,4 @@
-//! Blocks, branches, loops, returns and expressions for their effect.
+//! Blocks, branches, loops, returns and expression statements.
 
 ghost use Rattle.tokens.specs.declared.located_tokens.Punctuator.TheVariants as punctuator;
 ghost use Rattle.tokens.specs.declared.located_tokens.Keyword.TheVariants as keyword;
@@ -86,7 +86,7 @@ impl<F: Feed, B: Build> Parser<'_, '_, '_, F, B> {
         Ok(self.builder.act(Action::EndIf)?)
     }
 
-    /// `elsepart → else stmt`, and empty where no `else` is next
+    /// `elsepart → else stmt`, and empty if no `else` is next
     #[inline(always)]
     #[cycle(statements)]
     fn else_part(&mut self) -> Result<(), ParseFault>
@@ -120,7 +120,7 @@ impl<F: Feed, B: Build> Parser<'_, '_, '_, F, B> {
         Ok(self.builder.act(Action::EndWhile)?)
     }
 
-    /// `( expr )`, behind `if` or `while`
+    /// `( expr )`, after `if` or `while`
     #[inline(always)]
     fn condition(&mut self) -> Result<(), ParseFault>
         requires at { IsAt B.stands HasRoom 1 Anywhere self.old }

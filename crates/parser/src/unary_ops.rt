@@ -1,4 +1,4 @@
-//! The operators before an operand, and `++` and `--`.
+//! The unary operators, and `++` and `--`.
 
 ghost use Rattle.std.specs.Prelude.{◌≡◌, [], ◌∷◌, IfNone, IfSome, OnOk, false, true};
 ghost use Rattle.grammar.specs.declared.actions.Action.TheVariants.{ApplyBinop, PushConstant};
@@ -9,8 +9,8 @@ ghost use Rattle.parser.specs.UnaryOps.{actions_before_operand, actions_after_op
 use grammar::{Action, Build, BuildFault, Op, StoreOp};
 use tokens::{Punctuator, Token};
 
-/// An operator before an operand.
-#[derive(Clone, Copy, Debug, PartialEq, Eq)]
+/// A unary operator: `-e` is `0 - e`, `!e` is `e == 0`, and `~e` is `e ^ -1`.
+#[derive(Clone, Copy, PartialEq, Eq)]
 pub enum UnaryOp {
     /// `-`
     Negation,
@@ -20,8 +20,8 @@ pub enum UnaryOp {
     Complement,
 }
 
-/// What moves a variable up or down by one.
-#[derive(Clone, Copy, Debug, PartialEq, Eq)]
+/// An operator that changes a variable by one.
+#[derive(Clone, Copy, PartialEq, Eq)]
 pub enum IncrementOp {
     /// `++`
     Increment,
@@ -29,7 +29,7 @@ pub enum IncrementOp {
     Decrement,
 }
 
-/// Returns the operator before an operand that a token spells.
+/// Returns the unary operator that a token spells.
 pub fn unary_op_of(token: &Token) -> Option<UnaryOp>
     ensures spelled { IfSome result (λ sign. is_punctuator (unary_punctuator sign) token.now ≡ true) }
     ensures none { IfNone result ((sign : UnaryOp) → is_punctuator (unary_punctuator sign) token.now ≡ false) }
@@ -42,7 +42,7 @@ pub fn unary_op_of(token: &Token) -> Option<UnaryOp>
     }
 }
 
-/// Returns whether a token is `++` or `--`, and which.
+/// Returns which of `++` and `--` a token is, if it is one.
 pub fn increment_op_of(token: &Token) -> Option<IncrementOp>
     ensures spelled { IfSome result (λ step. is_punctuator (increment_punctuator step) token.now ≡ true) }
     ensures none { IfNone result ((step : IncrementOp) → is_punctuator (increment_punctuator step) token.now ≡ false) }
@@ -55,7 +55,7 @@ pub fn increment_op_of(token: &Token) -> Option<IncrementOp>
 }
 
 impl IncrementOp {
-    /// Returns how the step is spelled.
+    /// Returns the punctuator of the operator.
     pub fn punctuator(self) -> Punctuator
         ensures { result ≡ increment_punctuator self }
     {
@@ -65,7 +65,7 @@ impl IncrementOp {
         }
     }
 
-    /// Returns the store of 1 that makes the step.
+    /// Returns the store of 1 that changes the variable so.
     pub fn store_op(self) -> StoreOp
         ensures { result ≡ increment_store_op self }
     {

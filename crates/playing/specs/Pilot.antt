@@ -1,4 +1,4 @@
--- A program and the state of a machine that runs it, and what a live robot's turn does.
+-- A pilot: a program and the state of a machine that runs it. And what a live robot's turn does.
 use Rattle.std.specs.Prelude.{◌≡◌, ℕ, ℤ, pos, List, [], ◌∷◌, ◌++◌, length}
 use Rattle.arena.specs.Answer.{answer}
 use Rattle.arena.specs.Field.{Field}

@@ -52,7 +52,7 @@ same_fitting s i false false same = refl
 same_fitting s i true false same = absurd (never_restart s i same)
 same_fitting s i false true same = absurd (never_restart s i (sym same))
 
--- machines that want the same along all replies stand at the same place
+-- machines that want the same along all replies are at the same place
 same_reached : (code : Program) (q : Profile) (s : Machine) (trace : List ℤ) →
     ((t : List ℤ) → want_next code (reached code s t) ≡ want_next (by_profile code q) (reached (by_profile code q) s t))
     →

@@ -34,7 +34,7 @@ links measure calls fs i f number (Some j) less is numbered needs = record {
 }
 
 module _ (measure : Measure) (calls : Calls) (fs : List Told) where
-  -- each of these numbers is linked to the one behind it, and the last one to this
+  -- each of these numbers is linked to the one after it, and the last one to this
   abbrev pub LeadsTo : List ℕ → ℕ → Type 0
   LeadsTo [] n = Unit {0}
   LeadsTo (k ∷ []) n = IsLink measure calls fs k n
@@ -50,7 +50,7 @@ module _ (measure : Measure) (calls : Calls) (fs : List Told) where
   leads_on (k ∷ []) n j leads link = (leads, link)
   leads_on (k ∷ (i ∷ ks)) n j leads link = (leads.0, leads_on (i ∷ ks) n j leads.1 link)
 
-  -- what is known of a chain and of the function behind it
+  -- what is known of a chain and of the function after it
   pub record IsBegun (main : ℕ) (chain : List ℕ) (next : Option ℕ) : Type 0 where
     pub begins : Begins main chain
     pub linked : AreLinked measure calls fs chain
@@ -106,7 +106,7 @@ chain_is p fs main measure calls need chain next short needs by reads less begun
           (subst (λ (m : Measure). AreLinked m calls (told_trees fs) chain) measured begun.linked);
     }
 
--- the same chain and the same function behind it
+-- the same chain and the same function after it
 pub kept : (measure : Measure) (calls : Calls) (fs : List Told) (main : ℕ) (one other : List ℕ) (next last : Option ℕ) →
     one ≡ other → next ≡ last → IsBegun measure calls fs main other last → IsBegun measure calls fs main one next
 kept measure calls fs main one other next last chains functions begun =

@@ -1,4 +1,4 @@
--- Where two profiles have room for what trees need, what these want is the same.
+-- If two profiles have room for what trees need, what these want is the same.
 use Rattle.std.specs.Prelude.{ℕ, ℤ, zero, suc, pos, ◌+◌, ◌≡◌, ◌<◌, ◌≤◌, List, [], ◌∷◌, Bool, true, false, Option, Some, None}
 use Rattle.std.specs.Prelude.{length, nat_lt, nat_le, if◌then◌else◌}
 use Rattle.std.proofs.Common.{refl, ap, sym, ◌∙◌, subst, arith}
@@ -164,7 +164,7 @@ module _ (w f : ℕ) (p q : Profile) (first : Grants w f p) (second : Grants w f
   open_frame depth frames None fits = absurd fits
   open_frame depth frames (Some a) fits = omega (arith, fits.1)
 
-  -- Trees whose profiles leave out right sides alike, where calls and further turns want the same.
+  -- Trees whose profiles leave out right sides alike, if calls and further turns want the same.
   module _ (file : File) (s : Bool) (left : p.short_circuit ≡ s) (right : q.short_circuit ≡ s)
       (calls : ℕ → Option Room) (again more : Again)
       (same_call : (k : ℕ) (arguments : List ℤ) (vars : Vars) (depth frames : ℕ) (trace : List ℤ) →
@@ -300,7 +300,7 @@ module _ (w f : ℕ) (p q : Profile) (first : Grants w f p) (second : Grants w f
     same_effect (Return e next) vars depth frames trace fits =
         same_and _ _ _ _ (same_value e vars depth frames trace fits) (λ x vars rest. refl)
 
-  -- a call of a function, where its body wants the same within any bound of calls
+  -- a call of a function, if its body wants the same within any bound of calls
   same_function : (file : File) (s : Bool) (again more : Again) →
       ((m : ℕ) (body : Body) (vars : Vars) (depth frames : ℕ) (trace : List ℤ) →
       Fits w f depth frames (body_need s (function_need s file m) body) →

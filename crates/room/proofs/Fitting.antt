@@ -20,7 +20,7 @@ fits_right w f d o (Some a) None fits = fits
 fits_right w f d o (Some a) (Some b) fits =
     (grind (arith, fits.0), grind (arith, fits.1))
 
--- further up, where so many more words and frames are in use
+-- further up, if so many more words and frames are in use
 pub fits_above : (w f d o n m e g : ℕ) (a : Option Room) → e ≡ d + n → g ≡ o + m → Fits w f d o (above n m a) →
     Fits w f e g a
 fits_above w f d o n m e g None deep opened fits = fits

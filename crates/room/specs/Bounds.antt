@@ -20,7 +20,7 @@ abbrev pub goes_by : Profile → Representation
 goes_by profile p acts = p ≡ profile
 
 -- The need is a resolved file's, as it is counted, and there is room exactly if the file has it: then the robot
--- restarts only where main returns. Where the device tells its bytes, they are that file.
+-- restarts only where main returns. If the device's contents are known, they are that file.
 pub record AreBoundsOf (profile : Profile) (told : Option (List ℕ)) (bound : Bound) : Type 0 where
   pub file : File
   pub resolved : IsResolved file
@@ -30,7 +30,7 @@ pub record AreBoundsOf (profile : Profile) (told : Option (List ℕ)) (bound : B
   pub never : bound.has_room ≡ true → NeverLacks profile file
   pub is : (bytes : List ℕ) → told ≡ Some bytes → compiled profile bytes ≡ Ok file
 
--- The functions by which a resolved file's main needs what it needs. Where the device tells its bytes, they are that
+-- The functions by which a resolved file's main needs what it needs. If the device's contents are known, they are that
 -- file.
 pub record IsChainOf (profile : Profile) (told : Option (List ℕ)) (chain : List ℕ) : Type 0 where
   pub file : File

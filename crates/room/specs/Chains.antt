@@ -40,7 +40,7 @@ pub record IsLink (measure : Measure) (calls : Calls) (fs : List Told) (number o
   pub numbered : caller.number ≡ number
   pub needs : NeedsBy measure calls caller other
 
--- each of these numbers and the one behind it
+-- each of these numbers and the one after it
 abbrev pub AreLinked : Measure → Calls → List Told → List ℕ → Type 0
 AreLinked measure calls fs [] = Unit {0}
 AreLinked measure calls fs (k ∷ []) = Unit {0}

@@ -20,7 +20,7 @@ abbrev pub binary_need : Bool → Op → Option Room → Option Room → Option 
 binary_need short op left right =
     if may_skip short op then both left (both right (words 2)) else both left (above 1 0 right)
 
--- what is called, behind the arguments; an intrinsic function gives a word
+-- what is called, after the arguments; an intrinsic function gives a word
 abbrev pub callee_need : (ℕ → Option Room) → Callee → Option Room
 callee_need calls (callee.Function k) = calls k
 callee_need calls (callee.Intrinsic i) = words 1

@@ -11,7 +11,7 @@ use Rattle.code.specs.Machine.{reached, started_machine}
 use Rattle.code.specs.Meaning.{want}
 use Rattle.room.specs.Functions.{HasRoom}
 
--- Where a file has the room that it needs, more room changes nothing of what it wants.
+-- If a file has the room that it needs, more room changes nothing of what it wants.
 abbrev pub RoomIsEnough : Type 0
 RoomIsEnough = (p q : Profile) (file : File) → p.short_circuit ≡ q.short_circuit → HasRoom p file → HasRoom q file
     → (trace : List ℤ) → want p file trace ≡ want q file trace

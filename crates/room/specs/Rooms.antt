@@ -1,4 +1,4 @@
--- The room that something needs, above the depth and the frames at which it begins; none where no room is enough.
+-- The room that something needs, above the depth and the frames at which it begins; none if no room is enough.
 use Rattle.std.specs.Prelude.{ℕ, ◌+◌, ◌≤◌, max, Option, Some, None}
 use Rattle.room.specs.declared.room.Room.{Room}
 

@@ -22,7 +22,7 @@ use trees::TreeMaker;
 /// What is known of a robot before it fights.
 #[derive(Clone, Copy, Debug, PartialEq, Eq)]
 pub struct Bound {
-    /// The room that it needs, or none where no room is enough: a function can come back to itself.
+    /// The room that it needs, or none if no room is enough: a function can come back to itself.
     pub need: Option<Room>,
     /// Whether its profile gives that room. Then it restarts only where `main` returns.
     pub has_room: bool,
@@ -31,7 +31,7 @@ pub struct Bound {
 /// Reads a source from the device in one pass, as `parse` does, and returns how much room its robot needs.
 ///
 /// # Errors
-/// Those of `parse`. `Memory` where the trees of the source were refused memory.
+/// Those of `parse`. `Memory` if the trees of the source were refused memory.
 #[inline(never)]
 pub fn bounds<F: Feed>(alloc: Global, feed: &mut F, profile: Profile) -> Result<Bound, ParseFault>
     requires { MayRead (F.device feed.old) }

@@ -73,7 +73,7 @@ pub fn chain_of(
     Ok(chain)
 }
 
-/// Adds a function to a chain, and returns the next one; none behind one that was there before.
+/// Adds a function to a chain, and returns the next one; none after one that was there before.
 fn lengthen(
     chain: &mut Vec<u8>,
     number: u8,

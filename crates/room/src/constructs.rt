@@ -122,7 +122,7 @@ fn binary_need(short: bool, op: Op, left: Option<Room>, right: Option<Room>) -> 
     both(left, above(1, 0, right))
 }
 
-/// Returns what is needed behind the arguments of a call.
+/// Returns what is needed after the arguments of a call.
 pub fn callee_need(callee: Callee, calls: &Calls) -> Option<Room>
     ensures { result ≡ need_of_callee (needs_in calls.now.needs) callee }
 {

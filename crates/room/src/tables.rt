@@ -14,7 +14,7 @@ use crate::room::Room;
 use grammar::Profile;
 use trees::{Function, TreeMaker};
 
-/// Returns what the function of a number needs as `main`: no room is enough where it can come back to itself.
+/// Returns what the function of a number needs as `main`: no room is enough if it can come back to itself.
 ///
 /// It is counted up to 65,535 words, far more than any profile gives.
 #[inline(never)]

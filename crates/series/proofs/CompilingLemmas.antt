@@ -22,7 +22,7 @@ use Rattle.sinks.specs.Texts.{file_name}
 use Rattle.series.proofs.PiecesLemmas.{writes_then, begins_then, begins_more}
 use Rattle.series.proofs.RunsLemmas.{no_source}
 
--- one more file is one more code
+-- one more file is one more program
 codes_and_file : (profile : Profile) (files : Option (List File)) (verdict : Result File Diagnostic)
     → option_map (λ files. map (code_of profile) files) (and_file files verdict)
     ≡ and_code (option_map (λ files. map (code_of profile) files) files) (code_or_fault profile verdict)

@@ -46,7 +46,7 @@ good_file before after profile bytes_told kept names new same file =
       is = λ bytes are. f.is bytes are profile new;
     }
 
--- a good file's code
+-- a good file's program
 pub good_code : (profile : Profile) (bytes : List ℕ) (file : File) (code : Program) →
     compiled profile bytes ≡ Ok file
     → code ≡ code_of profile file → compiled_code profile bytes ≡ Ok code

@@ -5,7 +5,7 @@ use Rattle.std.proofs.lemmas.List.Folds.{concat-append}
 use mathlib.Core.List.{map-append}
 use Rattle.series.specs.Lines.{ended_line, lines_text}
 
--- one more line behind a text
+-- one more line after a text
 pub lines_text_more : (text : List ℕ) (lines : List (List ℕ)) (n : ℕ) → n < length lines
     → text ++ lines_text (take (n + 1) lines) ≡ ((text ++ lines_text (take n lines)) ++ get_or lines n []) ++ 10 ∷ []
 lines_text_more text lines n within =

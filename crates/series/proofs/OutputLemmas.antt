@@ -42,7 +42,7 @@ faulty_run settings sources before after writes none =
     let ends = faulty_plays settings settings.mode (files_of settings.profile sources) none in
     (rw (ends.0, append-nil (compiling settings.mode settings.profile sources)) writes, ends.1)
 
--- the files of the codes that were kept
+-- the files of the programs that were kept
 kept_files : (profile : Profile) (kept : List Program) (files : Option (List File)) →
     Some kept ≡ option_map (λ files. map (code_of profile) files) files
     → (good : List File) × (files ≡ Some good) × (kept ≡ map (code_of profile) good)
@@ -90,7 +90,7 @@ all_resolved law profile (source ∷ sources) so_far files each is =
         (one file (resolved_here law profile source.bytes file here))) rest
     by_verdict (Err d) here rest more = let none = none_later sources in cc
 
--- the programs that were kept are the codes of the files, each resolved
+-- the programs that were kept are those of the files, each resolved
 pub kept_codes : CompiledIsResolved → (profile : Profile) (sources : List Source) (kept : List Program) →
     Some kept ≡ codes_of profile sources
     → (files : List File) × (files_of profile sources ≡ Some files) × AreProgramsOf kept profile files

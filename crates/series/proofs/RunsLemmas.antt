@@ -20,7 +20,7 @@ pub length_sources : (sources : List Source) (words : List (List ℕ)) (told : L
     → length sources ≡ length words
 length_sources sources words told are = sym (length-map sources (λ (s : Source). s.word)) ∙ ap length are.named
 
--- the source that stands under a word
+-- the source of a word
 pub word_here : (sources : List Source) (words : List (List ℕ)) (told : List (Option (List ℕ))) (file : ℕ) →
     AreSources sources words told
     → file < length words → get_or words file [] ≡ (get_or sources file no_source).word
@@ -100,7 +100,7 @@ module _ {X : Type 0} where
   drop_once [] (suc n) = refl
   drop_once (x ∷ l) (suc n) = drop_once l n
 
-  -- the feeds behind one that was read
+  -- the feeds after one that was read
   pub rest_more : (start feeds : List X) (file : ℕ) (y : X) → drop file feeds ≡ drop file start
       → drop (file + 1) (set feeds file y) ≡ drop (file + 1) start
   rest_more start feeds file y same =

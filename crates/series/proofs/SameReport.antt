@@ -55,7 +55,7 @@ in_front [] ys i below = absurd (omega arith)
 in_front (x ∷ xs) ys zero below = refl
 in_front (x ∷ xs) ys (suc i) below = in_front xs ys i (omega arith)
 
--- the report at a place
+-- the report at an index
 report_at : (f : ℕ → Piece) (a n i : ℕ) → i < n → slice_get (map f (range_with_len a n)) i ≡ Some (f (a + i))
 report_at f a zero i below = absurd (omega arith)
 report_at f a (suc n) zero below = ap (λ k. Some (f k)) (omega arith)

@@ -29,7 +29,7 @@ and_file _ _ = None
 abbrev pub files_of : Profile → List Source → Option (List File)
 files_of profile sources = fold (λ files source. and_file files (compiled profile source.bytes)) (Some []) sources
 
--- the code of each file
+-- the program of each file
 abbrev pub codes_of : Profile → List Source → Option (List Program)
 codes_of profile sources = option_map (λ files. map (code_of profile) files) (files_of profile sources)
 
@@ -38,7 +38,7 @@ abbrev pub compile_status : Option (List File) → Status
 compile_status (Some files) = Done
 compile_status None = Faulty
 
--- the code of a file, or its fault
+-- the program of a file, or its fault
 abbrev pub code_or_fault : Profile → Result File Diagnostic → Result Program Diagnostic
 code_or_fault profile (Ok file) = Ok (code_of profile file)
 code_or_fault profile (Err d) = Err d
@@ -46,7 +46,7 @@ code_or_fault profile (Err d) = Err d
 abbrev pub compiled_code : Profile → List ℕ → Result Program Diagnostic
 compiled_code profile bytes = code_or_fault profile (compiled profile bytes)
 
--- a good file's listing is a text
+-- a good file's listing goes to the channel of texts
 abbrev pub listing_piece : List ℕ → Pools → Program → Piece
 listing_piece name names code = record { channel = Text; bytes = listing_of name names code }
 

@@ -23,7 +23,7 @@ pub record KnownTexts : Type 0 where
   pub past_the_column : column 3 1999 ≡ codes "1999"
   pub diagnostic : diagnostic_line (codes "c.r") 2 (codes "reserved word") ≡ codes "c.r:2: reserved word\n"
 
--- a setup by the first profile and the seed 1
+-- settings with the first profile and the seed 1
 abbrev asked : Mode → ℕ → ℕ → List Source → Settings
 asked mode matches limit sources = record {
   mode = mode;

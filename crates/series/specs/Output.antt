@@ -1,4 +1,4 @@
--- The whole output of a run, and what it says of a run that its sinks took it.
+-- The whole output of a run, and what of it the sinks took.
 use Rattle.std.specs.Prelude.{◌≡◌, List, [], ◌++◌, Option, Some, None, Result, MatchResult, take}
 use Rattle.grammar.specs.Tree.{File}
 use Rattle.settings.specs.declared.settings.Mode.{Mode}

@@ -9,7 +9,7 @@ use Rattle.settings.specs.SettingsLimits.{most_files}
 use Rattle.series.specs.declared.run_results.Status.{Status}
 use Rattle.series.specs.declared.run_results.Status.TheVariants.{Done, Faulty}
 
--- the codes so far with that of one more file; a faulty file leaves none
+-- the programs so far with that of one more file; a faulty file leaves none
 abbrev pub and_code : Option (List Program) → Result Program Diagnostic → Option (List Program)
 and_code (Some codes) (Ok code) = Some (codes ++ code ∷ [])
 and_code _ _ = None

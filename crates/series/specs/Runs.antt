@@ -13,7 +13,7 @@ use Rattle.series.specs.Compiling.{Source, codes_of, compiled_code, compiling, f
 use Rattle.series.specs.ProgramKeeping.{and_compiled, kept_by, status_by}
 use Rattle.series.specs.Pieces.{Piece, Taken, Writes, Begins}
 
--- of each feed the bytes still to come, where it tells them
+-- of each feed the bytes still to come, if its contents are known
 abbrev pub told_by : {F : Type 0} → (F → Device) → List F → List (Option (List ℕ))
 told_by device feeds = map (λ feed. (device feed).to_come) feeds
 
@@ -55,7 +55,7 @@ pub record CompilesFile {E : Type 0} (mode : Mode) (profile : Profile) (name byt
   pub status : IfOk put (λ status. status ≡ status_by (compiled_code profile bytes))
   pub keeps : IfOk put (λ status. later ≡ and_compiled kept (compiled_code profile bytes))
 
--- These sources were compiled: the sinks took what that gives, the status is theirs, and what is kept are their codes.
+-- These sources were compiled: the sinks took what that gives, the status is theirs, and their programs are kept.
 pub record CompilesAll (settings : Settings) (sources : List Source) (result : Result Status RunFault)
     (kept : Option (List Program)) (before after : Taken) : Type 0 where
   pub output : CompilesTo (compile_status (files_of settings.profile sources)) settings sources result before after

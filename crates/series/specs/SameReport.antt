@@ -7,7 +7,7 @@ use Rattle.series.specs.Compiling.{Source}
 use Rattle.series.specs.Output.{output}
 use Rattle.series.specs.Pieces.{Piece}
 
--- the series of a setup contains the match of this number
+-- the series of these settings contains the match of this number
 pub record Contains (settings : Settings) (k : ℕ) : Type 0 where
   pub least : settings.first ≤ k
   pub most : k < settings.first + settings.matches
@@ -16,7 +16,7 @@ pub record Contains (settings : Settings) (k : ℕ) : Type 0 where
 abbrev pub report_in : Settings → List Source → ℕ → Option Piece
 report_in settings sources k = slice_get (output settings sources).pieces (k - settings.first)
 
--- the same setup, but for another first number and another count of matches
+-- the same settings, but for another first number and another count of matches
 abbrev pub with_matches : Settings → ℕ → ℕ → Settings
 with_matches settings first matches = record settings { first = first; matches = matches }
 

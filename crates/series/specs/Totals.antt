@@ -12,7 +12,7 @@ survivors outcome = count_by (λ damage. nat_lt damage 100) outcome.damages
 abbrev pub has_won : ℕ → Outcome → Bool
 has_won i outcome = alive outcome i && survivors outcome == 1
 
--- of two or more survivors each tied
+-- if two or more survived, each of them tied
 abbrev pub has_tied : ℕ → Outcome → Bool
 has_tied i outcome = alive outcome i && nat_le 2 (survivors outcome)
 

@@ -1,4 +1,4 @@
--- What reading a value by the library says of the number that it represents.
+-- What the library's reading of a value says of its number.
 use Rattle.std.proofs.Common.{◌≡◌, ℕ, ◌<◌, ◌≤◌, ◌^◌, ◌≢◌, ◌==◌, List, length, get_or, Some, None, Result, Ok, Err, Bool, true, false, refl, inl, inr, arith}
 use Rattle.std.specs.Result.{OkIff}
 use Rattle.std.specs.Str.{all_ascii_digits}
@@ -19,7 +19,7 @@ Reads text r =
 no_plus : (n : ℕ) → false ≡ (n == 43) → n ≢ 43
 no_plus n sign same = grind (arith, nat_tests)
 
--- a text that the library reads has its number, where that is within the limits
+-- a text that the library reads has its number, if that is within the limits
 pub number_within : {E : Type 0} (text : List ℕ) (r : Result ℕ E) (n least most : ℕ) → ParsesUnsigned 64 10 text r
     → false ≡ (get_or text 0 0 == 43) → r ≡ Ok n → least ≤ n → n ≤ most → Some n ≡ value_number least most text
 number_within {E} text r n least most reads sign is low high =

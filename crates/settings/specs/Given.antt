@@ -10,7 +10,7 @@ use Rattle.settings.specs.SettingsLimits.{most_matches, matches_default, most_cy
 use Rattle.settings.specs.Numbers.{value_number}
 use Rattle.settings.specs.Settings.{Settings, settings_of}
 
--- whether `-c` was given, the texts of `-m`, `-l`, `-s`, `-p` and `-f`, and the words that name files
+-- whether `-c` was given, the texts of `-m`, `-l`, `-s`, `-p` and `-f`, and the file words
 pub record Given : Type 0 where
   pub listing : Bool
   pub matches : Option (List ℕ)

@@ -19,7 +19,7 @@ bare = record {
   file_words = codes "a.r" ∷ [];
 }
 
--- what is settled for one file if nothing is said of the rest
+-- the settings of one file if nothing else is asked for
 abbrev usual : Mode → ℕ → ℕ → Settings
 usual mode matches limit = record {
   mode = mode;

@@ -6,7 +6,7 @@ use Rattle.settings.specs.declared.settings.Numbers.{Numbers}
 use Rattle.settings.specs.SettingsLimits.{most_matches, most_cycles, most_seed, most_first_match, most_files}
 
 -- the mode, the matches and the most cycles of each, the seed, the language profile, the number of the first match, and
--- the words that name the files
+-- the file words
 pub record Settings : Type 0 where
   pub mode : Mode
   pub matches : ℕ
@@ -29,7 +29,7 @@ pub record AreSettings (settings : Settings) : Type 0 where
   pub some_file : 1 ≤ length settings.file_words
   pub most_files : length settings.file_words ≤ most_files
 
--- the setup of these numbers, this mode and these files
+-- the settings of these numbers, this mode and these file words
 abbrev pub settings_of : Numbers → Mode → List (List ℕ) → Settings
 settings_of numbers mode files = record {
   mode = mode;

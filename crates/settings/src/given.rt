@@ -14,7 +14,7 @@ use arrayvec::ArrayVec;
 use grammar::{MOST_PROFILE, Profile};
 use std::marker::Model;
 
-/// What the command line gave: a flag, the text of each option, and the words that name files.
+/// What the command line gave: a flag, the text of each option, and the file words.
 #[derive(Drop)]
 pub struct Given<'w, 'a> {
     /// Whether listings are asked for.
@@ -29,7 +29,7 @@ pub struct Given<'w, 'a> {
     pub profile: Option<&'a str>,
     /// The number of the first match.
     pub first: Option<&'a str>,
-    /// The words that name files.
+    /// The file words: those that name files.
     pub file_words: &'w [&'a str],
 }
 
@@ -50,7 +50,7 @@ impl<'w, 'a> Model for Given<'w, 'a> {
     } };
 }
 
-/// Works out the settings that the command line asks for.
+/// Returns the settings that the command line asks for.
 ///
 /// # Errors
 ///
@@ -87,7 +87,7 @@ fn option_numbers(given: &Given<'_, '_>) -> Option<Numbers>
     })
 }
 
-/// Reads the value of an option that is 1 at least, and which has a default.
+/// Returns the value of an option that is at least 1, and which has a default.
 fn option_count(given: Option<&str>, most: u32, default: u32) -> Option<u32>
     requires least { 1 ≤ default }
     requires most { default ≤ most }
@@ -98,7 +98,7 @@ fn option_count(given: Option<&str>, most: u32, default: u32) -> Option<u32>
     Some(number as u32)
 }
 
-/// Reads the value of an option, which has a default.
+/// Returns the value of an option, which has a default.
 fn option_value(given: Option<&str>, least: u64, most: u64, default: u64) -> Option<u64>
     ensures value { result ≡ value_of least most default (option_map (λ text. text.now) given.entry) }
     ensures within { least ≤ default → default ≤ most → IfSome result (λ n. (least ≤ n) × (n ≤ most)) }

@@ -1,4 +1,4 @@
-//! The number that a value of the command line represents.
+//! The number of a value of the command line.
 
 ghost use Rattle.std.specs.Prelude.{◌≡◌, ◌≤◌, ◌==◌, IfSome, slice_index};
 ghost use Rattle.settings.specs.Numbers.{value_number};

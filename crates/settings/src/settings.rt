@@ -18,7 +18,7 @@ pub enum Mode {
 }
 
 /// The numbers of a run, and the language profile of all its files.
-#[derive(Clone, Copy, Debug)]
+#[derive(Clone, Copy)]
 pub struct Numbers {
     /// How many matches are played, 1 to 1,000,000.
     pub matches: u32,
@@ -32,7 +32,7 @@ pub struct Numbers {
     pub first: u32,
 }
 
-/// What a run is asked to do: its mode, its numbers, and the words that name its files.
+/// What a run is asked to do: its mode, its numbers, and its file words.
 #[derive(Drop)]
 pub struct Settings<'a> {
     mode: Mode,
@@ -109,7 +109,7 @@ impl<'a> Settings<'a> {
         self.numbers.first
     }
 
-    /// Returns the words that name the files, one to four.
+    /// Returns the file words, one to four.
     pub fn file_words(&self) -> &[&'a str]
         ensures value { map (λ word. word.now) result.now ≡ self.now.file_words }
         ensures within { AreSettings self.now }

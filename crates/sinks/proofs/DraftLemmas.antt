@@ -7,7 +7,7 @@ use Rattle.sinks.specs.Pens.{Pen, new_pen, IsBuffered, PutsSoFar, WritesSoFar}
 use Rattle.sinks.proofs.PortionsLemmas.{nothing_taken, all_but_then, all_taken, none_left, front_then, all_but_more, front_more}
 
 module _ {before now : Written} where
-  -- a fragment goes on the page
+  -- a fragment goes into the buffer
   pub writes_more : (pen later : Pen) (text more : List ℕ) → PutsSoFar before now pen text
       → later.failed ≡ pen.failed → later.buffer ≡ pen.buffer ++ more → PutsSoFar before now later (text ++ more)
   writes_more pen later text more so_far same buffer = record {
@@ -18,7 +18,7 @@ module _ {before now : Written} where
     counted = λ h. so_far.counted (sym same ∙ h);
   }
 
-  -- once a put has failed the page no longer matters
+  -- once a put has failed the buffer no longer matters
   pub writes_no_more : (pen later : Pen) (text more : List ℕ) → PutsSoFar before now pen text
       → pen.failed ≡ true → later.failed ≡ true → PutsSoFar before now later (text ++ more)
   writes_no_more pen later text more so_far was is = record {
@@ -28,7 +28,7 @@ module _ {before now : Written} where
     counted = λ h. so_far.counted was;
   }
 
-  -- the page is put
+  -- the buffer's bytes are put
   pub page_put : {T E : Type 0} (pen later : Pen) (after : Written) (buffer text : List ℕ)
       (put : Result T E)
       → PutsSoFar before now pen text → pen.failed ≡ false → buffer ≡ pen.buffer
@@ -51,7 +51,7 @@ module _ {before now : Written} where
     counted = λ h. puts.1 ∙ ap (λ m. m + 1) (so_far.never_failed was);
   }
 
-  -- a fragment is put behind an empty page
+  -- a fragment is put while the buffer is empty
   pub fragment_put : {T E : Type 0} (pen later : Pen) (after : Written) (bytes text : List ℕ)
       (put : Result T E)
       → PutsSoFar before now pen text → pen.failed ≡ false → pen.buffer ≡ []
@@ -63,7 +63,7 @@ module _ {before now : Written} where
       (writes_more pen (record { buffer = bytes; failed = false }) text bytes so_far (sym was) buffer) refl refl is
       (same ∙ empty) puts
 
-  -- a text that fits the page is on it, and a fragment goes on the page
+  -- a text that fits the buffer is in it, and a fragment goes into the buffer
   pub kept_more : (pen later : Pen) (text more : List ℕ) → WritesSoFar before now pen text
       → later.failed ≡ pen.failed → later.buffer ≡ pen.buffer ++ more → length (text ++ more) ≤ buffer_bytes →
       IsBuffered before now later (text ++ more)
@@ -76,7 +76,7 @@ module _ {before now : Written} where
         nothing = on_page.nothing;
       }
 
-  -- a text with a fragment that does not fit the page has more bytes than the page
+  -- a text with a fragment that does not fit the buffer has more bytes than the buffer
   pub too_long : (pen : Pen) (text more : List ℕ) → WritesSoFar before now pen text
       → buffer_bytes < length pen.buffer + length more → length (text ++ more) ≤ buffer_bytes → ⊥
   too_long pen text more so_far long fits =
@@ -90,7 +90,7 @@ module _ {before now : Written} where
   nothing_more pen text more so_far was long =
       record { puts = writes_no_more pen pen text more so_far was was; kept = λ fits. absurd (long fits) }
 
-  -- a pen whose put has failed has written more bytes than the page
+  -- a pen whose put has failed has written more bytes than the buffer
   pub not_failed : (pen : Pen) (text more : List ℕ) → WritesSoFar before now pen text
       → pen.failed ≡ true → length (text ++ more) ≤ buffer_bytes → ⊥
   not_failed pen text more so_far was fits =
@@ -98,7 +98,7 @@ module _ {before now : Written} where
       let going : pen.failed ≡ false = (so_far.kept less).going in
       cc
 
-  -- the last page is put
+  -- the last bytes of the buffer are put
   pub piece_put : {T E : Type 0} (pen : Pen) (after : Written) (buffer text : List ℕ) (put : Result T E)
       → WritesSoFar before now pen text → pen.failed ≡ false → buffer ≡ pen.buffer
       → Puts put now after buffer → Puts put before after text
@@ -121,7 +121,7 @@ module _ {before now : Written} where
     puts.1 ∙ ap (λ m. m + 1) (so_far.puts.never_failed was),
   )
 
--- a pen at its begin has written nothing
+-- a pen at its beginning has written nothing
 pub writes_nothing : (pen : Pen) (now : Written) → pen ≡ new_pen → WritesSoFar now now pen []
 writes_nothing pen now e = rw e (record {
   puts = record {

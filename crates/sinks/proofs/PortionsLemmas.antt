@@ -23,7 +23,7 @@ and_portions_none (Some taken) =
 pub nothing_taken : (p : Portions) (bytes : List ℕ) → TakesAllBut p p bytes bytes
 nothing_taken p bytes = record { portions = []; told = and_portions_none p; joined = refl }
 
--- one more call takes a front of what is left
+-- one more call takes a prefix of what is left
 pub one_more : (before now after : Portions) (bytes left : List ℕ) (n : ℕ) → TakesAllBut before now bytes left
     → after ≡ and_portions now (take n left ∷ []) → TakesAllBut before after bytes (between n (length left) left)
 one_more before now after bytes left n so_far told = record {
@@ -62,7 +62,7 @@ all_but_then before now after bytes left rest first second = record {
   joined = simp (concat-append, append_assoc, second.joined) first.joined;
 }
 
--- a front of what was left is taken
+-- a prefix of what was left is taken
 pub front_then : (before now after : Portions) (bytes left : List ℕ) → TakesAllBut before now bytes left
     → TakesFront now after left → TakesFront before after bytes
 front_then before now after bytes left first (rest, second) =
@@ -77,7 +77,7 @@ all_but_more before after bytes left more so_far = record {
   joined = sym (append_assoc (concat so_far.portions) left more) ∙ ap (λ l. l ++ more) so_far.joined;
 }
 
--- a front of the bytes is one of more bytes
+-- a prefix of the bytes is one of more bytes
 pub front_more : (before after : Portions) (bytes more : List ℕ) → TakesFront before after bytes →
     TakesFront before after (bytes ++ more)
 front_more before after bytes more (left, so_far) = (left ++ more, all_but_more before after bytes left more so_far)

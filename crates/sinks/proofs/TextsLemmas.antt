@@ -20,11 +20,11 @@ column_step width n long fits =
     (append_assoc (replicate ((width - 1) - length (decimal (n / 10))) 32) (decimal (n / 10))
     ((48 + n % 10) ∷ [])))
 
--- one digit stands behind spaces
+-- one digit follows spaces
 pub column_digit : (width n : ℕ) → n < 10 → column width n ≡ replicate (width - 1) 32 ++ ((48 + n) ∷ [])
 column_digit width n short = rw (decimal_digit n short)
 
--- what stands from `start` on has no `/`, and before it stands one, if anything does
+-- no byte from `start` on is a `/`, and the byte before it is one, if there is any
 pub name_from : (word : List ℕ) (start : ℕ) → start ≤ length word
     → ((k : ℕ) → start ≤ k → k < length word → get_or word k 0 ≡ 47 → ⊥)
     → (0 < start → get_or word (start - 1) 0 ≡ 47) → between start (length word) word ≡ file_name word

@@ -2,8 +2,8 @@
 use Rattle.std.specs.Prelude.{ℕ, zero, suc, List, Option, Some, None, min, is_none, unwrap_or, ◌&&◌}
 use Rattle.sinks.specs.Portions.{Portions, Written}
 
--- the portions that it took, the most bytes that a call takes and the room that is left, if they are limited, the calls
--- that succeed before one fails, and how often it failed
+-- the portions that it took, the most bytes that a call takes and the room that is left, if they are limited, how many
+-- calls succeed before one fails, and how often it failed
 pub record MemorySink : Type 0 where
   pub portions : List (List ℕ)
   pub most : Option ℕ
@@ -11,7 +11,7 @@ pub record MemorySink : Type 0 where
   pub failing : Option ℕ
   pub failures : ℕ
 
--- how many of so many bytes the next call takes
+-- how many of this many bytes the next call takes
 abbrev pub size_of_next : MemorySink → ℕ → ℕ
 size_of_next r len = elim r.failing [ None ↦ fitting | Some calls ↦ elim calls [ zero ↦ 0 | suc _ ↦ fitting ] ]
   where
@@ -25,7 +25,7 @@ contents_of r = Some (record { portions = r.portions; whole = is_none r.most && 
 abbrev pub written_of : MemorySink → Written
 written_of r = record { portions = contents_of r; failures = r.failures }
 
--- a call nearer to the one that fails
+-- how many calls succeed before one fails, after one more call
 abbrev pub failing_then : Option ℕ → Option ℕ
 failing_then None = None
 failing_then (Some zero) = None

@@ -2,12 +2,12 @@
 use Rattle.std.specs.Prelude.{◌≡◌, ℕ, ◌+◌, ◌-◌, ◌^◌, ◌<◌, ◌≤◌, Bool, true, false, List, [], ◌++◌, length}
 use Rattle.sinks.specs.Portions.{Written, TakesAllBut, TakesFront, buffer_bytes}
 
--- a pen: the bytes on its page, and whether a put has failed
+-- a pen: the bytes in its buffer, and whether a put has failed
 pub record Pen : Type 0 where
   pub buffer : List ℕ
   pub failed : Bool
 
--- a pen at the begin of a piece
+-- a pen at the beginning of a piece
 abbrev pub new_pen : Pen
 new_pen = record { buffer = []; failed = false }
 
@@ -16,21 +16,21 @@ abbrev pub MayFail : Pen → Written → Type 0
 MayFail pen sink = pen.failed ≡ false → sink.failures < 2 ^ 64 - 1
 
 -- Since the pen began, of a sink that was `before` then and is `now`:
--- while no put has failed, the sink took the text but for what is on the page;
--- once one has failed, it took a front of the text.
+-- while no put has failed, the sink took the text but for what is in the buffer;
+-- once one has failed, it took a prefix of the text.
 pub record PutsSoFar (before now : Written) (pen : Pen) (text : List ℕ) : Type 0 where
   pub going : pen.failed ≡ false → TakesAllBut before.portions now.portions text pen.buffer
   pub never_failed : pen.failed ≡ false → now.failures ≡ before.failures
   pub stopped : pen.failed ≡ true → TakesFront before.portions now.portions text
   pub counted : pen.failed ≡ true → now.failures ≡ before.failures + 1
 
--- the whole text is on the page: nothing was put
+-- the whole text is in the buffer: nothing was put
 pub record IsBuffered (before now : Written) (pen : Pen) (text : List ℕ) : Type 0 where
   pub going : pen.failed ≡ false
   pub buffer : pen.buffer ≡ text
   pub nothing : now.portions ≡ before.portions
 
--- the same of a pen between two fragments: it keeps a text that fits the page
+-- the same of a pen between two fragments: its buffer keeps a text that fits it
 pub record WritesSoFar (before now : Written) (pen : Pen) (text : List ℕ) : Type 0 where
   pub puts : PutsSoFar before now pen text
   pub kept : length text ≤ buffer_bytes → IsBuffered before now pen text

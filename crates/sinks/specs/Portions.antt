@@ -2,7 +2,7 @@
 use Rattle.std.specs.Prelude.{◌≡◌, ℕ, ◌<◌, ◌≤◌, Bool, true, List, [], ◌∷◌, ◌++◌, length, Option, Some, None}
 use Rattle.std.specs.List.{concat}
 
--- the most bytes of a text that is put by one call: those of a pen's page
+-- the most bytes of a text that are put by one call: those of a pen's buffer
 abbrev pub buffer_bytes : ℕ
 buffer_bytes = 512
 
@@ -30,8 +30,8 @@ abbrev pub TakesWhole : Portions → Type 0
 TakesWhole None = ⊥
 TakesWhole (Some taken) = taken.whole ≡ true
 
--- From before to after the sink took exactly these bytes. If it takes each put whole, and they are 1 to as many as a
--- page has, it took them as one portion.
+-- From before to after the sink took exactly these bytes. If it takes each put whole, and they are at least one and fit
+-- a pen's buffer, it took them as one portion.
 pub record Takes (before after : Portions) (bytes : List ℕ) : Type 0 where
   pub portions : List (List ℕ)
   pub told : after ≡ and_portions before portions
@@ -39,12 +39,12 @@ pub record Takes (before after : Portions) (bytes : List ℕ) : Type 0 where
   pub one : TakesWhole before → 0 < length bytes → length bytes ≤ buffer_bytes →
       after ≡ and_portions before (bytes ∷ [])
 
--- it took these bytes but for the ones that are left at their end
+-- it took these bytes but for the ones left at their end
 pub record TakesAllBut (before after : Portions) (bytes left : List ℕ) : Type 0 where
   pub portions : List (List ℕ)
   pub told : after ≡ and_portions before portions
   pub joined : concat portions ++ left ≡ bytes
 
--- it took a front of these bytes
+-- it took a prefix of these bytes
 abbrev pub TakesFront : Portions → Portions → List ℕ → Type 0
 TakesFront before after bytes = (left : List ℕ) × TakesAllBut before after bytes left

@@ -1,4 +1,4 @@
--- What a call leaves that puts bytes on a sink.
+-- What a call that puts bytes on a sink leaves.
 use Rattle.std.specs.Prelude.{◌≡◌, ℕ, ◌+◌, ◌-◌, ◌^◌, ◌<◌, ◌≤◌, List, [], ◌∷◌, length, take, Result, MatchResult}
 use Rattle.sinks.specs.Portions.{Takes, TakesFront, TakesWhole, Written, and_portions}
 
@@ -10,7 +10,7 @@ CanFail sink = sink.failures < 2 ^ 64 - 1
 abbrev pub failed_once_more : Written → Written
 failed_once_more sink = record sink { failures = sink.failures + 1 }
 
--- one call took a nonempty front of these bytes as a portion, and all of them if the sink takes each put whole
+-- one call took a nonempty prefix of these bytes as a portion, and all of them if the sink takes each put whole
 pub record TakesPortion (before after : Written) (bytes : List ℕ) (n : ℕ) : Type 0 where
   pub some : 0 < n
   pub front : n ≤ length bytes
@@ -23,8 +23,8 @@ CountsSink result before after = MatchResult result
     (λ _. after.failures ≡ before.failures)
     (λ _. after.failures ≡ before.failures + 1)
 
--- What a call left that was to put these bytes: if it succeeded, the sink took them and has not failed; if it failed,
--- the sink took a front of them and has failed once.
+-- What a call leaves that had to put these bytes: if it succeeded, the sink took them and has not failed; if it failed,
+-- the sink took a prefix of them and has failed once.
 abbrev pub Puts : {T E : Type 0} → Result T E → Written → Written → List ℕ → Type 0
 Puts result before after bytes = MatchResult result
     (λ _. Takes before.portions after.portions bytes × (after.failures ≡ before.failures))

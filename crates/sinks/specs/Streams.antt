@@ -3,7 +3,7 @@ use Rattle.std.specs.Prelude.{ℕ, List, Option, None, Result, IfOk, OnErr, take
 use Rattle.std.specs.Io.KnownBytes.{Appends, Keeps}
 use Rattle.sinks.specs.Portions.{Written}
 
--- a real stream that has failed so often; which portions it took is not known
+-- a real stream that has failed this often; which portions it took is not known
 abbrev pub real_stream : ℕ → Written
 real_stream failures = record { portions = None; failures = failures }
 

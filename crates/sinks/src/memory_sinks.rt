@@ -10,8 +10,8 @@ use std::alloc::{AllocError, Global};
 use std::marker::Model;
 use tokens::DeviceFault;
 
-/// A sink in memory that keeps each portion, and that can be made to take only so many bytes a call or in
-/// all, or to fail at one call. It fails too if memory is refused.
+/// A sink in memory that keeps each portion. It can be limited to a number of bytes for each call, or in all, or be
+/// made to fail at one call. It fails too if memory is refused.
 #[derive(Debug, Drop)]
 pub struct MemorySink {
     portions: Vec<Vec<u8>>,
@@ -47,7 +47,7 @@ impl MemorySink {
         }
     }
 
-    /// Limits each call to at most so many bytes.
+    /// Limits each call to at most `most` bytes.
     pub fn with_most(self, most: usize) -> MemorySink
         ensures { result ≡ record self { most = Some most } }
     {
@@ -57,7 +57,7 @@ impl MemorySink {
         }
     }
 
-    /// Lets it take only so many bytes more and then fail.
+    /// Lets it take `room` further bytes, and then fail.
     pub fn with_room(self, room: usize) -> MemorySink
         ensures { result ≡ record self { room = Some room } }
     {
@@ -67,7 +67,7 @@ impl MemorySink {
         }
     }
 
-    /// Lets the call after so many more fail.
+    /// Lets `calls` further calls succeed, and the one after them fail.
     pub fn failing_after(self, calls: u64) -> MemorySink
         ensures { result ≡ record self { failing = Some calls } }
     {
@@ -103,7 +103,7 @@ impl MemorySink {
         self.failures
     }
 
-    /// Returns how many of so many bytes the next call takes, which is none if it fails, and counts the call.
+    /// Returns how many of `len` bytes the next call takes, which is none if it fails, and counts the call.
     fn next_size(&mut self, len: usize) -> usize
         ensures size { result ≡ size_of_next self.old len }
         ensures failing { self.new ≡ record self.old { failing = failing_then self.old.failing } }

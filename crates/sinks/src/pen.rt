@@ -10,13 +10,13 @@ use arrayvec::ArrayVec;
 use std::marker::Model;
 use tokens::DeviceFault;
 
-/// The bytes of a pen's page.
+/// The bytes of a pen's buffer.
 pub const BUFFER_BYTES: usize = 512;
 
-/// Gathers the fragments of one piece on a page and puts the page on a sink when it is full.
+/// Gathers the fragments of one piece in a buffer, and puts the buffer's bytes on a sink when it is full.
 ///
-/// A failure is kept until `finish` answers it: from then on nothing more is put. The page ends with the piece, so no
-/// write mixes two pieces. Each call takes the same sink.
+/// A failure is kept until `finish` answers it: after it nothing more is put. The buffer is emptied at the piece's end,
+/// so no write mixes two pieces. Each call takes the same sink.
 pub struct Pen {
     buffer: ArrayVec<u8, BUFFER_BYTES>,
     failed: bool,
@@ -29,7 +29,7 @@ impl Model for Pen {
 }
 
 impl Pen {
-    /// Makes a pen at the begin of a piece.
+    /// Makes a pen at the beginning of a piece.
     pub fn new() -> Pen
         ensures blank { result ≡ new_pen }
         ensures text { (now : Written) → WritesSoFar now now result [] }
@@ -71,7 +71,7 @@ impl Pen {
         }
     }
 
-    /// Puts the page and begins a new one.
+    /// Puts the buffer's bytes and empties it.
     fn flush_buffer<S: Sink>(&mut self, sink: &mut S)
         requires { MayFail self.old (S.written sink.old) }
         ensures countable { MayFail self.new (S.written sink.new) }
@@ -86,7 +86,7 @@ impl Pen {
         }
     }
 
-    /// Puts a fragment after an empty page.
+    /// Puts a fragment while the buffer is empty.
     fn put_unbuffered<S: Sink>(&mut self, sink: &mut S, bytes: &[u8])
         requires countable { MayFail self.old (S.written sink.old) }
         requires empty { self.old.failed ≡ false → self.old.buffer ≡ [] }
@@ -100,7 +100,7 @@ impl Pen {
         }
     }
 
-    /// Ends the piece: puts what is on the page, and answers whether the sink took the whole piece.
+    /// Ends the piece: puts what is in the buffer, and answers whether the sink took the whole piece.
     pub fn finish<S: Sink>(self, sink: &mut S) -> Result<(), DeviceFault>
         requires { MayFail self (S.written sink.old) }
         ensures { (before : Written) (text : List ℕ)

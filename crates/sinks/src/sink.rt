@@ -8,13 +8,13 @@ use tokens::DeviceFault;
 
 /// A device that takes bytes.
 ///
-/// `written` says how many calls failed, and which portions were taken so far, one for each call that succeeded, if the
-/// device's contents are known. Joined in order they are the bytes that it took. It says too whether the device takes
+/// `written` says how many calls failed, and, if the device's contents are known, which portions were taken so far, one
+/// for each call that succeeded. Joined in order they are the bytes that it took. It says too whether the device takes
 /// each put whole.
 pub trait Sink {
     ghost written: { Self → Written };
 
-    /// Takes a nonempty front of `bytes` as one portion and answers its length, or fails and takes nothing.
+    /// Takes a nonempty prefix of `bytes` as one portion and answers its length, or fails and takes nothing.
     fn put(&mut self, bytes: &[u8]) -> Result<usize, DeviceFault>
         requires nonempty { 0 < length bytes.now }
         requires countable { CanFail (written self.old) }

@@ -8,7 +8,7 @@ use crate::sink::Sink;
 use std::io::Write;
 use tokens::DeviceFault;
 
-/// A stream that is written. Each error of a write is a failure, an interrupted call and a write of no byte too.
+/// A stream that is written. Each error of a write is a failure, also an interrupted call and a write of no byte.
 #[derive(Drop)]
 pub struct StreamSink<W> {
     stream: W,

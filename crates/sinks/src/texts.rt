@@ -22,7 +22,7 @@ impl Pen {
         self.add_byte(sink, b'0' + (n % 10) as u8);
     }
 
-    /// Adds a number in decimal, and spaces before it up to the width.
+    /// Adds a number in decimal, with spaces before it up to the width.
     pub fn add_column<S: Sink>(&mut self, sink: &mut S, width: usize, n: u32)
         requires { MayFail self.old (S.written sink.old) }
         ensures countable { MayFail self.new (S.written sink.new) }
@@ -36,7 +36,7 @@ impl Pen {
         self.add_byte(sink, b'0' + (n % 10) as u8);
     }
 
-    /// Adds so many spaces.
+    /// Adds `count` spaces.
     fn add_spaces<S: Sink>(&mut self, sink: &mut S, count: usize)
         requires { MayFail self.old (S.written sink.old) }
         ensures countable { MayFail self.new (S.written sink.new) }
@@ -48,7 +48,7 @@ impl Pen {
     }
 }
 
-/// Returns the name that texts give the file of this word: the word after its last `/`.
+/// Returns the name that texts give the file of this word: the part after its last `/`.
 pub fn file_name(word: &[u8]) -> &[u8]
     ensures { result.now ≡ file_name word.now }
 {

@@ -15,7 +15,7 @@ pub struct FunctionLabels<'a> {
 }
 
 impl<'a> FunctionLabels<'a> {
-    /// Makes the scope of a function: its names are among those of its file.
+    /// Makes the labels of a function: its names are among those of its file.
     pub fn new(names: &'a Pools, function: &'a FunctionNames) -> FunctionLabels<'a> {
         FunctionLabels {
             names,
@@ -105,11 +105,11 @@ pub fn add_named(label: &mut Draft, words: &str, number: u64, name: &str) {
     label.add(")");
 }
 
-/// Returns the punctuator of a step of a variable, by the operator that steps it.
+/// Returns the punctuator of a variable's increment or decrement, by the operator of its store.
 fn step_punctuator(operator: StoreOp) -> &'static str {
     match operator {
         StoreOp::Add => "++",
-        // a step adds 1, or else it subtracts 1
+        // an increment adds 1, a decrement subtracts 1
         _ => "--",
     }
 }

@@ -43,7 +43,7 @@ no_lines test e (b ∷ xs) = by (test b) refl (no_lines test e xs)
         ap₂ (λ t n. cond t 1 0 + n) (no_line test b e h) f
     by false h f = refl
 
--- what lies ahead behind some of the bytes at hand
+-- what lies ahead after some of the bytes at hand
 ahead-window_after : (n line place taken : ℕ) (xs to_come : List ℕ) (beyond : Beyond) → n ≤ length xs →
     ahead (window_after n (held line place xs taken beyond)) to_come ≡
     ahead_after n (ahead (held line place xs taken beyond) to_come)

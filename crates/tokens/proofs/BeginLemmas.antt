@@ -1,4 +1,4 @@
--- Where a token begins.
+-- How a token begins.
 use Rattle.std.proofs.Common.{◌≡◌, ℕ, ◌+◌, ◌-◌, ◌*◌, Bool, true, false, not, cond, eqb, Option, Some, None, List, [], ◌∷◌, ◌++◌, length, drop, refl, sym, ap, ◌∙◌, subst, arith, ◌≢◌}
 use Rattle.std.specs.Prelude.{slice_get, ◌&&◌}
 use Rattle.std.specs.Option.{option_or, option_eq}
@@ -169,7 +169,7 @@ punctuator_front-here m b line place (c ∷ d ∷ rest) t h = by (punctuator_of 
         three k (punctuator_of (b ∷ c ∷ d ∷ [])) e refl ∙
         sym (extended-step m (b ∷ []) c (d ∷ rest) (ahead_after_byte a) (Some k) h e)
 
--- a punctuator of one byte begins a punctuator, where the rest begins as no other piece
+-- a punctuator of one byte begins a punctuator, if the rest begins as no other piece
 pub punctuator_front-begins : (m : Punctuator) (b : ℕ) → punctuator_of (b ∷ []) ≡ Some m → (a : Ahead) (rest : List ℕ) →
     a.bytes ≡ b ∷ rest → front (b ∷ rest) ≡ punctuator_front (longest_punctuator (b ∷ rest)) →
     in_punctuator m (ahead_after_byte a) ≡ located_tokens a
@@ -234,7 +234,7 @@ bad-begins b no_blank no_letter no_digit no_slash h a rest e =
     (located_tokens-by b (punctuator_front None) a rest e
     (front-punctuator_front b rest no_blank no_letter no_digit no_slash ∙ ap punctuator_front (longest-none b rest h)))
 
--- behind a `/` on this line
+-- after a `/` on this line
 unfoldable pub in_slash : ℕ → Ahead → List LocatedToken
 in_slash line a = cond (begins_with 42 a.bytes) (in_comment line (ahead_after_byte a)) (in_punctuator Slash a)
 
@@ -284,7 +284,7 @@ slash-begins line a rest e l =
     (λ (xs : List ℕ). in_slash a.line (ahead_after_byte (here a.line a.offset xs a.too_long)) ≡
     located_tokens (here a.line a.offset xs a.too_long)) (sym e) (slash-here a.line a.offset rest a.too_long))
 
--- a `*` behind it begins a comment
+-- a `*` after it begins a comment
 pub star-begins : (line : ℕ) (a : Ahead) (rest : List ℕ) → a.bytes ≡ 42 ∷ rest →
     in_comment line (ahead_after_byte a) ≡ in_slash line a
 unfolding in_slash
@@ -343,7 +343,7 @@ last-is_last token line a h = by a.too_long
     by true = refl
     by false = h
 
--- the last token fits where this one does
+-- the last token fits if this one does
 pub last-fits : (token : Token) (line : ℕ) (a : Ahead) → FitsToken token →
     FitsToken (last_located_token token line a).token
 last-fits token line a h = by a.too_long

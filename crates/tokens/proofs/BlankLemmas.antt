@@ -9,7 +9,7 @@ use lib.Lanes.{zip2}
 abbrev pub low : List ℕ → List ℕ
 low v = zip2 bit_and v (replicate 32 15)
 
--- four bits are a place in each half
+-- four bits are an index into each half
 pub low-ok : (v : List ℕ) → length v ≡ 32 → SwzOk w8 16 32 0 (low v)
 low-ok v long =
     let small = Each1-all (λ a. bit_and a 15 < 16) (λ a. omega (arith, and_le_r a 15)) v in

@@ -17,7 +17,7 @@ use Rattle.tokens.proofs.WindowLemmas.{held}
 use Rattle.tokens.proofs.ToRead.{to_read-here, to_read-pass, first-ahead, none-ahead}
 use Rattle.tokens.proofs.LocatedTokensLemmas.{here}
 
--- behind a `*` inside a comment
+-- after a `*` inside a comment
 unfoldable pub in_star : ℕ → Ahead → List LocatedToken
 in_star line a = cond (begins_with 47 a.bytes) (located_tokens (ahead_after_byte a)) (in_comment line a)
 
@@ -70,7 +70,7 @@ star-passes began a rest e =
     in_comment began (here a.line a.offset xs a.too_long)) (sym e)
     (star-passes-here began a.line a.offset rest a.too_long)
 
--- a `/` behind the `*` closes the comment
+-- a `/` after the `*` closes the comment
 pub slash-closes : (began : ℕ) (a : Ahead) (rest : List ℕ) → a.bytes ≡ 47 ∷ rest →
     located_tokens (ahead_after_byte a) ≡ in_star began a
 unfolding in_star

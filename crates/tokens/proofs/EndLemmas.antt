@@ -1,4 +1,4 @@
--- Tokens end one behind the other, within the source, and there is one at least.
+-- Tokens end one after the other, within the source, and there is one at least.
 use Rattle.std.proofs.Common.{◌≡◌, ℕ, zero, suc, ◌+◌, ◌<◌, ◌≤◌, Bool, true, false, cond, Option, Some, None, List, [], ◌∷◌, length, take, drop, refl, ap, ◌∙◌, arith, subst, length-take, ltb, eqb}
 use Rattle.std.specs.Prelude.{◌&&◌}
 use Rattle.std.specs.Option.{option_or}
@@ -19,7 +19,7 @@ use Rattle.tokens.proofs.PunctuatorLemmas.{punctuator_of-spelled}
 use Rattle.tokens.proofs.LocatedTokensLemmas.{IsPiece, front-is_piece, length-ahead_after, here}
 use Rattle.tokens.proofs.TakenLemmas.{open-located, place-ahead_after, last-window_after, last-open}
 
--- a token lies within the bytes that it is the front of
+-- a token lies within the bytes that begin with it
 abbrev pub IsInside : List ℕ → Front → Type 0
 IsInside bytes Nothing = Unit {0}
 IsInside bytes Unclosed = Unit {0}

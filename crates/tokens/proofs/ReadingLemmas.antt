@@ -14,7 +14,7 @@ use Rattle.tokens.proofs.EndLemmas.{located_tokens-nonempty, located_tokens-open
 abbrev reading : LocatedToken → LocatedToken → Window → Cursor
 reading next after behind = record { next = next; after = after; window = behind }
 
--- the token behind the next one was read
+-- the token after the next one was read
 pub shown-read : (next after : LocatedToken) (new old : Window) (told' told : Option (List ℕ)) →
     to_read (followed after) new told' ≡ to_read located_tokens old told →
     shown (reading next after new) told' ≡ to_read (followed next) old told
@@ -35,13 +35,13 @@ shown-last next after behind (Some t) e =
     ap (λ s. Some (next ∷ cond s [] (followed_by after (located_tokens (ahead behind t))))) e ∙
     sym (ap (λ s. Some (next ∷ cond s [] (located_tokens (ahead behind t)))) e)
 
--- at the begin
+-- at the beginning
 pub shown-opened : (told : Option (List ℕ)) → to_read located_tokens untouched told ≡ option_map tokens told
 unfolding to_read tokens
 shown-opened None = refl
 shown-opened (Some bytes) = refl
 
--- behind the next token
+-- after the next token
 pub shown-advanced : (next after located_token : LocatedToken) (new old : Window) (told' told : Option (List ℕ)) →
     is_last next.token ≡ false → to_read (followed located_token) new told' ≡ to_read located_tokens old told →
     shown (reading after located_token new) told' ≡ option_map (drop 1) (shown (reading next after old) told)
@@ -91,7 +91,7 @@ most_left-ended next after after' new old n a = by (is_last next.token) (is_last
     by false true n a = omega arith
     by false false n a = absurd cc
 
--- where a read stopped that failed
+-- how far a read came that failed
 pub open-end : (x : LocatedToken) → undecided_until x ≤ x.end
 open-end x = by (is_decided_by_last_byte x.token)
   where

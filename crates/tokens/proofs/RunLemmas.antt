@@ -129,7 +129,7 @@ pub neither : (a b : Bool) → (a || b) ≡ false → (a ≡ false) × (b ≡ fa
 neither true b e = absurd cc
 neither false b e = (refl, e)
 
--- a block with no stop is passed, and the run goes on behind it
+-- a block with no stop is passed, and the run goes on after it
 pub block_passed : (q : ℕ → Bool) (xs : List ℕ) (i n r : ℕ) → i + n ≤ length xs → r ≡ prefix_len q (chunk i n xs) →
     r ≡ n → prefix_len q (drop i xs) ≡ n + prefix_len q (drop (i + n) xs)
 block_passed q xs i n r room e whole =
@@ -148,7 +148,7 @@ block_stops q xs i r room e short =
     (ne_eqb (prefix_len q (chunk i 32 xs)) (length (chunk i 32 xs)) (λ same. omega (arith, same, long, e, short)))
     ∙ sym e
 
--- the bytes of two segments, one behind the other
+-- the bytes of two segments, one after the other
 pub counts_more : (test : ℕ → Bool) (xs : List ℕ) (n m : ℕ) → n ≤ length xs →
     count_by test (take (n + m) xs) ≡ count_by test (take n xs) + count_by test (take m (drop n xs))
 counts_more test xs n m h =
@@ -159,13 +159,13 @@ counts_more test xs n m h =
     (ap (λ k. take (k + m) (take n xs ++ drop n xs)) (sym l) ∙ take-append-add (take n xs) (drop n xs) m) in
     ap (count_by test) t ∙ sum_by-append (λ b. cond (test b) 1 0) (take n xs) (take m (drop n xs))
 
--- a block's, behind those before it
+-- a block's, after those before it
 pub counts_block : (test : ℕ → Bool) (xs : List ℕ) (i r a b : ℕ) → i ≤ length xs → r ≤ 32 →
     a ≡ count_by test (take i xs) → b ≡ count_by test (take r (chunk i 32 xs)) → a + b ≡ count_by test (take (i + r) xs)
 counts_block test xs i r a b h few e f =
     ap₂ (λ x y. x + y) e (f ∙ ap (count_by test) (take-take r 32 (drop i xs) few)) ∙ sym (counts_more test xs i r h)
 
--- those of the bytes behind the blocks
+-- those of the bytes after the blocks
 pub counts_rest : (test : ℕ → Bool) (xs : List ℕ) (i r a b : ℕ) → i ≤ length xs → a ≡ count_by test (take i xs) →
     b ≡ count_by test (take r (slice_range xs i (length xs))) → a + b ≡ count_by test (take (i + r) xs)
 counts_rest test xs i r a b h e f =

@@ -1,4 +1,4 @@
--- The source in a piece of bytes, and in two pieces one behind the other.
+-- The source in a piece of bytes, and in two pieces one after the other.
 use Rattle.std.proofs.Common.{◌≡◌, ℕ, ◌<◌, ◌≤◌, Bool, true, false, cond, eqb, List, [], ◌∷◌, ◌++◌, length, take, refl, ap, arith}
 use Rattle.tokens.specs.Source.{source}
 
@@ -39,7 +39,7 @@ source-ended (b ∷ xs) ys h = by (eqb b 26) (source-ended xs ys) h
     by true f g = refl
     by false f g = ap (λ zs. b ∷ zs) (f (omega (arith, g)))
 
--- the source is a front of the bytes
+-- the source is a prefix of the bytes
 pub take-source : (xs : List ℕ) → take (length (source xs)) xs ≡ source xs
 take-source [] = refl
 take-source (b ∷ xs) = by (eqb b 26) (take-source xs)

@@ -27,7 +27,7 @@ pub TakesBytes-then : {old mid new : ℕ} {told told' told'' : Option (List ℕ)
     TakesBytes mid new told' told'' → TakesBytes old new told told''
 TakesBytes-then f g = record { rest = λ total e. g.rest total (f.rest total e) }
 
--- nothing is taken where the window goes on
+-- nothing is taken if the window goes on
 pub TakesBytes-pass : {old mid new : ℕ} {told told' : Option (List ℕ)} → new ≡ mid → TakesBytes old mid told told' →
     TakesBytes old new told told'
 TakesBytes-pass {old} {mid} {new} {told} {told'} e f = subst (λ (n : ℕ). TakesBytes old n told told') (sym e) f
@@ -77,7 +77,7 @@ pub on_err-from : {T E P : Type 0} (r : Result T E) → P → OnErr r P
 on_err-from (Ok x) p = tt
 on_err-from (Err x) p = p
 
--- the first token is open where it begins
+-- the first token is open at its beginning
 pub record EndsBehind (made : Ahead → List LocatedToken) : Type 0 where
   pub ends : (a : Ahead) (first : LocatedToken) (others : List LocatedToken) → made a ≡ first ∷ others →
       a.offset ≤ undecided_until first
@@ -89,7 +89,7 @@ at_most : (place : ℕ) (x first : LocatedToken) (xs others : List LocatedToken)
     x ∷ xs ≡ first ∷ others → place ≤ undecided_until first
 at_most place x first xs others h e = omega (arith, h, ap undecided_until (same_first x first xs others e))
 
--- a token of more than no bytes is open where it begins, and any other that isn't decided by its last byte
+-- a token of more than no bytes is open at its beginning, and any other that isn't decided by its last byte
 pub open-located : (token : Token) (count : ℕ) (a : Ahead) → 0 < count →
     a.offset ≤ undecided_until (located token count a)
 open-located token count a h = by (is_decided_by_last_byte token)
@@ -267,7 +267,7 @@ in_slash-ends line = record {
       ((in_punctuator-ends Slash).ends a first others);
 }
 
--- a read that failed took nothing behind the place that was reached
+-- a read that failed took nothing after the offset that was reached
 pub stops : (made : Ahead → List LocatedToken) → EndsBehind made → (here new : Window) (told : Option (List ℕ)) →
     new.taken ≡ new.offset → new.offset ≡ here.offset → StopsWithin made here new told
 unfolding to_read

@@ -15,7 +15,7 @@ pub to_read-seen : (made : Ahead → List LocatedToken) (new old : Window) (told
 unfolding to_read
 to_read-seen made new old told' told e = ap (Rattle.std.specs.Option.option_map made) e
 
--- where the window stays
+-- if the window stays
 pub to_read-here : (made made' : Ahead → List LocatedToken) (here : Window) (told : Option (List ℕ)) →
     ((to_come : List ℕ) → made (ahead here to_come) ≡ made' (ahead here to_come)) →
     to_read made here told ≡ to_read made' here told

@@ -179,7 +179,7 @@ digits_on-grows : (value : ℕ) (more : List ℕ) → value ≤ digits_on value 
 digits_on-grows value [] = omega arith
 digits_on-grows value (d ∷ more) = omega (arith, digits_on-grows (10 * value + (d - 48)) more)
 
--- a value above the greatest may stand for all such values
+-- a value above the greatest may represent all such values
 capped : (value : ℕ) (more : List ℕ) →
     value_token (digits_on (min value 2147483648) more) ≡ value_token (digits_on value more)
 capped value more = by (cases_lt value 2147483648)

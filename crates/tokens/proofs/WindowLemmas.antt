@@ -1,4 +1,4 @@
--- What a window shows after it was filled, and behind some of the bytes at hand.
+-- What a window shows after it was filled, and after some of the bytes at hand.
 use Rattle.std.proofs.Common.{◌≡◌, ℕ, zero, suc, ◌+◌, ◌-◌, ◌<◌, ◌≤◌, Bool, true, false, cond, eqb, ltb, Option, Some, None, List, [], ◌∷◌, ◌++◌, length, take, drop, refl, sym, ap, ◌∙◌, subst, arith, append-nil, length-append}
 use Rattle.std.proofs.lemmas.Bool.{lt-ltb, le-ltb}
 use Rattle.std.proofs.lemmas.Bool.Decides.{nat_tests}
@@ -20,7 +20,7 @@ abbrev pub held : ℕ → ℕ → List ℕ → ℕ → Beyond → Window
 held line place at_hand taken beyond =
     record { line = line; offset = place; at_hand = at_hand; taken = taken; beyond = beyond }
 
--- the lines behind a byte and some more
+-- the lines after a byte and some more
 lines-cons : (line b : ℕ) (xs : List ℕ) →
     line_after b line + count_by (λ b. eqb b 10) xs ≡ line + count_by (λ b. eqb b 10) (b ∷ xs)
 lines-cons line b xs =
@@ -33,7 +33,7 @@ lines-cons line b xs =
     by true = omega arith
     by false = omega arith
 
--- so many bytes further on: the lines among them are counted
+-- this many bytes further on: the lines among them are counted
 pub window_after-is : (line place taken : ℕ) (beyond : Beyond) (n : ℕ) (xs : List ℕ) → n ≤ length xs →
     window_after n (held line place xs taken beyond) ≡
     held (line + count_by (λ b. eqb b 10) (take n xs)) (place + n) (drop n xs) taken beyond
@@ -45,11 +45,11 @@ window_after-is line place taken beyond (suc n) (b ∷ xs) h =
     let f : place + 1 + n ≡ place + suc n = omega arith in
     window_after-is (line_after b line) (place + 1) taken beyond n xs (omega (arith, h)) ∙ cc
 
--- the bytes at hand, so many further on
+-- the bytes at hand, this many further on
 pub between-further : (xs : List ℕ) (i n j : ℕ) → between (i + n) j xs ≡ drop n (between i j xs)
 between-further xs i n j = rw (between_is, between_is, drop-drop) refl
 
--- behind a run of the bytes at hand
+-- after a run of the bytes at hand
 pub token_run-ahead_after : (q : ℕ → Bool) (line start taken next filled count lines : ℕ) (beyond : Beyond)
     (bytes : List ℕ) →
     count ≡ prefix_len q (between next filled bytes) →
@@ -66,7 +66,7 @@ token_run-ahead_after q line start taken next filled count lines beyond bytes e 
     let p : start + (next + count) ≡ start + next + count = omega arith in
     rw (← e) (rw b (rw (d, p, f) refl))
 
--- behind bytes at hand of which none ends a line
+-- after bytes at hand of which none ends a line
 pub in_line : (line start taken next filled count : ℕ) (beyond : Beyond) (bytes : List ℕ) →
     count ≤ length (between next filled bytes) → count_by (λ b. eqb b 10) (take count (between next filled bytes)) ≡ 0
     →

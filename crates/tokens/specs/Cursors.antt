@@ -1,4 +1,4 @@
--- What a cursor stands for: the next token, the one behind it, and what was read behind that.
+-- What a cursor is: the next token, the one after it, and the window over what follows them.
 use Rattle.std.specs.Prelude.{ℕ, ◌+◌, ◌-◌, ◌<◌, ◌≤◌, ◌≡◌, Bool, List, [], ◌∷◌, Option, drop, if◌then◌else◌}
 use Rattle.std.specs.Option.{option_map}
 use Rattle.tokens.specs.TokenLimits.{most_source_bytes}
@@ -14,11 +14,11 @@ pub record Cursor : Type 0 where
   pub after : LocatedToken
   pub window : Window
 
--- the tokens behind those two, by the device's bytes to come
+-- the tokens after those two, given the device's bytes to come
 unfoldable pub unread : Window → List ℕ → List LocatedToken
 unread behind to_come = located_tokens (ahead behind to_come)
 
--- the tokens from the next one on, where the device tells its bytes to come
+-- the tokens from the next one on, if the device's bytes to come are known
 abbrev pub shown : Cursor → Option (List ℕ) → Option (List LocatedToken)
 shown cursor told = option_map (λ to_come. followed_by cursor.next
     (followed_by cursor.after (unread cursor.window to_come))) told
@@ -33,15 +33,15 @@ most_left cursor =
 abbrev pub bytes_taken : Cursor → ℕ
 bytes_taken cursor = cursor.window.taken
 
--- what is known of the source behind the bytes taken
+-- what is known of the source after the bytes taken
 abbrev pub beyond : Cursor → Beyond
 beyond cursor = cursor.window.beyond
 
--- where the two tokens that are held end
+-- the end of the two tokens that are held
 abbrev pub reach : Cursor → ℕ
 reach cursor = if is_last cursor.next.token then cursor.next.end else cursor.after.end
 
--- so many bytes are no more than a window behind these
+-- this many bytes are no more than a window after these
 abbrev pub IsNearTo : Cursor → ℕ → Type 0
 IsNearTo cursor count = count ≤ reach cursor + window_bytes
 
@@ -49,20 +49,20 @@ IsNearTo cursor count = count ≤ reach cursor + window_bytes
 abbrev pub IsNear : Cursor → Type 0
 IsNear cursor = IsNearTo cursor (bytes_taken cursor)
 
--- where the second of these tokens ends, or the first, where it is the last
+-- the end of the second of these tokens, or of the first if it is the last
 abbrev pub reach_of : List LocatedToken → ℕ
 reach_of [] = 0
 reach_of (next ∷ []) = next.end
 reach_of (next ∷ after ∷ others) = after.end
 
--- the most bytes that may leave the second of these tokens open, or the first, where it is the last
+-- the most bytes that may leave the second of these tokens open, or the first if it is the last
 abbrev pub undecided_reach_of : List LocatedToken → ℕ
 undecided_reach_of [] = 0
 undecided_reach_of (next ∷ []) = undecided_until next
 undecided_reach_of (next ∷ after ∷ others) = undecided_until after
 
 -- A cursor was opened: it shows the tokens of the bytes that the device had to give, and no more than the most can
--- come. The device has still to give all but the bytes taken, which are no more than a window behind the two tokens,
+-- come. The device has still to give all but the bytes taken, which are no more than a window after the two tokens,
 -- and than the most. If it has ended, the cursor knows.
 pub record OpensCursor (cursor : Cursor) (told told' : Option (List ℕ)) (ended : Bool) : Type 0 where
   pub tokens : shown cursor told' ≡ option_map tokens told
@@ -72,7 +72,7 @@ pub record OpensCursor (cursor : Cursor) (told told' : Option (List ℕ)) (ended
   pub limited : bytes_taken cursor ≤ most_taken_bytes
   pub known : KnowsEnd (beyond cursor) ended
 
--- a cursor went past a token: it shows those behind it, fewer can come, and it is near if it was
+-- a cursor went past a token: it shows those after it, fewer can come, and it is near if it was
 pub record AdvancesCursor (old new : Cursor) (told told' : Option (List ℕ)) : Type 0 where
   pub tokens : shown new told' ≡ option_map (drop 1) (shown old told)
   pub progress : most_left new < most_left old

@@ -6,12 +6,12 @@ use Rattle.tokens.specs.declared.located_tokens.Token.{Token}
 use Rattle.tokens.specs.declared.located_tokens.Token.TheVariants as variant
 use Rattle.tokens.specs.declared.located_tokens.LocatedToken.{LocatedToken}
 
--- no token ends before this place, or before the one ahead of it
+-- no token ends before this offset, or before the one ahead of it
 abbrev pub IsRising : ℕ → List LocatedToken → Type 0
 IsRising place [] = Unit {0}
 IsRising place (located_token ∷ others) = (place ≤ located_token.end) × IsRising located_token.end others
 
--- each token ends at this place or before
+-- each token ends at this offset or before
 abbrev pub AllEndBy : ℕ → List LocatedToken → Type 0
 AllEndBy place [] = Unit {0}
 AllEndBy place (located_token ∷ others) = (located_token.end ≤ place) × AllEndBy place others
@@ -25,7 +25,7 @@ ends_itself error.NameTooLong = false
 ends_itself error.ConstantTooLarge = false
 
 -- Whether its own last byte decides a token: a bad character, and that the source is too long. Any other token may need
--- the byte behind it, or the source's end.
+-- the byte after it, or the source's end.
 abbrev pub is_decided_by_last_byte : Token → Bool
 is_decided_by_last_byte (variant.Fault lexical_error) = ends_itself lexical_error
 is_decided_by_last_byte (variant.Name name) = false
@@ -45,7 +45,7 @@ last_undecided_until [] = 0
 last_undecided_until (located_token ∷ []) = undecided_until located_token
 last_undecided_until (located_token ∷ other ∷ others) = last_undecided_until (other ∷ others)
 
--- each token is open at this place, or where the one ahead of it ends
+-- each token is open at this offset, or at the end of the one ahead of it
 abbrev pub StaysUndecided : ℕ → List LocatedToken → Type 0
 StaysUndecided place [] = Unit {0}
 StaysUndecided place (located_token ∷ others) =

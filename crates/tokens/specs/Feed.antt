@@ -12,7 +12,7 @@ pub record Account : Type 0 where
 abbrev pub failed_again : Account → Account
 failed_again account = record account { failures = account.failures + 1 }
 
--- what is said of a device: which one it is and how often it has failed, the bytes still to come, where it tells them,
+-- what is said of a device: which one it is and how often it has failed, the bytes still to come, if they are known,
 -- and whether a read has given none
 pub record Device : Type 0 where
   pub account : Account
@@ -24,29 +24,29 @@ pub record MayRead (device : Device) : Type 0 where
   pub countable : device.account.failures < 2 ^ 64 - 1
   pub not_ended : device.ended ≡ false
 
--- the next n bytes of those to come stand at the front of the buffer, and none only at the end
+-- the next n bytes of those to come are at the front of the buffer, and n is 0 only at the end
 pub record GivesFront (bytes : List ℕ) (after : Option (List ℕ)) (buffer : List ℕ) (n : ℕ) : Type 0 where
   pub within : n ≤ length bytes
   pub front : take n buffer ≡ take n bytes
   pub rest : after ≡ Some (drop n bytes)
   pub ends : n ≡ 0 → bytes ≡ []
 
--- what was read, where the device tells its bytes; a device that doesn't goes on so
+-- what was read, if the device's bytes are known; else they stay unknown
 abbrev pub Gives : Option (List ℕ) → Option (List ℕ) → List ℕ → ℕ → Type 0
 Gives None after buffer n = after ≡ None
 Gives (Some bytes) after buffer n = GivesFront bytes after buffer n
 
--- so many bytes were read into a buffer, which they fit
+-- n bytes were read into a buffer, which they fit
 pub record Fills (size : ℕ) (told told' : Option (List ℕ)) (buffer : List ℕ) (n : ℕ) : Type 0 where
   pub within : n ≤ size
   pub bytes : Gives told told' buffer n
 
--- what a read leaves: so many bytes in the buffer, or, if it failed, all bytes still to come
+-- what a read leaves: n bytes in the buffer, or, if it failed, all bytes still to come
 abbrev pub Reads : Result ℕ DeviceFault → (size : ℕ) → (told told' : Option (List ℕ)) → (buffer : List ℕ) → Type 0
 Reads (Ok n) size told told' buffer = Fills size told told' buffer n
 Reads (Err e) size told told' buffer = told' ≡ told
 
--- whether a read gave no byte, which says that the device has ended
+-- whether a read gave no byte, which shows that the device has ended
 abbrev pub gives_none : Result ℕ DeviceFault → Bool
 gives_none (Ok n) = n == 0
 gives_none (Err e) = false

@@ -3,7 +3,7 @@ use Rattle.std.specs.Prelude.{◌≡◌, ℕ, Bool, List, Option, Result, IfOk, 
 use Rattle.std.specs.Io.KnownBytes.{Consumes, IsAtEnd, Keeps}
 use Rattle.tokens.specs.Feed.{Account, Device}
 
--- a real device that has failed so often; none is told from another
+-- a real device that has failed this often; all have the same number
 abbrev pub real_account : ℕ → Account
 real_account failures = record { device = 0; failures = failures }
 

@@ -1,4 +1,4 @@
--- What a rest of the source begins with.
+-- What the rest of a source begins with.
 use Rattle.std.specs.Prelude.{ℕ, ◌+◌, ◌*◌, ◌-◌, suc, Bool, false, List, [], ◌∷◌, length, take, drop, Option, Some}
 use Rattle.std.specs.Prelude.{None, if◌then◌else◌, ◌==◌, ◌&&◌, nat_le, fold}
 use Rattle.std.specs.List.{prefix_len}
@@ -13,7 +13,7 @@ use Rattle.tokens.specs.declared.located_tokens.LexicalError.TheVariants.{BadCha
 use Rattle.tokens.specs.declared.located_tokens.Token.{Token}
 use Rattle.tokens.specs.declared.located_tokens.Token.TheVariants as variant
 
--- nothing, a blank or a comment of so many bytes, a comment that isn't closed, or a token of so many bytes
+-- nothing, a blank or a comment of this many bytes, a comment that isn't closed, or a token of this many bytes
 pub data Front : Type 0 where
   Nothing : Front
   Space : (count : ℕ) → Front
@@ -25,12 +25,12 @@ abbrev pub begins_with : ℕ → List ℕ → Bool
 begins_with c [] = false
 begins_with c (b ∷ rest) = b == c
 
--- how many bytes there are up to the first `*/` and with it
+-- how many bytes there are up to the first `*/`, with it
 abbrev pub up_to_close : List ℕ → Option ℕ
 up_to_close [] = None
 up_to_close (b ∷ rest) = if (b == 42) && begins_with 47 rest then Some 2 else option_map suc (up_to_close rest)
 
--- a comment, by where the bytes behind its `/*` close it
+-- a comment, given how many bytes after its `/*` close it
 abbrev pub comment_front : Option ℕ → Front
 comment_front None = Unclosed
 comment_front (Some count) = Space (suc (suc count))

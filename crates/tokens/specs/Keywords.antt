@@ -22,7 +22,7 @@ refused_words =
     ∷ codes "sizeof"
     ∷ codes "static" ∷ codes "extern" ∷ codes "short" ∷ codes "unsigned" ∷ []
 
--- the word that a name is, if it is one
+-- the keyword that a name is, if it is one
 unfoldable pub keyword_of : List ℕ → Option Keyword
 keyword_of name =
     if bytes_eq name (codes "if") then Some keyword.If

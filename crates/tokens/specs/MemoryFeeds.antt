@@ -3,8 +3,8 @@ use Rattle.std.specs.Prelude.{◌≡◌, ◌↔◌, ◌≤◌, ◌-◌, ℕ, Boo
 use Rattle.tokens.specs.Feed.{Device}
 use Rattle.tokens.specs.declared.devices.DeviceFault.{DeviceFault}
 
--- the bytes that it has still to give, how many it gave, how many it gives at most at a read, how often it failed, how
--- many reads there are before that, and whether it gave none
+-- the bytes that it has still to give, how many it gave, how many it gives at most at a read, how often it failed,
+-- after how many further reads each one fails, and whether it gave none
 pub record MemoryFeed : Type 0 where
   pub to_come : List ℕ
   pub taken : ℕ
@@ -13,8 +13,7 @@ pub record MemoryFeed : Type 0 where
   pub reads_left : ℕ
   pub ended : Bool
 
--- a device with these bytes still to give, which gave so many, gives so many at most at a read, failed so often, has so
--- many reads before that, and gave none if it has ended
+-- a device with these values of the fields, in their order
 abbrev pub memory_feed_of : List ℕ → ℕ → ℕ → ℕ → ℕ → Bool → MemoryFeed
 memory_feed_of to_come taken most failures reads_left ended = record {
   to_come = to_come;

@@ -8,7 +8,7 @@ use Rattle.tokens.specs.TokenLimits.{most_name_bytes}
 abbrev pub padded : List ℕ → List ℕ
 padded name = name ++ replicate (most_name_bytes - length name) 0
 
--- the field holds a name of this length, and zeros behind it
+-- the field holds a name of this length, and zeros after it
 pub record IsPadded (bytes : List ℕ) (len : ℕ) : Type 0 where
   pub within : len ≤ most_name_bytes
   pub filled : bytes ≡ padded (take len bytes)

@@ -1,4 +1,4 @@
--- Operators and punctuation punctuators.
+-- Punctuators: operators, brackets, comma and semicolon.
 use Rattle.std.specs.Prelude.{ℕ, List, [], ◌∷◌, map, Option, Some, None, codes, take, if◌then◌else◌}
 use Rattle.std.specs.Option.{option_or}
 use Rattle.std.specs.Str.{bytes_eq}
@@ -73,7 +73,7 @@ all_punctuators =
     ∷ PlusEquals ∷ MinusEquals ∷ StarEquals ∷ SlashEquals ∷ PercentEquals ∷ ShiftLeftEquals ∷ ShiftRightEquals
     ∷ AndEquals ∷ XorEquals ∷ OrEquals ∷ OpenRound ∷ CloseRound ∷ OpenCurly ∷ CloseCurly ∷ Comma ∷ Semicolon ∷ []
 
--- the punctuator that is spelled so, if there is one
+-- the punctuator with this spelling, if there is one
 unfoldable pub punctuator_of : List ℕ → Option Punctuator
 punctuator_of bytes = entry bytes (map row all_punctuators)
 

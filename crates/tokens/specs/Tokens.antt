@@ -9,7 +9,7 @@ use Rattle.tokens.specs.declared.located_tokens.Token.{Token}
 use Rattle.tokens.specs.declared.located_tokens.Token.TheVariants as variant
 use Rattle.tokens.specs.declared.located_tokens.LocatedToken.{LocatedToken}
 
--- a fault is the last token; else the end is
+-- the last token is a lexical error, or else the end
 abbrev pub is_last : Token → Bool
 is_last variant.End = true
 is_last (variant.Fault lexical_error) = true
@@ -27,15 +27,15 @@ FitsToken (variant.Punctuator punctuator) = Unit {0}
 FitsToken variant.End = Unit {0}
 FitsToken (variant.Fault lexical_error) = Unit {0}
 
--- what lies ahead in a source: the line that it begins on, how many bytes stand before it,
--- its bytes up to the limit, and whether the source goes on behind that
+-- what lies ahead in a source: the line that it begins on, its offset,
+-- its bytes up to the limit, and whether the source goes on after that
 pub record Ahead : Type 0 where
   pub line : ℕ
   pub offset : ℕ
   pub bytes : List ℕ
   pub too_long : Bool
 
--- the line behind a byte; byte 10 ends a line
+-- the line after a byte; byte 10 ends a line
 abbrev pub line_after : ℕ → ℕ → ℕ
 line_after b line = if b == 10 then line + 1 else line
 
@@ -52,12 +52,12 @@ ahead_after_byte ahead = go ahead.bytes
       too_long = ahead.too_long;
     }
 
--- so many bytes further
+-- this many bytes further
 abbrev pub ahead_after : ℕ → Ahead → Ahead
 ahead_after zero ahead = ahead
 ahead_after (suc n) ahead = ahead_after n (ahead_after_byte ahead)
 
--- behind the last byte
+-- after the last byte
 abbrev pub at_end : Ahead → Ahead
 at_end ahead = ahead_after (length ahead.bytes) ahead
 
@@ -67,19 +67,19 @@ last_located_token token line end =
     if end.too_long then record { token = variant.Fault SourceTooLong; line = end.line; end = end.offset + 1 }
     else record { token = token; line = line; end = end.offset }
 
--- the last token where no other is left
+-- the last token if no other is left
 abbrev pub end_token : Token → Ahead → LocatedToken
 end_token token ahead = last_located_token token ahead.line (at_end ahead)
 
--- a token of so many bytes, with its place
+-- a token of this many bytes, with its line and end
 abbrev pub located : Token → ℕ → Ahead → LocatedToken
 located token count ahead = record { token = token; line = ahead.line; end = ahead.offset + count }
 
--- a token, and where it isn't the last, those behind it
+-- a token, and unless it is the last, those after it
 abbrev pub followed_by : LocatedToken → List LocatedToken → List LocatedToken
 followed_by located_token others = located_token ∷ (if is_last located_token.token then [] else others)
 
--- what a front gives, and then what is made of the rest
+-- what a front gives, and then the tokens of the rest
 abbrev pub tokens_of_front : Front → Ahead → (Ahead → List LocatedToken) → List LocatedToken
 tokens_of_front Nothing ahead others = end_token variant.End ahead ∷ []
 tokens_of_front Unclosed ahead others = end_token (variant.Fault CommentNotClosed) ahead ∷ []
@@ -87,12 +87,12 @@ tokens_of_front (Space count) ahead others = others (ahead_after count ahead)
 tokens_of_front (Lexeme sign count) ahead others =
     followed_by (located sign count ahead) (others (ahead_after count ahead))
 
--- what lies ahead is cut into at most so many pieces
+-- the tokens of what lies ahead, which is cut into at most this many pieces
 abbrev pub tokens_within : ℕ → Ahead → List LocatedToken
 tokens_within zero ahead = []
 tokens_within (suc n) ahead = tokens_of_front (front ahead.bytes) ahead (tokens_within n)
 
--- each piece has a byte at least
+-- each piece has at least a byte
 unfoldable pub located_tokens : Ahead → List LocatedToken
 located_tokens ahead = tokens_within (suc (length ahead.bytes)) ahead
 

@@ -13,8 +13,8 @@ use Rattle.tokens.specs.declared.devices.DeviceFault.{DeviceFault}
 use Rattle.tokens.specs.declared.windows.Beyond.{Beyond}
 use Rattle.tokens.specs.declared.windows.Beyond.TheVariants.{Unread, Nothing, TooMuch}
 
--- the line and the place of the next byte, the bytes at hand, how many were taken from the device,
--- and what is known of the source behind those at hand
+-- the line and the offset of the next byte, the bytes at hand, how many were taken from the device,
+-- and what is known of the source after those at hand
 pub record Window : Type 0 where
   pub line : ℕ
   pub offset : ℕ
@@ -22,18 +22,18 @@ pub record Window : Type 0 where
   pub taken : ℕ
   pub beyond : Beyond
 
--- a window of this line, this place, these bytes at hand, so many bytes taken, and this beyond
+-- a window of this line, this offset, these bytes at hand, this many bytes taken, and this beyond
 abbrev pub window_of : ℕ → ℕ → List ℕ → ℕ → Beyond → Window
 window_of line place at_hand taken beyond =
     record { line = line; offset = place; at_hand = at_hand; taken = taken; beyond = beyond }
 
--- the bytes behind those at hand, up to the limit, by the device's bytes to come
+-- the bytes after those at hand, up to the limit, given the device's bytes to come
 abbrev pub later : Beyond → ℕ → List ℕ → List ℕ
 later Unread taken to_come = take (most_source_bytes - taken) (source to_come)
 later Nothing taken to_come = []
 later TooMuch taken to_come = []
 
--- whether the source goes on behind the limit
+-- whether the source goes on after the limit
 abbrev pub goes_on : Beyond → ℕ → List ℕ → Bool
 goes_on Unread taken to_come = nat_lt (most_source_bytes - taken) (length (source to_come))
 goes_on Nothing taken to_come = false
@@ -48,7 +48,7 @@ ahead window to_come = record {
   too_long = goes_on window.beyond window.taken to_come;
 }
 
--- the same, where the device tells its bytes to come
+-- the same, if the device's bytes to come are known
 abbrev pub seen : Window → Option (List ℕ) → Option Ahead
 seen window told = option_map (ahead window) told
 
@@ -56,7 +56,7 @@ seen window told = option_map (ahead window) told
 abbrev pub untouched : Window
 untouched = record { line = 1; offset = 0; at_hand = []; taken = 0; beyond = Unread }
 
--- behind the first byte at hand
+-- the window after the first byte at hand
 abbrev pub window_after_byte : Window → Window
 window_after_byte window = go window.at_hand
   where
@@ -64,20 +64,20 @@ window_after_byte window = go window.at_hand
     go [] = window
     go (b ∷ rest) = record window { line = line_after b window.line; offset = window.offset + 1; at_hand = rest }
 
--- behind so many bytes at hand
+-- the window after this many bytes at hand
 abbrev pub window_after : ℕ → Window → Window
 window_after zero window = window
 window_after (suc n) window = window_after n (window_after_byte window)
 
--- behind the bytes at hand that stand before the next `*`
+-- the window after the bytes at hand that are before the next `*`
 abbrev pub window_after_plain : Window → Window
 window_after_plain window = window_after (prefix_len (λ b. not (b == 42)) window.at_hand) window
 
--- behind the blanks at hand
+-- the window after the blanks at hand
 abbrev pub window_after_blanks : Window → Window
 window_after_blanks window = window_after (prefix_len is_blank window.at_hand) window
 
--- how many of these bytes belong to a source for which there is so much room, and what follows them
+-- how many of these bytes belong to a source for which there is this much room, and what follows them
 abbrev pub Splits : List ℕ → ℕ → ℕ → Beyond → Type 0
 Splits bytes room kept Unread = (source bytes ≡ bytes) × (kept ≡ length bytes) × (0 < length bytes)
     × (length bytes ≤ room)
@@ -85,7 +85,7 @@ Splits bytes room kept TooMuch = (source bytes ≡ bytes) × (kept ≡ room) × 
 Splits bytes room kept Nothing = (kept ≡ length (source bytes)) × (length (source bytes) ≤ room)
     × (0 < length bytes → length (source bytes) < length bytes)
 
--- the same line and place
+-- the same line and offset
 pub record IsAtSameOffset (old new : Window) : Type 0 where
   pub line : new.line ≡ old.line
   pub offset : new.offset ≡ old.offset
@@ -113,13 +113,13 @@ pub record IsWindow (next filled start taken line : ℕ) (beyond : Beyond) : Typ
   pub bounded : taken ≤ most_taken_bytes
   pub near : taken ≤ start + window_bytes
 
--- what a device has still to give is all but the bytes taken, of which there were so many before and are so many now
+-- what a device has still to give is all but the bytes taken, of which there were `before` and are `now`
 pub record TakesBytes (before now : ℕ) (told told' : Option (List ℕ)) : Type 0 where
   pub rest : (total : Option (List ℕ)) → told ≡ option_map (drop before) total → told' ≡ option_map (drop now) total
 
 -- What each call on a window needs and keeps. Every contract of the lexer cites these facts.
 
--- every window: it took no more bytes than a window past its place, and than the most, and its place is in the source
+-- every window: it took no more bytes than a window past its offset, and than the most, and its offset is in the source
 pub record IsBounded (window : Window) : Type 0 where
   pub near : window.taken ≤ window.offset + window_bytes
   pub limited : window.taken ≤ most_taken_bytes
@@ -130,8 +130,8 @@ pub record MayAsk (window : Window) (device : Device) : Type 0 where
   pub countable : device.account.failures < 2 ^ 64 - 1
   pub known : KnowsEnd window.beyond device.ended
 
--- A window went on, or stayed: its device has still to give all but the bytes taken, and failed so often. The window is
--- as every window is, and knows if the device has ended.
+-- A window went on, or stayed: its device has still to give all but the bytes taken, and has failed as often as
+-- counted. The window is as every window is, and knows if the device has ended.
 pub record HasReadOn (old new : Window) (told told' : Option (List ℕ)) (counted account : Account) (ended : Bool)
     : Type 0 where
   pub took : TakesBytes old.taken new.taken told told'
@@ -153,7 +153,7 @@ abbrev pub MayHaveAsked : {T : Type 0} → Result T DeviceFault → Window → W
 MayHaveAsked result old new before after =
     LeavesAsked result old new before.to_come after.to_come before.account after.account after.ended
 
--- a window passed bytes at hand, and asked nothing
+-- bytes at hand were skipped, and nothing was asked
 pub record SkipsBytes (old new : Window) : Type 0 where
   pub forward : old.offset ≤ new.offset
   pub taken : new.taken ≡ old.taken

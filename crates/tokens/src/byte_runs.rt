@@ -1,4 +1,4 @@
-//! Runs of bytes up to the first of a kind, a block at a time.
+//! Runs of bytes up to the first one of a kind, a block at a time.
 
 ghost use Rattle.std.specs.Prelude.{◌≡◌, ℕ, ◌≤◌, Bool, false, not, ◌==◌, length, map, take};
 ghost use Rattle.std.specs.List.{prefix_len, count_by};
@@ -15,10 +15,10 @@ const END_BYTE: u8 = 26;
 /// The byte that ends a line.
 pub const LINE_FEED: u8 = 10;
 
-/// How many bytes are looked at together.
+/// How many bytes are tested together.
 const BLOCK: usize = 32;
 
-/// How many bytes are looked at together if most of them are only to be passed.
+/// How many bytes are tested together if few of them stop a run.
 const WIDE: usize = 64;
 
 /// A kind of bytes that ends a run of others.
@@ -30,7 +30,7 @@ pub trait StopByte {
     fn is_stop(b: u8) -> bool
         ensures { result ≡ stops b };
 
-    /// Does the same for each byte of a block, as a bit. No byte of the kind ends a line.
+    /// Reports this of each byte of a block, as a bit. No byte of the kind ends a line.
     fn stop_bits(block: u8x32) -> u64
         ensures bits { result ≡ mask_l (map stops block) }
         ensures in_line { stops 10 ≡ false };
@@ -70,7 +70,8 @@ impl StopByte for SourceEndByte {
     }
 }
 
-/// Each blank at the place of its low four bits, in both halves. The other places have 0, whose own place has a blank.
+/// Each blank at the index of its low four bits, in both halves. The other entries are 0, which is found nowhere:
+/// entry 0 is a space.
 #[rattlefmt::skip]
 const BLANKS: [u8; BLOCK] = [
     b' ', 0, 0, 0, 0, 0, 0, 0, 0, 9, 10, 11, 12, 13, 0, 0,
@@ -90,7 +91,7 @@ impl StopByte for NonBlankByte {
 
     #[inline(always)]
     fn stop_bits(block: u8x32) -> u64 {
-        // A blank is the byte that the table has at its low four bits, and no other byte is.
+        // A byte is a blank if and only if the table has it at its low four bits.
         let low = block & u8x32::splat(15);
         let blanks = u8x32::from_array(BLANKS).swizzle_dyn_within::<16>(low);
         block.simd_ne(blanks).to_bitmask()
@@ -103,7 +104,7 @@ pub fn run_before_end(bytes: &[u8]) -> usize
     ensures { result ≡ prefix_len (λ b. not (b == 26)) bytes.now }
 {
     let mut count = 0;
-    // Two wide blocks fit before this place.
+    // Two wide blocks fit before this index.
     let room = bytes.len().saturating_sub(2 * WIDE - 1);
     while count < room {
         let here = has_end(u8x64::from_slice(&bytes[count..]));
@@ -144,7 +145,7 @@ pub fn run_before<S: StopByte>(bytes: &[u8]) -> (usize, u32)
     (count + run, lines + ended)
 }
 
-/// Does the same for a block.
+/// Returns the same for a block.
 #[inline(always)]
 fn run_in_block<S: StopByte>(block: u8x32) -> (usize, u32)
     ensures count { result.0 ≡ prefix_len (λ b. not (S.stops b)) block }
@@ -161,7 +162,7 @@ fn run_in_block<S: StopByte>(block: u8x32) -> (usize, u32)
     (run as usize, (feeds & (stops - 1)).count_ones())
 }
 
-/// Does the same, a byte at a time.
+/// Returns the same, a byte at a time.
 fn run_by_one<S: StopByte>(bytes: &[u8]) -> (usize, u32)
     requires { length bytes.now ≤ window_bytes }
     ensures count { result.0 ≡ prefix_len (λ b. not (S.stops b)) bytes.now }

@@ -1,4 +1,4 @@
-//! The characters that the language tells apart.
+//! The kinds of characters that the language distinguishes.
 
 ghost use Rattle.std.specs.Prelude.{◌≡◌};
 ghost use Rattle.tokens.specs.Characters.{is_blank, is_letter, is_digit, is_name_byte};
@@ -12,7 +12,7 @@ pub const DIGIT: u8 = 1;
 /// The kind of a byte that is none of the others.
 pub const OTHER: u8 = 2;
 
-// The punctuators of one byte, first those with which no longer one begins.
+// The punctuators of one byte, first those that no longer punctuator begins with.
 
 /// The kind of `(`.
 pub const OPEN_ROUND: u8 = 3;
@@ -116,7 +116,7 @@ pub fn is_letter(b: u8) -> bool
     KINDS[usize::from(b)] == LETTER
 }
 
-/// Reports whether a name goes on with this byte.
+/// Reports whether a name may go on with this byte.
 #[inline(always)]
 pub fn is_name_byte(b: u8) -> bool
     ensures { result ≡ is_name_byte b }

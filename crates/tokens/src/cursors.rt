@@ -13,8 +13,8 @@ use crate::located_tokens::LocatedToken;
 use std::marker::Model;
 
 /// Reads the tokens of a device through a window of `WINDOW_BYTES` bytes. It holds the next token and the one
-/// behind it, and nothing more. The device is passed beside it at each call, and is asked for bytes only
-/// where one of these two needs them.
+/// after it, and nothing more. The device is passed beside it at each call, and is asked for bytes only
+/// if one of these two needs them.
 #[derive(Drop)]
 pub struct Cursor {
     lexer: Lexer,
@@ -63,7 +63,7 @@ impl Cursor {
         &self.next
     }
 
-    /// Returns the token after the next one. If the next is the last, there is none, and the result says nothing.
+    /// Returns the token after the next one. If the next is the last, there is none, and the result means nothing.
     pub fn after(&self) -> &LocatedToken
         ensures value { result.now ≡ self.now.after }
         ensures fits { FitsToken result.now.token }

@@ -9,11 +9,11 @@ pub struct DeviceFault;
 
 /// A device that gives bytes, in pieces of any size.
 pub trait Feed {
-    /// Which device it is, by a number that it keeps, and how often a read has failed; the bytes still to come, where the
-    /// device tells them; and whether a read has given no byte. Such a device has ended, and is not read again.
+    /// Which device it is, by a number that it keeps, and how often a read has failed; the bytes still to come, if they
+    /// are known; and whether a read has given no byte. Such a device has ended, and is not read again.
     ghost device: { Self → Device };
 
-    /// Puts the next bytes at the front of `buf`, and answers how many: 0 only at the end.
+    /// Puts the next bytes at the front of `buf`, and returns how many: 0 only at the end.
     /// After an `Err` no byte was taken.
     fn fill(&mut self, buf: &mut [u8]) -> Result<usize, DeviceFault>
         requires nonempty { 0 < length buf.old }

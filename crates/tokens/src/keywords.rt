@@ -7,7 +7,7 @@ ghost use Rattle.tokens.specs.Keywords.{keyword_of};
 use crate::located_tokens::Keyword;
 
 impl Keyword {
-    /// Reports whether a name may be a word. No word has a single byte.
+    /// Reports whether a name may be a keyword. No keyword has a single byte.
     #[inline(always)]
     #[tactic(auto, unfolding(crate::specs::Keywords::keyword_of))]
     pub(crate) fn may_be(name: &[u8]) -> bool
@@ -16,7 +16,7 @@ impl Keyword {
         name.len() >= 2
     }
 
-    /// Returns the word that a name is, if it is one. Its first byte leaves few to compare it with.
+    /// Returns the keyword that a name is, if it is one. Its first byte leaves few to compare it with.
     #[tactic(auto, unfolding(crate::specs::Keywords::keyword_of))]
     pub(crate) fn of_name(name: &[u8]) -> Option<Keyword>
         ensures { result ≡ keyword_of name.now }
@@ -51,7 +51,7 @@ impl Keyword {
         }
     }
 
-    /// Returns this word, if a name is it.
+    /// Returns this keyword, if a name is it.
     fn when(self, is: bool) -> Option<Keyword>
         ensures { result ≡ (if is then Some self else None) }
     {
@@ -59,7 +59,7 @@ impl Keyword {
     }
 }
 
-/// Reports whether a name is a reserved word that begins with `s`.
+/// Reports whether a name is a refused word that begins with `s`.
 fn is_refused_with_s(name: &[u8]) -> bool
     ensures { result ≡ (bytes_eq name.now (codes "switch") || bytes_eq name.now (codes "struct")
         || bytes_eq name.now (codes "sizeof") || bytes_eq name.now (codes "static")

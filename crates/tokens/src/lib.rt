@@ -1,4 +1,4 @@
-//! Reads the bytes of a source from a device and gives its tokens one by one, through a window of fixed size.
+//! Reads the bytes of a source from a device and returns its tokens one by one, through a window of fixed size.
 #![tactic(auto)]
 
 mod byte_runs;

@@ -1,10 +1,10 @@
-//! Tokens, with their places in the source.
+//! Tokens, with their lines and ends in the source.
 
 ghost use Rattle.std.specs.Prelude.{◌≡◌};
 
 use crate::names::Name;
 
-/// An operator or a punctuation mark.
+/// A punctuator: an operator, a bracket, a comma or a semicolon.
 #[derive(Clone, Copy, Debug, PartialEq, Eq)]
 pub enum Punctuator {
     /// `+`
@@ -100,7 +100,7 @@ pub enum Keyword {
     Return,
     /// `int`, `long`, `auto` or `register`
     Type,
-    /// A word that is reserved and has no use, as `for`.
+    /// A word that is reserved and has no use, such as `for`.
     Refused,
 }
 
@@ -109,7 +109,7 @@ pub enum Keyword {
 pub enum LexicalError {
     /// A byte that no token begins with.
     BadCharacter,
-    /// A `/*` with no `*/` behind it.
+    /// A `/*` with no `*/` after it.
     CommentNotClosed,
     /// A name of more than `MOST_NAME_BYTES` bytes.
     NameTooLong,
@@ -128,7 +128,7 @@ pub enum Token {
     Keyword(Keyword),
     /// A constant, at most `MOST_CONSTANT_VALUE`.
     Constant(u32),
-    /// An operator or a punctuation mark.
+    /// A punctuator.
     Punctuator(Punctuator),
     /// The end of the source, the last token.
     End,
@@ -136,7 +136,7 @@ pub enum Token {
     Fault(LexicalError),
 }
 
-/// A token with its place.
+/// A token with the line that it begins on and the offset of its end.
 #[derive(Clone, Copy, Debug, PartialEq, Eq)]
 pub struct LocatedToken {
     /// What it is.
@@ -150,7 +150,7 @@ pub struct LocatedToken {
 impl Token {
     ghost use Rattle.tokens.specs.Tokens.{is_last};
 
-    /// Reports whether no token follows this one: a fault is the last token, or else the end is.
+    /// Reports whether no token follows this one: it is a lexical error, or the end.
     pub fn is_last(&self) -> bool
         ensures { result ≡ is_last self.now }
     {
@@ -159,7 +159,7 @@ impl Token {
 }
 
 impl LocatedToken {
-    /// Makes what fills the place of a token before one is read.
+    /// Makes what fills the field of a token before one is read.
     pub(crate) fn placeholder() -> LocatedToken {
         LocatedToken {
             token: Token::End,

@@ -7,7 +7,7 @@ ghost use Rattle.tokens.specs.MemoryFeeds.{GivesPiece, device_of, memory_feed_of
 use crate::devices::{DeviceFault, Feed};
 use std::marker::Model;
 
-/// A device of given bytes, which gives them in pieces of a size at most, and may fail from some read on.
+/// A device of given bytes, which gives them in pieces of at most a given size, and may fail from some read on.
 #[derive(Drop)]
 pub struct MemoryFeed<'a> {
     bytes: &'a [u8],
@@ -30,7 +30,7 @@ impl<'a> Model for MemoryFeed<'a> {
 }
 
 impl<'a> MemoryFeed<'a> {
-    /// Makes a device of these bytes, which gives at most so many at a read.
+    /// Makes a device of these bytes, which gives at most `most` at a read.
     pub fn new(bytes: &'a [u8], most: usize) -> Self
         requires { 0 < most }
         ensures { result ≡ memory_feed_of bytes.now 0 most 0 usize.MAX false }
@@ -38,7 +38,7 @@ impl<'a> MemoryFeed<'a> {
         MemoryFeed::failing_at(bytes, most, usize::MAX)
     }
 
-    /// Makes the same device, but each read fails from this one on, counted from 0.
+    /// Makes the same device, but each read from this one on fails, counted from 0.
     pub fn failing_at(bytes: &'a [u8], most: usize, read: usize) -> Self
         requires { 0 < most }
         ensures { result ≡ memory_feed_of bytes.now 0 most 0 read false }

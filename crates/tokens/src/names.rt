@@ -1,4 +1,4 @@
-//! Names, of fixed size.
+//! Names, in arrays of fixed size.
 
 ghost use Rattle.std.specs.Prelude.{◌≡◌, ◌∷◌, [], ◌++◌, ◌<◌, ◌≤◌, ◌↔◌, IsTrue, true, length};
 ghost use Rattle.std.specs.Str.{bytes_eq};

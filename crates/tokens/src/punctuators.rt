@@ -61,7 +61,7 @@ impl Punctuator {
         matches!(b, b'=' | b'+' | b'-' | b'&' | b'|' | b'<' | b'>')
     }
 
-    /// Returns the punctuator of a byte with which no longer one begins, so that the next byte is of no account.
+    /// Returns the punctuator of a byte that no longer one begins with, so that the next byte doesn't matter.
     #[inline(always)]
     pub(crate) fn of_single_byte(b: u8) -> Option<Punctuator>
         ensures { IfSome result (IsOfSingleByte b) }
@@ -81,7 +81,7 @@ impl Punctuator {
         }
     }
 
-    /// Returns the punctuator that is spelled as this one and the next byte, if there is one.
+    /// Returns the punctuator that this one and the next byte spell, if there is one.
     #[inline(always)]
     pub(crate) fn extended(self, next: Option<u8>) -> Option<Punctuator>
         ensures { result ≡ option_and_then (λ b. punctuator_of (spelling self ++ b ∷ [])) next }
@@ -89,7 +89,7 @@ impl Punctuator {
         self.extended_by(next?)
     }
 
-    /// Returns the punctuator that is spelled as this one and then the byte.
+    /// Returns the punctuator that this one and then the byte spell.
     #[inline(always)]
     #[tactic(auto, unfolding(crate::specs::Punctuators::punctuator_of))]
     fn extended_by(self, b: u8) -> Option<Punctuator>
@@ -107,7 +107,7 @@ impl Punctuator {
         }
     }
 
-    /// Returns the punctuator that is spelled as this one and then `=`.
+    /// Returns the punctuator that this one and then `=` spell.
     #[tactic(auto, unfolding(crate::specs::Punctuators::punctuator_of))]
     fn extended_by_equals(self) -> Option<Punctuator>
         ensures { result ≡ punctuator_of (spelling self ++ 61 ∷ []) }

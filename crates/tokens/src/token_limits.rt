@@ -1,4 +1,4 @@
-//! The limits of the lexical part of the language.
+//! The limits of tokens and of a source.
 
 /// The most bytes of a name.
 pub const MOST_NAME_BYTES: usize = 31;

@@ -14,14 +14,14 @@ use crate::devices::{DeviceFault, Feed};
 use crate::token_limits::{MOST_SOURCE_BYTES, WINDOW_BYTES};
 use std::marker::Model;
 
-/// What is known of the source behind the bytes at hand.
-#[derive(Clone, Copy, Debug, PartialEq, Eq)]
+/// What is known of the source after the bytes at hand.
+#[derive(Clone, Copy, PartialEq, Eq)]
 pub enum Beyond {
     /// Nothing yet: the device is to be asked.
     Unread,
     /// The source ends there.
     Nothing,
-    /// The source goes on behind the limit.
+    /// The source goes on after the limit.
     TooMuch,
 }
 
@@ -126,7 +126,7 @@ impl Window {
         &self.bytes[self.next..self.filled]
     }
 
-    /// Goes past so many bytes at hand, none of which ends a line.
+    /// Goes past `count` bytes at hand, none of which ends a line.
     #[inline(always)]
     pub fn skip_in_line(&mut self, count: usize)
         requires within { count ≤ length self.old.at_hand }
@@ -201,7 +201,7 @@ impl Window {
     }
 }
 
-/// Returns how many of these bytes belong to the source, of which there is room for so many, and what follows them.
+/// Returns how many of these bytes belong to the source, which has room for `room` more, and what follows them.
 #[tactic(auto, using(crate::proofs::SourceLemmas::cutting))]
 fn split_source(bytes: &[u8], room: usize) -> (usize, Beyond)
     requires room { length bytes.now ≤ room + 1 }

@@ -63,7 +63,7 @@ impl<'a> Rows<'a> {
         }
     }
 
-    /// Moves the rows that were added behind those before.
+    /// Moves the rows that were added to the end of those before.
     fn move_rows(&mut self) {
         let moved = self.pending.move_behind(self.output.text());
         self.note(moved);

@@ -45,7 +45,7 @@ impl<'a> Sums<'a> {
         })
     }
 
-    /// Returns the tally of a robot, if it is looked at in a cycle.
+    /// Returns the counts of a robot, if it is looked at in a cycle.
     fn tally(&mut self, cycle: u32, robot: usize) -> Option<&mut RobotCounts> {
         if self.span.has(cycle, robot) {
             self.tallies.get_mut(robot)

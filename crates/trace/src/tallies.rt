@@ -1,4 +1,4 @@
-//! The tally of a robot: the counts of which the sums are made. It gets each cycle, call, restart, loss and burst while
+//! What is counted of a robot: the sums are made of that. Each cycle, call, restart, loss and burst is counted while
 //! the match is played.
 
 use crate::clocks::Clock;
@@ -86,7 +86,7 @@ fn deed_of(question: &Exchange) -> Option<Deed> {
     }
 }
 
-/// The tally of a robot.
+/// What is counted of a robot.
 #[derive(Drop)]
 pub struct RobotCounts {
     /// Its addresses.
@@ -122,7 +122,7 @@ pub struct RobotCounts {
 }
 
 impl RobotCounts {
-    /// Makes the tally of a robot that runs a program.
+    /// Makes the counts of a robot that runs a program, of which nothing is counted so far.
     pub fn new(alloc: Global, program: &Program) -> Result<RobotCounts, AllocError> {
         let mut spots = Vec::new(alloc);
         for _ in program.instructions() {

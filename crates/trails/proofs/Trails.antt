@@ -1,4 +1,4 @@
--- Which places a trail keeps when one more comes, and when each second one is dropped.
+-- Which places a path keeps when one more comes, and when each second one is dropped.
 use Rattle.std.proofs.Common.{◌≡◌, ℕ, zero, suc, ◌+◌, ◌*◌, ◌/◌, ◌<◌, ◌≤◌, ◌∙◌, sym, ap, ap₂, List, [], ◌∷◌, ◌++◌, refl, arith, length, inl, inr}
 use Rattle.std.specs.Prelude.{Some, slice_get}
 use Rattle.std.proofs.lemmas.Bool.{cases_lt, cases_eq, cases_order}
@@ -92,7 +92,7 @@ keeps_pushed t u ps p k due some more stride skip =
           omega (arith, length-append ps (p ∷ []), here, len, suc-mul (length t.places) t.stride);
     }
 
--- a full trail of which each second place is dropped
+-- a full path of which each second place is dropped
 pub keeps_thinned : (t u : Path) (ps : List Place) → Keeps t ps → t.skip ≡ 0 → u.skip ≡ 0 → length t.places ≡ 2000
     → ((n : ℕ) → n < length t.places / 2 → slice_get u.places n ≡ slice_get t.places (2 * n)) →
     length u.places ≡ length t.places / 2

@@ -1,4 +1,4 @@
--- What actions tell of functions, worked out of the actions: so these determine it.
+-- What actions say of functions, worked out of the actions: so these determine it.
 use Rattle.std.specs.Prelude.{ℕ, ℤ, pos, ◌≡◌, List, [], ◌∷◌, ◌++◌, Bool, true, false, length, map, Option, Some, None, slice_get}
 use Rattle.std.specs.Prelude.{if◌then◌else◌, replicate}
 use Rattle.std.proofs.Common.{refl, ap, sym, ◌∙◌, append_assoc}

@@ -33,7 +33,7 @@ use Rattle.trees.proofs.StandingLaws.{follow_inside}
 use Rattle.trees.proofs.TreeLaws.{Tells, tells_arguments, tells_functions, tells_last, tells_split, tells_statements, tree-Binary, tree-Assign, tree-Call, tree-ExpressionStatement, tree-IfStatement, tree-IfElseStatement, tree-While, tree-Return}
 use Rattle.grammar.proofs.StandingLaws.{may_front, may_first, may_then, appends_both}
 
--- the limit is passed with more actions too
+-- the limit is exceeded with more actions too
 pub over_front : (before : Representation) (xs ys : List Action) → IsOverWith before xs → IsOverWith before (xs ++ ys)
 over_front before xs ys over p acts s =
     omega (arith, over p acts s, code_length-append p (acts ++ xs) ys, ap (code_length p) (append_assoc acts xs ys))
@@ -238,7 +238,7 @@ pub appends_those : (m : TreeMaker) (before behind : Representation) →
 appends_those m before behind closed added p acts stands =
     subst (AppendsAll before behind) (sym ((is_done m closed).each p acts stands)) added
 
--- the limit is passed in one of the functions
+-- the limit is exceeded in one of the functions
 pub over_those : (m : TreeMaker) (before between : Representation) (i : ℕ) (f : Function) →
     LeavesOpen (λ p acts. TreeMakerRepresents m p acts) [] → i < length m.functions → f ≡ get_or m.functions i f →
     AppendsAll before between (made_actions (take i m.functions)) →

@@ -188,7 +188,7 @@ follow_inside (a ∷ acts) o p e = next (follow a o) refl e (λ q h. follow_insi
         inside_cons (is_open o) a acts ∙ ap (λ b. in_function b acts) (action_inside a o q is) ∙
         again q (guarded_is (few_open q) _ p k)
 
--- The maker goes on, or has passed the limit.
+-- The maker goes on, or has exceeded the limit.
 
 one_next : (a : Action) (o p : Opened) → follow a o ≡ Some p → few_open p ≡ true → follow_all (a ∷ []) o ≡ Some p
 one_next a o p e few = rw (e, few) refl
@@ -226,7 +226,7 @@ goes_on m n a by same k counted fits may p acts s =
     some_few : (x y : Opened) → Some x ≡ Some y → few_open x ≡ true → few_open y ≡ true
     some_few x y e h = let same : x ≡ y = cc in subst (λ o. few_open o ≡ true) same h
 
--- past it the code has passed the limit in a function that is still open
+-- past it the code has exceeded the limit in a function that is still open
 passed_by : (m n : TreeMaker) (a : Action) (acts : List Action) (p : Profile) →
     n.code ≡ min (m.code + instructions m.profile a) 65535 → m.profile.instructions ≤ n.code →
     in_function true (a ∷ []) ≡ true →

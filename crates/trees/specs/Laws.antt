@@ -6,7 +6,7 @@ use Rattle.grammar.specs.Tree as tree
 use Rattle.trees.specs.Trees.{function_tree, made_actions}
 use Rattle.trees.specs.declared.tree.Function.{Function}
 
--- what actions tell of a function: all but names
+-- what actions say of a function: all but names
 pub record Told : Type 0 where
   pub number : ℕ
   pub parameters : ℕ

@@ -1,4 +1,4 @@
--- What is on the stack of a maker: the actions that it was made of, and what it leaves open.
+-- What is on the stack of a tree maker: the actions that it was made of, and what it leaves open.
 use Rattle.std.specs.Prelude.{ℕ, ◌≡◌, List, [], ◌∷◌, ◌++◌, false, Some, is_some, IsTrue}
 use Rattle.grammar.specs.declared.actions.Action.{Action}
 use Rattle.grammar.specs.declared.actions.Action.TheVariants.{BeginCall, IfTest, ElsePart, BeginWhile, WhileTest}
@@ -54,7 +54,7 @@ abbrev pub open_actions : List entry.OpenItem → List Action
 open_actions [] = []
 open_actions (x ∷ xs) = open_actions xs ++ entry_actions x
 
--- the action may follow what is open
+-- the action may come next, by what is open
 abbrev pub IsAllowed : Action → List entry.OpenItem → Type 0
 IsAllowed a xs = IsTrue (is_some (follow a (opened_of xs)))
 

@@ -11,7 +11,7 @@ pub record StandsForNone (before : Representation) : Type 0 where
   pub profile : Profile
   pub stood : before profile []
 
--- after these actions the code and the last NOP pass the profile's limit
+-- after these actions the code and the last NOP exceed the profile's limit
 abbrev pub IsOverWith : Representation → List Action → Type 0
 IsOverWith before more = (profile : Profile) (acts : List Action) → before profile acts
     → profile.instructions < code_length profile (acts ++ more) + 1
@@ -21,7 +21,7 @@ abbrev pub AppendsThose : TreeMaker → Representation → Representation → Ty
 AppendsThose maker before behind = (profile : Profile) (acts : List Action) → TreeMakerRepresents maker profile acts
     → AppendsAll before behind acts
 
--- with the actions that the maker represents, the code passes the limit
+-- with the actions that the maker represents, the code exceeds the limit
 abbrev pub IsOverWithThose : TreeMaker → Representation → Type 0
 IsOverWithThose maker before = (profile : Profile) (acts : List Action) → TreeMakerRepresents maker profile acts
     → IsOverWith before acts

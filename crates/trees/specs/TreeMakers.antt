@@ -1,4 +1,4 @@
--- What a maker of trees represents.
+-- What a tree maker represents.
 use Rattle.std.specs.Prelude.{ℕ, ◌+◌, ◌≡◌, ◌<◌, ◌≤◌, List, [], ◌∷◌, ◌++◌, Bool, true, false, Some}
 use Rattle.grammar.specs.declared.actions.Action.{Action}
 use Rattle.grammar.specs.declared.actions.Action.TheVariants.{BeginFunction, EndFunction}
@@ -10,7 +10,7 @@ use Rattle.trees.specs.Trees.{made_actions}
 use Rattle.trees.specs.declared.tree_stack.OpenItem.{OpenItem}
 use Rattle.trees.specs.declared.tree.Function.{Function}
 
--- what a maker keeps: its profile, the functions that are done, what is open, the innermost first, and how many
+-- what a tree maker keeps: its profile, the functions that are done, what is open, the innermost first, and how many
 -- instructions it counted
 pub record TreeMaker : Type 0 where
   pub profile : Profile
@@ -35,13 +35,13 @@ pub record Builds (m : TreeMaker) (acts : List Action) : Type 0 where
   pub opens : follow_all acts [] ≡ Some (opened_of m.stack)
   pub counted : code_length m.profile acts ≡ m.code
 
--- the code has passed the limit in a function that is still open
+-- the code exceeds the limit in a function that is still open
 pub record Passed (p : Profile) (acts : List Action) : Type 0 where
   pub over : p.instructions < code_length p acts + 1
   pub inside : in_function false acts ≡ true
 
--- A maker represents these actions by its profile: within the limit its trees have them, and past it only the code
--- counts.
+-- A tree maker represents these actions by its profile: within the limit its trees have them, and past it only the code
+-- is counted.
 pub record TreeMakerRepresents (m : TreeMaker) (p : Profile) (acts : List Action) : Type 0 where
   pub profile : p ≡ m.profile
   pub known : IsProfile m.profile

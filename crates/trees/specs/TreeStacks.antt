@@ -1,4 +1,4 @@
--- What is on the stack of a maker, the innermost first.
+-- What is on the stack of a tree maker, the innermost first.
 use Rattle.std.specs.Prelude.{◌≡◌, List, [], ◌∷◌, ◌++◌, Bool, true, false}
 use Rattle.trees.specs.declared.tree_stack.OpenBody as body_type
 use Rattle.trees.specs.declared.tree_stack.BodyOwner.{BodyOwner}

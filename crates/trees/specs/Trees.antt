@@ -1,4 +1,4 @@
--- The trees of the code as the trees of the language.
+-- The trees of the crate's code as trees of the language.
 use Rattle.std.specs.Prelude.{List, [], ◌∷◌, ◌++◌, map, replicate}
 use Rattle.grammar.specs.declared.actions.Action.{Action}
 use Rattle.grammar.specs.Actions.{body_actions, function_actions}
@@ -13,7 +13,7 @@ abbrev pub arguments : List tree.Expr → Args
 arguments [] = NoMore
 arguments (e ∷ es) = Argument e (arguments es)
 
--- one node, with the tree of each part in its place
+-- one node, with the tree of each part at its position
 abbrev pub expr_node : Expr-F tree.Expr → tree.Expr
 expr_node (Expr-F.Constant value) = tree.Constant value
 expr_node (Expr-F.Variable v) = tree.Variable v

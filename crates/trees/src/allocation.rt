@@ -1,4 +1,4 @@
-//! Requests of memory, whose refusal is the builder's.
+//! Requests of memory: a refusal is answered by the builder.
 
 ghost use Rattle.std.specs.Prelude.{◌≡◌, [], ◌∷◌, ◌++◌, IfOk, OnOk, ⊤};
 ghost use Rattle.grammar.specs.Building.{Refuses};
@@ -7,7 +7,7 @@ use crate::tree::Expr;
 use grammar::BuildFault;
 use std::alloc::{AllocError, Global};
 
-/// Puts one more after the items, or refuses for want of memory.
+/// Adds one item after the others, or refuses for want of memory.
 pub fn push_or_refuse<T: Drop>(items: &mut Vec<T>, item: T) -> Result<(), BuildFault>
     ensures ok { OnOk result (items.new.items ≡ items.old.items ++ item ∷ []) }
     ensures memory { Refuses result ⊤ }
@@ -15,7 +15,7 @@ pub fn push_or_refuse<T: Drop>(items: &mut Vec<T>, item: T) -> Result<(), BuildF
     items.push(item).map_err(AllocError::from).map_err(refused)
 }
 
-/// Moves an expression to a place of its own, or refuses for want of memory.
+/// Moves an expression into a box, or refuses for want of memory.
 pub fn boxed(alloc: Global, expr: Expr) -> Result<Box<Expr>, BuildFault>
     ensures ok { IfOk result (λ b. b.value ≡ expr) }
     ensures memory { Refuses result ⊤ }

@@ -17,7 +17,7 @@ use crate::tree_stack::{BodyOwner, OpenItem, TreeStack};
 use grammar::{Action, BuildFault, Callee, Op, StoreOp, Var};
 
 impl TreeStack {
-    /// Does an action, which ends no function.
+    /// Does an action that ends no function.
     pub fn act(&mut self, action: Action) -> Result<(), BuildFault>
         requires allowed { IsAllowed action self.old }
         requires inside { ends_function action ≡ false }

@@ -19,7 +19,7 @@ impl TreeMaker {
     ///
     /// # Errors
     ///
-    /// The builder's refusal. What the builder represents is then not said.
+    /// The builder's refusal. What the builder then represents is unknown.
     pub fn replay<B: Build>(&self, build: &mut B) -> Result<(), BuildFault>
         requires closed { LeavesOpen (λ p acts. TreeMakerRepresents self.now p acts) [] }
         requires told_nothing { StandsForNone (B.stands build.old) }
@@ -190,7 +190,7 @@ fn tell_middle<B: Build>(op: Op, build: &mut B) -> Result<(), BuildFault>
     build.act(Action::LogicMiddle(op))
 }
 
-/// Reports `v++` or `v--`, by the operator that steps the variable.
+/// Reports `v++` or `v--`, by the operator that changes the variable by one.
 fn tell_step<B: Build>(op: StoreOp, var: Var, build: &mut B) -> Result<(), BuildFault>
     requires { MayFollowAll (B.stands build.old)
         (FetchVariable var ∷ PushConstant (pos 1) ∷ StoreVariable var op ∷ Chop ∷ []) }

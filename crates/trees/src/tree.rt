@@ -16,7 +16,7 @@ pub enum Expr {
     Binary(Op, Box<Expr>, Box<Expr>),
     /// An assignment with its right side. Its value is the variable's new one.
     Assign(StoreOp, Var, Box<Expr>),
-    /// `v++` or `v--`, by the operator that steps the variable. Its value is the variable's old one.
+    /// `v++` or `v--`, by the operator that changes the variable by one. Its value is the variable's old one.
     Postfix(StoreOp, Var),
     /// A call with its arguments in order.
     Call(Callee, Vec<Expr>),

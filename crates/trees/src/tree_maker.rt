@@ -13,7 +13,7 @@ use std::marker::Model;
 /// Makes the tree of each function that is reported to it.
 ///
 /// It asks its allocator for memory, and answers `Memory` if a request is refused. Once the code and the final NOP
-/// pass the profile's instructions, it makes no more trees, and the end of that function answers `Full`.
+/// exceed the profile's instructions, it makes no more trees, and the end of that function answers `Full`.
 #[derive(Drop)]
 pub struct TreeMaker {
     profile: Profile,
@@ -56,7 +56,7 @@ impl TreeMaker {
         &self.functions
     }
 
-    /// Counts more instructions, and whether the code with the final NOP now passes the limit.
+    /// Counts more instructions, and returns whether the code with the final NOP now exceeds the limit.
     fn count_past_limit(&mut self, instructions: u16) -> bool
         ensures profile { self.new.profile ≡ self.old.profile }
         ensures functions { self.new.functions ≡ self.old.functions }

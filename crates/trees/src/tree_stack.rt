@@ -86,7 +86,7 @@ impl TreeStack {
         self.alloc
     }
 
-    /// Opens something more.
+    /// Opens one more item.
     pub fn open_item(&mut self, item: OpenItem) -> Result<(), BuildFault>
         ensures ok { OnOk result (self.new ≡ item ∷ self.old) }
         ensures memory { Refuses result ⊤ }
@@ -183,7 +183,7 @@ impl TreeStack {
         }))
     }
 
-    /// Takes the innermost call with its arguments, and gives these in order.
+    /// Takes the innermost call with its arguments, and returns these in order.
     pub fn take_arguments(&mut self) -> Result<Vec<Expr>, BuildFault>
         ensures arguments { IfOk result (λ es. es.items ≡ above_call self.old) }
         ensures below { OnOk result (self.new ≡ below_call self.old) }

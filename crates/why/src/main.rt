@@ -81,7 +81,7 @@ impl Wish {
     }
 }
 
-/// Explains files. Reports whether one has a fault, or a warning where warnings count.
+/// Explains files. Reports whether one has a fault, or a warning if warnings count.
 fn explain_all(
     rt: &HostRuntime,
     output: &mut Output,
@@ -96,7 +96,7 @@ fn explain_all(
     Ok(is_faulty)
 }
 
-/// Explains a file. Reports whether it has a fault, or a warning where warnings count.
+/// Explains a file. Reports whether it has a fault, or a warning if warnings count.
 fn explain_file(
     rt: &HostRuntime,
     output: &mut Output,

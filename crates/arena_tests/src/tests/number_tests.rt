@@ -49,7 +49,7 @@ fn operators(rt: HostRuntime) {
     }
 }
 
-/// Compares what a function gives for each number with what stands after the number.
+/// Compares what a function gives for each number with the value after the number.
 macro_rules! gives {
     ($rt:expr; $function:ident; $($number:expr => $want:expr),+) => {
         for (number, want) in [$(($number, $want)),+] {

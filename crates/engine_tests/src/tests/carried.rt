@@ -5,7 +5,7 @@ use code::Profile;
 use std::alloc::{AllocError, Global};
 use std::test::Fail;
 
-/// Makes a source of so many statements that do nothing in two cycles each, and of another one behind them.
+/// Makes a source of so many statements that do nothing in two cycles each, and of another one after them.
 fn carrying(alloc: Global, times: u16, last: &str) -> Result<String, AllocError> {
     let mut source = String::new(alloc);
     source.push_str("f(){} main(){int a;")?;

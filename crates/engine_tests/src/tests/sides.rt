@@ -1,5 +1,5 @@
-//! Which side of an engine asks: operations, or the plain machine behind them. The cycles and the counts of each robot
-//! are worked out by hand, from the code of its source (docs/machine.md) and from where operations give up.
+//! Which side of an engine asks: operations, or the plain machine. The cycles and the counts of each robot are worked
+//! out by hand, from the code of its source (docs/machine.md) and from where operations give up.
 
 ghost use Rattle.std.specs.Prelude.{◌≡◌};
 ghost use Rattle.code.specs.ReachedMachines.{FitsProgram as MachineFits};

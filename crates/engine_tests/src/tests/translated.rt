@@ -112,7 +112,7 @@ fn constants_are_counted(rt: HostRuntime) -> Result<(), Fail> {
 }
 
 // A program may have 2,048 operations. Each statement of eight assignments has ten instructions, `CONST`, eight times
-// `STORE` and `CHOP`, and eight operations. Behind them are two more: one counts their cycles, and one returns. So 255
+// `STORE` and `CHOP`, and eight operations. After them are two more: one counts their cycles, and one returns. So 255
 // statements make 2,042 of them, and 256 make 2,050.
 #[test]
 fn operations_are_counted(rt: HostRuntime) -> Result<(), Fail> {

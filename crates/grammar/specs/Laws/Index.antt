@@ -8,15 +8,15 @@ use Rattle.grammar.specs.Scope.{only_named}
 unfoldable pub bucket_of : List ℕ → ℕ
 bucket_of name = (get_or name (length name - 1) 0 + 16 * get_or name (length name / 2) 0 + length name) % 256
 
--- from which function on a name is looked for
+-- the function from which on a name is searched for
 abbrev pub start_of : List ℕ → List ℕ → ℕ
 start_of name index = get_or index (bucket_of name) 0
 
--- each function is looked for from itself on, or from one before it
+-- each function is searched for from itself on, or from one before it
 pub record IsIndexed (functions : List FunctionNames) (index : List ℕ) : Type 0 where
   pub starts : (k : ℕ) → k < length functions → start_of (get_or functions k (only_named [])).name index ≤ k
 
--- the function of this number has this name; others are looked for from no later on than before
+-- the function of this number has this name; others are searched for from no later function than before
 pub record Notes (name : List ℕ) (number : ℕ) (old new : List ℕ) : Type 0 where
   pub here : start_of name new ≤ number
   pub others : (other : List ℕ) → start_of other new ≤ start_of other old

@@ -1,4 +1,4 @@
-//! Builders: the trees that are told to another builder, and what their refusals become.
+//! Builders: the trees that are reported to another builder, and what their refusals become.
 
 use crate::tests::checks::source_fault;
 use crate::tests::refuser::Refuser;
@@ -33,13 +33,13 @@ fn trees_are_told_to_another_builder(rt: HostRuntime) -> Result<(), Fail> {
     Ok(())
 }
 
-/// Returns the refusal of a parse into a builder that takes so many actions, if there is one.
+/// Returns the refusal of a parse into a builder that takes `actions` actions, if there is one.
 fn refusal(actions: usize) -> Option<ParseFault> {
     let mut builder = Refuser { left: actions };
     parse(&mut MemoryFeed::new(b"main(){1;}", 4_096), &mut builder).err()
 }
 
-/// Does the same for the trees that are replayed to it.
+/// Returns the same for the trees that are replayed to it.
 fn refusal_of_trees(alloc: Global, actions: usize) -> Result<Option<BuildFault>, ParseFault> {
     let mut trees = TreeMaker::new(alloc, Profile::first());
     parse(&mut MemoryFeed::new(b"main(){1;}", 4_096), &mut trees)?;

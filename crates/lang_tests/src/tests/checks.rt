@@ -85,7 +85,7 @@ pub fn check_fault_in(
     Ok(())
 }
 
-/// Compares what is wrong with a source of this profile, for pieces of at most so many bytes.
+/// Compares what is wrong with a source of this profile, for pieces of at most `most` bytes.
 pub fn check_fault_by(
     rt: &(impl Abort + AllocGlobal),
     most: usize,

@@ -1,4 +1,4 @@
-//! The token that each instruction of a small source comes from, and the tokens that fit where a statement begins.
+//! The token that each instruction of a small source comes from, and the tokens that fit at a statement's beginning.
 
 use derivations::{Fitting, SourcePosition, fitting, lines, locate};
 use grammar::Profile;

@@ -16,7 +16,7 @@ fn a_faulty_source_is_not_read_to_its_end(rt: HostRuntime) -> Result<(), Fail> {
     for most in SIZES {
         let outcome = parsed(rt.alloc(), MemoryFeed::new(&source, most));
         assert_eq!(rt; outcome.fault(), wanted, "{most} bytes at once");
-        // the source up to the token behind `break`, and a window
+        // the source up to the token after `break`, and a window
         let taken = outcome.taken;
         assert!(rt; taken <= 14 + 4_096, "{taken} of {most} bytes at once");
     }

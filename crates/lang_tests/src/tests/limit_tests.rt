@@ -72,7 +72,7 @@ fn sources_have_a_limit(rt: HostRuntime) -> Result<(), Fail> {
     Ok(())
 }
 
-/// A number of names, and the fault of a source that has so many.
+/// A number of names, and the fault of a source that has this many.
 type Named = (u8, Option<(u32, Code)>);
 
 #[test]

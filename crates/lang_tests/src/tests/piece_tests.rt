@@ -12,14 +12,14 @@ const EMPTY_MAIN: &[&str] = &[
     "main: Function { number: 0, parameters: 0, variables: 0, body: [] }",
 ];
 
-/// The same of `main(){ x = a+++b; }`.
+/// What the parse of `main(){ x = a+++b; }` makes.
 const STEP: &[&str] = &[
     "externals",
     "main x a b: Function { number: 0, parameters: 0, variables: 3, body: [\
      ExpressionStatement(Assign(Set, Local(0), Binary(Add, Postfix(Add, Local(1)), Variable(Local(2)))))] }",
 ];
 
-/// The same of `d(x,y) int x,y; {return(x*x+y*y);} main(){d(3);}`.
+/// What the parse of `d(x,y) int x,y; {return(x*x+y*y);} main(){d(3);}` makes.
 const PARAMETERS: &[&str] = &[
     "externals",
     "d x y: Function { number: 0, parameters: 2, variables: 2, body: [Return(Binary(Add, \
@@ -69,14 +69,14 @@ const SHIFTED: &[&str] = &[
      ExpressionStatement(Assign(ShiftLeft, Local(0), Constant(1)))] }",
 ];
 
-/// The same of `main(){abcdefghijklmnopqrstuvwxyz_1234;}`.
+/// What the parse of `main(){abcdefghijklmnopqrstuvwxyz_1234;}` makes.
 const LONG_NAME: &[&str] = &[
     "externals",
     "main abcdefghijklmnopqrstuvwxyz_1234: Function { number: 0, parameters: 0, variables: 1, body: [\
      ExpressionStatement(Variable(Local(0)))] }",
 ];
 
-/// The same of `main(){1;}`.
+/// What the parse of `main(){1;}` makes.
 const ONE: &[&str] = &[
     "externals",
     "main: Function { number: 0, parameters: 0, variables: 0, body: [ExpressionStatement(Constant(1))] }",

@@ -1,4 +1,4 @@
-//! The places of instructions of small sources.
+//! The positions of instructions of small sources.
 
 use derivations::{SourcePosition, fitting, lines, locate};
 use grammar::Profile;
@@ -6,7 +6,7 @@ use std::process::Abort;
 use std::test::Fail;
 use tokens::{Punctuator, Token};
 
-/// Compares the places of a source's instructions with rows of a line and a column.
+/// Compares the positions of a source's instructions with rows of a line and a column.
 fn check(
     rt: &impl Abort,
     profile: Profile,

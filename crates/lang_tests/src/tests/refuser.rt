@@ -6,7 +6,7 @@ ghost use Rattle.grammar.specs.Building.{Refuses};
 use lang::{Action, Build, BuildFault};
 
 /// A builder with room for no instruction: the end of each function is too much code for it.
-/// After so many actions before that it is refused memory.
+/// After a number of actions before that it is refused memory.
 #[derive(Drop)]
 pub struct Refuser {
     /// How many actions more it takes.

@@ -7,7 +7,7 @@ use std::alloc::{AllocError, Global};
 pub enum Part {
     /// This text.
     Once(&'static [u8]),
-    /// This text so many times.
+    /// This text, repeated this many times.
     Times(&'static [u8], usize),
 }
 
@@ -23,7 +23,7 @@ pub fn source_of(alloc: Global, parts: &[Part]) -> Result<Vec<u8>, AllocError> {
     Ok(source)
 }
 
-/// Makes a source of so many names of a letter and two digits, each before a text, and of what stands before and after.
+/// Makes a source of `count` names of a letter and two digits, each before a text, and of what is before and after.
 pub fn numbered(
     alloc: Global,
     before: &[u8],
@@ -42,7 +42,7 @@ pub fn numbered(
     Ok(source)
 }
 
-/// Adds a text so many times.
+/// Adds a text `times` times.
 fn add_times(source: &mut Vec<u8>, text: &[u8], times: usize) -> Result<(), AllocError> {
     for _ in 0..times {
         source.extend_from_slice(text)?;

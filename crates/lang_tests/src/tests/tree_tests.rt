@@ -7,7 +7,7 @@ use tokens::MemoryFeed;
 
 /// Sources, each with the statements of its first function.
 const FORMS: &[(&[u8], &str)] = &[
-    // a sign is an operator with a constant
+    // a unary operator is a binary one with a constant
     (
         b"main(){-1 * 2; !3; ~4;}",
         "[ExpressionStatement(Binary(Multiply, Binary(Subtract, Constant(0), Constant(1)), Constant(2))), \

@@ -5,7 +5,7 @@ use std::alloc::{AllocError, Global};
 use std::process::Abort;
 use std::test::Fail;
 
-/// Returns the bytes that a recorder took, with a `|` at each portion's end.
+/// Returns the bytes that a sink took, with a `|` at each portion's end.
 fn shown(alloc: Global, sink: &MemorySink) -> Result<Vec<u8>, AllocError> {
     let mut all = Vec::new(alloc);
     for portion in sink.portions() {

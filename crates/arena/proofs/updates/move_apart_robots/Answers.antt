@@ -16,7 +16,7 @@ returns-clause-far c =
       | then-not-is_quiet w ↦
           subst P (sym w.robots-is)
           (λ k l. let near = c.move_all.ensures.nearby k l in
-          let same = w.hurt.ensures.places k (omega (arith, l, c.move_all.auto.robots)) in
+          let same = w.hurt_near_bursts.ensures.places k (omega (arith, l, c.move_all.auto.robots)) in
           record { on_x = omega (arith, near.on_x, same.on_x); on_y = omega (arith, near.on_y, same.on_y) })
       | else-not-is_quiet w ↦ subst P (sym w.robots-is) c.move_all.ensures.nearby
     ] in
@@ -31,7 +31,7 @@ returns-clause-robots c = λ f u e holds.
     far_one c.args.calm c.args.robots.now (λ z. absurd (omega (arith, z, c.requires.some))) c.requires.far in
     let untouched = calm f c.args.robots.now c.move_all.new.robots size there c.move_all.ensures.nearby far in
     elim c.if-not-is_quiet.branch [
-      | then-not-is_quiet w ↦ w.robots-is ∙ w.hurt.ensures.robots f u there holds untouched
+      | then-not-is_quiet w ↦ w.robots-is ∙ w.hurt_near_bursts.ensures.robots f u there holds untouched
       | else-not-is_quiet w ↦
           let none : (x y : ℕ) → sum (bursts (f.updates + 1) f.shots x y) ≡ 0 =
           λ x y. subst (λ n. sum (bursts n f.shots x y) ≡ 0) u

@@ -24,6 +24,6 @@ returns c =
     c.get_str-4.ensures ∙ first_value-rows f (codes "p") in
     let n : option_map (λ text. text.now) c.get_str-5.result ≡ first_of (codes "f") (rows_of f) =
     c.get_str-5.ensures ∙ first_value-rows f (codes "f") in
-    let files : Some (map (λ w. w.now) c.in-Some.file_words.now) ≡ all_of (codes "FILE") (rows_of f) =
+    let files : Some (map (λ w. w.now) c.in-Some.files.now) ≡ all_of (codes "FILE") (rows_of f) =
     c.in-Some.ensures ∙ raw_values-rows f (codes "FILE") in
     rw (c.is_listing.ensures, m, l, s, p, n, ← files) refl

@@ -4,4 +4,4 @@ use Rattle.command.proofs.process.borrowed.Given as goal
 
 -- the texts so far are those of the words
 abbrev pub invariant-loop-word : goal.invariant-loop-word
-invariant-loop-word g l = map (λ text. text.now) l.texts.items ≡ map string_bytes (take l.word-index l.file_words)
+invariant-loop-word g l = map (λ text. text.now) l.texts.items ≡ map string_bytes (take l.word-index l.words)

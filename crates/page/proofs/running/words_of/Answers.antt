@@ -24,8 +24,8 @@ pub returns-clause-refused : goal.returns-clause-refused
 returns-clause-refused c = λ _.
     let all = take_all c.loop-robot.robot-index c.args.robots.now (omega arith) in
     let same = ap length c.loop-robot.invariant.0 in
-    let long : length c.loop-robot.file_words.items ≡ length c.args.robots.now =
-    sym (length-map c.loop-robot.file_words.items (λ (word : Bor (List ℕ)). word.now)) ∙ same
+    let long : length c.loop-robot.words.items ≡ length c.args.robots.now =
+    sym (length-map c.loop-robot.words.items (λ (word : Bor (List ℕ)). word.now)) ∙ same
     ∙ length-map (take c.loop-robot.robot-index c.args.robots.now) name_bytes ∙ ap length all in
     record {
       some = grind (arith, nat_tests);

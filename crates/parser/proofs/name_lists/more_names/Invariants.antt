@@ -11,10 +11,10 @@ abbrev pub invariant-loop-declared : goal.invariant-loop-declared
 invariant-loop-declared g l = record {
   matches : (depth : ℕ) →
       Derives depth (Part (More (role_of l.declared)) ∷ []) (Part (More (role_of l.declared)) ∷ []) [] []
-      l.fn.tokens.position l.tokens.position;
-  stays : StaysAt l.declared (scope_of l.fn.tokens) (scope_of l.tokens);
-  kept : HasStayedOrAdvanced l.fn.tokens l.tokens;
+      l.fn.parser.position l.parser.position;
+  stays : StaysAt l.declared (scope_of l.fn.parser) (scope_of l.parser);
+  kept : HasStayedOrAdvanced l.fn.parser l.parser;
 }
 
 abbrev pub decreases-loop-declared : goal.decreases-loop-declared
-decreases-loop-declared g l = to_go l.tokens
+decreases-loop-declared g l = to_go l.parser

@@ -8,10 +8,10 @@ use Rattle.parser.proofs.name_lists.type_words.Given as goal
 abbrev pub invariant-loop-parser : goal.invariant-loop-parser
 invariant-loop-parser g l = record {
   matches : (depth : ℕ) →
-      Derives depth (Part Types ∷ []) (Part Types ∷ []) [] [] l.fn.tokens.position l.tokens.position;
-  scope : scope_of l.tokens ≡ scope_of l.fn.tokens;
-  kept : HasStayedOrAdvanced l.fn.tokens l.tokens;
+      Derives depth (Part Types ∷ []) (Part Types ∷ []) [] [] l.fn.parser.position l.parser.position;
+  scope : scope_of l.parser ≡ scope_of l.fn.parser;
+  kept : HasStayedOrAdvanced l.fn.parser l.parser;
 }
 
 abbrev pub decreases-loop-parser : goal.decreases-loop-parser
-decreases-loop-parser g l = to_go l.tokens
+decreases-loop-parser g l = to_go l.parser

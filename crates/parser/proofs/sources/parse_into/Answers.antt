@@ -12,14 +12,14 @@ pub returns-in_err-cursor-clause-refused : goal.returns-in_err-cursor-clause-ref
 returns-in_err-cursor-clause-refused g c =
     let p = err_from_is_err_and c.from_residual.result c.from_residual.ensures.1 in
     rw (p.1, p.2)
-    (first_refused (g.B.Build.stands c.args.builder.now) _ _ c.in_err-cursor.field-0.0 _
+    (first_refused (g.B.Build.stands c.args.build.now) _ _ c.in_err-cursor.field-0.0 _
     c.in_err-cursor.ensures.refused)
 
 pub returns-in_err-cursor-clause-taken : goal.returns-in_err-cursor-clause-taken
 returns-in_err-cursor-clause-taken g c =
     let p = err_from_is_err_and c.from_residual.result c.from_residual.ensures.1 in
     rw (p.1, p.2)
-    (first_taking (g.B.Build.stands c.args.builder.now) _ _ c.in_err-cursor.field-0.0 c.in_err-cursor.ensures.refused)
+    (first_taking (g.B.Build.stands c.args.build.now) _ _ c.in_err-cursor.field-0.0 c.in_err-cursor.ensures.refused)
 
 pub returns-in_err-read-clause-refused : goal.returns-in_err-read-clause-refused
 returns-in_err-read-clause-refused g c =
@@ -31,11 +31,11 @@ returns-in_err-read-clause-refused g c =
     option_map (drop (taken_at c.new-parser.result.position)) (g.F.Feed.device c.args.feed.now).to_come =
     rw c.new-parser.ensures.place c.in_ok-cursor.ensures.opens.took in
     let p = err_from_is_err_and c.from_residual-in_err-read.result c.from_residual-in_err-read.ensures.1 in
-    rw (p.1, p.2) (refused_left (g.B.Build.stands c.args.builder.now) _
+    rw (p.1, p.2) (refused_left (g.B.Build.stands c.args.build.now) _
     (g.B.Build.stands c.source-read.new.self.builder.now) g.B.Build.denied
     (g.F.Feed.device c.args.feed.now).to_come _ c.in_err-read.field-0.0
     (λ profile acts h. search (rules, h))
-    (stopped _ (g.B.Build.stands c.args.builder.now) _ _ _ c.new-parser.result.position c.in_err-read.field-0.0
+    (stopped _ (g.B.Build.stands c.args.build.now) _ _ _ c.new-parser.result.position c.in_err-read.field-0.0
     _ nothing tells
     (has_taken _ _ _ _ _ _ opened c.in_err-read.ensures.kept.tokens.took (search rules)
     c.into_parts-names.ensures.limited)
@@ -51,7 +51,7 @@ returns-in_err-read-clause-taken g c =
     option_map (drop (taken_at c.new-parser.result.position)) (g.F.Feed.device c.args.feed.now).to_come =
     rw c.new-parser.ensures.place c.in_ok-cursor.ensures.opens.took in
     let p = err_from_is_err_and c.from_residual-in_err-read.result c.from_residual-in_err-read.ensures.1 in
-    rw (p.1, p.2) (stops_taking _ (g.B.Build.stands c.args.builder.now) _ _ _ c.new-parser.result.position
+    rw (p.1, p.2) (stops_taking _ (g.B.Build.stands c.args.build.now) _ _ _ c.new-parser.result.position
     c.in_err-read.field-0.0 _ nothing tells
     (has_taken _ _ _ _ _ _ opened c.in_err-read.ensures.kept.tokens.took (search rules)
     c.into_parts-names.ensures.limited)
@@ -63,13 +63,13 @@ returns-in_err-checked-clause-refused g c =
     rw (c.new-parser.ensures.place, c.requires.nothing) refl in
     let tells : tokens_at c.new-parser.result.position ≡ option_map tokens (g.F.Feed.device c.args.feed.now).to_come =
     rw c.new-parser.ensures.place c.in_ok-cursor.ensures.opens.tokens in
-    let whole : IsWhole (g.B.Build.stands c.args.builder.now) (g.B.Build.stands c.source-read.new.self.builder.now)
+    let whole : IsWhole (g.B.Build.stands c.args.build.now) (g.B.Build.stands c.source-read.new.self.builder.now)
     (g.F.Feed.device c.args.feed.now).to_come c.new-parser.result.position c.source-read.new.self.tokens.position =
     record
     { reads = c.in_ok-read.ensures.reads.0; nothing = nothing; tells = tells; ends = c.in_ok-read.ensures.reads.2 }
     in
     let p = err_from_is_err_and c.from_residual-in_err-checked.result c.from_residual-in_err-checked.ensures.1 in
-    rw (p.1, p.2) (refused_left (g.B.Build.stands c.args.builder.now) _
+    rw (p.1, p.2) (refused_left (g.B.Build.stands c.args.build.now) _
     (g.B.Build.stands c.source-read.new.self.builder.now) g.B.Build.denied
     (g.F.Feed.device c.args.feed.now).to_come _ c.in_err-checked.field-0.0
     (λ profile acts h. search (rules, h))
@@ -84,7 +84,7 @@ returns-in_err-checked-clause-taken g c =
     let opened : c.new-parser.result.position.to_come ≡
     option_map (drop (taken_at c.new-parser.result.position)) (g.F.Feed.device c.args.feed.now).to_come =
     rw c.new-parser.ensures.place c.in_ok-cursor.ensures.opens.took in
-    let whole : IsWhole (g.B.Build.stands c.args.builder.now) (g.B.Build.stands c.source-read.new.self.builder.now)
+    let whole : IsWhole (g.B.Build.stands c.args.build.now) (g.B.Build.stands c.source-read.new.self.builder.now)
     (g.F.Feed.device c.args.feed.now).to_come c.new-parser.result.position c.source-read.new.self.tokens.position =
     record
     { reads = c.in_ok-read.ensures.reads.0; nothing = nothing; tells = tells; ends = c.in_ok-read.ensures.reads.2 }
@@ -101,7 +101,7 @@ returns-clause-file g c =
     rw (c.new-parser.ensures.place, c.requires.nothing) refl in
     let tells : tokens_at c.new-parser.result.position ≡ option_map tokens (g.F.Feed.device c.args.feed.now).to_come =
     rw c.new-parser.ensures.place c.in_ok-cursor.ensures.opens.tokens in
-    let whole : IsWhole (g.B.Build.stands c.args.builder.now) (g.B.Build.stands c.source-read.new.self.builder.now)
+    let whole : IsWhole (g.B.Build.stands c.args.build.now) (g.B.Build.stands c.source-read.new.self.builder.now)
     (g.F.Feed.device c.args.feed.now).to_come c.new-parser.result.position c.source-read.new.self.tokens.position =
     record
     { reads = c.in_ok-read.ensures.reads.0; nothing = nothing; tells = tells; ends = c.in_ok-read.ensures.reads.2 }
@@ -119,7 +119,7 @@ returns-clause-taken g c =
     let opened : c.new-parser.result.position.to_come ≡
     option_map (drop (taken_at c.new-parser.result.position)) (g.F.Feed.device c.args.feed.now).to_come =
     rw c.new-parser.ensures.place c.in_ok-cursor.ensures.opens.took in
-    let whole : IsWhole (g.B.Build.stands c.args.builder.now) (g.B.Build.stands c.source-read.new.self.builder.now)
+    let whole : IsWhole (g.B.Build.stands c.args.build.now) (g.B.Build.stands c.source-read.new.self.builder.now)
     (g.F.Feed.device c.args.feed.now).to_come c.new-parser.result.position c.source-read.new.self.tokens.position =
     record
     { reads = c.in_ok-read.ensures.reads.0; nothing = nothing; tells = tells; ends = c.in_ok-read.ensures.reads.2 }

@@ -11,7 +11,7 @@ add_robot-requires-clause-countable g c = c.loop-robot.invariant.0
 
 pub loop-robot-preserved : goal.loop-robot-preserved
 loop-robot-preserved g c =
-    let names : List (List ℕ) = robot_names (map (λ word. word.now) c.args.file_words.now) in
+    let names : List (List ℕ) = robot_names (map (λ word. word.now) c.args.words.now) in
     let here : c.loop-robot.robot < length c.args.outcome.now.damages =
     omega (arith, ap length c.damages-robot-end.ensures.value) in
     let within : c.loop-robot.robot < length (robot_lines names c.args.outcome.now) =
@@ -27,7 +27,7 @@ loop-robot-preserved g c =
 
 pub returns : goal.returns
 returns g c =
-    let names : List (List ℕ) = robot_names (map (λ word. word.now) c.args.file_words.now) in
+    let names : List (List ℕ) = robot_names (map (λ word. word.now) c.args.words.now) in
     let past : length (robot_lines names c.args.outcome.now) ≤ c.loop-robot.robot =
     omega (arith, ap length c.damages-robot-end.ensures.value, length_robot_lines names c.args.outcome.now) in
     record {

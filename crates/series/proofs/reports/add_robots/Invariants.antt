@@ -11,4 +11,4 @@ invariant-loop-robot g l =
     MayFail l.pen (g.S.Sink.written l.sink)
     × Adds (g.S.Sink.written l.fn.sink) l.fn.pen
     (g.S.Sink.written l.sink) l.pen
-    (lines_text (take l.robot (robot_lines (robot_names (map (λ word. word.now) l.file_words)) l.outcome)))
+    (lines_text (take l.robot (robot_lines (robot_names (map (λ word. word.now) l.words)) l.outcome)))

@@ -5,7 +5,7 @@ use Rattle.series.proofs.robot_names.robot_name.Goals.{then-words-eq1, else-word
 
 pub returns : goal.returns
 returns c =
-    let words = c.args.file_words.now in
+    let words = c.args.words.now in
     let one : length words ≡ 1 → c.if-words-eq1.file ≡ 0 = λ e. elim c.if-words-eq1.branch [
       | then-words-eq1 w ↦ w.file-is
       | else-words-eq1 w ↦ absurd (w.if-words-eq1.false e)

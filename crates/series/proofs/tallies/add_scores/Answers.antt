@@ -9,22 +9,22 @@ use Rattle.series.proofs.TextsLemmas.{score_line_at, length_score_lines, length_
 use Rattle.series.proofs.tallies.add_scores.Goals as goal
 
 pub robot_name-requires : goal.robot_name-requires
-robot_name-requires g c = omega (arith, robots_there c.args.file_words.now c.requires.some, c.max-robot-end.ensures)
+robot_name-requires g c = omega (arith, robots_there c.args.words.now c.requires.some, c.max-robot-end.ensures)
 
 pub add_score-requires-clause-countable : goal.add_score-requires-clause-countable
 add_score-requires-clause-countable g c = c.loop-robot.invariant.0
 
 pub loop-robot-preserved : goal.loop-robot-preserved
 loop-robot-preserved g c =
-    let names : List (List ℕ) = robot_names (map (λ word. word.now) c.args.file_words.now) in
+    let names : List (List ℕ) = robot_names (map (λ word. word.now) c.args.words.now) in
     let scores : ℕ → Score = score_at c.args.tally.now in
     let score : get_or c.tally.inside.scores c.loop-robot.robot no_score ≡ scores c.loop-robot.robot =
     ap (λ t. score_at t c.loop-robot.robot) c.tally.view_is in
     let there : c.loop-robot.robot < length names =
     omega (
       arith,
-      length_robot_names (λ word. word.now) c.args.file_words.now,
-      robots_there c.args.file_words.now c.requires.some,
+      length_robot_names (λ word. word.now) c.args.words.now,
+      robots_there c.args.words.now c.requires.some,
       c.max-robot-end.ensures,
     ) in
     let within : c.loop-robot.robot < length (score_lines names scores) =
@@ -40,14 +40,14 @@ loop-robot-preserved g c =
 
 pub returns : goal.returns
 returns g c =
-    let names : List (List ℕ) = robot_names (map (λ word. word.now) c.args.file_words.now) in
+    let names : List (List ℕ) = robot_names (map (λ word. word.now) c.args.words.now) in
     let scores : ℕ → Score = score_at c.args.tally.now in
     let past : length (score_lines names scores) ≤ c.loop-robot.robot =
     omega (
       arith,
       length_score_lines names scores,
-      length_robot_names (λ word. word.now) c.args.file_words.now,
-      robots_there c.args.file_words.now c.requires.some,
+      length_robot_names (λ word. word.now) c.args.words.now,
+      robots_there c.args.words.now c.requires.some,
       c.max-robot-end.ensures,
     ) in
     record {

@@ -12,4 +12,4 @@ invariant-loop-robot g l =
     MayFail l.pen (g.S.Sink.written l.sink)
     × Adds (g.S.Sink.written l.fn.sink) l.fn.pen
     (g.S.Sink.written l.sink) l.pen
-    (lines_text (take l.robot (score_lines (robot_names (map (λ word. word.now) l.file_words)) (score_at l.tally))))
+    (lines_text (take l.robot (score_lines (robot_names (map (λ word. word.now) l.words)) (score_at l.tally))))

@@ -40,7 +40,7 @@ invariant_of-self c =
     c.index-deref_mut-robot.is (robot_of no_robot) ∙ ap (λ l. get_or l c.args.robot (robot_of no_robot)) lent in
     let size = length-set items c.args.robot c.want.new.self in
     let place = subst (λ (b : Robot). IsAtPlace b.motion c.want.new.self.motion) same c.want.ensures.place in
-    let far = far_set c.self.inside.calm items c.args.robot c.want.new.self inside place i.5 in
+    let far = far_set c.self.inside.updates_apart items c.args.robot c.want.new.self inside place i.5 in
     rw (put_is items c.deref_mut.result.now c.args.robot c.want.new.self lent) (
       i.0,
       i.1 ∙ sym size,

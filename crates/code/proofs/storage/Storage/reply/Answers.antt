@@ -13,25 +13,25 @@ pub take_reply-requires : goal.take_reply-requires
 take_reply-requires c =
     let code = c.args.program.now in
     let m = machine_of c.args.registers c.args.self.now in
-    let i = c.instr_at-instr_at.result.now in
+    let i = c.instr_at-instr.result.now in
     let asks =
-    asking code m i c.requires.asks.0 c.requires.asks.1 c.instr_at-instr_at.ensures.next.here c.requires.asks.2 in
-    let frame = asked_frame code m i asks.1.0 asks.1.1 c.instr_at-instr_at.ensures.next.ready in
+    asking code m i c.requires.asks.0 c.requires.asks.1 c.instr_at-instr.ensures.next.here c.requires.asks.2 in
+    let frame = asked_frame code m i asks.1.0 asks.1.1 c.instr_at-instr.ensures.next.ready in
     let room = asked_room code m i asks.1.0 asks.1.1 asks.0 in
     record {
       opened = frame.0;
       there = frame.1;
-      room = omega (arith, room, c.instr_at-instr_at.ensures.room.words);
-      within = c.instr_at-instr_at.ensures.next.within;
+      room = omega (arith, room, c.instr_at-instr.ensures.room.words);
+      within = c.instr_at-instr.ensures.next.within;
     }
 
 pub returns-clause-stands : goal.returns-clause-stands
 returns-clause-stands c trace stands =
     let code = c.args.program.now in
     let m = machine_of c.args.registers c.args.self.now in
-    let i = c.instr_at-instr_at.result.now in
+    let i = c.instr_at-instr.result.now in
     let asks =
-    asking code m i c.requires.asks.0 c.requires.asks.1 c.instr_at-instr_at.ensures.next.here c.requires.asks.2 in
+    asking code m i c.requires.asks.0 c.requires.asks.1 c.instr_at-instr.ensures.next.here c.requires.asks.2 in
     let done =
     c.take_reply.ensures code asks.1.0
     ∙
@@ -40,7 +40,7 @@ returns-clause-stands c trace stands =
     ∙ ap (λ (i : Instr). done_with code c.args.reply m (Some i)) (sym asks.1.1)
     in
     advances m (machine_of c.take_reply.result c.take_reply.new.self) code i c.args.reply
-    c.instr_at-instr_at.ensures.next.here asks.0
+    c.instr_at-instr.ensures.next.here asks.0
     done
     trace stands
 

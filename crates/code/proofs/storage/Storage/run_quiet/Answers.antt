@@ -8,7 +8,7 @@ use Rattle.code.proofs.storage.Storage.run_quiet.Goals.{else-loop-left-test, the
 
 pub loop-left-preserved : goal.loop-left-preserved
 loop-left-preserved c =
-    let m = machine_of c.loop-left.place c.loop-left.self in
+    let m = machine_of c.loop-left.registers c.loop-left.self in
     let next = machine_of c.in-Some.next c.step.new.self in
     let code = c.args.program.now in
     let i = c.instr_at-instr.result.now in
@@ -32,14 +32,14 @@ returns-clause-ends c = λ some quiet.
       | else-loop-left-test w ↦ absurd (omega (arith, some, w.loop-left-test.false))
       | then-loop-left-test+in-None w ↦
           let code = c.args.program.now in
-          let m = machine_of c.loop-left.place c.loop-left.self in
+          let m = machine_of c.loop-left.registers c.loop-left.self in
           let i = w.instr-instr.result.now in
           let none =
           ap (λ (o : Option Registers). machine_if o w.step.new.self) (sym w.in-None.is) ∙
           w.step.ensures.next (pos 0) in
           let same = w.self-is ∙ w.step.ensures.stays w.in-None.is in
           not_taken code m i w.instr-instr.ensures.next.here none
-          (ap (λ (s : Storage). want_next code (machine_of c.loop-left.place s)) (sym same) ∙ quiet)
+          (ap (λ (s : Storage). want_next code (machine_of c.loop-left.registers s)) (sym same) ∙ quiet)
     ]
 
 pub returns-clause-coasted : goal.returns-clause-coasted

@@ -4,7 +4,6 @@ use Rattle.grammar.proofs.ScopeLaws.{kept_begun, room_begun}
 use Rattle.grammar.specs.Laws.Naming.{IsScopeKept}
 use Rattle.grammar.proofs.scope.Scope.note_begun.Goals as goal
 
--- src/scope.rt:275:9
 pub push-requires : goal.push-requires
 push-requires c =
     let room =
@@ -18,7 +17,6 @@ push-requires c =
     new : list_any (λ k. eqb k c.args.number) c.self.inside.begun.items ≡ false
     new = search (rules, c.requires.new)
 
--- src/scope.rt:269:5
 pub invariant_of-self : goal.invariant_of-self
 invariant_of-self c = (
   subst (λ begun. IsScopeKept c.self.inside.pools.functions c.self.inside.lines.items begun) (sym c.push.ensures.items)

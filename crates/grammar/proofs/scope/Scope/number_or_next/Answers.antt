@@ -3,7 +3,6 @@ use Rattle.grammar.specs.Scope.{function_number}
 use Rattle.grammar.proofs.ScopeLaws.{called_new}
 use Rattle.grammar.proofs.scope.Scope.number_or_next.Goals as goal
 
--- src/scope.rt:195:5
 pub returns-clause-known : goal.returns-clause-known
 returns-clause-known c =
     called_new c.args.name.now c.args.line c.args.self.now c.add_function.new.self c.requires.own unknown small

@@ -139,9 +139,9 @@ unary_operation-tell_after_operand-requires g t c =
 pub unary_operation-returns-clause-parses : goal.unary_operation-returns-clause-parses
 unary_operation-returns-clause-parses g t c =
     let shallow : c.args.self.now.depth < 64 = c.in_ok-check_level.ensures.ok in
-    sign_adds (g.B.Build.stands c.args.self.now.builder.now) (g.B.Build.stands c.tell_before_operand.new.builder)
+    sign_adds (g.B.Build.stands c.args.self.now.builder.now) (g.B.Build.stands c.tell_before_operand.new.build)
     (g.B.Build.stands c.unary.new.self.builder.now)
-    (g.B.Build.stands c.tell_after_operand.new.builder) c.args.self.now.tokens.position c.advance.new.self.position
+    (g.B.Build.stands c.tell_after_operand.new.build) c.args.self.now.tokens.position c.advance.new.self.position
     c.unary.new.self.tokens.position c.args.self.now.depth c.args.sign c.requires.at.is shallow
     c.in_ok-advance.ensures.consumes c.in_ok-tell_before_operand.ensures.told c.in_ok-unary.ensures.parses
     c.in_ok-tell_after_operand.ensures.told c.in_ok-unary.ensures.kept.tokens.ready.sound
@@ -270,17 +270,17 @@ call-returns-in_err-check_level-clause-parses g t c =
       grown = source_grown _ _ _;
     })
 
-pub call-returns-in_err-expect_callee-clause-parses : goal.call-returns-in_err-expect_callee-clause-parses
-call-returns-in_err-expect_callee-clause-parses g t c =
+pub call-returns-in_err-callee-clause-parses : goal.call-returns-in_err-callee-clause-parses
+call-returns-in_err-callee-clause-parses g t c =
     let shallow : c.args.self.now.depth < 64 = c.in_ok-check_level.ensures.ok in
     let is : IsCall c.args.self.now.tokens.position c.args.self.now.depth =
     record { named = is_named _ c.requires.at.is.named; fits = c.requires.at.is.is; shallow = shallow } in
     let p =
-    err_from_is_err_and c.from_residual-in_err-expect_callee.result c.from_residual-in_err-expect_callee.ensures.1 in
+    err_from_is_err_and c.from_residual-in_err-callee.result c.from_residual-in_err-callee.ensures.1 in
     rw (p.1, p.2) (record {
       refused =
-          callee_refused _ c.args.self.now.tokens.position c.args.self.now.depth _ c.in_err-expect_callee.field-0.0 is
-          c.in_err-expect_callee.ensures.matches;
+          callee_refused _ c.args.self.now.tokens.position c.args.self.now.depth _ c.in_err-callee.field-0.0 is
+          c.in_err-callee.ensures.matches;
       grown = λ device. grown_nothing _;
     })
 
@@ -297,8 +297,8 @@ call-returns-in_err-expect-clause-parses g t c =
     let p = err_from_is_err_and c.from_residual-in_err-expect.result c.from_residual-in_err-expect.ensures.1 in
     rw (p.1, p.2) (record {
       refused =
-          call_open_refused _ c.args.self.now.tokens.position _ c.args.self.now.depth c.in_ok-expect_callee.callee _
-          c.in_err-expect.field-0.0 is c.in_ok-expect_callee.ensures.matches c.in_err-expect.ensures.matches;
+          call_open_refused _ c.args.self.now.tokens.position _ c.args.self.now.depth c.in_ok-callee.callee _
+          c.in_err-expect.field-0.0 is c.in_ok-callee.ensures.matches c.in_err-expect.ensures.matches;
       grown = λ device. grown _ _ _ c.in_ok-act.ensures.ok;
     })
 
@@ -310,8 +310,8 @@ call-returns-in_err-arguments-clause-parses g t c =
     let p = err_from_is_err_and c.from_residual-in_err-arguments.result c.from_residual-in_err-arguments.ensures.1 in
     rw (p.1, p.2) (record {
       refused =
-          arguments_refused _ c.args.self.now.tokens.position _ _ c.args.self.now.depth c.in_ok-expect_callee.callee _
-          c.in_err-arguments.field-0.0 is c.in_ok-expect_callee.ensures.matches c.in_ok-expect.ensures.matches
+          arguments_refused _ c.args.self.now.tokens.position _ _ c.args.self.now.depth c.in_ok-callee.callee _
+          c.in_err-arguments.field-0.0 is c.in_ok-callee.ensures.matches c.in_ok-expect.ensures.matches
           c.in_err-arguments.ensures.parses.refused;
       grown =
           λ device. grown_behind _ _ _ _ c.in_ok-act.ensures.ok (c.in_err-arguments.ensures.parses.grown device);
@@ -329,8 +329,8 @@ call-returns-in_err-expect-2-clause-parses g t c =
           (g.B.Build.stands c.arguments.new.self.builder.now) c.args.self.now.tokens.position
           c.expect_callee.new.self.position c.expect.new.self.position c.arguments.new.self.tokens.position
           c.args.self.now.depth
-          c.in_ok-expect_callee.callee _
-          c.in_err-expect-2.field-0.0 is c.in_ok-expect_callee.ensures.matches c.in_ok-expect.ensures.matches
+          c.in_ok-callee.callee _
+          c.in_err-expect-2.field-0.0 is c.in_ok-callee.ensures.matches c.in_ok-expect.ensures.matches
           c.in_ok-arguments.ensures.parses c.in_err-expect-2.ensures.matches;
       grown =
           λ device. grown_behind _ _ _ _ c.in_ok-act.ensures.ok
@@ -342,9 +342,9 @@ call-act-requires-2 g t c =
     let shallow : c.args.self.now.depth < 64 = c.in_ok-check_level.ensures.ok in
     record {
       follows =
-          end_follows _ _ _ c.args.self.now.depth c.in_ok-expect_callee.callee c.in_ok-arguments.ensures.parses.tree
+          end_follows _ _ _ c.args.self.now.depth c.in_ok-callee.callee c.in_ok-arguments.ensures.parses.tree
           shallow
-          c.requires.at.builder c.in_ok-act.ensures.ok c.in_ok-expect_callee.ensures.within
+          c.requires.at.builder c.in_ok-act.ensures.ok c.in_ok-callee.ensures.within
           c.in_ok-arguments.ensures.parses.numbered c.in_ok-arguments.ensures.parses.narrow
           c.in_ok-arguments.ensures.parses.added;
     }
@@ -358,10 +358,10 @@ call-returns-clause-parses g t c =
     (g.B.Build.stands c.arguments.new.self.builder.now)
     (g.B.Build.stands c.act-2.new.self) c.args.self.now.tokens.position c.expect_callee.new.self.position
     c.expect.new.self.position
-    c.arguments.new.self.tokens.position c.expect-2.new.self.position c.args.self.now.depth c.in_ok-expect_callee.callee
+    c.arguments.new.self.tokens.position c.expect-2.new.self.position c.args.self.now.depth c.in_ok-callee.callee
     is
-    c.in_ok-expect_callee.ensures.matches c.in_ok-expect.ensures.matches c.in_ok-arguments.ensures.parses
-    c.in_ok-expect-2.ensures.matches c.in_ok-expect_callee.ensures.within c.in_ok-expect-2.ensures.kept.ready.sound
+    c.in_ok-callee.ensures.matches c.in_ok-expect.ensures.matches c.in_ok-arguments.ensures.parses
+    c.in_ok-expect-2.ensures.matches c.in_ok-callee.ensures.within c.in_ok-expect-2.ensures.kept.ready.sound
     c.in_ok-act.ensures.ok c.in_ok-act-2.ensures.ok
 
 pub arguments-returns-then-is_punctuator-clause-parses : goal.arguments-returns-then-is_punctuator-clause-parses
@@ -607,9 +607,9 @@ levels-operand-requires g t c κs within =
 
 pub operand-levels-requires : goal.operand-levels-requires
 operand-levels-requires g t c κs within =
-    let opened : HasRoom (g.B.Build.stands c.tell_middle.new.builder)
+    let opened : HasRoom (g.B.Build.stands c.tell_middle.new.build)
     (room c.args.self.now.depth (c.args.binary.level + 1)) =
-    right_has_room (g.B.Build.stands c.args.self.now.builder.now) (g.B.Build.stands c.tell_middle.new.builder)
+    right_has_room (g.B.Build.stands c.args.self.now.builder.now) (g.B.Build.stands c.tell_middle.new.build)
     c.args.self.now.depth
     c.args.binary.level c.args.binary.op _ (at_its_own _ c.args.binary c.requires.at.is) c.requires.at.builder
     c.in_ok-tell_middle.ensures.told in
@@ -619,8 +619,8 @@ operand-levels-requires g t c κs within =
 pub unary_operation-unary-requires : goal.unary_operation-unary-requires
 unary_operation-unary-requires g t c κs within =
     let shallow : c.args.self.now.depth < 64 = c.in_ok-check_level.ensures.ok in
-    let opened : HasRoom (g.B.Build.stands c.tell_before_operand.new.builder) (room (c.args.self.now.depth + 1) 11) =
-    operand_room (g.B.Build.stands c.args.self.now.builder.now) (g.B.Build.stands c.tell_before_operand.new.builder)
+    let opened : HasRoom (g.B.Build.stands c.tell_before_operand.new.build) (room (c.args.self.now.depth + 1) 11) =
+    operand_room (g.B.Build.stands c.args.self.now.builder.now) (g.B.Build.stands c.tell_before_operand.new.build)
     c.args.sign
     c.args.self.now.depth
     shallow c.requires.at.builder c.in_ok-tell_before_operand.ensures.told in
@@ -733,7 +733,7 @@ assignment-returns-clause-kept g t c = record {
 pub call-returns-clause-kept : goal.call-returns-clause-kept
 call-returns-clause-kept g t c = record {
   tokens =
-      on_then _ _ _ c.in_ok-expect_callee.ensures.kept
+      on_then _ _ _ c.in_ok-callee.ensures.kept
       (kept_then _ _ _ (kept_then _ _ _ (on _ _ c.in_ok-expect.ensures.kept) c.in_ok-arguments.ensures.kept.tokens)
       (on _ _ c.in_ok-expect-2.ensures.kept));
   depth = shut _ _ c.in_ok-arguments.ensures.kept.depth;
@@ -770,7 +770,7 @@ unary_operation-returns-in_err-tell_after_operand-clause-parses g t c =
         refuses c.in_err-tell_after_operand.field-0.0 _ c.in_err-tell_after_operand.ensures.memory,
         halts _ _ _ _ _ _ _ _
             (sign_adds (g.B.Build.stands c.args.self.now.builder.now)
-            (g.B.Build.stands c.tell_before_operand.new.builder)
+            (g.B.Build.stands c.tell_before_operand.new.build)
             (g.B.Build.stands c.unary.new.self.builder.now)
             unknown c.args.self.now.tokens.position c.advance.new.self.position c.unary.new.self.tokens.position
             c.args.self.now.depth c.args.sign c.requires.at.is
@@ -823,8 +823,8 @@ call-returns-in_err-act-clause-parses g t c =
     rw (p.1, p.2) (record {
       refused = (
         refuses c.in_err-act.field-0.0 _ c.in_err-act.ensures.judged,
-        callee_halts _ c.args.self.now.tokens.position _ c.args.self.now.depth c.in_ok-expect_callee.callee is
-            c.in_ok-expect_callee.ensures.matches c.in_ok-expect_callee.ensures.kept.ready.near,
+        callee_halts _ c.args.self.now.tokens.position _ c.args.self.now.depth c.in_ok-callee.callee is
+            c.in_ok-callee.ensures.matches c.in_ok-callee.ensures.kept.ready.near,
       );
       grown = memory_grown _ _;
     })
@@ -843,9 +843,9 @@ call-returns-in_err-act-2-clause-parses g t c =
             (g.B.Build.stands c.arguments.new.self.builder.now)
             unknown c.args.self.now.tokens.position c.expect_callee.new.self.position c.expect.new.self.position
             c.arguments.new.self.tokens.position c.expect-2.new.self.position c.args.self.now.depth
-            c.in_ok-expect_callee.callee is
-            c.in_ok-expect_callee.ensures.matches c.in_ok-expect.ensures.matches c.in_ok-arguments.ensures.parses
-            c.in_ok-expect-2.ensures.matches c.in_ok-expect_callee.ensures.within
+            c.in_ok-callee.callee is
+            c.in_ok-callee.ensures.matches c.in_ok-expect.ensures.matches c.in_ok-arguments.ensures.parses
+            c.in_ok-expect-2.ensures.matches c.in_ok-callee.ensures.within
             c.in_ok-expect-2.ensures.kept.ready.sound c.in_ok-act.ensures.ok (λ profile acts h. tt)).derives
             c.in_ok-expect-2.ensures.kept.ready.near,
       );

@@ -305,7 +305,7 @@ repetition-returns-clause-parses g t c =
     c.in_ok-condition.ensures.parses c.in_ok-condition.ensures.kept.tokens.ready.sound c.in_ok-act-2.ensures.ok
     body c.in_ok-statement.ensures.kept.tokens.ready.sound c.in_ok-act-3.ensures.ok
 
--- What a builder may be told, and where it stands at a call.
+-- What a builder may be told, and what is open in it at a call.
 
 pub block-statements-requires : goal.block-statements-requires
 block-statements-requires g t c κs within =

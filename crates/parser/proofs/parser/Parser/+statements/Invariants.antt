@@ -10,11 +10,11 @@ use Rattle.parser.proofs.parser.Parser.+statements.Given as goal
 abbrev pub decreases-block : goal.decreases-block
 decreases-block g l = (MOST_LEVELS - l.self.now.depth) * 16 + 2
 
-abbrev pub decreases-branch : goal.decreases-branch
-decreases-branch g l = (MOST_LEVELS - l.self.now.depth) * 16 + 2
+abbrev pub decreases-if_statement : goal.decreases-if_statement
+decreases-if_statement g l = (MOST_LEVELS - l.self.now.depth) * 16 + 2
 
-abbrev pub decreases-repetition : goal.decreases-repetition
-decreases-repetition g l = (MOST_LEVELS - l.self.now.depth) * 16 + 2
+abbrev pub decreases-while_statement : goal.decreases-while_statement
+decreases-while_statement g l = (MOST_LEVELS - l.self.now.depth) * 16 + 2
 
 abbrev pub decreases-statement : goal.decreases-statement
 decreases-statement g l = (MOST_LEVELS - l.self.now.depth) * 16 + 3

@@ -13,20 +13,20 @@ use Rattle.parser.proofs.Names.{begins}
 use Rattle.parser.proofs.Segments.{refused_map}
 use Rattle.parser.proofs.scoped_cursor.ScopedCursor.expect_definition.Goals as goal
 
-pub returns-in_err-next_name-clause-matches : goal.returns-in_err-next_name-clause-matches
-returns-in_err-next_name-clause-matches g c =
+pub returns-in_err-name-clause-matches : goal.returns-in_err-name-clause-matches
+returns-in_err-name-clause-matches g c =
     let p = err_from_is_err_and c.from_residual.result c.from_residual.ensures.1 in
     rw (p.1, p.2)
-    (name_misfits _ _ Defined c.in_err-next_name.field-0.0 c.requires.ready.near
-    (subst (λ (p : ScopedCursor). IsNoName p.position.lookahead.cursor.next c.in_err-next_name.field-0.0) c.self.view_is
-    c.in_err-next_name.ensures.other))
+    (name_misfits _ _ Defined c.in_err-name.field-0.0 c.requires.ready.near
+    (subst (λ (p : ScopedCursor). IsNoName p.position.lookahead.cursor.next c.in_err-name.field-0.0) c.self.view_is
+    c.in_err-name.ensures.other))
 
 pub returns-in_err-number-clause-matches : goal.returns-in_err-number-clause-matches
 returns-in_err-number-clause-matches g c =
     let near : IsNear c.self.inside.cursor =
     subst (λ (p : ScopedCursor). IsNear p.position.lookahead.cursor) (sym c.self.view_is) c.requires.ready.near in
-    let found : c.self.inside.cursor.next.token ≡ token.Name c.in_ok-next_name.name.now =
-    c.in_ok-next_name.ensures.found in
+    let found : c.self.inside.cursor.next.token ≡ token.Name c.in_ok-name.name.now =
+    c.in_ok-name.ensures.found in
     let line : c.peek-next.result.now.line ≡ c.self.inside.cursor.next.line =
     ap (λ (l : LocatedToken). l.line) c.peek-next.ensures.value in
     let refused = c.in_err-number.ensures.refused in
@@ -36,42 +36,42 @@ returns-in_err-number-clause-matches g c =
 
 pub returns-in_err-advance-clause-matches : goal.returns-in_err-advance-clause-matches
 returns-in_err-advance-clause-matches g c =
-    let found : c.self.inside.cursor.next.token ≡ token.Name c.in_ok-next_name.name.now =
-    c.in_ok-next_name.ensures.found in
+    let found : c.self.inside.cursor.next.token ≡ token.Name c.in_ok-name.name.now =
+    c.in_ok-name.ensures.found in
     let line : c.peek-next.result.now.line ≡ c.self.inside.cursor.next.line =
     ap (λ (l : LocatedToken). l.line) c.peek-next.ensures.value in
     let p = err_from_is_err_and c.from_residual-in_err-advance.result c.from_residual-in_err-advance.ensures.1 in
     rw (p.1, p.2, sym c.self.view_is)
     (refused_map _ _ _ ⊥ ⊥ c.in_err-advance.field-0.0
-    (name_stops c.self.inside.cursor c.self.inside.scope.now _ _ Defined c.in_ok-next_name.name.now found
+    (name_stops c.self.inside.cursor c.self.inside.scope.now _ _ Defined c.in_ok-name.name.now found
     (subst
-    (λ (n : ℕ). LearnsName Defined c.in_ok-next_name.name.now n c.self.inside.scope.now c.begin_definition.new.self)
+    (λ (n : ℕ). LearnsName Defined c.in_ok-name.name.now n c.self.inside.scope.now c.begin_definition.new.self)
     line
     (rw c.in_ok-number.ensures.ok at c.begin_definition.ensures.known))) (λ same. same)
     c.in_err-advance.ensures.consumes)
 
 pub returns-clause-matches : goal.returns-clause-matches
 returns-clause-matches g c =
-    let found : c.self.inside.cursor.next.token ≡ token.Name c.in_ok-next_name.name.now =
-    c.in_ok-next_name.ensures.found in
+    let found : c.self.inside.cursor.next.token ≡ token.Name c.in_ok-name.name.now =
+    c.in_ok-name.ensures.found in
     let line : c.peek-next.result.now.line ≡ c.self.inside.cursor.next.line =
     ap (λ (l : LocatedToken). l.line) c.peek-next.ensures.value in
     rw (sym c.self.view_is)
-    (name_derives c.self.inside.cursor c.self.inside.scope.now _ _ _ Defined c.in_ok-next_name.name.now _ found
+    (name_derives c.self.inside.cursor c.self.inside.scope.now _ _ _ Defined c.in_ok-name.name.now _ found
     (subst
-    (λ (n : ℕ). LearnsName Defined c.in_ok-next_name.name.now n c.self.inside.scope.now c.begin_definition.new.self)
+    (λ (n : ℕ). LearnsName Defined c.in_ok-name.name.now n c.self.inside.scope.now c.begin_definition.new.self)
     line
     (rw c.in_ok-number.ensures.ok at c.begin_definition.ensures.known)) (refl) c.in_ok-advance.ensures.consumes)
 
 pub returns-clause-begun : goal.returns-clause-begun
 returns-clause-begun g c =
-    let known : LearnsName Defined c.in_ok-next_name.name.now c.peek-next.result.now.line (scope_of c.args.self.now)
+    let known : LearnsName Defined c.in_ok-name.name.now c.peek-next.result.now.line (scope_of c.args.self.now)
     c.begin_definition.new.self
     =
     rw (sym c.self.view_is) (rw c.in_ok-number.ensures.ok at c.begin_definition.ensures.known) in
-    let is : c.in_ok-number.number ≡ number_or_next c.in_ok-next_name.name.now (scope_of c.args.self.now) =
+    let is : c.in_ok-number.number ≡ number_or_next c.in_ok-name.name.now (scope_of c.args.self.now) =
     rw (sym c.self.view_is) (rw c.in_ok-number.ensures.ok at c.begin_definition.ensures.number).0 in
-    begins c.in_ok-number.number c.in_ok-next_name.name.now c.peek-next.result.now.line
+    begins c.in_ok-number.number c.in_ok-name.name.now c.peek-next.result.now.line
     c.args.self.now.position.lookahead
     c.advance.new.self.position.lookahead c.begin_definition.new.self known c.in_ok-advance.ensures.consumes.scope is
     (rw c.in_ok-number.ensures.ok at c.begin_definition.ensures.number).1

@@ -12,20 +12,20 @@ use Rattle.parser.proofs.Names.{mentioned_stays}
 use Rattle.parser.proofs.Segments.{refused_map}
 use Rattle.parser.proofs.scoped_cursor.ScopedCursor.expect_variable.Goals as goal
 
-pub returns-in_err-next_name-clause-matches : goal.returns-in_err-next_name-clause-matches
-returns-in_err-next_name-clause-matches g c =
+pub returns-in_err-name-clause-matches : goal.returns-in_err-name-clause-matches
+returns-in_err-name-clause-matches g c =
     let p = err_from_is_err_and c.from_residual.result c.from_residual.ensures.1 in
     rw (p.1, p.2)
-    (name_misfits _ _ Mentioned c.in_err-next_name.field-0.0 c.requires.ready.near
-    (subst (λ (p : ScopedCursor). IsNoName p.position.lookahead.cursor.next c.in_err-next_name.field-0.0) c.self.view_is
-    c.in_err-next_name.ensures.other))
+    (name_misfits _ _ Mentioned c.in_err-name.field-0.0 c.requires.ready.near
+    (subst (λ (p : ScopedCursor). IsNoName p.position.lookahead.cursor.next c.in_err-name.field-0.0) c.self.view_is
+    c.in_err-name.ensures.other))
 
 pub returns-in_err-var-clause-matches : goal.returns-in_err-var-clause-matches
 returns-in_err-var-clause-matches g c =
     let near : IsNear c.self.inside.cursor =
     subst (λ (p : ScopedCursor). IsNear p.position.lookahead.cursor) (sym c.self.view_is) c.requires.ready.near in
-    let found : c.self.inside.cursor.next.token ≡ token.Name c.in_ok-next_name.name.now =
-    c.in_ok-next_name.ensures.found in
+    let found : c.self.inside.cursor.next.token ≡ token.Name c.in_ok-name.name.now =
+    c.in_ok-name.ensures.found in
     let line : c.peek.result.now.line ≡ c.self.inside.cursor.next.line =
     ap (λ (l : LocatedToken). l.line) c.peek.ensures.value in
     let refused = c.in_err-var.ensures.refused in
@@ -35,21 +35,21 @@ returns-in_err-var-clause-matches g c =
 
 pub returns-in_err-advance-clause-matches : goal.returns-in_err-advance-clause-matches
 returns-in_err-advance-clause-matches g c =
-    let found : c.self.inside.cursor.next.token ≡ token.Name c.in_ok-next_name.name.now =
-    c.in_ok-next_name.ensures.found in
+    let found : c.self.inside.cursor.next.token ≡ token.Name c.in_ok-name.name.now =
+    c.in_ok-name.ensures.found in
     let p = err_from_is_err_and c.from_residual-in_err-advance.result c.from_residual-in_err-advance.ensures.1 in
     rw (p.1, p.2, sym c.self.view_is)
     (refused_map _ _ _ ⊥ ⊥ c.in_err-advance.field-0.0
-    (name_stops c.self.inside.cursor c.self.inside.scope.now _ _ Mentioned c.in_ok-next_name.name.now found
+    (name_stops c.self.inside.cursor c.self.inside.scope.now _ _ Mentioned c.in_ok-name.name.now found
     ((rw c.in_ok-var.ensures.ok at c.resolve_variable.ensures.known).1 _)) (λ same. same)
     c.in_err-advance.ensures.consumes)
 
 pub returns-clause-matches : goal.returns-clause-matches
 returns-clause-matches g c =
-    let found : c.self.inside.cursor.next.token ≡ token.Name c.in_ok-next_name.name.now =
-    c.in_ok-next_name.ensures.found in
+    let found : c.self.inside.cursor.next.token ≡ token.Name c.in_ok-name.name.now =
+    c.in_ok-name.ensures.found in
     rw (sym c.self.view_is)
-    (name_derives c.self.inside.cursor c.self.inside.scope.now _ _ _ Mentioned c.in_ok-next_name.name.now _ found
+    (name_derives c.self.inside.cursor c.self.inside.scope.now _ _ _ Mentioned c.in_ok-name.name.now _ found
     ((rw c.in_ok-var.ensures.ok at c.resolve_variable.ensures.known).1 _)
     (ap (λ v. AVariable v ∷ []) (rw c.in_ok-var.ensures.ok at c.resolve_variable.ensures.known).0)
     c.in_ok-advance.ensures.consumes)
@@ -57,5 +57,5 @@ returns-clause-matches g c =
 pub returns-clause-stays : goal.returns-clause-stays
 returns-clause-stays g c =
     rw (sym c.self.view_is, c.in_ok-advance.ensures.consumes.scope)
-    (mentioned_stays c.in_ok-next_name.name.now 0 c.self.inside.scope.now c.resolve_variable.new.self
+    (mentioned_stays c.in_ok-name.name.now 0 c.self.inside.scope.now c.resolve_variable.new.self
     ((rw c.in_ok-var.ensures.ok at c.resolve_variable.ensures.known).1 0))

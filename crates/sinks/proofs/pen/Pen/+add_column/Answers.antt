@@ -9,11 +9,11 @@ returns-clause-text g t c = elim c.if-n-ge10.branch [
       let fits : c.args.n < 2 ^ 64 = omega arith in
       rw (column_step c.args.width c.args.n w.if-n-ge10.true fits, ← append_assoc)
       (c.add_byte.ensures.text before _
-      (rw (w.self-is, w.sink-is) (rw w.saturating_sub.ensures at (w.column.ensures.text before text so_far))))
+      (rw (w.self-is, w.sink-is) (rw w.saturating_sub.ensures at (w.add_column.ensures.text before text so_far))))
   | else-n-ge10 w ↦ λ before text so_far.
       let short : c.args.n % 10 ≡ c.args.n = omega arith in
       rw (column_digit c.args.width c.args.n w.if-n-ge10.false, ← append_assoc)
       (rw short at (c.add_byte.ensures.text before (text ++ replicate (c.args.width - 1) 32)
       (rw (w.self-is, w.sink-is)
-      (rw w.saturating_sub-else-n-ge10.ensures at (w.spaces.ensures.text before text so_far)))))
+      (rw w.saturating_sub-else-n-ge10.ensures at (w.add_spaces.ensures.text before text so_far)))))
 ]

@@ -18,7 +18,7 @@ returns-else-not-self-clause-text g c = λ before text so_far.
             ap (λ p. length p.buffer) c.self.view_is,
           ) in
           nothing_more c.if-bytes-remaining_capacity.self text c.args.bytes.now
-          (rw (w.self-is, w.sink-is) (w.turn.ensures.text before text so_far.puts)) failed
+          (rw (w.self-is, w.sink-is) (w.flush_buffer.ensures.text before text so_far.puts)) failed
           (too_long c.args.self.now text c.args.bytes.now so_far long)
       | else-bytes-remaining_capacity w ↦
           nothing_more c.if-bytes-remaining_capacity.self text c.args.bytes.now

@@ -2,7 +2,7 @@ use Rattle.std.proofs.Common.{replicate}
 use Rattle.sinks.specs.Pens.{MayFail, Adds}
 use Rattle.sinks.proofs.pen.Pen.add_spaces.Given as goal
 
--- so many spaces are added
+-- this many spaces are added
 abbrev pub invariant-loop : goal.invariant-loop
 invariant-loop g l =
     MayFail l.self (g.S.Sink.written l.sink)

@@ -1,4 +1,4 @@
--- The kind of a byte tells which punctuator it is.
+-- The kind of a byte decides which punctuator it is.
 use Rattle.std.proofs.Common.{◌∙◌, ◌<◌, ◌≤◌, arith, sym, ap, slice_index}
 use Rattle.tokens.proofs.CharacterLemmas.{kinds, kinds-most}
 use Rattle.tokens.proofs.PunctuatorLemmas.{kind-none, kind-open_round, kind-close_round, kind-open_curly, kind-close_curly, kind-comma, kind-semicolon, kind-plus, kind-minus, kind-star, kind-slash, kind-percent, kind-and, kind-or, kind-xor, kind-tilde, kind-not, kind-less, kind-greater, kind-equals}

@@ -1,4 +1,4 @@
--- The kind of a byte tells which punctuator it is.
+-- The kind of a byte decides which punctuator it is.
 use Rattle.std.proofs.Common.{◌∙◌, sym, ap, slice_index}
 use Rattle.tokens.proofs.CharacterLemmas.{kinds}
 use Rattle.tokens.proofs.PunctuatorLemmas.{whole-open_round, whole-close_round, whole-open_curly, whole-close_curly, whole-comma, whole-semicolon}
