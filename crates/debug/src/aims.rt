@@ -33,11 +33,17 @@ pub enum Aim {
 
 /// The forms of what may be sought.
 const LINE: &str = "line LINES [FRAMES]";
+
 const IN: &str = "in LINES [FRAMES]";
+
 const ASK: &str = "ask FUNCTION [LEAST MOST]";
+
 const RESTART: &str = "restart";
+
 const HURT: &str = "hurt";
+
 const CHANGE: &str = "change NAME";
+
 const VALUE: &str = "value NAME NUMBER";
 
 /// The most frames that a number of them may say.
@@ -107,11 +113,7 @@ fn lines_and_frames<'a>(
 fn question<'a>(words: &[&'a str]) -> Result<Aim, Refusal<'a>> {
     match words {
         [name] => Ok(Aim::Question(intrinsic(name)?, i32::MIN, i32::MAX)),
-        [name, least, most] => Ok(Aim::Question(
-            intrinsic(name)?,
-            number(least)?,
-            number(most)?,
-        )),
+        [name, least, most] => Ok(Aim::Question(intrinsic(name)?, number(least)?, number(most)?)),
         _ => Err(Refusal::Form(ASK)),
     }
 }
@@ -130,20 +132,12 @@ fn intrinsic<'a>(name: &'a str) -> Result<Intrinsic, Refusal<'a>> {
 fn number<'a>(word: &'a str) -> Result<i32, Refusal<'a>> {
     match word.parse::<i32>() {
         Ok(number) => Ok(number),
-        Err(_) => Err(Refusal::Number(
-            word,
-            i64::from(i32::MIN),
-            i64::from(i32::MAX),
-        )),
+        Err(_) => Err(Refusal::Number(word, i64::from(i32::MIN), i64::from(i32::MAX))),
     }
 }
 
 /// Reads the variable that is to change.
-fn change<'a>(
-    alloc: Global,
-    session: &Session<'_>,
-    words: &[&'a str],
-) -> Result<Aim, Refusal<'a>> {
+fn change<'a>(alloc: Global, session: &Session<'_>, words: &[&'a str]) -> Result<Aim, Refusal<'a>> {
     match words {
         [name] => match named(&session.note.names, name)? {
             Variable::External(number) => Ok(Aim::Change(number)),

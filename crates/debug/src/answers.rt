@@ -92,11 +92,7 @@ fn add_place(text: &mut Draft, session: &Session<'_>, address: usize) {
 }
 
 /// Adds the next instruction as a listing has it, and the name of the variable or function in it.
-fn add_next(
-    text: &mut Draft,
-    session: &Session<'_>,
-    address: usize,
-) -> Result<(), AllocError> {
+fn add_next(text: &mut Draft, session: &Session<'_>, address: usize) -> Result<(), AllocError> {
     text.add("instruction\t");
     add_instruction(text, text.alloc(), session.program, address)?;
     text.add("\t");

@@ -23,8 +23,11 @@ pub enum Command {
 
 /// The forms of commands.
 const AT: &str = "at CYCLE";
+
 const NEXT: &str = "next CYCLE EVENT";
+
 const LAST: &str = "last CYCLE EVENT";
+
 const QUIT: &str = "quit";
 
 impl Command {

@@ -54,10 +54,12 @@ shows_so Hurt robots code i now later before after see grows = omega (arith, see
 shows_so (Change variable) robots code i now later before after see differs =
     λ same. differs (see.value_then ∙ same ∙ sym see.value)
 shows_so (Value variable value) robots code i now later before after see is = sym see.value_then ∙ is
-shows_so (LocalChange marks number) robots code i now later before after see (one, differs) =
-    (one_call marks.now before.address before.home after.address after.home (state_at code i now).at
-    (state_at code i now).home (state_at code i later).at (state_at code i later).home see.address see.home
-    see.address_then see.home_then one, λ same. differs (see.value_then ∙ same ∙ sym see.value))
+shows_so (LocalChange marks number) robots code i now later before after see (one, differs) = (
+  one_call marks.now before.address before.home after.address after.home (state_at code i now).at
+      (state_at code i now).home (state_at code i later).at (state_at code i later).home see.address see.home
+      see.address_then see.home_then one,
+  λ same. differs (see.value_then ∙ same ∙ sym see.value),
+)
 shows_so (LocalValue marks number value) robots code i now later before after see (here, is) =
     (ap (λ n. get_or marks.now n false) (sym see.address_then) ∙ here, sym see.value_then ∙ is)
 
@@ -73,10 +75,12 @@ seems_so Hurt robots code i now later before after see grows = omega (arith, see
 seems_so (Change variable) robots code i now later before after see differs =
     λ same. differs (sym see.value_then ∙ same ∙ see.value)
 seems_so (Value variable value) robots code i now later before after see is = see.value_then ∙ is
-seems_so (LocalChange marks number) robots code i now later before after see (one, differs) =
-    (one_call marks.now (state_at code i now).at (state_at code i now).home (state_at code i later).at
-    (state_at code i later).home before.address before.home after.address after.home (sym see.address) (sym see.home)
-    (sym see.address_then) (sym see.home_then) one, λ same. differs (sym see.value_then ∙ same ∙ see.value))
+seems_so (LocalChange marks number) robots code i now later before after see (one, differs) = (
+  one_call marks.now (state_at code i now).at (state_at code i now).home (state_at code i later).at
+      (state_at code i later).home before.address before.home after.address after.home (sym see.address) (sym see.home)
+      (sym see.address_then) (sym see.home_then) one,
+  λ same. differs (sym see.value_then ∙ same ∙ see.value),
+)
 seems_so (LocalValue marks number value) robots code i now later before after see (here, is) =
     (ap (λ n. get_or marks.now n false) see.address_then ∙ here, see.value_then ∙ is)
 

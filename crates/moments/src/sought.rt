@@ -151,9 +151,7 @@ fn is_one_call(marks: &[bool], before: &Glance, after: &Glance) -> bool
     ensures yes { result ≡ true → IsOneCall marks.now before.now.address before.now.home after.now.address after.now.home }
     ensures no { IsOneCall marks.now before.now.address before.now.home after.now.address after.now.home → result ≡ true }
 {
-    is_marked(marks, before.address)
-        && is_marked(marks, after.address)
-        && before.home == after.home
+    is_marked(marks, before.address) && is_marked(marks, after.address) && before.home == after.home
 }
 
 /// Reports whether an address is marked.
