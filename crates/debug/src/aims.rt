@@ -139,10 +139,10 @@ fn number<'a>(word: &'a str) -> Result<i32, Refusal<'a>> {
 /// Reads the variable that is to change.
 fn change<'a>(alloc: Global, session: &Session<'_>, words: &[&'a str]) -> Result<Aim, Refusal<'a>> {
     match words {
-        [name] => match named(&session.note.names, name)? {
+        [name] => match named(&session.noted.note.names, name)? {
             Variable::External(number) => Ok(Aim::Change(number)),
             Variable::Local(function, number) => Ok(Aim::LocalChange(
-                of_function(alloc, session.program, function)?,
+                of_function(alloc, session.noted.program, function)?,
                 number,
             )),
         },
@@ -153,10 +153,10 @@ fn change<'a>(alloc: Global, session: &Session<'_>, words: &[&'a str]) -> Result
 /// Reads the variable that is to have a value, and the value.
 fn value<'a>(alloc: Global, session: &Session<'_>, words: &[&'a str]) -> Result<Aim, Refusal<'a>> {
     match words {
-        [name, value] => match (named(&session.note.names, name)?, number(value)?) {
+        [name, value] => match (named(&session.noted.note.names, name)?, number(value)?) {
             (Variable::External(number), value) => Ok(Aim::Value(number, value)),
             (Variable::Local(function, number), value) => Ok(Aim::LocalValue(
-                of_function(alloc, session.program, function)?,
+                of_function(alloc, session.noted.program, function)?,
                 number,
                 value,
             )),

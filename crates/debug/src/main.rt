@@ -2,8 +2,6 @@
 #![tactic(auto)]
 
 mod aims;
-mod answers;
-mod calls;
 mod commands;
 mod places;
 mod refusals;
@@ -11,7 +9,7 @@ mod sessions;
 mod variables;
 
 use crate::sessions::{Session, answer_all};
-use notes::{compiled, note_of};
+use notes::{NotedProgram, compiled, note_of};
 use playing::pilots;
 use std::process::ExitCode;
 use tools::{Fault, Known, MATCH_OPTIONS, Options, ProgramFrame, Span, Work, wish};
@@ -50,8 +48,10 @@ impl Work for Debug {
         // each file has a note
         let note = note_of(sources.notes.as_slice(), robot).ok_or(Fault::Source)?;
         let session = Session {
-            note,
-            program: pilots[robot].program(),
+            noted: NotedProgram {
+                note,
+                program: pilots[robot].program(),
+            },
             robot,
             seed: wish.seed(),
             number: wish.first(),

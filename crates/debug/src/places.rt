@@ -16,8 +16,8 @@ pub fn instructions<'a>(
 ) -> Result<Vec<bool>, Refusal<'a>> {
     let lines = lines_of(alloc, list)?;
     let mut marks = Vec::new(alloc);
-    for address in 0..session.program.instructions().len() {
-        let is_marked = is_listed(lines.as_slice(), session.note.line(address));
+    for address in 0..session.noted.program.instructions().len() {
+        let is_marked = is_listed(lines.as_slice(), session.noted.note.line(address));
         marks.push(is_marked).map_err(AllocError::from)?;
     }
     some_of(marks, list)
@@ -32,9 +32,9 @@ pub fn entries<'a>(
 ) -> Result<Vec<bool>, Refusal<'a>> {
     let lines = lines_of(alloc, list)?;
     let mut marks = Vec::new(alloc);
-    for address in 0..session.program.instructions().len() {
-        let is_marked = is_listed(lines.as_slice(), session.note.line(address))
-            && is_entry(session.program, session.note, address);
+    for address in 0..session.noted.program.instructions().len() {
+        let is_marked = is_listed(lines.as_slice(), session.noted.note.line(address))
+            && is_entry(session.noted.program, session.noted.note, address);
         marks.push(is_marked).map_err(AllocError::from)?;
     }
     some_of(marks, list)

@@ -2,27 +2,23 @@
 
 ghost use Rattle.std.specs.Prelude.{◌<◌, ◌≤◌, length};
 
-use crate::answers::{add_found, add_moment};
 use crate::commands::Command;
 use crate::refusals::Refusal;
 use arena::MOST_ROBOTS;
-use code::Program;
 use moments::{moment_at, next_cycle, previous_cycle};
-use notes::Note;
+use notes::{NotedProgram, add_moment};
 use playing::Pilot;
 use settings::MOST_CYCLES;
 use std::alloc::{AllocError, Global};
 use std::io::{BufRead, ErrorKind};
 use std::str;
-use tools::{Draft, Fault, write_text};
+use tools::{Draft, Fault, Text, write_text};
 
 /// What the commands of a session are about: a match, and a robot in it.
 #[derive(Clone, Copy)]
 pub struct Session<'a> {
-    /// What is known of the robot's file.
-    pub note: &'a Note,
-    /// The robot's program.
-    pub program: &'a Program,
+    /// The robot's program, and what is known of its file.
+    pub noted: NotedProgram<'a>,
     /// The robot's number, from 0.
     pub robot: usize,
     /// The seed of the random numbers.
@@ -127,9 +123,10 @@ fn refused(alloc: Global, refusal: Refusal<'_>) -> Result<String, AllocError> {
 
 /// Returns the cycle that was found, as text.
 fn found_text(alloc: Global, found: Option<u32>) -> Result<String, AllocError> {
-    let mut text = Draft::new(alloc);
-    add_found(&mut text, found);
-    text.finish()
+    match found {
+        Some(cycle) => format!(in alloc; "found\t{cycle}\n\n"),
+        None => String::from_str(alloc, "none\n\n"),
+    }
 }
 
 /// Returns where the robot is after a cycle, as text.
@@ -154,6 +151,7 @@ fn moment(
         session.limit,
     );
     let mut text = Draft::new(alloc);
-    add_moment(&mut text, session, pilots[robot].machine(), &moment)?;
+    add_moment(&mut text, &session.noted, pilots[robot].machine(), &moment)?;
+    text.add("\n");
     text.finish()
 }

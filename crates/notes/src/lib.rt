@@ -1,9 +1,12 @@
 //! Files as programs that watch matches need them: their programs, and beside each its name, its text, its names and the
-//! line of each instruction. And how instructions, words and calls are told.
+//! line of each instruction. And how instructions, calls and moments are told.
 #![tactic(auto)]
 
+mod call_rows;
+mod moment_rows;
 mod notes;
 mod spelling;
 
-pub use notes::{Note, Sources, compiled, note_of, place_of, plain};
+pub use moment_rows::add_moment;
+pub use notes::{Note, NotedProgram, Sources, compiled, note_of, place_of, plain};
 pub use spelling::{add_call, add_instruction, add_words};

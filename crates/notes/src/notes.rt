@@ -58,6 +58,15 @@ impl Note {
     }
 }
 
+/// A program, and what is known of its file beside it.
+#[derive(Clone, Copy)]
+pub struct NotedProgram<'a> {
+    /// What is known of the file.
+    pub note: &'a Note,
+    /// The program.
+    pub program: &'a Program,
+}
+
 /// Returns what follows the first line of a text.
 fn behind_line(text: &[u8]) -> &[u8] {
     text.get(line_length(text).saturating_add(1)..)

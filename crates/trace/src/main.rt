@@ -13,6 +13,7 @@ mod reports;
 mod requests;
 mod restarts;
 mod rows;
+mod stands;
 mod steps;
 mod subjects;
 mod sums;
@@ -22,6 +23,7 @@ mod turns;
 
 use crate::events::Events;
 use crate::requests::{FORM_OPTIONS, Form, Request};
+use crate::stands::tell_moments;
 use crate::sums::Sums;
 use crate::tellers::tell;
 use crate::turns::Turns;
@@ -35,7 +37,7 @@ use tools::{Fault, MATCH_OPTIONS, Options, ProgramFrame, SPAN_OPTIONS, Work};
 const FRAME: ProgramFrame = ProgramFrame {
     name: "crobots-trace",
     about: "Plays one match, and reports what each robot did and suffered.",
-    usage: "[-kMATCH] [-lCYCLES] [-sSEED] [-pPROFILE] [--robot N] [--from CYCLE] [--to CYCLE] [--sum | --events | --asks | --steps | --film] FILE..",
+    usage: "[-kMATCH] [-lCYCLES] [-sSEED] [-pPROFILE] [--robot N] [--from CYCLE] [--to CYCLE] [--sum | --events | --asks | --steps | --film | --at CYCLE] FILE..",
     known: &[&MATCH_OPTIONS, &SPAN_OPTIONS, &FORM_OPTIONS],
 };
 
@@ -76,5 +78,6 @@ fn told(
         Form::Sum => tell(Sums::new(rt, request, notes, pilots)?, request, pilots),
         Form::Events | Form::Film => tell(Events::new(rt, request, notes), request, pilots),
         Form::Asks | Form::Steps => tell(Turns::new(rt, request, notes), request, pilots),
+        Form::At => tell_moments(rt, request, notes, pilots, request.at),
     }
 }

@@ -1,15 +1,16 @@
 //! What is asked for: a match, a form, and a span of it.
 
-use settings::Settings;
-use tools::{Fault, Known, Options, Span, wish};
+use settings::{MOST_CYCLES, Settings};
+use tools::{Fault, Known, Options, Span, number_of, wish};
 
 /// The options that a form is asked for by.
-pub const FORM_OPTIONS: [Known; 5] = [
+pub const FORM_OPTIONS: [Known; 6] = [
     Known::Flag("sum", "sums of each robot, which is the default"),
     Known::Flag("events", "a row for each event"),
     Known::Flag("asks", "a row for each call of an intrinsic function"),
     Known::Flag("steps", "a row for each cycle of a robot"),
     Known::Flag("film", "the events, and where the robots were and looked"),
+    Known::Valued("at", "CYCLE", "where each robot is after this cycle"),
 ];
 
 /// In which form a match is told.
@@ -25,15 +26,18 @@ pub enum Form {
     Steps,
     /// The events, and where the robots were.
     Film,
+    /// Where the robots are after a cycle.
+    At,
 }
 
 /// The forms by the names of their options.
-const FORMS: [(&str, Form); 5] = [
+const FORMS: [(&str, Form); 6] = [
     ("sum", Form::Sum),
     ("events", Form::Events),
     ("asks", Form::Asks),
     ("steps", Form::Steps),
     ("film", Form::Film),
+    ("at", Form::At),
 ];
 
 /// What is asked for.
@@ -45,6 +49,8 @@ pub struct Request<'a> {
     pub form: Form,
     /// What is looked at.
     pub span: Span,
+    /// The cycle after which the robots are looked at, if that is the form.
+    pub at: u32,
 }
 
 impl<'a> Request<'a> {
@@ -53,7 +59,13 @@ impl<'a> Request<'a> {
         let wish = wish(options)?;
         let form = options.only(&FORMS)?.unwrap_or(Form::Sum);
         let span = Span::read(options, wish.file_words().len().max(2))?;
-        Ok(Request { wish, form, span })
+        let at = number_of(options, "at", 0, u64::from(MOST_CYCLES), 0)? as u32;
+        Ok(Request {
+            wish,
+            form,
+            span,
+            at,
+        })
     }
 
     /// Reports whether the form is a film.

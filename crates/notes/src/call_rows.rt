@@ -1,7 +1,7 @@
 //! The open calls of a robot, and their variables.
 
-use crate::answers::add_values;
-use crate::sessions::Session;
+use crate::moment_rows::add_values;
+use crate::notes::NotedProgram;
 use code::{Frame, Machine};
 use findings::function_at;
 use tools::{Draft, Text};
@@ -9,13 +9,13 @@ use tools::{Draft, Text};
 /// Adds a row for each open call, the innermost first, and behind it the rows of its variables. A row has the number of
 /// frames that were open as the call began, the line on which the robot is in it, and the function. Frames of calls whose
 /// arguments are being worked out have none.
-pub fn add_calls(text: &mut Draft, session: &Session<'_>, machine: &Machine) {
+pub(crate) fn add_calls(text: &mut Draft, noted: &NotedProgram<'_>, machine: &Machine) {
     let mut address = machine.address();
     let mut depth = machine.frames().len();
     for frame in machine.frames().iter().rev() {
         if has_begun(frame, depth) {
-            add_call_row(text, session, depth, address);
-            add_locals(text, session, machine, frame, address);
+            add_call_row(text, noted, depth, address);
+            add_locals(text, noted, machine, frame, address);
             address = usize::from(frame.back).saturating_sub(1);
         }
         depth = depth.saturating_sub(1);
@@ -28,8 +28,8 @@ fn has_begun(frame: &Frame, depth: usize) -> bool {
 }
 
 /// Adds the row of a call that stands at this address.
-fn add_call_row(text: &mut Draft, session: &Session<'_>, depth: usize, address: usize) {
-    let (line, function) = session.note.place(session.program, address);
+fn add_call_row(text: &mut Draft, noted: &NotedProgram<'_>, depth: usize, address: usize) {
+    let (line, function) = noted.note.place(noted.program, address);
     text.add("call\t");
     text.number(depth as u64);
     text.add("\t");
@@ -42,13 +42,13 @@ fn add_call_row(text: &mut Draft, session: &Session<'_>, depth: usize, address: 
 /// Adds the variables of a call that stands at this address.
 fn add_locals(
     text: &mut Draft,
-    session: &Session<'_>,
+    noted: &NotedProgram<'_>,
     machine: &Machine,
     frame: &Frame,
     address: usize,
 ) {
-    let function = function_at(session.program.addresses(), address);
-    if let Some(names) = session.note.names.functions().get(function) {
+    let function = function_at(noted.program.addresses(), address);
+    if let Some(names) = noted.note.names.functions().get(function) {
         let words = machine
             .words()
             .get(usize::from(frame.base)..)

@@ -1,58 +1,47 @@
-//! The rows of an answer, each of fields with tabs between them. An empty line ends them.
+//! Where a robot is at a moment of a match, as rows of fields with tabs between them.
 
 ghost use Rattle.std.specs.Prelude.{◌<◌, length};
 
-use crate::calls::add_calls;
-use crate::sessions::Session;
+use crate::call_rows::add_calls;
+use crate::notes::NotedProgram;
+use crate::spelling::{add_call, add_instruction, add_words};
 use arena::Arena;
 use code::{Instr, Machine, Want};
 use findings::{Stance, function_at};
 use grammar::{Callee, Name, Var};
 use moments::{Asked, Moment};
-use notes::{add_call, add_instruction, add_words};
 use playing::word_of;
 use std::alloc::AllocError;
 use std::str;
 use tools::{Draft, Text, add_signed};
 
-/// Adds the cycle that was found.
-pub fn add_found(text: &mut Draft, found: Option<u32>) {
-    match found {
-        Some(cycle) => {
-            text.add("found\t");
-            text.number(u64::from(cycle));
-            text.add("\n\n");
-        }
-        None => text.add("none\n\n"),
-    }
-}
-
-/// Adds where a robot is, whose machine this is.
+/// Adds where a robot is, whose machine this is: its cycle, its next instruction and what that asks, its last question,
+/// its calls with their variables, its externals, its stack, and the places of all robots. The only error is that memory
+/// is refused.
 pub fn add_moment(
     text: &mut Draft,
-    session: &Session<'_>,
+    noted: &NotedProgram<'_>,
     machine: &Machine,
     moment: &Moment,
 ) -> Result<(), AllocError> {
     add_cycle(text, moment);
-    add_place(text, session, machine.address());
-    add_next(text, session, machine.address())?;
+    add_place(text, noted, machine.address());
+    add_next(text, noted, machine.address())?;
     add_wish(text, moment);
     if let Some(asked) = &moment.last {
         add_asked(text, asked);
     }
-    add_calls(text, session, machine);
+    add_calls(text, noted, machine);
     add_values(
         text,
         "external",
-        session.note.names.externals(),
+        noted.note.names.externals(),
         machine.externals(),
     );
     text.add("stack\t");
     add_words(text, machine.words());
     text.add("\n");
     add_robots(text, moment.game.ending().cycles, moment.game.arena());
-    text.add("\n");
     Ok(())
 }
 
@@ -75,14 +64,14 @@ fn life(is_alive: bool) -> &'static str {
 }
 
 /// Adds where the next instruction stands.
-fn add_place(text: &mut Draft, session: &Session<'_>, address: usize) {
-    let (line, function) = session.note.place(session.program, address);
+fn add_place(text: &mut Draft, noted: &NotedProgram<'_>, address: usize) {
+    let (line, function) = noted.note.place(noted.program, address);
     text.add("at\t");
     text.number(address as u64);
     text.add("\t");
     text.number(u64::from(line));
     text.add("\t");
-    text.number(u64::from(match session.note.places.place(address) {
+    text.number(u64::from(match noted.note.places.place(address) {
         Some(place) => place.column,
         None => 0,
     }));
@@ -92,23 +81,23 @@ fn add_place(text: &mut Draft, session: &Session<'_>, address: usize) {
 }
 
 /// Adds the next instruction as a listing has it, and the name of the variable or function in it.
-fn add_next(text: &mut Draft, session: &Session<'_>, address: usize) -> Result<(), AllocError> {
+fn add_next(text: &mut Draft, noted: &NotedProgram<'_>, address: usize) -> Result<(), AllocError> {
     text.add("instruction\t");
-    add_instruction(text, text.alloc(), session.program, address)?;
+    add_instruction(text, text.alloc(), noted.program, address)?;
     text.add("\t");
-    text.add(name_in(session, address));
+    text.add(name_in(noted, address));
     text.add("\n");
     Ok(())
 }
 
 /// Returns the name in an instruction, the empty text if it has none.
-fn name_in<'a>(session: &Session<'a>, address: usize) -> &'a str {
-    match session.program.instructions().get(address) {
+fn name_in<'a>(noted: &NotedProgram<'a>, address: usize) -> &'a str {
+    match noted.program.instructions().get(address) {
         Some(Instr::Fetch(variable) | Instr::Store(variable, _)) => {
-            variable_name(session, address, *variable)
+            variable_name(noted, address, *variable)
         }
         Some(Instr::Fcall(Callee::Function(number))) => {
-            session.note.function_name(usize::from(*number))
+            noted.note.function_name(usize::from(*number))
         }
         Some(
             Instr::Fcall(Callee::Intrinsic(_))
@@ -126,12 +115,12 @@ fn name_in<'a>(session: &Session<'a>, address: usize) -> &'a str {
 }
 
 /// Returns the name of a variable in an instruction of this address.
-fn variable_name<'a>(session: &Session<'a>, address: usize, variable: Var) -> &'a str {
-    let names = &session.note.names;
+fn variable_name<'a>(noted: &NotedProgram<'a>, address: usize, variable: Var) -> &'a str {
+    let names = &noted.note.names;
     match variable {
         Var::External(number) => name_at(names.externals(), number),
         Var::Local(number) => {
-            let function = function_at(session.program.addresses(), address);
+            let function = function_at(noted.program.addresses(), address);
             match names.functions().get(function) {
                 Some(function) => name_at(function.variables(), number),
                 None => "",
@@ -177,7 +166,7 @@ fn add_asked(text: &mut Draft, asked: &Asked) {
 }
 
 /// Adds a row of this kind for each name and its value.
-pub fn add_values(text: &mut Draft, kind: &str, names: &[Name], values: &[i32]) {
+pub(crate) fn add_values(text: &mut Draft, kind: &str, names: &[Name], values: &[i32]) {
     for (name, value) in names.iter().zip(values) {
         text.add(kind);
         text.add("\t");
