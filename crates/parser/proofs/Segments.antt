@@ -295,7 +295,7 @@ stops cursor known learnt more d depth front pending taken left leads stop locat
     let t : State = state (pending ++ stack) b.tail (left ++ values) learnt functions in
     let fails : IfSource d.fault (Fails profile t) =
     lexical_error_fails d.fault b.tail b.behind.others behind stop.lexical_error in
-    let last : d.taken ≤ most_taken d.fault b.tail = stop.taken cursor.next b.tail (is ∙ ap Some b.is) in
+    let last : d.taken ≤ most_taken d.fault b.tail = stop.bytes_taken cursor.next b.tail (is ∙ ap Some b.is) in
     rw b.is (inside_back profile (state (front ++ stack) (cursor.next ∷ b.tail) (taken ++ values) known functions)
     t d
     (cursor.next ∷ []) refl refl
@@ -459,11 +459,11 @@ no_opening (Some bytes) told' h =
 -- the first token is a lexical error
 pub opens_at_lexical_error : (cursor : Cursor) (told told' : Option (List ℕ)) →
     shown cursor told' ≡ option_map tokens told → told' ≡ option_map (drop (bytes_taken cursor)) told → IsNear cursor →
-    taken cursor ≤ 1048577 →
+    bytes_taken cursor ≤ 1048577 →
     is_fault cursor.next.token ≡ true →
     StopsAtFirst told told' (refusal.Source (diagnostic cursor.next.line (misfit_code cursor.next.token)))
 opens_at_lexical_error cursor told told' shows took near limited lexical_error = record {
-  taken = taken cursor;
+  taken = bytes_taken cursor;
   took = λ bytes e. took ∙ rw e refl;
   limited = limited;
   refused = record {
@@ -471,7 +471,7 @@ opens_at_lexical_error cursor told told' shows took near limited lexical_error =
         let b : Begins cursor located_tokens = told_begins at located_tokens (shows ∙ e) in
         (rw b.is lexical_error, rw b.is refl);
     taken =
-        λ located_tokens e. subst (λ (k : ℕ). taken cursor ≤ k + 4096) (reach_told at located_tokens (shows ∙ e))
+        λ located_tokens e. subst (λ (k : ℕ). bytes_taken cursor ≤ k + 4096) (reach_told at located_tokens (shows ∙ e))
         near;
   };
 }

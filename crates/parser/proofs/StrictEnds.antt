@@ -55,12 +55,12 @@ cut_strictly (suc n) line place [] t =
     closing_end place line (at_end (here line place [] t)) (place-ahead_after 0 (here line place [] t))
 cut_strictly (suc n) line place (b ∷ bytes) t =
     by (front (b ∷ bytes)) (front-inside (b ∷ bytes)) (front-is_piece (b ∷ bytes)) (λ count.
-    let p = ahead_after count a in cut_strictly n p.line p.position p.bytes p.too_long)
+    let p = ahead_after count a in cut_strictly n p.line p.offset p.bytes p.too_long)
   where
     a : Ahead
     a = here line place (b ∷ bytes) t
 
-    end_is : (at_end a).position ≡ place + length (b ∷ bytes)
+    end_is : (at_end a).offset ≡ place + length (b ∷ bytes)
     end_is = place-inside (length (b ∷ bytes)) a (omega arith)
 
     followed : (last : Bool) (p : ℕ) (xs : List LocatedToken) → IsCut p xs → IsCut p (cond last [] xs)
@@ -71,7 +71,7 @@ cut_strictly (suc n) line place (b ∷ bytes) t =
     alone last xs e = rw e refl
 
     by : (f : Front) → IsInside (b ∷ bytes) f → IsPiece f →
-        ((count : ℕ) → IsCut (ahead_after count a).position (tokens_within n (ahead_after count a))) →
+        ((count : ℕ) → IsCut (ahead_after count a).offset (tokens_within n (ahead_after count a))) →
         IsCut place (tokens_of_front f a (tokens_within n))
     by Nothing i p h = closing_end place line (at_end a) (omega (arith, end_is))
     by Unclosed i p h = closing_open place line (at_end a) (omega (arith, end_is))
@@ -92,7 +92,7 @@ pub tokens_cut : (bytes : List ℕ) → IsCut 0 (tokens bytes)
 unfolding tokens located_tokens
 tokens_cut bytes =
     let a = ahead_of_source (source bytes) in
-    cut_strictly (suc (length a.bytes)) a.line a.position a.bytes a.too_long
+    cut_strictly (suc (length a.bytes)) a.line a.offset a.bytes a.too_long
 
 -- The tokens after some of them.
 

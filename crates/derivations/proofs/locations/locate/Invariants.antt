@@ -5,5 +5,5 @@ use Rattle.derivations.proofs.locations.locate.Given as goal
 abbrev pub invariant-loop : goal.invariant-loop
 invariant-loop l = record {
   failures : l.feed.failures ≡ 0;
-  known : KnowsEnd l.cursor.behind.beyond l.feed.ended;
+  known : KnowsEnd l.cursor.window.beyond l.feed.ended;
 }

@@ -10,9 +10,9 @@ use Rattle.parser.proofs.name_lists.declarations.Goals as goal
 
 pub loop-declared-preserved : goal.loop-declared-preserved
 loop-declared-preserved g c =
-    let sound : is_fault c.loop-declared.tokens.position.lookahead.cursor.next.token ≡ false =
+    let sound : is_fault c.loop-declared.parser.position.lookahead.cursor.next.token ≡ false =
     c.loop-declared.invariant.kept.ready.sound in
-    let is : is_keyword keyword.Type c.loop-declared.tokens.position.lookahead.cursor.next.token ≡ true = cc in
+    let is : is_keyword keyword.Type c.loop-declared.parser.position.lookahead.cursor.next.token ≡ true = cc in
     record {
       matches =
           λ depth. goes_on depth _ (declaration_items c.args.declared) [] (Part (declarations_of c.args.declared) ∷ [])
@@ -27,9 +27,9 @@ loop-declared-preserved g c =
 
 pub returns-in_err-declaration-clause-matches : goal.returns-in_err-declaration-clause-matches
 returns-in_err-declaration-clause-matches g c =
-    let sound : is_fault c.loop-declared.tokens.position.lookahead.cursor.next.token ≡ false =
+    let sound : is_fault c.loop-declared.parser.position.lookahead.cursor.next.token ≡ false =
     c.loop-declared.invariant.kept.ready.sound in
-    let is : is_keyword keyword.Type c.loop-declared.tokens.position.lookahead.cursor.next.token ≡ true = cc in
+    let is : is_keyword keyword.Type c.loop-declared.parser.position.lookahead.cursor.next.token ≡ true = cc in
     let p = err_from_is_err_and c.from_residual.result c.from_residual.ensures.1 in
     rw (p.1, p.2) (leaves _ (Part (declarations_of c.args.declared) ∷ []) (declaration_items c.args.declared)
     (Part (declarations_of c.args.declared) ∷ []) _ _ c.in_err-declaration.field-0.0 (λ stack. refl)
@@ -40,8 +40,8 @@ returns-in_err-declaration-clause-matches g c =
 
 pub returns-clause-matches : goal.returns-clause-matches
 returns-clause-matches g c depth =
-    let sound : is_fault c.loop-declared.tokens.position.lookahead.cursor.next.token ≡ false =
+    let sound : is_fault c.loop-declared.parser.position.lookahead.cursor.next.token ≡ false =
     c.loop-declared.invariant.kept.ready.sound in
-    let other : is_keyword keyword.Type c.loop-declared.tokens.position.lookahead.cursor.next.token ≡ false = cc in
+    let other : is_keyword keyword.Type c.loop-declared.parser.position.lookahead.cursor.next.token ≡ false = cc in
     opens_on depth _ (declarations_of c.args.declared) [] _ _ sound
     (declarations_end c.args.declared _ c.requires.blocks other) (c.loop-declared.invariant.matches depth)

@@ -13,9 +13,9 @@ use Rattle.parser.proofs.name_lists.more_names.Goals as goal
 
 pub returns-in_err-expect-clause-matches : goal.returns-in_err-expect-clause-matches
 returns-in_err-expect-clause-matches g c =
-    let sound : is_fault c.loop-declared.tokens.position.lookahead.cursor.next.token ≡ false =
+    let sound : is_fault c.loop-declared.parser.position.lookahead.cursor.next.token ≡ false =
     c.loop-declared.invariant.kept.ready.sound in
-    let is : is_punctuator punctuator.Comma c.loop-declared.tokens.position.lookahead.cursor.next.token ≡ true = cc in
+    let is : is_punctuator punctuator.Comma c.loop-declared.parser.position.lookahead.cursor.next.token ≡ true = cc in
     let p = err_from_is_err_and c.from_residual.result c.from_residual.ensures.1 in
     rw (p.1, p.2) (leaves _ (Part (More (role_of c.args.declared)) ∷ []) (Exactly punctuator.Comma ∷ [])
     (AName (role_of c.args.declared) ∷ Part (More (role_of c.args.declared)) ∷ []) _ _ c.in_err-expect.field-0.0
@@ -27,9 +27,9 @@ returns-in_err-expect-clause-matches g c =
 
 pub loop-declared-preserved : goal.loop-declared-preserved
 loop-declared-preserved g c =
-    let sound : is_fault c.loop-declared.tokens.position.lookahead.cursor.next.token ≡ false =
+    let sound : is_fault c.loop-declared.parser.position.lookahead.cursor.next.token ≡ false =
     c.loop-declared.invariant.kept.ready.sound in
-    let is : is_punctuator punctuator.Comma c.loop-declared.tokens.position.lookahead.cursor.next.token ≡ true = cc in
+    let is : is_punctuator punctuator.Comma c.loop-declared.parser.position.lookahead.cursor.next.token ≡ true = cc in
     record {
       matches =
           λ depth. goes_on depth _ (AName (role_of c.args.declared) ∷ []) []
@@ -47,9 +47,9 @@ loop-declared-preserved g c =
 
 pub returns-in_err-expect_declaration-clause-matches : goal.returns-in_err-expect_declaration-clause-matches
 returns-in_err-expect_declaration-clause-matches g c =
-    let sound : is_fault c.loop-declared.tokens.position.lookahead.cursor.next.token ≡ false =
+    let sound : is_fault c.loop-declared.parser.position.lookahead.cursor.next.token ≡ false =
     c.loop-declared.invariant.kept.ready.sound in
-    let is : is_punctuator punctuator.Comma c.loop-declared.tokens.position.lookahead.cursor.next.token ≡ true = cc in
+    let is : is_punctuator punctuator.Comma c.loop-declared.parser.position.lookahead.cursor.next.token ≡ true = cc in
     let p =
     err_from_is_err_and c.from_residual-in_err-expect_declaration.result
     c.from_residual-in_err-expect_declaration.ensures.1 in
@@ -61,9 +61,9 @@ returns-in_err-expect_declaration-clause-matches g c =
 
 pub returns-clause-matches : goal.returns-clause-matches
 returns-clause-matches g c depth =
-    let sound : is_fault c.loop-declared.tokens.position.lookahead.cursor.next.token ≡ false =
+    let sound : is_fault c.loop-declared.parser.position.lookahead.cursor.next.token ≡ false =
     c.loop-declared.invariant.kept.ready.sound in
-    let other : is_punctuator punctuator.Comma c.loop-declared.tokens.position.lookahead.cursor.next.token ≡ false =
+    let other : is_punctuator punctuator.Comma c.loop-declared.parser.position.lookahead.cursor.next.token ≡ false =
     cc in
     opens_on depth _ (More (role_of c.args.declared)) [] _ _ sound (names_end _ _ other)
     (c.loop-declared.invariant.matches depth)

@@ -8,9 +8,9 @@ use Rattle.parser.proofs.name_lists.type_words.Goals as goal
 
 pub loop-parser-preserved : goal.loop-parser-preserved
 loop-parser-preserved g c =
-    let sound : is_fault c.loop-parser.tokens.position.lookahead.cursor.next.token ≡ false =
+    let sound : is_fault c.loop-parser.parser.position.lookahead.cursor.next.token ≡ false =
     c.loop-parser.invariant.kept.ready.sound in
-    let is : is_keyword keyword.Type c.loop-parser.tokens.position.lookahead.cursor.next.token ≡ true = cc in
+    let is : is_keyword keyword.Type c.loop-parser.parser.position.lookahead.cursor.next.token ≡ true = cc in
     record {
       matches =
           λ depth. goes_on depth (Part Types ∷ []) (AKeyword keyword.Type ∷ []) [] (Part Types ∷ []) _ _ _
@@ -24,9 +24,9 @@ loop-parser-preserved g c =
 
 pub returns-in_err-expect_type-clause-matches : goal.returns-in_err-expect_type-clause-matches
 returns-in_err-expect_type-clause-matches g c =
-    let sound : is_fault c.loop-parser.tokens.position.lookahead.cursor.next.token ≡ false =
+    let sound : is_fault c.loop-parser.parser.position.lookahead.cursor.next.token ≡ false =
     c.loop-parser.invariant.kept.ready.sound in
-    let is : is_keyword keyword.Type c.loop-parser.tokens.position.lookahead.cursor.next.token ≡ true = cc in
+    let is : is_keyword keyword.Type c.loop-parser.parser.position.lookahead.cursor.next.token ≡ true = cc in
     let p = err_from_is_err_and c.from_residual.result c.from_residual.ensures.1 in
     rw (p.1, p.2) (leaves _ (Part Types ∷ []) (AKeyword keyword.Type ∷ []) (Part Types ∷ []) _ _
     c.in_err-expect_type.field-0.0 (λ stack. refl)
@@ -37,7 +37,7 @@ returns-in_err-expect_type-clause-matches g c =
 
 pub returns-clause-matches : goal.returns-clause-matches
 returns-clause-matches g c depth =
-    let sound : is_fault c.loop-parser.tokens.position.lookahead.cursor.next.token ≡ false =
+    let sound : is_fault c.loop-parser.parser.position.lookahead.cursor.next.token ≡ false =
     c.loop-parser.invariant.kept.ready.sound in
-    let other : is_keyword keyword.Type c.loop-parser.tokens.position.lookahead.cursor.next.token ≡ false = cc in
+    let other : is_keyword keyword.Type c.loop-parser.parser.position.lookahead.cursor.next.token ≡ false = cc in
     opens_on depth (Part Types ∷ []) Types [] _ _ sound (types_end _ other) (c.loop-parser.invariant.matches depth)

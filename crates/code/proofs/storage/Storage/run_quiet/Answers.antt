@@ -33,12 +33,12 @@ returns-clause-ends c = λ some quiet.
       | then-loop-left-test+in-None w ↦
           let code = c.args.program.now in
           let m = machine_of c.loop-left.registers c.loop-left.self in
-          let i = w.instr-instr.result.now in
+          let i = w.instr_at-instr.result.now in
           let none =
           ap (λ (o : Option Registers). machine_if o w.step.new.self) (sym w.in-None.is) ∙
           w.step.ensures.next (pos 0) in
           let same = w.self-is ∙ w.step.ensures.stays w.in-None.is in
-          not_taken code m i w.instr-instr.ensures.next.here none
+          not_taken code m i w.instr_at-instr.ensures.next.here none
           (ap (λ (s : Storage). want_next code (machine_of c.loop-left.registers s)) (sym same) ∙ quiet)
     ]
 

@@ -91,8 +91,8 @@ block-returns-clause-parses g t c =
 
 -- Branches.
 
-pub branch-returns-in_err-check_level-clause-parses : goal.branch-returns-in_err-check_level-clause-parses
-branch-returns-in_err-check_level-clause-parses g t c =
+pub if_statement-returns-in_err-check_level-clause-parses : goal.if_statement-returns-in_err-check_level-clause-parses
+if_statement-returns-in_err-check_level-clause-parses g t c =
     let refused = c.in_err-check_level.ensures.refused in
     let p = err_from_is_err_and c.from_residual.result c.from_residual.ensures.1 in
     rw (p.1, p.2, refused.is) (record {
@@ -102,8 +102,8 @@ branch-returns-in_err-check_level-clause-parses g t c =
       grown = source_grown _ _ _;
     })
 
-pub branch-returns-in_err-advance-clause-parses : goal.branch-returns-in_err-advance-clause-parses
-branch-returns-in_err-advance-clause-parses g t c =
+pub if_statement-returns-in_err-advance-clause-parses : goal.if_statement-returns-in_err-advance-clause-parses
+if_statement-returns-in_err-advance-clause-parses g t c =
     let shallow : c.args.self.now.depth < 64 = c.in_ok-check_level.ensures.ok in
     let p = err_from_is_err_and c.from_residual-in_err-advance.result c.from_residual-in_err-advance.ensures.1 in
     rw (p.1, p.2) (record {
@@ -113,8 +113,8 @@ branch-returns-in_err-advance-clause-parses g t c =
       grown = λ device. grown_nothing _;
     })
 
-pub branch-returns-in_err-condition-clause-parses : goal.branch-returns-in_err-condition-clause-parses
-branch-returns-in_err-condition-clause-parses g t c =
+pub if_statement-returns-in_err-condition-clause-parses : goal.if_statement-returns-in_err-condition-clause-parses
+if_statement-returns-in_err-condition-clause-parses g t c =
     let shallow : c.args.self.now.depth < 64 = c.in_ok-check_level.ensures.ok in
     let begun =
     if_past c.args.self.now.tokens.position c.advance.new.self.position c.args.self.now.depth c.requires.at.ready.sound
@@ -129,8 +129,8 @@ branch-returns-in_err-condition-clause-parses g t c =
       grown = c.in_err-condition.ensures.parses.grown;
     })
 
-pub branch-returns-in_err-statement-clause-parses : goal.branch-returns-in_err-statement-clause-parses
-branch-returns-in_err-statement-clause-parses g t c =
+pub if_statement-returns-in_err-statement-clause-parses : goal.if_statement-returns-in_err-statement-clause-parses
+if_statement-returns-in_err-statement-clause-parses g t c =
     let stops =
     body_fails_at _ _ (c.args.self.now.depth + 1) (Part Statement ∷ []) c.condition.new.self.tokens.position
     g.B.Build.denied
@@ -153,8 +153,8 @@ branch-returns-in_err-statement-clause-parses g t c =
           (grown_behind _ _ _ _ c.in_ok-act.ensures.ok (c.in_err-statement.ensures.parses.grown device));
     })
 
-pub branch-returns-in_err-else_part-clause-parses : goal.branch-returns-in_err-else_part-clause-parses
-branch-returns-in_err-else_part-clause-parses g t c =
+pub if_statement-returns-in_err-else_part-clause-parses : goal.if_statement-returns-in_err-else_part-clause-parses
+if_statement-returns-in_err-else_part-clause-parses g t c =
     let body =
     body_at (g.B.Build.stands c.act.new.self) (g.B.Build.stands c.statement.new.self.builder.now) _
     (c.args.self.now.depth + 1)
@@ -187,8 +187,8 @@ branch-returns-in_err-else_part-clause-parses g t c =
           (c.in_err-else_part.ensures.parses.grown device)));
     })
 
-pub branch-returns-clause-parses : goal.branch-returns-clause-parses
-branch-returns-clause-parses g t c =
+pub if_statement-returns-clause-parses : goal.if_statement-returns-clause-parses
+if_statement-returns-clause-parses g t c =
     let body =
     body_at (g.B.Build.stands c.act.new.self) (g.B.Build.stands c.statement.new.self.builder.now) _
     (c.args.self.now.depth + 1)
@@ -214,9 +214,9 @@ branch-returns-clause-parses g t c =
 
 -- Loops.
 
-pub repetition-returns-in_err-check_level-clause-parses :
-    goal.repetition-returns-in_err-check_level-clause-parses
-repetition-returns-in_err-check_level-clause-parses g t c =
+pub while_statement-returns-in_err-check_level-clause-parses :
+    goal.while_statement-returns-in_err-check_level-clause-parses
+while_statement-returns-in_err-check_level-clause-parses g t c =
     let refused = c.in_err-check_level.ensures.refused in
     let p = err_from_is_err_and c.from_residual.result c.from_residual.ensures.1 in
     rw (p.1, p.2, refused.is) (record {
@@ -226,8 +226,8 @@ repetition-returns-in_err-check_level-clause-parses g t c =
       grown = source_grown _ _ _;
     })
 
-pub repetition-returns-in_err-advance-clause-parses : goal.repetition-returns-in_err-advance-clause-parses
-repetition-returns-in_err-advance-clause-parses g t c =
+pub while_statement-returns-in_err-advance-clause-parses : goal.while_statement-returns-in_err-advance-clause-parses
+while_statement-returns-in_err-advance-clause-parses g t c =
     let shallow : c.args.self.now.depth < 64 = c.in_ok-check_level.ensures.ok in
     let p = err_from_is_err_and c.from_residual-in_err-advance.result c.from_residual-in_err-advance.ensures.1 in
     rw (p.1, p.2) (record {
@@ -238,8 +238,8 @@ repetition-returns-in_err-advance-clause-parses g t c =
       grown = λ device. grown _ _ _ c.in_ok-act.ensures.ok;
     })
 
-pub repetition-returns-in_err-condition-clause-parses : goal.repetition-returns-in_err-condition-clause-parses
-repetition-returns-in_err-condition-clause-parses g t c =
+pub while_statement-returns-in_err-condition-clause-parses : goal.while_statement-returns-in_err-condition-clause-parses
+while_statement-returns-in_err-condition-clause-parses g t c =
     let shallow : c.args.self.now.depth < 64 = c.in_ok-check_level.ensures.ok in
     let begun =
     while_past c.args.self.now.tokens.position c.advance.new.self.position c.args.self.now.depth
@@ -257,8 +257,8 @@ repetition-returns-in_err-condition-clause-parses g t c =
           (c.in_err-condition.ensures.parses.grown device);
     })
 
-pub repetition-returns-in_err-statement-clause-parses : goal.repetition-returns-in_err-statement-clause-parses
-repetition-returns-in_err-statement-clause-parses g t c =
+pub while_statement-returns-in_err-statement-clause-parses : goal.while_statement-returns-in_err-statement-clause-parses
+while_statement-returns-in_err-statement-clause-parses g t c =
     let stops =
     body_fails_at _ _ (c.args.self.now.depth + 1) (Part Statement ∷ []) c.condition.new.self.tokens.position
     g.B.Build.denied
@@ -283,8 +283,8 @@ repetition-returns-in_err-statement-clause-parses g t c =
           (grown_behind _ _ _ _ c.in_ok-act-2.ensures.ok (c.in_err-statement.ensures.parses.grown device)));
     })
 
-pub repetition-returns-clause-parses : goal.repetition-returns-clause-parses
-repetition-returns-clause-parses g t c =
+pub while_statement-returns-clause-parses : goal.while_statement-returns-clause-parses
+while_statement-returns-clause-parses g t c =
     let body =
     body_at (g.B.Build.stands c.act-2.new.self) (g.B.Build.stands c.statement.new.self.builder.now) _
     (c.args.self.now.depth + 1)
@@ -315,8 +315,8 @@ block-statements-requires g t c κs within =
       (within.0, (within.1, record { builder = place; ready = c.in_ok-declarations.ensures.kept.ready; is = tt })),
     )
 
-pub branch-condition-requires : goal.branch-condition-requires
-branch-condition-requires g t c =
+pub if_statement-condition-requires : goal.if_statement-condition-requires
+if_statement-condition-requires g t c =
     let shallow : c.args.self.now.depth < 64 = c.in_ok-check_level.ensures.ok in
     record {
       at =
@@ -327,16 +327,16 @@ branch-condition-requires g t c =
           };
     }
 
-pub branch-act-requires : goal.branch-act-requires
-branch-act-requires g t c =
+pub if_statement-act-requires : goal.if_statement-act-requires
+if_statement-act-requires g t c =
     let shallow : c.args.self.now.depth < 64 = c.in_ok-check_level.ensures.ok in
     record {
       follows =
           may_test_if _ _ c.args.self.now.depth _ _ _ shallow c.requires.at.builder c.in_ok-condition.ensures.parses;
     }
 
-pub branch-statement-requires : goal.branch-statement-requires
-branch-statement-requires g t c κs within =
+pub if_statement-statement-requires : goal.if_statement-statement-requires
+if_statement-statement-requires g t c κs within =
     let shallow : c.args.self.now.depth < 64 = c.in_ok-check_level.ensures.ok in
     let inside =
     branch_open _ _ _ c.args.self.now.depth _ _ _ shallow c.requires.at.builder c.in_ok-condition.ensures.parses
@@ -348,8 +348,8 @@ branch-statement-requires g t c κs within =
       (within.0, (within.1, record { builder = place; ready = c.in_ok-condition.ensures.kept.tokens.ready; is = tt })),
     )
 
-pub branch-else_part-requires : goal.branch-else_part-requires
-branch-else_part-requires g t c κs within =
+pub if_statement-else_part-requires : goal.if_statement-else_part-requires
+if_statement-else_part-requires g t c κs within =
     let body =
     body_at (g.B.Build.stands c.act.new.self) (g.B.Build.stands c.statement.new.self.builder.now) _
     (c.args.self.now.depth + 1)
@@ -369,8 +369,8 @@ branch-else_part-requires g t c κs within =
       (within.0, (within.1, record { builder = place; ready = c.in_ok-statement.ensures.kept.tokens.ready; is = tt })),
     )
 
-pub branch-act-requires-2 : goal.branch-act-requires-2
-branch-act-requires-2 g t c =
+pub if_statement-act-requires-2 : goal.if_statement-act-requires-2
+if_statement-act-requires-2 g t c =
     let body =
     body_at (g.B.Build.stands c.act.new.self) (g.B.Build.stands c.statement.new.self.builder.now) _
     (c.args.self.now.depth + 1)
@@ -401,12 +401,12 @@ else_part-statement-requires g t c κs within =
       (within.0, (within.1, record { builder = place; ready = c.in_ok-advance.ensures.kept.ready; is = tt })),
     )
 
-pub repetition-act-requires : goal.repetition-act-requires
-repetition-act-requires g t c =
+pub while_statement-act-requires : goal.while_statement-act-requires
+while_statement-act-requires g t c =
     record { follows = may_begin_loop _ c.args.self.now.depth c.requires.at.builder }
 
-pub repetition-condition-requires : goal.repetition-condition-requires
-repetition-condition-requires g t c =
+pub while_statement-condition-requires : goal.while_statement-condition-requires
+while_statement-condition-requires g t c =
     let shallow : c.args.self.now.depth < 64 = c.in_ok-check_level.ensures.ok in
     record {
       at =
@@ -418,14 +418,14 @@ repetition-condition-requires g t c =
           };
     }
 
-pub repetition-act-requires-2 : goal.repetition-act-requires-2
-repetition-act-requires-2 g t c =
+pub while_statement-act-requires-2 : goal.while_statement-act-requires-2
+while_statement-act-requires-2 g t c =
     let shallow : c.args.self.now.depth < 64 = c.in_ok-check_level.ensures.ok in
     let inside = loop_open _ _ c.args.self.now.depth shallow c.requires.at.builder c.in_ok-act.ensures.ok in
     record { follows = may_test_loop _ _ _ _ _ _ inside c.in_ok-condition.ensures.parses }
 
-pub repetition-statement-requires : goal.repetition-statement-requires
-repetition-statement-requires g t c κs within =
+pub while_statement-statement-requires : goal.while_statement-statement-requires
+while_statement-statement-requires g t c κs within =
     let shallow : c.args.self.now.depth < 64 = c.in_ok-check_level.ensures.ok in
     let inside = loop_open _ _ c.args.self.now.depth shallow c.requires.at.builder c.in_ok-act.ensures.ok in
     let deep : c.condition.new.self.depth ≡ c.args.self.now.depth + 1 = c.in_ok-condition.ensures.kept.depth in
@@ -436,8 +436,8 @@ repetition-statement-requires g t c κs within =
       (within.0, (within.1, record { builder = place; ready = c.in_ok-condition.ensures.kept.tokens.ready; is = tt })),
     )
 
-pub repetition-act-requires-3 : goal.repetition-act-requires-3
-repetition-act-requires-3 g t c =
+pub while_statement-act-requires-3 : goal.while_statement-act-requires-3
+while_statement-act-requires-3 g t c =
     let body =
     body_at (g.B.Build.stands c.act-2.new.self) (g.B.Build.stands c.statement.new.self.builder.now) _
     (c.args.self.now.depth + 1)
@@ -529,8 +529,8 @@ else_part-returns-in_err-advance-clause-parses g t c =
     let sound : is_fault c.args.self.now.tokens.position.lookahead.cursor.next.token ≡ false =
     c.requires.at.ready.sound in
     let is : is_keyword keyword.Else c.args.self.now.tokens.position.lookahead.cursor.next.token ≡ true =
-    word_tested keyword.Else c.peek.result.now _ c.is_word.result true c.peek.ensures.value c.is_word.ensures
-    c.if-is_word.true in
+    word_tested keyword.Else c.peek.result.now _ c.is_keyword.result true c.peek.ensures.value c.is_keyword.ensures
+    c.if-is_keyword.true in
     let p = err_from_is_err_and c.from_residual-in_err-advance.result c.from_residual-in_err-advance.ensures.1 in
     rw (p.1, p.2) (record {
       refused = refused_map _ _ _ ⊥ _ c.in_err-advance.field-0.0 (else_stops _ c.args.self.now.depth sound is)
@@ -543,8 +543,8 @@ else_part-returns-in_err-statement-clause-parses g t c =
     let sound : is_fault c.args.self.now.tokens.position.lookahead.cursor.next.token ≡ false =
     c.requires.at.ready.sound in
     let is : is_keyword keyword.Else c.args.self.now.tokens.position.lookahead.cursor.next.token ≡ true =
-    word_tested keyword.Else c.peek.result.now _ c.is_word.result true c.peek.ensures.value c.is_word.ensures
-    c.if-is_word.true in
+    word_tested keyword.Else c.peek.result.now _ c.is_keyword.result true c.peek.ensures.value c.is_keyword.ensures
+    c.if-is_keyword.true in
     let p = err_from_is_err_and c.from_residual-in_err-statement.result c.from_residual-in_err-statement.ensures.1 in
     rw (p.1, p.2) (record {
       refused = refused_map _ _ _ _ _ c.in_err-statement.field-0.0
@@ -559,19 +559,19 @@ else_part-returns-in_ok-statement-clause-parses g t c =
     let sound : is_fault c.args.self.now.tokens.position.lookahead.cursor.next.token ≡ false =
     c.requires.at.ready.sound in
     let is : is_keyword keyword.Else c.args.self.now.tokens.position.lookahead.cursor.next.token ≡ true =
-    word_tested keyword.Else c.peek.result.now _ c.is_word.result true c.peek.ensures.value c.is_word.ensures
-    c.if-is_word.true in
+    word_tested keyword.Else c.peek.result.now _ c.is_keyword.result true c.peek.ensures.value c.is_keyword.ensures
+    c.if-is_keyword.true in
     else_adds _ _ _ _ _ _ c.args.self.now.depth sound is c.in_ok-advance.ensures.consumes
     c.in_ok-advance.ensures.kept.ready.sound c.in_ok-act.ensures.ok c.in_ok-statement.ensures.parses
     c.in_ok-statement.ensures.kept.tokens.ready.sound
 
-pub else_part-returns-else-is_word-clause-parses : goal.else_part-returns-else-is_word-clause-parses
-else_part-returns-else-is_word-clause-parses g t c =
+pub else_part-returns-else-is_keyword-clause-parses : goal.else_part-returns-else-is_keyword-clause-parses
+else_part-returns-else-is_keyword-clause-parses g t c =
     let sound : is_fault c.args.self.now.tokens.position.lookahead.cursor.next.token ≡ false =
     c.requires.at.ready.sound in
     let other : is_keyword keyword.Else c.args.self.now.tokens.position.lookahead.cursor.next.token ≡ false =
-    word_tested keyword.Else c.peek.result.now _ c.is_word.result false c.peek.ensures.value c.is_word.ensures
-    c.if-is_word.false in
+    word_tested keyword.Else c.peek.result.now _ c.is_keyword.result false c.peek.ensures.value c.is_keyword.ensures
+    c.if-is_keyword.false in
     no_else_adds _ _ c.args.self.now.depth sound other
 
 -- Empty statements.
@@ -616,8 +616,8 @@ block-returns-clause-kept g t c = record {
   builder = c.in_ok-statements.ensures.kept.builder;
 }
 
-pub branch-returns-clause-kept : goal.branch-returns-clause-kept
-branch-returns-clause-kept g t c = record {
+pub if_statement-returns-clause-kept : goal.if_statement-returns-clause-kept
+if_statement-returns-clause-kept g t c = record {
   tokens =
       on_then _ _ _ c.in_ok-advance.ensures.kept
       (kept_then _ _ _ (on _ _ c.in_ok-condition.ensures.kept.tokens)
@@ -629,8 +629,8 @@ branch-returns-clause-kept g t c = record {
       c.in_ok-condition.ensures.kept.builder;
 }
 
-pub repetition-returns-clause-kept : goal.repetition-returns-clause-kept
-repetition-returns-clause-kept g t c = record {
+pub while_statement-returns-clause-kept : goal.while_statement-returns-clause-kept
+while_statement-returns-clause-kept g t c = record {
   tokens =
       on_then _ _ _ c.in_ok-advance.ensures.kept
       (kept_then _ _ _ (on _ _ c.in_ok-condition.ensures.kept.tokens) (on _ _ c.in_ok-statement.ensures.kept.tokens));
@@ -646,11 +646,11 @@ else_part-returns-in_ok-statement-clause-kept g t c = record {
   builder = c.in_ok-statement.ensures.kept.builder;
 }
 
-pub else_part-returns-else-is_word-clause-kept : goal.else_part-returns-else-is_word-clause-kept
-else_part-returns-else-is_word-clause-kept g t c = nothing_read c.args.self.now c.requires.at.ready
+pub else_part-returns-else-is_keyword-clause-kept : goal.else_part-returns-else-is_keyword-clause-kept
+else_part-returns-else-is_keyword-clause-kept g t c = nothing_read c.args.self.now c.requires.at.ready
 
-pub branch-returns-in_err-act-clause-parses : goal.branch-returns-in_err-act-clause-parses
-branch-returns-in_err-act-clause-parses g t c =
+pub if_statement-returns-in_err-act-clause-parses : goal.if_statement-returns-in_err-act-clause-parses
+if_statement-returns-in_err-act-clause-parses g t c =
     let shallow : c.args.self.now.depth < 64 = c.in_ok-check_level.ensures.ok in
     let begun =
     if_past c.args.self.now.tokens.position c.advance.new.self.position c.args.self.now.depth c.requires.at.ready.sound
@@ -671,8 +671,8 @@ branch-returns-in_err-act-clause-parses g t c =
       grown = memory_grown _ _;
     })
 
-pub branch-returns-in_err-act-2-clause-parses : goal.branch-returns-in_err-act-2-clause-parses
-branch-returns-in_err-act-2-clause-parses g t c =
+pub if_statement-returns-in_err-act-2-clause-parses : goal.if_statement-returns-in_err-act-2-clause-parses
+if_statement-returns-in_err-act-2-clause-parses g t c =
     let body =
     body_at (g.B.Build.stands c.act.new.self) (g.B.Build.stands c.statement.new.self.builder.now) _
     (c.args.self.now.depth + 1)
@@ -708,8 +708,8 @@ branch-returns-in_err-act-2-clause-parses g t c =
       grown = memory_grown _ _;
     })
 
-pub repetition-returns-in_err-act-clause-parses : goal.repetition-returns-in_err-act-clause-parses
-repetition-returns-in_err-act-clause-parses g t c =
+pub while_statement-returns-in_err-act-clause-parses : goal.while_statement-returns-in_err-act-clause-parses
+while_statement-returns-in_err-act-clause-parses g t c =
     let p =
     err_from_is_err_and c.from_residual-in_err-act.result c.from_residual-in_err-act.ensures.1 in
     rw (p.1, p.2) (record {
@@ -720,8 +720,8 @@ repetition-returns-in_err-act-clause-parses g t c =
       grown = memory_grown _ _;
     })
 
-pub repetition-returns-in_err-act-2-clause-parses : goal.repetition-returns-in_err-act-2-clause-parses
-repetition-returns-in_err-act-2-clause-parses g t c =
+pub while_statement-returns-in_err-act-2-clause-parses : goal.while_statement-returns-in_err-act-2-clause-parses
+while_statement-returns-in_err-act-2-clause-parses g t c =
     let shallow : c.args.self.now.depth < 64 = c.in_ok-check_level.ensures.ok in
     let begun =
     while_past c.args.self.now.tokens.position c.advance.new.self.position c.args.self.now.depth
@@ -742,8 +742,8 @@ repetition-returns-in_err-act-2-clause-parses g t c =
       grown = memory_grown _ _;
     })
 
-pub repetition-returns-in_err-act-3-clause-parses : goal.repetition-returns-in_err-act-3-clause-parses
-repetition-returns-in_err-act-3-clause-parses g t c =
+pub while_statement-returns-in_err-act-3-clause-parses : goal.while_statement-returns-in_err-act-3-clause-parses
+while_statement-returns-in_err-act-3-clause-parses g t c =
     let body =
     body_at (g.B.Build.stands c.act-2.new.self) (g.B.Build.stands c.statement.new.self.builder.now) _
     (c.args.self.now.depth + 1)

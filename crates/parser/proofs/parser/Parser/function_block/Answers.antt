@@ -71,8 +71,8 @@ returns-in_err-statements-clause-parses g c =
           exit _ 0 1 (Part FunctionBlock ∷ []) (Part Statements ∷ []) at_brace [] (ABody Done ∷ []) [] _ _ _ _
           c.in_err-statements.field-0.0 (block_declared _ _ _ opened (c.in_ok-declarations.ensures.matches 1))
           (λ stack same. ap (λ n. n + 1) same) (λ same. same)
-          (refused_map _ (FailsBody 1 (Part Statements ∷ []) c.declarations.new.tokens.position)
-          (FailsAt 1 (Part Statements ∷ []) (ABody Done ∷ []) c.declarations.new.tokens.position) _ _
+          (refused_map _ (FailsBody 1 (Part Statements ∷ []) c.declarations.new.parser.position)
+          (FailsAt 1 (Part Statements ∷ []) (ABody Done ∷ []) c.declarations.new.parser.position) _ _
           c.in_err-statements.field-0.0 (λ d fails. fails Done) (λ same. same)
           (rw c.requires.at.flat at c.in_err-statements.ensures.parses.refused));
       grown = c.in_err-statements.ensures.parses.grown;
