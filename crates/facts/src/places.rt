@@ -50,7 +50,7 @@ impl Places {
             }
             Token::Name(name) => {
                 for (intrinsic, is_named) in Intrinsic::ALL.iter().zip(&mut self.named) {
-                    *is_named |= name.is_stop(intrinsic.name().as_bytes());
+                    *is_named |= name.has_bytes(intrinsic.name().as_bytes());
                 }
             }
             // no other token begins a function or a loop
