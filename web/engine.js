@@ -121,7 +121,7 @@ export class Engine {
     }
 
     /**
-     * Plays the first match of the settings up to their update `from`, and films so many `windows` of 15 cycles after it. Any
+     * Plays the first match of the settings up to their update `from`, and films the next `windows` of 15 cycles. Any
      * numbers from 0 to 2 ** 32 - 1 will do. Returns {ending, text, faults}; the ending is GOES_ON if the match goes on.
      */
     windows(settings, robots) {

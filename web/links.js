@@ -5,7 +5,7 @@ const MARK = "#battle=";
 // four sources of the greatest length, with room for what stands between them
 const MOST_BYTES = 6 * 1024 * 1024;
 
-/** Reads a stream's bytes, and no more than so many: a stream that has more is given up at once. */
+/** Reads a stream's bytes up to a limit: a stream that has more is given up at once. */
 async function bytesOf(stream, most) {
     const reader = stream.getReader();
     const parts = [];
@@ -37,7 +37,7 @@ function toBytes(text) {
     return Uint8Array.from(binary, letter => letter.charCodeAt(0));
 }
 
-/** Returns the bytes that a text in base 64 packs, if they aren't more than so many. */
+/** Returns the bytes that a text in base 64 packs, if they aren't more than the limit. */
 export function unpacked(text, most) {
     const packed = new Blob([toBytes(text)]).stream();
     return bytesOf(packed.pipeThrough(new DecompressionStream("deflate-raw")), most);

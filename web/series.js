@@ -5,7 +5,7 @@
 import {Ending} from "./engine.js";
 import {STOPPED} from "./calling.js";
 
-// a series of so many matches is one piece, and its report is the engine's as it stands
+// a series of at most this number of matches is one piece, and its report is the engine's as it stands
 const ONE_PIECE = 10;
 const MOST_OF_A_PIECE = 500;
 const MILLISECONDS_OF_A_PIECE = 250;
@@ -20,7 +20,7 @@ class Totals {
         this.rows = [];
     }
 
-    /** Adds those of a piece of so many matches. */
+    /** Adds those of a piece with this number of matches. */
     add(matches, text) {
         this.matches += matches;
         text.trimEnd().split("\n").slice(1).forEach((line, at) => {
@@ -38,7 +38,7 @@ class Totals {
 
 /** A series that is played. */
 export class Series {
-    /** `call` asks the engine to run so many matches from a number on; `onPiece` is called after each piece. */
+    /** `call` asks the engine to run a number of matches from a number on; `onPiece` is called after each piece. */
     constructor(settings, call, onPiece) {
         Object.assign(this, {settings, call, onPiece, totals: new Totals(), reports: [], letters: 0, leftOut: 0});
         this.size = settings.matches <= ONE_PIECE ? settings.matches : 1;

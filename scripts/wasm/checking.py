@@ -70,7 +70,7 @@ class Walk:
         return self.data[self.at - 1]
 
     def groups(self, bits: int) -> tuple[int, int]:
-        """A number of at most so many bits, and how many it is written with: groups of seven, the lowest first."""
+        """A number of at most these bits, and how many it is written with: groups of seven, the lowest first."""
         value = 0
         for shift in range(0, bits, 7):
             byte = self.byte()

@@ -27,7 +27,7 @@ PREFIX, COPY, FILL = 0xFC, 0xFC0A, 0xFC0B
 LOADS = (0x28, 0x29, *range(0x2C, 0x36))
 STORES_OF_I32, STORES_OF_I64 = (0x36, 0x3A, 0x3B), (0x37, 0x3C, 0x3D, 0x3E)
 ACCESSES = (*LOADS, *STORES_OF_I32, *STORES_OF_I64, COPY, FILL)
-# what follows an opcode: an unsigned number (u), a signed one (s), a count and so many numbers (v)
+# what follows an opcode: an unsigned number (u), a signed one (s), a count with as many numbers (v)
 IMMEDIATES = {
     # unreachable, nop, else, end, return, drop, select; comparisons, arithmetic and conversions of integers
     **dict.fromkeys((0x00, 0x01, 0x05, END, 0x0F, 0x1A, 0x1B), ""),
@@ -61,7 +61,7 @@ class Reader:
         return self.take(1)[0]
 
     def take(self, count: int) -> bytes:
-        """The next bytes, so many."""
+        """The next bytes, as many as asked."""
         self._at += count
         if self._at > len(self._data):
             raise UnknownPart("a part that is cut off")

@@ -1,4 +1,4 @@
-// blocks.mjs MODULE COUNT SEED: calls the module alone, so many times, with blocks whose numbers and bytes may be anything.
+// blocks.mjs MODULE COUNT SEED: calls the module alone, COUNT times, with blocks whose numbers and bytes may be anything.
 //
 // It writes what the module imports and exports, how often each code was answered, and what calls by addresses outside of
 // the memory ended with, in JSON. The calls have no long match: a limit is small, or too great.

@@ -121,7 +121,7 @@ def explanations(page: Page) -> list[str]:
 
 
 def alive(page: Page, crobots: str, most: int = 1_048_577) -> list[str]:
-    """After hostile sources, of at most so many bytes, the page runs a battle as ever."""
+    """After hostile sources up to a size, the page runs a battle as before."""
     battle = Battle(samples()[:2], Settings(limit=5_000))
     wrong = []
     hostile = (b"main(){" + b"(" * (1_048_576 - 7), b"main(){}\x1a(((", b"", b"/*" * 10_000, b"main(){" + b"1;" * 100_000, b"(" * 1_048_577)

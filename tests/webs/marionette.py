@@ -46,7 +46,7 @@ class Firefox:
         self.ask("WebDriver:NewSession", capabilities={})
 
     def _hear(self) -> Any:
-        """What the browser says next: a number of bytes, a colon, and so many bytes."""
+        """What the browser says next: a number of bytes, a colon, and these bytes."""
         while b":" not in self._rest or len(self._rest.partition(b":")[2]) < int(self._rest.partition(b":")[0]):
             more = self._socket.recv(1 << 16)
             if not more:

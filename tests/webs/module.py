@@ -349,7 +349,7 @@ def explanations(folder: str) -> list[str]:
 
 
 def most_tokens(folder: str) -> list[str]:
-    """A source of more than 16,384 tokens isn't explained; one of so many is, the end among them."""
+    """A source of more than 16,384 tokens isn't explained; one of 16,384 is, the end among them."""
     head, tail = b"main(){while(1)drive(0,50);", b"}"
     tokens = len(TOKEN.findall(head + tail)) + 1
     sources = [head + b";" * (16_384 - tokens + more) + tail for more in (0, 1)] + [head + b";" * 900_000 + b"(" + tail]

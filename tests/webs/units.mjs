@@ -53,7 +53,7 @@ check("a word", [wordAt("a = scan(1)", 6), wordAt("a = scan(1)", 4), wordAt("a =
 check("completions", completions("co", "int count; /* cold */ course(); co", functions), ["cos", "count", "course"]);
 check("no completion", completions("cos", "", functions), []);
 
-/** A series of an engine that plays to the second robot's win, and fills its sheet with more than so many matches. */
+/** A series of an engine that plays to the second robot's win, and fills its sheet with more than a number of matches. */
 async function play(matches, most, first = 1) {
     const calls = [];
     const series = new Series({matches, first}, ({matches: count, first: from}) => {

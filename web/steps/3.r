@@ -1,5 +1,5 @@
 /* 3. A robot that shoots
-cannon shoots in a direction, so many metres far, at most 700. A burst nearer than 40 metres hurts the robot itself.
+cannon shoots in a direction, up to 700 metres far. A burst nearer than 40 metres hurts the robot itself.
 This one hits now and then: within 10 degrees there is much room beside the target.
 Against wanderer.r. */
 main()

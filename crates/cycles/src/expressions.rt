@@ -100,6 +100,7 @@ impl Counted {
         match op {
             Op::And if profile.short_circuit() => self.short_and(left, right),
             Op::Or if profile.short_circuit() => self.short_or(left, right),
+            // (of a new operator for which this is wrong the contract isn't proved)
             _ => self.full(left, right),
         }
     }

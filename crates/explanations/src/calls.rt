@@ -128,16 +128,35 @@ fn may_be_swapped(intrinsic: Intrinsic, values: (Option<i32>, Option<i32>)) -> b
         Intrinsic::Cannon => first >= 360 && first <= MOST_RANGE && second < 360,
         Intrinsic::Drive => first <= 100 && second > 100,
         Intrinsic::Scan => first <= 10 && second > 10,
-        _ => false,
+        Intrinsic::Damage
+        | Intrinsic::Speed
+        | Intrinsic::LocX
+        | Intrinsic::LocY
+        | Intrinsic::Rand
+        | Intrinsic::Sqrt
+        | Intrinsic::Sin
+        | Intrinsic::Cos
+        | Intrinsic::Tan
+        | Intrinsic::Atan => false,
     }
 }
 
-/// Returns the order of the arguments of a function that takes two.
+/// Returns the order of the arguments of a function that takes two; nothing of another one.
 fn order_of(intrinsic: Intrinsic) -> &'static str {
     match intrinsic {
         Intrinsic::Cannon => "the degree comes first: `cannon(degree, range)`",
         Intrinsic::Drive => "the degree comes first: `drive(degree, speed)`",
-        _ => "the degree comes first: `scan(degree, resolution)`",
+        Intrinsic::Scan => "the degree comes first: `scan(degree, resolution)`",
+        Intrinsic::Damage
+        | Intrinsic::Speed
+        | Intrinsic::LocX
+        | Intrinsic::LocY
+        | Intrinsic::Rand
+        | Intrinsic::Sqrt
+        | Intrinsic::Sin
+        | Intrinsic::Cos
+        | Intrinsic::Tan
+        | Intrinsic::Atan => "",
     }
 }
 

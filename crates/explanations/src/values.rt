@@ -70,6 +70,7 @@ fn wraps(op: Op, left: Option<i32>, right: Option<i32>) -> bool {
     let whole = match op {
         Op::Add => left.saturating_add(right),
         Op::Subtract => left.saturating_sub(right),
+        // (it is called for `+`, `-` and `*` alone: this is `*`)
         _ => left.saturating_mul(right),
     };
     i32::try_from(whole).is_err()

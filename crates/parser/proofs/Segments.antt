@@ -295,7 +295,7 @@ stops cursor known learnt more d depth front pending taken left leads stop locat
     let t : State = state (pending ++ stack) b.tail (left ++ values) learnt functions in
     let fails : IfSource d.fault (Fails profile t) =
     lexical_error_fails d.fault b.tail b.behind.others behind stop.lexical_error in
-    let last : d.taken ≤ most_taken d.fault b.tail = stop.bytes_taken cursor.next b.tail (is ∙ ap Some b.is) in
+    let last : d.taken ≤ most_taken d.fault b.tail = stop.taken cursor.next b.tail (is ∙ ap Some b.is) in
     rw b.is (inside_back profile (state (front ++ stack) (cursor.next ∷ b.tail) (taken ++ values) known functions)
     t d
     (cursor.next ∷ []) refl refl

@@ -121,7 +121,7 @@ fn add_crowd(item: &mut Draft, cause: Option<Cause>, crowd: &Crowd, note: &Note)
     item.number(crowd.calls as u64);
     item.add(match cause {
         Some(Cause::Frames) => " from line ",
-        _ => " calls open from line ",
+        Some(Cause::Words) | Some(Cause::Returned) | None => " calls open from line ",
     });
     item.number(u64::from(note.line(crowd.address)));
 }
