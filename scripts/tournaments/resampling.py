@@ -2,7 +2,8 @@
 
 A step takes the curvature of all matches in place of that of a round. What differs between both is mostly how often a robot
 plays in the round, and that a chance isn't a straight line of strengths. Both are known of each robot by itself. So its
-slope is bent first: to what leads to its score by the curvature of all matches, if its opponents are as one.
+slope is bent first: to what leads to its score by the curvature of all matches, if its opponents are one, whose strength
+and number of matches bend its slope as all of them do.
 
 A step of all robots costs a look at each pair. Its own strength, if all others' stay, costs a look at its own pairs alone,
 and is much nearer to the fit: what is left of the others' is below it and above it, and hardly counts together. How much is
@@ -20,7 +21,7 @@ from typing import Iterable, Iterator, Sequence
 
 from . import matrices
 from .bootstrap import SEED, Packed, counts, rounds
-from .matrices import Half, half
+from .matrices import Half, half, product
 from .mixing import Mixing
 from .strengths import EXACT, STEP_MAX, Matches, Opponents, length
 from .tallies import Tally
@@ -99,7 +100,7 @@ class Whole:
 def as_one(row: Sequence[int], chances: Sequence[float], bends: Sequence[float], tie: float) -> float:
     """A robot's chance against the one opponent that bends its slope as all of them do: the mean chance by their bends."""
     every = [*map(mul, row, bends), tie * (1 - tie)]
-    return sum(map(mul, every, [*chances, tie])) / sum(every)
+    return product(every, [*chances, tie]) / sum(every)
 
 
 def alone_by(chance: float, moved: float, slope: float, bend: float) -> float:
