@@ -1,0 +1,31 @@
+// Unpacks texts that were deflated and written in base 64.
+
+/** Reads a stream's bytes, and no more than so many: a stream that has more is given up at once. */
+export async function bytesOf(stream, most = Infinity) {
+    const reader = stream.getReader();
+    const parts = [];
+    for (let size = 0; ;) {
+        const {done, value} = await reader.read();
+        if (done) {
+            return new Uint8Array(await new Blob(parts).arrayBuffer());
+        }
+        parts.push(value);
+        size += value.length;
+        if (size > most) {
+            await reader.cancel();
+            throw new RangeError(`more than ${most} bytes`);
+        }
+    }
+}
+
+/** Returns the bytes of a text in base 64, of either alphabet. */
+function toBytes(text) {
+    const binary = atob(text.replaceAll("-", "+").replaceAll("_", "/"));
+    return Uint8Array.from(binary, letter => letter.charCodeAt(0));
+}
+
+/** Returns the bytes that a text in base 64 packs, if they aren't more than so many. */
+export function unpacked(text, most = Infinity) {
+    const packed = new Blob([toBytes(text)]).stream();
+    return bytesOf(packed.pipeThrough(new DecompressionStream("deflate-raw")), most);
+}
