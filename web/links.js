@@ -1,6 +1,6 @@
 // Links that carry a battle: its robots and its settings, packed into the fragment of the address.
 import {checked} from "./battles.js";
-import {bytesOf, unpacked} from "./player/unpacking.js";
+import {bytesOf, unpacked} from "./player/packing.js";
 
 const MARK = "#battle=";
 // four sources of the greatest length, with room for what stands between them

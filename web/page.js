@@ -9,7 +9,7 @@ import {Finder} from "./finding.js";
 import {helpWriting} from "./helping.js";
 import {Keeping} from "./keeping.js";
 import {battleOf, fragmentOf} from "./links.js";
-import {unpacked} from "./player/unpacking.js";
+import {unpacked} from "./player/packing.js";
 import {Playing, tell} from "./playing.js";
 import {Workbench} from "./workbench.js";
 

@@ -4,12 +4,11 @@ What its rows tell the page reads itself (web/player/films.js)."""
 
 from __future__ import annotations
 
-import base64
 import re
-import zlib
 from typing import Iterable
 
 from .faults import UNWRITTEN, USAGE, Fault
+from .packing import Packer
 
 HEADER = "cycle robot kind a b c d e".split()
 # The values of each kind of row.
@@ -18,44 +17,46 @@ KINDS = {
     "burst": r"(\t-?\d+){2}", "hurt": r"(\t-?\d+){4}", "collision": r"(\t-?\d+){2}", "wall": r"\t-?\d+",
     "restart": r"\t[^\t]+\t[^\t]+\t\d+", "death": "", "end": r"\t-?\d+", "stop": r"\t-?\d+",
 }
-ROW = re.compile(r"\d+\t([1-9])\t(" + "|".join(kind + values for kind, values in KINDS.items()) + r")")
-
-REFUSED = re.compile(r"\d+\t\d\trefused\t")
+ROW = re.compile(r"\d+\t[1-9]\t(" + "|".join(kind + values for kind, values in KINDS.items()) + ")")
 
 
 class Film:
-    """A film: its robots' names, and its text. The latter is without the tabs at ends of lines, and without refused shots."""
+    """A film: its robots' names, and its rows but those of refused shots, which no page shows."""
 
     def __init__(self) -> None:
         self.names: list[str] = []
-        self._placed: set[str] = set()
-        self._ended: set[str] = set()
-        self._packer = zlib.compressobj(9, wbits=-15)
-        self._parts: list[bytes] = []
+        self._placed: set[int] = set()
+        self._ended: set[int] = set()
+        self._packer = Packer()
 
     def read(self, lines: Iterable[str]) -> None:
         """Reads all lines of a film."""
         for number, line in enumerate(lines, 1):
             row = line.rstrip("\t\n")
-            if not (self._take(row) if number > 1 else row.split("\t") == HEADER):
+            if not (self._take(row) if number > 1 else self._begin(row)):
                 raise Fault(f"line {number} of the film can't be read", UNWRITTEN)
-            if not REFUSED.match(row):
-                self._parts.append(self._packer.compress(f"{row}\n".encode()))
         self._judge()
 
+    def _begin(self, row: str) -> bool:
+        """Takes the names of the columns; reports whether they are those of a film."""
+        self._packer.add_head(HEADER)
+        return row.split("\t") == HEADER
+
     def _take(self, row: str) -> bool:
-        """Takes note of a row; reports whether it is one of a film."""
+        """Takes a row; reports whether it is one of a film."""
         if not ROW.fullmatch(row):
             return False
-        _, robot, kind, *values = row.split("\t")
+        fields = row.split("\t")
+        robot, kind = int(fields[1]), fields[2]
         if kind == "name":
-            self.names.append(values[0])
-            return int(robot) == len(self.names)
-        if kind == "at":
+            self.names.append(fields[3])
+        elif kind == "at":
             self._placed.add(robot)
         elif kind in ("end", "stop"):
             self._ended.add(robot)
-        return int(robot) <= len(self.names)
+        if kind != "refused":
+            self._packer.add(fields)
+        return robot == len(self.names) if kind == "name" else robot <= len(self.names)
 
     def _judge(self) -> None:
         """Looks whether the film is whole."""
@@ -67,6 +68,5 @@ class Film:
             raise Fault("the film has no place of a robot", UNWRITTEN)
 
     def packed(self) -> str:
-        """The film's text, deflated and in base 64."""
-        self._parts = [*self._parts, self._packer.flush()]
-        return base64.b64encode(b"".join(self._parts)).decode()
+        """The film's text, as a page carries it."""
+        return self._packer.packed()

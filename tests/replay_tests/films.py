@@ -11,6 +11,8 @@ import subprocess
 import tempfile
 from typing import Any
 
+from replays.films import Film
+
 from .made import BEGIN, END, FILM, tabbed
 
 HERE = os.path.dirname(os.path.abspath(__file__))
@@ -79,6 +81,14 @@ class Films:
         got = self._film(FILM)
         wrong = [f"{key}: {got.get(key)}, not {value}" for key, value in READ.items() if got.get(key) != value]
         return wrong + ([] if set(got) == set(READ) else [f"{set(got)}"])
+
+    def what_a_page_carries(self) -> list[str]:
+        """It is unpacked to the film, but for refused shots, with its names as they are and all that goes down and up."""
+        text = tabbed(FILM.replace("a.r", "é😀.r").replace("45 1 at 1000 5000 0 0 0", "45 1 at 10 0 359 100 0"))
+        film = Film()
+        film.read(text.splitlines(keepends=True))
+        got = self._answers({"packed": film.packed(), "text": ""})[0]["text"]
+        return [] if got == text.replace(tabbed("10 1 refused 0 500\n"), "") else [got]
 
     def bursts_belong_to_their_shots(self) -> list[str]:
         """Of two missiles in the air the later one bursts first; the third is in the air at the end: 14 updates and 700 metres."""

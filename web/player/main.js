@@ -3,8 +3,8 @@
 import {element} from "./elements.js";
 import {filmOf} from "./films.js";
 import {Match} from "./matches.js";
+import {summed, unpacked} from "./packing.js";
 import {Player} from "./player.js";
-import {unpacked} from "./unpacking.js";
 
 /** Shows a film, as `filmOf` reads it; the options are those of the player. */
 function show(film, options) {
@@ -19,7 +19,7 @@ function showFilm(film, heading, options) {
 
 /** Shows the film that the page carries. */
 async function showCarried(packed) {
-    show(filmOf(new TextDecoder().decode(await unpacked(packed))));
+    show(filmOf(summed(new TextDecoder().decode(await unpacked(packed)))));
 }
 
 const carried = element("film").textContent;
