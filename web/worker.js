@@ -1,0 +1,45 @@
+// Runs the engine beside the page, so that the page stays alive while matches are played and their films are read.
+import {Ending, Engine} from "./engine.js";
+import {cyclesOf, filmOf, isFilm} from "./player/films.js";
+
+const FILMS = ["film", "windows"];
+
+let bytes;
+let engine;
+
+/** Makes the engine of the module's bytes. */
+function start(module) {
+    bytes = module;
+    engine = Engine.load(bytes);
+    engine.catch(() => {
+        // each call tells of it
+    });
+}
+
+/**
+ * Reads a film for the player: null if it has none of the cycles that were asked for, or was cut off before one that it has to
+ * go `beyond`. One robot fights itself, and then has its name twice.
+ */
+function read({ending, text, faults}, {beyond = -1}, robots) {
+    if (!isFilm(text) || ending === Ending.FULL && cyclesOf(text) <= beyond) {
+        return {ending, faults, film: null};
+    }
+    const names = robots.map(({name}) => name);
+    return {ending, faults, film: filmOf(text, names.length === 1 ? [...names, ...names] : names)};
+}
+
+/** Does what a message asks for, and answers by its number. */
+async function answer({number, call, settings, robots}) {
+    try {
+        const answered = (await engine)[call](settings, robots);
+        postMessage({number, result: FILMS.includes(call) ? read(answered, settings, robots) : answered});
+    } catch (fault) {
+        if (fault instanceof WebAssembly.RuntimeError) {
+            // a call that was cut off leaves its stack; the next one gets a module of its own
+            start(bytes);
+        }
+        postMessage({number, fault: fault.message});
+    }
+}
+
+onmessage = ({data}) => data.module ? start(data.module) : answer(data);
