@@ -37,11 +37,13 @@ READ = {
     "whys": [["words", "refused", 3]],
 }
 HEAD = "cycle robot kind a b c d e\n"
-# Windows from cycle 210 to 240: robot 1 fired in cycle 4, as far as a missile flies, and robot 2 is dead.
+# Windows from cycle 210 to 225: robot 1 fired in the cycles 4 and 9, as far as a missile flies, and robot 2 is dead.
 WINDOWS = HEAD + """\
 210 1 stands 1000 1000 0 0 0
 210 2 stands 9000 9000 0 0 100
+9 1 flies 90 700 1000 1000
 4 1 flies 0 700 1000 1000
+210 1 burst 1000 8000
 210 1 burst 8000 1000
 225 1 stands 1000 1000 0 0 0
 225 1 at 1000 1000 0 0 0
@@ -99,12 +101,12 @@ class Films:
         return [f"{key}: {shots[key]}, not {value}" for key, value in wanted.items() if shots[key] != value]
 
     def each_robot_has_its_own_missiles(self) -> list[str]:
-        """Both fire at once, and as far: each burst is that of its robot's missile."""
-        film = HEAD + ("0 1 name a.r\n0 2 name b.r\n0 1 at 1000 1000 0 0 0\n0 2 at 9000 9000 0 0 0\n5 1 shot 0 100 1000 1000\n"
-                       "5 2 shot 180 100 9000 9000\n30 2 burst 8000 9000\n30 1 burst 2000 1000\n900 1 end 0\n900 2 end 0\n")
+        """Both fire at once, and almost to the same place: each burst is that of its robot's missile."""
+        film = HEAD + ("0 1 name a.r\n0 2 name b.r\n0 1 at 1000 1000 0 0 0\n0 2 at 3000 1000 0 0 0\n5 1 shot 0 100 1000 1000\n"
+                       "5 2 shot 180 100 3000 1000\n30 2 burst 2001 1000\n30 1 burst 2000 1000\n900 1 end 0\n900 2 end 0\n")
         shots = self._film(film)["shots"]
         seen = [shots[name] for name in ("robot", "burst", "toX")]
-        return [] if seen == [[1, 2], [30, 30], [2000, 8000]] else [f"{shots}"]
+        return [] if seen == [[1, 2], [30, 30], [2000, 2001]] else [f"{shots}"]
 
     def a_burst_without_a_missile_is_shown_alone(self) -> list[str]:
         shots = self._film(BEGIN + "15 1 burst 100 200\n" + END)["shots"]
@@ -123,16 +125,21 @@ class Films:
         return [] if seen == wanted else [f"{seen}, not {wanted}"]
 
     def a_film_of_windows(self) -> list[str]:
-        """Names are given; the missile that flies at the begin is the one that bursts; where a robot stands is told once."""
+        """Names are given; missiles that fly at the begin are those that burst, in their order; where a robot stands is told once."""
         answer = self._answer(WINDOWS, names=["a.r", "b.r"], moments=[[205, 60], [210, 60]])
         match = answer["film"]
         shots = match["shots"]
         seen = ([robot["name"] for robot in match["robots"]], match["first"], match["cycles"], match["goesOn"],
                 match["robots"][0]["path"]["cycle"], match["robots"][1]["death"], [shots[name] for name in ("cycle", "burst", "toX", "toY")])
-        wanted = (["a.r", "b.r"], 210, 225, True, [210, 225], 210, [[4], [210], [8000], [1000]])
+        wanted = (["a.r", "b.r"], 210, 225, True, [210, 225], 210, [[4, 9], [210, 210], [8000, 1000], [1000, 8000]])
         flies = [(len(it["missiles"]), len(it["bursts"])) for it in answer["moments"]]
-        right = seen == wanted and flies == [(1, 0), (0, 1)] and answer["isFilm"] and answer["last"] == 225
+        right = seen == wanted and flies == [(2, 0), (0, 2)] and answer["isFilm"] and answer["last"] == 225
         return [] if right else [f"{seen} {flies}, not {wanted}"]
+
+    def names_that_are_given(self) -> list[str]:
+        """They stand for those that the film tells."""
+        names = [[robot["name"] for robot in self._film(FILM, names=given)["robots"]] for given in (["x", "y"], [])]
+        return [] if names == [["x", "y"], ["a.r", "<b>.r"]] else [f"{names}"]
 
     def windows_after_the_end(self) -> list[str]:
         """They have ends and no places; a film that begins with the match has places."""
