@@ -17,6 +17,7 @@ function mixed(from, to, part) {
     return from + (to - from) * part;
 }
 
+/** A match, of which its film is known. */
 export class Match {
     /** The match of a film, as `filmOf` reads it. */
     constructor(film) {

@@ -19,8 +19,9 @@ const MILLISECONDS_OF_A_STILL = 500;
 // How long the address stays as it is: browsers refuse to change it more often.
 const MILLISECONDS_OF_AN_ADDRESS = 500;
 
+/** What plays a match on the page. */
 export class Player {
-    /** Shows a match from a cycle on, which plays if it is to. */
+    /** Shows a match from a cycle on, and plays it if it is to. */
     constructor(match, {from = match.first, isPlaying = false} = {}) {
         this.match = match;
         this.cycle = this.#within(from);
