@@ -1,7 +1,7 @@
 // Watches a match: has it filmed, and shows the film.
 import {Ending} from "./engine.js";
 import {STOPPED} from "./calling.js";
-import {UPDATE_CYCLES} from "./player/films.js";
+import {UPDATE_CYCLES} from "./player/terms.js";
 
 // how many windows of 15 cycles of a match are shown while the rest is made, and after how many milliseconds
 const FIRST_WINDOWS = 1000;

@@ -18,18 +18,24 @@ def listed(names: list[str]) -> str:
     return " and ".join(filter(None, (", ".join(names[:-1]), *names[-1:])))
 
 
-def player_script() -> str:
-    """The script of the page."""
-    return script_of(os.path.join(PLAYER, "main.js"))
-
-
-def player(title: str = "", film: str = "") -> str:
-    """The page that plays a match: with this film, which is packed, or one that another page hands in."""
+def put_together(script: str, title: str = "", film: str = "") -> str:
+    """The page that plays a match, with a script and a film that is packed."""
     style = text_of(os.path.join(PLAYER, "page.css"))
     text = Template(text_of(os.path.join(PLAYER, "page.html")))
-    return text.substitute(title=html.escape(title), style=style, film=film, script=player_script())
+    return text.substitute(title=html.escape(title), style=style, film=film, script=script)
 
 
 def page(film: Film, number: int) -> str:
-    """The page of a match with this number."""
-    return player(f"Match {number}: {listed(film.names)}", film.packed())
+    """The page of a match with this number, which carries its film."""
+    script = script_of(os.path.join(PLAYER, "carrying.js"))
+    return put_together(script, f"Match {number}: {listed(film.names)}", film.packed())
+
+
+def framed_script() -> str:
+    """The script of the page in a frame."""
+    return script_of(os.path.join(PLAYER, "framed.js"))
+
+
+def framed() -> str:
+    """The page that another page shows in a frame, and hands films in."""
+    return put_together(framed_script())

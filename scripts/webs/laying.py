@@ -16,7 +16,7 @@ import zlib
 from string import Template
 
 from replays.modules import script_of
-from replays.pages import player, player_script
+from replays.pages import framed, framed_script
 
 from .helping import functions, panel, steps, text_of, whole
 from .manuals import Page
@@ -60,13 +60,13 @@ def data_of(module: str, manual: Page) -> str:
     with open(module, "rb") as file:
         coded = packed(file.read())
     data = {"robots": samples(), "steps": steps(WEB), "functions": functions(manual), "editor": os.path.isdir(EDITOR),
-            "player": player(), "worker": script_of(os.path.join(WEB, "worker.js")), "module": coded}
+            "player": framed(), "worker": script_of(os.path.join(WEB, "worker.js")), "module": coded}
     return f"globalThis.CROBOTS = {json.dumps(data, indent=1)};\n"
 
 
 def policy() -> str:
     """What the page may do."""
-    digest = hashlib.sha256(f"\n{player_script()}".encode()).digest()
+    digest = hashlib.sha256(f"\n{framed_script()}".encode()).digest()
     return Template(POLICY).substitute(player=base64.b64encode(digest).decode())
 
 

@@ -10,7 +10,7 @@ from typing import Any
 
 from browsers import Browser
 from replays.modules import script_of
-from replays.pages import player
+from replays.pages import framed
 
 from .made import FILM, tabbed
 
@@ -63,7 +63,7 @@ class Framed:
     def __init__(self, browser: Browser, folder: str) -> None:
         self._browser = browser
         web = shutil.copytree(WEB, os.path.join(folder, "web"))
-        texts = {"WHOLE": tabbed(FILM), "PART": tabbed(PART), "PLAYER": player()}
+        texts = {"WHOLE": tabbed(FILM), "PART": tabbed(PART), "PLAYER": framed()}
         script = SCRIPT
         for name, text in texts.items():
             script = script.replace(name, json.dumps(text))

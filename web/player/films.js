@@ -3,6 +3,7 @@
 // A film is lines of tab-separated fields: cycle, robot, kind, and up to five values. Robots count from 1. Places are in
 // tenths of a metre, angles in degrees, ranges in metres, damage and speed in percent, times in cycles. A film of some windows
 // of a match has also where the robots stand at their begin and end, and which missiles fly at their begin.
+import {Kind, UPDATE_CYCLES} from "./terms.js";
 
 const HEADER = "cycle\trobot\tkind\ta\tb\tc\td\te";
 const FIELD = 9999;
@@ -10,10 +11,6 @@ const MOST_RANGE = 700;
 const MOST_RESOLUTION = 10;
 const DEADLY = 100;
 const TENTHS_OF_UPDATE = 500;
-/** An update follows each cycle whose number is a multiple of this. */
-export const UPDATE_CYCLES = 15;
-/** What hurts a robot. */
-export const Kind = Object.freeze({SHOT: 0, COLLISION: 1, WALL: 2});
 
 /** The kinds of rows that are shown: one of a shot that was refused isn't. */
 const KINDS = new Set("name at stands scan shot flies burst hurt collision wall restart death end stop".split(" "));

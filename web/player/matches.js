@@ -2,8 +2,8 @@
 //
 // Places are in tenths of a metre, angles in degrees, ranges in metres, damage and speed in percent, times in cycles.
 // A robot is known by its number, which counts from 1.
-import {Kind, UPDATE_CYCLES} from "./films.js";
 import {countAtMost, merged} from "./sorted.js";
+import {Kind, UPDATE_CYCLES} from "./terms.js";
 
 const TRAIL = 40 * UPDATE_CYCLES;
 const CAUSES = {words: "its stack is full", frames: "too many calls are open", returned: "main returned"};

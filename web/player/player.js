@@ -3,8 +3,8 @@ import {Cards} from "./cards.js";
 import {DamageDrawing, FieldDrawing, coloursOf} from "./drawing.js";
 import {element, made, shown} from "./elements.js";
 import {Events} from "./events.js";
-import {UPDATE_CYCLES} from "./films.js";
 import {Speaker} from "./speaking.js";
+import {UPDATE_CYCLES} from "./terms.js";
 
 // Cycles a second.
 const SPEEDS = [15, 75, 150, 300, 600, 1200, 2400, 4800, 9600, 19200];
