@@ -101,6 +101,12 @@ class Browser:
             while not self._loaded:
                 self._next()
 
+    def load_replay(self, path: str, mark: str = "") -> None:
+        """Loads a page that plays a match, and waits until it shows it, for half a minute at most."""
+        self.load(path, mark)
+        self.value("new Promise((done, fail) => { setTimeout(() => fail(new Error('no match is shown')), 30000);"
+                   " const look = () => globalThis.player ? done() : setTimeout(look, 5); look(); })")
+
     def look(self, width: int, height: int, dark: bool = False, scale: float = 1) -> None:
         """Chooses the window's size and its theme."""
         self.call("Emulation.setDeviceMetricsOverride", width=width, height=height, deviceScaleFactor=scale, mobile=width < 600)

@@ -8,7 +8,8 @@ import {onDrop, robotsOf, save} from "./files.js";
 import {Finder} from "./finding.js";
 import {helpWriting} from "./helping.js";
 import {Keeping} from "./keeping.js";
-import {battleOf, fragmentOf, unpacked} from "./links.js";
+import {battleOf, fragmentOf} from "./links.js";
+import {unpacked} from "./player/packing.js";
 import {Playing, tell} from "./playing.js";
 import {Workbench} from "./workbench.js";
 

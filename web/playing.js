@@ -43,7 +43,7 @@ export class Playing {
         onSubmit("settings", () => this.run());
         onSubmit("watching", () => this.watchAsked());
         byId("stop").addEventListener("click", () => runner.stop());
-        byId("from").addEventListener("change", event => this.screen.jumpTo(event.target.value));
+        byId("from").addEventListener("change", event => this.screen.jumpTo(Number(event.target.value)));
         document.addEventListener("keydown", event => {
             if (event.key === "Enter" && (event.ctrlKey || event.metaKey)) {
                 event.preventDefault();

@@ -1,7 +1,7 @@
 // Watches a match: has it filmed, and shows the film.
 import {Ending} from "./engine.js";
-import {UPDATE_CYCLES} from "./films.js";
 import {STOPPED} from "./calling.js";
+import {UPDATE_CYCLES} from "./player/terms.js";
 
 // how many windows of 15 cycles of a match are shown while the rest is made, and after how many milliseconds
 const FIRST_WINDOWS = 1000;
@@ -12,7 +12,6 @@ export class Wish {
     constructor({robots, settings}, number, cycle) {
         Object.assign(this, {robots, settings, number, cycle});
         this.from = Math.floor(cycle / UPDATE_CYCLES);
-        this.names = robots.map(({name}) => name);
     }
 }
 
@@ -26,7 +25,7 @@ export class Watcher {
         try {
             return await this.runner.call(call, {...wish.settings, first: wish.number, ...more}, wish.robots);
         } catch (fault) {
-            return {ending: null, kept: null, faults: fault.message};
+            return {ending: null, film: null, faults: fault.message};
         }
     }
 
@@ -44,10 +43,10 @@ export class Watcher {
     /** Shows some windows of a match if the film of all of it takes long, and then all of it. */
     async showBoth(wish, windows) {
         // a film that is cut off before the cycle that is asked for isn't read if these windows have it
-        const film = this.ask(wish, "film", windows.kept === null ? {} : {beyond: wish.cycle});
+        const film = this.ask(wish, "film", windows.film === null ? {} : {beyond: wish.cycle});
         const isSlow = await Promise.race([film.then(() => false), new Promise(done => setTimeout(done, SHOW_AFTER, true))]);
         // a match that ended before has nothing in these windows
-        const isShown = isSlow && windows.kept !== null;
+        const isShown = isSlow && windows.film !== null;
         if (isShown) {
             await this.showWindows(wish, windows);
         }
@@ -56,31 +55,30 @@ export class Watcher {
             this.say(reasonOf(null, whole.faults), true);
             return isShown;
         }
-        if (whole.kept !== null || windows.kept === null) {
+        if (whole.film !== null || windows.film === null) {
             return this.showWhole(wish, whole, isShown ? this.screen.place : undefined);
         }
         if (!isShown) {
             await this.showWindows(wish, windows);
         }
-        this.say(`Match ${wish.number} can be watched below from cycle ${wish.from * UPDATE_CYCLES} to ${windows.cycles}. Ask for another cycle to see more.`);
+        this.say(`Match ${wish.number} can be watched below from cycle ${wish.from * UPDATE_CYCLES} to ${windows.film.cycles}. Ask for another cycle to see more.`);
         return true;
     }
 
     /** Shows some windows of a match. */
-    async showWindows({number, from, names}, {kept, cycles}) {
-        await this.screen.show(kept, number, names);
-        this.say(`Match ${number} is shown below from cycle ${from * UPDATE_CYCLES} to ${cycles}. The rest is being played.`);
+    async showWindows({number, from, cycle}, {film}) {
+        await this.screen.show(film, number, {from: cycle});
+        this.say(`Match ${number} is shown below from cycle ${from * UPDATE_CYCLES} to ${film.cycles}. The rest is being played.`);
     }
 
     /** Shows all that there is of a match's film, at the cycle that was asked for, or where it is shown already. */
-    async showWhole({number, cycle, names}, {ending, kept, cycles, faults}, place = {cycle, isPlaying: false}) {
-        if (kept === null) {
+    async showWhole({number, cycle}, {ending, film, faults}, place = {from: cycle}) {
+        if (film === null) {
             this.say(reasonOf(ending, faults), true);
             return false;
         }
-        await this.screen.show(kept, number, names);
-        this.screen.goOn(place);
-        this.say(`Match ${number} can be watched below${ending === Ending.FULL ? `, up to cycle ${cycles}` : ""}.`);
+        await this.screen.show(film, number, place);
+        this.say(`Match ${number} can be watched below${ending === Ending.FULL ? `, up to cycle ${film.cycles}` : ""}.`);
         return true;
     }
 }

@@ -1,6 +1,6 @@
 // Runs the engine beside the page, so that the page stays alive while matches are played and their films are read.
 import {Ending, Engine} from "./engine.js";
-import {cyclesOf, isFilm, keptOf} from "./films.js";
+import {cyclesOf, filmOf, isFilm} from "./player/films.js";
 
 const FILMS = ["film", "windows"];
 
@@ -17,16 +17,15 @@ function start(module) {
 }
 
 /**
- * Reads a film for the player. What it keeps of it is a text in JSON that may stand between tags; null if the film has none of
- * the cycles that were asked for, or was cut off before one that it has to go `beyond`.
+ * Reads a film for the player: null if it has none of the cycles that were asked for, or was cut off before one that it has to
+ * go `beyond`. One robot fights itself, and then has its name twice.
  */
-function read({ending, text, faults}, {from = 0, beyond = -1}, robots) {
+function read({ending, text, faults}, {beyond = -1}, robots) {
     if (!isFilm(text) || ending === Ending.FULL && cyclesOf(text) <= beyond) {
-        return {ending, faults, kept: null};
+        return {ending, faults, film: null};
     }
-    const isCut = ending === Ending.FULL || ending === Ending.GOES_ON;
-    const kept = keptOf(text, robots.map(({name}) => name), from, isCut);
-    return {ending, faults, kept: JSON.stringify(kept).replaceAll("<", "\\u003c"), cycles: kept.cycles};
+    const names = robots.map(({name}) => name);
+    return {ending, faults, film: filmOf(text, names.length === 1 ? [...names, ...names] : names)};
 }
 
 /** Does what a message asks for, and answers by its number. */

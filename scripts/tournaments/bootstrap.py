@@ -29,6 +29,12 @@ POISSON = list(itertools.accumulate(math.exp(-1) / math.factorial(k) for k in ra
 FORMATS = {1: "B", 2: "H", 4: "I", 8: "Q"}
 
 
+def weights(begin: int, matches: int) -> list[Packed]:
+    """How often a match and those after it count in each round."""
+    return [drawn((begin + at) % VECTORS) for at in range(matches)]
+
+
+@functools.cache
 def drawn(index: int) -> Packed:
     """Draws how often a match counts in each round."""
     chance = random.Random(f"{SEED} {index}").random
@@ -76,19 +82,3 @@ def split(packed: bytes, size: int) -> Iterator[Sequence[int]]:
         return (packed[at::ROUNDS] for at in range(ROUNDS))
     parts = memoryview(packed).cast(FORMATS[size])
     return (array(FORMATS[size], parts[at::ROUNDS].tolist()) for at in range(ROUNDS))
-
-
-class Weights:
-    """The integers of the matches, each drawn when it is first needed."""
-
-    def __init__(self) -> None:
-        self._drawn: dict[int, Packed] = {}
-
-    def of(self, begin: int) -> Iterator[Packed]:
-        """Those of a match and the ones after it."""
-        known = self._drawn
-        for index in itertools.chain(range(begin % VECTORS, VECTORS), itertools.cycle(range(VECTORS))):
-            found = known.get(index)
-            if found is None:
-                found = known[index] = drawn(index)
-            yield found

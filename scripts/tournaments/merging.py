@@ -3,7 +3,7 @@
 from __future__ import annotations
 
 import contextlib
-from collections import Counter
+from collections import Counter, defaultdict
 from typing import IO, Iterable, Iterator
 
 from .faults import FILE, Fault, unreadable
@@ -23,15 +23,15 @@ class Merger:
     def __init__(self) -> None:
         self.settings: Settings | None = None
         self._robots: dict[int, Robot] = {}
-        self._runs: dict[Group, Runs] = {}
+        self._runs: defaultdict[Group, Runs] = defaultdict(list)
         self._seeds: dict[Group, int] = {}
-        self.series: Counter[Series] = Counter()
+        self.series: list[Series] = []
 
     def take(self, record: Record, place: str) -> None:
         """Takes a record of the same tournament."""
         self.check(record, place)
-        self._runs.setdefault(record.series.seats, []).append((record.series.first, record.series.last))
-        self.series[record.series] += 1
+        self._runs[record.series.seats].append((record.series.first, record.series.last))
+        self.series.append(record.series)
 
     def check(self, record: Record, place: str) -> None:
         """Refuses a record of another tournament or of other robots, also one that was not played."""
@@ -60,9 +60,11 @@ class Merger:
             return lacking
         missing, twice, strange = Found("missing"), Found("there twice or more"), 0
         for series in whole_series(self.settings, self._keys()):
-            free, more = gaps(self._runs.pop(series.seats, []), series.matches)
-            missing.add(series.seats, free)
-            twice.add(series.seats, more)
+            runs = self._runs.pop(series.seats, [])
+            if runs != [(1, series.matches)]:
+                free, more = gaps(runs, series.matches)
+                missing.add(series.seats, free)
+                twice.add(series.seats, more)
             strange += not few and self._seeds.get(series.seats, series.seed) != series.seed
         said = [it.text(self._robots) for it in (missing, twice) if it.count]
         if self._runs or strange:
@@ -151,7 +153,7 @@ def numbered(path: str, merger: Merger) -> dict[Series, list[int]]:
 
 def against(path: str, merger: Merger) -> str:
     """Which lines of a plan were not played, or more than once, or what was played that no line has."""
-    plan, series = numbered(path, merger), merger.series
+    plan, series = numbered(path, merger), Counter(merger.series)
     missing = [number for it, numbers in plan.items() for number in numbers if it not in series]
     twice = [numbers[0] for it, numbers in plan.items() if series[it] > len(numbers)]
     strange = sum(it not in plan for it in series)

@@ -34,12 +34,18 @@ def ratings(tally: Tally, robots: int, anchor: int | None = None) -> list[Rating
     whole = Whole(tally, robots)
     rounds = [*resampled(tally, whole)]
     left = begun(rounds, whole.is_firm())
+    found: dict[int, Rating] = {}
     while True:
         far = [(it.left(left.of_any), it.left(left.of_one)) for it in rounds]
-        columns = [Column(rounds, far, robot, anchor) for robot in range(robots)]
-        unsure = {at for it in columns for at in it.unsure()}
+        unsure = set[int]()
+        for robot in {*range(robots)} - found.keys():
+            column = Column(rounds, far, robot, anchor)
+            if those := column.unsure():
+                unsure |= those
+            else:
+                found[robot] = column.rating(rated(whole.strengths, robot, anchor))
         if not unsure:
-            return [it.rating(rated(whole.strengths, robot, anchor)) for robot, it in enumerate(columns)]
+            return [found[robot] for robot in range(robots)]
         for at in unsure:
             rounds[at].go_on()
 

@@ -4,10 +4,11 @@ from __future__ import annotations
 
 import functools
 import hashlib
+import itertools
 import os
 import re
 from dataclasses import dataclass
-from operator import lt
+from operator import ge
 from typing import Iterator, NamedTuple, Sequence
 from urllib.parse import quote, unquote_to_bytes
 
@@ -84,7 +85,7 @@ class Record:
     @functools.cached_property
     def ended(self) -> list[str]:
         """What the robots of each match did, a letter for each; nothing for damage that can't be."""
-        return [letters(it[it.index(":") + 1:]) for it in self.results.split(",")]
+        return [letters(it.partition(":")[2]) for it in self.results.split(",")]
 
     def matches(self) -> Iterator[tuple[int, Match]]:
         """The matches with their numbers."""
@@ -150,19 +151,19 @@ def check_results(record: Record) -> None:
     each, robots, limit = record.results.split(","), len(record.robots), record.settings.cycles
     if len(each) != record.series.matches:
         raise NoRecord(f"has {len(each)} results of {record.series.matches} matches")
-    for at, (result, ended) in enumerate(zip(each, record.ended)):
-        cycles = int(result[: result.index(":")])
+    for number, result, ended in zip(itertools.count(record.series.first), each, record.ended):
+        cycles = int(result.partition(":")[0])
         early = 0 < cycles < limit and cycles % UPDATE == 0 and "t" not in ended
         if len(ended) != robots or not (cycles == limit or early):
-            raise NoRecord(f"has a result that can't be: {result} of match {record.series.first + at}")
+            raise NoRecord(f"has a result that can't be: {result} of match {number}")
 
 
 def record(head: Sequence[str], results: str = "") -> Record | None:
     """The record of the fields of a head, if they fit each other."""
     by, seated, seed, first, count, hashes, files = head
-    settings, seats = setting.parsed(by), tuple([int(it) - 1 for it in seated.split(",")])
+    settings, seats = setting.parsed(by), tuple([*map(position, seated.split(","))])
     series = Series(seats, int(seed), int(first), int(count))
-    robots = tuple(map(robot, files.split(","), hashes.split(",")))
+    robots = tuple([*map(robot, files.split(","), hashes.split(","))])
     many = len(seats)
     if not many == files.count(",") + 1 == hashes.count(",") + 1 or many not in settings.sizes:
         return None
@@ -171,8 +172,14 @@ def record(head: Sequence[str], results: str = "") -> Record | None:
     return Record(settings, series, robots, results)
 
 
+@functools.cache
+def position(seat: str) -> int:
+    """A robot's position by its number in a record, which begins at 1."""
+    return int(seat) - 1
+
+
 def is_seating(seats: Group, robots: int) -> bool:
-    """Reports whether these are positions of different robots, in their order if they begin with the first of them."""
-    begin = seats.index(min(seats))
-    turned = seats[begin:] + seats[:begin]
-    return 0 <= turned[0] and turned[-1] < robots and all(map(lt, turned, turned[1:]))
+    """Reports whether these are positions of different robots, in their order if they begin with the first of them.
+
+    Then one alone is followed by a lower one: the last of them by the first."""
+    return 0 <= min(seats) and max(seats) < robots and sum(map(ge, seats, seats[1:] + seats[:1])) == 1

@@ -2,7 +2,8 @@
 
 A step takes the curvature of all matches in place of that of a round. What differs between both is mostly how often a robot
 plays in the round, and that a chance isn't a straight line of strengths. Both are known of each robot by itself. So its
-slope is bent first: to what leads to its score by the curvature of all matches, if its opponents are as one.
+slope is bent first: to what leads to its score by the curvature of all matches, if its opponents are one, whose strength
+and number of matches bend its slope as all of them do.
 
 A step of all robots costs a look at each pair. Its own strength, if all others' stay, costs a look at its own pairs alone,
 and is much nearer to the fit: what is left of the others' is below it and above it, and hardly counts together. How much is
@@ -14,18 +15,17 @@ import math
 import random
 from dataclasses import dataclass
 from itertools import pairwise
-from operator import sub
+from operator import mul, sub
 from statistics import fmean
 from typing import Iterable, Iterator, Sequence
 
 from . import matrices
 from .bootstrap import SEED, Packed, counts, rounds
+from .matrices import Half, half, product
 from .mixing import Mixing
 from .strengths import EXACT, STEP_MAX, Matches, Opponents, length
 from .tallies import Tally
 
-# A chance as a whole number.
-ONE = 1 << 20
 # A round is fitted by its own curvature if a step isn't shorter than so much of the last one, or after so many steps.
 SHORTER, STEPS = 0.7, 20
 # What is left after a step is taken for so much of what a sequence leaves whose steps get shorter by the same factor.
@@ -37,8 +37,8 @@ SCOUTS, SAFER = 8, 2.0
 MANY, SHARP, FINE = 20, 0.2, 1e-6
 # So often the factors of all matches are applied to find the way on which strengths are known worst.
 TURNS = 12
-# A robot's expected score is so much at least, and so much below all.
-LEAST = 0.01
+# A robot alone goes no further than to odds of so much of what they were.
+LEAST = 1 / 8
 
 
 class Whole:
@@ -51,6 +51,11 @@ class Whole:
         those = matches(self.opponents, rows, scores(tally, robots), [sum(row) for row in rows])
         self._fit = those.fitted([*odds(those.scores, those.played)])
         self.strengths = self._fit.strengths
+        chances = [*those.chances(self.strengths)]
+        self._chances = half(chances)
+        self._bends = half([tuple([chance * (1 - chance) for chance in row]) for row in chances])
+        self._ties = [1 / (1 + math.exp(-it)) for it in self.strengths]
+        self._as_one = [as_one(row, *it) for row, *it in zip(rows, chances, self._bends.rows, self._ties)]
 
     def is_firm(self) -> bool:
         """Reports whether the first steps of a round tell what is left: there are many robots, whose strengths are known well."""
@@ -66,23 +71,56 @@ class Whole:
             way = matrices.solved(self._fit.factors, [(it - mean) / growth for it in way])
         return growth
 
-    def step(self, those: Matches, slope: Sequence[float]) -> list[float]:
-        """A step from a slope of other matches."""
-        return matrices.solved(self._fit.factors, self._bent(those, slope))
+    def slope(self, those: Matches) -> tuple[list[float], list[float]]:
+        """The slope of other matches at the strengths of all, and how it bends: each robot's diagonal of their curvature."""
+        slope, bends = [], []
+        for at, (row, tie) in enumerate(zip(those.rows, self._ties)):
+            counts = tuple(row)
+            square = math.hypot(*counts) ** 2
+            slope.append(those.scores[at] - tie - with_row(self._chances, at, counts, square))
+            bends.append(tie * (1 - tie) + with_row(self._bends, at, counts, square))
+        return slope, bends
 
-    def _bent(self, those: Matches, slope: Sequence[float]) -> list[float]:
+    def step(self, strengths: Sequence[float], slope: Sequence[float], bends: Sequence[float]) -> list[float]:
+        """A step from these strengths, of other matches, whose slope bends so where the strengths are those of all."""
+        return matrices.solved(self._fit.factors, self._bent(strengths, slope, bends))
+
+    def _bent(self, strengths: Sequence[float], slope: Sequence[float], bends: Sequence[float]) -> list[float]:
         """The slope of each robot, bent; their sum stays, since it decides about the robots' mean alone."""
-        expected = map(sub, those.scores, slope)
-        found = [bend * (one - other) for bend, one, other in zip(
-            self._fit.diagonal, odds(those.scores, those.played), odds(expected, those.played))]
-        more = (sum(found) - sum(slope)) / sum(self._fit.diagonal)
-        return [it - more * bend for it, bend in zip(found, self._fit.diagonal)]
+        diagonal = self._fit.diagonal
+        found = [*map(mul, map(self.alone, range(len(slope)), strengths, slope, bends), diagonal)]
+        more = (sum(found) - sum(slope)) / sum(diagonal)
+        return [it - more * bend for it, bend in zip(found, diagonal)]
+
+    def alone(self, robot: int, strength: float, slope: float, bend: float) -> float:
+        """How far a robot goes from this strength, if those of all others stay, by its own slope."""
+        return alone_by(self._as_one[robot], strength - self.strengths[robot], slope, bend)
+
+
+def as_one(row: Sequence[int], chances: Sequence[float], bends: Sequence[float], tie: float) -> float:
+    """A robot's chance against the one opponent that bends its slope as all of them do: the mean chance by their bends."""
+    every = [*map(mul, row, bends), tie * (1 - tie)]
+    return product(every, [*chances, tie]) / sum(every)
+
+
+def alone_by(chance: float, moved: float, slope: float, bend: float) -> float:
+    """How far one robot alone has to go to score what is expected, by its chance against that one opponent.
+
+    It has moved already from where its chance was that, and its slope bent so."""
+    odds = chance / (1 - chance) * math.exp(moved)
+    now, many = odds / (1 + odds), bend / (chance * (1 - chance))
+    up, down = 1 + slope / many / now, 1 - slope / many * (1 + odds)
+    return math.log(max(up, LEAST) / max(down, LEAST))
+
+
+def with_row(rows: Half, at: int, counts: tuple[int, ...], square: float) -> float:
+    """The product of a row with other numbers, whose own squares add up to this, by the distance of both."""
+    return (rows.squares[at] + square - math.dist(rows.rows[at], counts) ** 2) / 2
 
 
 def odds(scores: Iterable[float], played: Iterable[int]) -> Iterator[float]:
     """The logarithms of the odds that scores show."""
-    there = ((max(score, LEAST), many) for score, many in zip(scores, played))
-    return (math.log(score / max(many - score, LEAST)) for score, many in there)
+    return (math.log(score / (many - score)) for score, many in zip(scores, played))
 
 
 def matches(opponents: Opponents, rows: Sequence[Sequence[int]], scored: Sequence[float], played: Sequence[int]) -> Matches:
@@ -110,12 +148,13 @@ class Left:
 class Round:
     """A round with its strengths so far."""
 
-    def __init__(self, whole: Whole, those: Matches, slope: list[float]) -> None:
+    def __init__(self, whole: Whole, those: Matches) -> None:
         self._whole = whole
         self._those = those
         self._mixing = Mixing()
         self._lengths: list[float] = []
         self.strengths, self.last = whole.strengths, math.inf
+        slope, self._bends = whole.slope(those)
         self._go(slope)
 
     def go_on(self) -> None:
@@ -133,11 +172,12 @@ class Round:
 
     def alone(self, robot: int) -> float:
         """A robot's strength, if those of all others stay."""
-        return self._those.alone(robot, self.strengths[robot], self._powers)
+        strength = self.strengths[robot]
+        return strength + self._whole.alone(robot, strength, self._those.slope_of(robot, self._powers), self._bends[robot])
 
     def _go(self, slope: list[float]) -> None:
         """Goes a step from this slope, or to the fit itself if steps don't get shorter fast."""
-        step = self._whole.step(self._those, slope)
+        step = self._whole.step(self.strengths, slope, self._bends)
         self._lengths.append(length(step))
         if is_slow(self._lengths):
             self.strengths, self.last = self._those.fitted(self._whole.strengths).strengths, 0.0
@@ -185,8 +225,8 @@ def resampled(tally: Tally, whole: Whole) -> Iterator[Round]:
     robots, opponents = len(whole.strengths), whole.opponents
     rows = zip(*counts([it.rounds for it in tally.pairs.values()], opponents.places))
     scored = rounds(tally.rounds[at] for at in range(robots))
-    for those, twice, played, slope in zip(rows, scored, rounds(sums(tally, robots)), slopes(tally, whole.strengths)):
-        yield Round(whole, matches(opponents, those, [it / 2 for it in twice], played), slope)
+    for those, twice, played in zip(rows, scored, rounds(sums(tally, robots))):
+        yield Round(whole, matches(opponents, those, [it / 2 for it in twice], played))
 
 
 def sums(tally: Tally, robots: int) -> list[Packed]:
@@ -196,15 +236,3 @@ def sums(tally: Tally, robots: int) -> list[Packed]:
         for robot in place:
             found[robot] += pair.rounds
     return found
-
-
-def slopes(tally: Tally, strengths: list[float]) -> Iterator[list[float]]:
-    """The slopes of all rounds at the strengths of all matches, in whole numbers. A tally has twice the scores."""
-    powers = [*map(math.exp, strengths)]
-    more: list[Packed] = [tally.rounds[at] * (ONE // 2) for at in range(len(strengths))]
-    for (one, other), pair in tally.pairs.items():
-        expected = round(ONE * powers[one] / (powers[one] + powers[other])) * pair.rounds
-        more[one] -= expected
-        more[other] += expected - pair.rounds * ONE
-    own = [0.5 - power / (1 + power) for power in powers]
-    return ([it / ONE + tie for it, tie in zip(slope, own)] for slope in rounds(more, signed=True))

@@ -9,6 +9,7 @@ other, and those of a group don't depend on who else plays."""
 
 from __future__ import annotations
 
+import functools
 import hashlib
 from typing import NamedTuple, Sequence
 
@@ -27,9 +28,14 @@ def keys(hashes: Sequence[str]) -> list[str]:
 
 def seatings(seed: int, group: Sequence[str]) -> list[Seating]:
     """The seatings of a group, by the keys of its robots in the tournament's order."""
-    places = range(len(group))
-    orders = [(*places[first:], *places[:first]) for first in places]
-    return [Seating(order, drawn(seed, [group[at] for at in order])) for order in orders]
+    return [Seating(order, drawn(seed, [group[at] for at in order])) for order in orders(len(group))]
+
+
+@functools.cache
+def orders(size: int) -> list[tuple[int, ...]]:
+    """The orders in which a group of this size sits."""
+    places = range(size)
+    return [(*places[first:], *places[:first]) for first in places]
 
 
 def drawn(seed: int, seated: Sequence[str]) -> int:

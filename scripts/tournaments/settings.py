@@ -30,9 +30,13 @@ class Settings:
         return (f"m={self.matches} l={self.cycles} s={self.seed} p={self.profile} program={self.program} "
                 f"robots={self.robots} sizes={','.join(map(str, self.sizes))} sample={self.sample}")
 
+    @cached_property
+    def _each(self) -> dict[int, int]:
+        return {size: rounded(self.matches, size) // size for size in SIZE_NAMES}
+
     def each(self, size: int) -> int:
         """The matches of each seating of a group of this size."""
-        return rounded(self.matches, size) // size
+        return self._each[size]
 
     def options(self, seed: int, first: int, count: int) -> list[str]:
         """The words by which `crobots` plays these matches of a seating."""

@@ -8,8 +8,8 @@ from __future__ import annotations
 import itertools
 import math
 from dataclasses import dataclass
-from operator import add, itemgetter, mul, truediv
-from typing import Callable, Sequence
+from operator import add, itemgetter, truediv
+from typing import Callable, Iterator, Sequence
 
 from . import matrices
 from .matrices import Factors, Matrix, Vector
@@ -60,17 +60,19 @@ class Matches:
     def slope(self, strengths: Vector) -> list[float]:
         """The slope of the likelihood: what each robot's score is more than expected."""
         powers = [*map(math.exp, strengths)]
-        sums = (sum(map(truediv, row, map(add, itertools.repeat(power), pick(powers))))
-                for power, row, pick in zip(powers, self.rows, self.opponents.pickers))
-        return [score - power * (it + 1 / (1 + power)) for score, power, it in zip(self.scores, powers, sums)]
+        return [self.slope_of(robot, powers) for robot in range(len(powers))]
 
-    def alone(self, robot: int, strength: float, powers: list[float]) -> float:
-        """A robot's strength by a step of Newton's method from this one, if all others' powers stay."""
+    def slope_of(self, robot: int, powers: list[float]) -> float:
+        """What a robot's score is more than expected. A power is the exponential of a strength."""
         power, others = powers[robot], self.opponents.pickers[robot](powers)
-        both = [*map(add, itertools.repeat(power), others)]
-        parts: list[float] = [*map(truediv, self.rows[robot], both)]
-        bend: float = sum(map(mul, parts, map(truediv, others, both))) + 1 / (1 + power) ** 2
-        return strength + (self.scores[robot] / power - sum(parts) - 1 / (1 + power)) / bend
+        parts: float = sum(map(truediv, self.rows[robot], map(add, itertools.repeat(power), others)))
+        return self.scores[robot] - power * (parts + 1 / (1 + power))
+
+    def chances(self, strengths: Vector) -> Iterator[tuple[float, ...]]:
+        """Each robot's chance against each that it has met."""
+        powers = [*map(math.exp, strengths)]
+        for power, pick in zip(powers, self.opponents.pickers):
+            yield tuple([power / (power + other) for other in pick(powers)])
 
     def curvature(self, strengths: Vector) -> Matrix:
         """The curvature of the likelihood, below the diagonal and on it."""

@@ -6,9 +6,12 @@ import itertools
 from collections import defaultdict
 from dataclasses import dataclass, field
 
-from .bootstrap import Packed, Weights
+from .bootstrap import Packed, weights
 from .records import Record
 from .settings import Group
+
+# A robot, and the letter of what it did.
+Did = tuple[int, str]
 
 
 @dataclass
@@ -34,14 +37,6 @@ class Pair:
     rounds: Packed = 0
 
 
-@dataclass
-class Cell:
-    """The matches of a series with the same survivors."""
-
-    matches: int = 0
-    rounds: Packed = 0
-
-
 class Tally:
     """All matches of a tournament, added up. A robot's rounds are twice its score against all others."""
 
@@ -49,20 +44,18 @@ class Tally:
         self.scores: defaultdict[int, defaultdict[int, Score]] = defaultdict(lambda: defaultdict(Score))
         self.pairs: defaultdict[tuple[int, int], Pair] = defaultdict(Pair)
         self.rounds: defaultdict[int, Packed] = defaultdict(int)
-        self._weights = Weights()
 
     def add(self, record: Record) -> None:
         """Adds the matches of a record."""
-        cells: defaultdict[str, Cell] = defaultdict(Cell)
         series = record.series
-        for ended, rounds in zip(record.ended, self._weights.of(series.seed + series.first)):
-            cell = cells[ended]
-            cell.matches += 1
-            cell.rounds += rounds
-        for ended, cell in cells.items():
-            self._add_scores(series.seats, ended, cell.matches)
+        cells = defaultdict[str, list[Packed]](list)
+        for ended, rounds in zip(record.ended, weights(series.seed + series.first, series.matches)):
+            cells[ended].append(rounds)
+        for ended, those in cells.items():
+            self._add_scores(series.seats, ended, len(those))
+            rounds = those[0] if len(those) == 1 else sum(those)
             for one, other in itertools.combinations(sorted(zip(series.seats, ended)), 2):
-                self._add_pair(one, other, cell)
+                self._add_pair(one, other, len(those), rounds)
 
     def _add_scores(self, seats: Group, ended: str, matches: int) -> None:
         of_size = self.scores[len(seats)]
@@ -75,17 +68,17 @@ class Tally:
             else:
                 score.lost += matches
 
-    def _add_pair(self, one: tuple[int, str], other: tuple[int, str], cell: Cell) -> None:
-        """Adds matches of two robots, each with what it did: one or both of them died, or none."""
+    def _add_pair(self, one: Did, other: Did, matches: int, rounds: Packed) -> None:
+        """Adds matches of two robots with so many in each round: one or both of them died, or none."""
         pair = self.pairs[one[0], other[0]]
-        pair.played += cell.matches
-        pair.rounds += cell.rounds
+        pair.played += matches
+        pair.rounds += rounds
         died = one[1] == "l", other[1] == "l"
         if died[0] != died[1]:
             winner = 1 if died[0] else 0
-            pair.beaten[winner] += cell.matches
-            self.rounds[(one, other)[winner][0]] += 2 * cell.rounds
+            pair.beaten[winner] += matches
+            self.rounds[(one, other)[winner][0]] += 2 * rounds
         else:
-            pair.tied += 0 if died[0] else cell.matches
-            self.rounds[one[0]] += cell.rounds
-            self.rounds[other[0]] += cell.rounds
+            pair.tied += 0 if died[0] else matches
+            self.rounds[one[0]] += rounds
+            self.rounds[other[0]] += rounds

@@ -15,14 +15,15 @@ import zipfile
 import zlib
 from string import Template
 
+from replays.modules import script_of
+from replays.pages import framed, framed_script
+
 from .helping import functions, panel, steps, text_of, whole
 from .manuals import Page
 from .texts import pages
 
 TOP = os.path.normpath(os.path.join(os.path.dirname(os.path.abspath(__file__)), "..", ".."))
 WEB = os.path.join(TOP, "web")
-PLAYER = os.path.join(TOP, "scripts", "replays")
-PLAYER_SCRIPTS = ("matches.js", "drawing.js", "player.js")
 MANUALS = ("crobots-robots.6", "crobots.6")
 LICENCES = ("LICENSE", "LICENCE", "COPYING")
 EDITOR = "/usr/share/javascript/codemirror"
@@ -38,38 +39,6 @@ TIME = (1980, 1, 1, 0, 0, 0)
 
 # A row of the ladder of sample robots: a level, and a robot with a link.
 LADDER = re.compile(r"^\| (\d+) \| \[(\w+\.r)\]", re.MULTILINE)
-IMPORT = re.compile(r'^import (\{.*\}) from "\./(\w+)\.js";$', re.MULTILINE)
-EXPORT = re.compile(r"^export ((?:async )?(?:const|function|class) (\w+))", re.MULTILINE)
-# A comment with lines of its own.
-COMMENT = re.compile(r"^ *(?://.*|/\*\*(?:.|\n)*?\*/)\n", re.MULTILINE)
-
-
-def in_order(name: str, before: tuple[str, ...] = ()) -> tuple[str, ...]:
-    """The modules that a module imports, each once and before those that import it, and the module itself."""
-    for _, below in IMPORT.findall(text_of(WEB, f"{name}.js")):
-        before = before if below in before else in_order(below, before)
-    return (*before, name)
-
-
-def bare(script: str) -> str:
-    """A script without the comments that have lines of their own, and without the blanks before its lines if no text goes over
-    several of them. The repository has the comments."""
-    lines = COMMENT.sub("", script).split("\n")
-    goes_on = any(line.count("`") % 2 or line.endswith("\\") for line in lines)
-    return "\n".join(lines if goes_on else [line.strip() for line in lines])
-
-
-def wrapped(name: str) -> str:
-    """A module as a function, whose result is what it exports."""
-    text = bare(text_of(WEB, f"{name}.js"))
-    exports = ", ".join(found for _, found in EXPORT.findall(text))
-    body = EXPORT.sub(r"\1", IMPORT.sub(r"const \1 = modules.\2;", text))
-    return f"modules.{name} = (() => {{\n{body}return {{{exports}}};\n}})();\n"
-
-
-def script_of(name: str) -> str:
-    """A module, with those that it imports, as one script."""
-    return '"use strict";\n(() => {\nconst modules = {};\n' + "".join(map(wrapped, in_order(name))) + "})();\n"
 
 
 def samples() -> list[dict[str, str | int]]:
@@ -78,16 +47,6 @@ def samples() -> list[dict[str, str | int]]:
     there = {name for name in os.listdir(os.path.join(TOP, "robots")) if name.endswith(".r")}
     assert {name for _, name in ladder} == there and len(ladder) == len(there), ladder
     return [{"name": name, "level": int(level), "source": text_of(TOP, "robots", name)} for level, name in ladder]
-
-
-def player_script() -> str:
-    """The script of the page that plays matches."""
-    return "".join(bare(text_of(PLAYER, name)) for name in PLAYER_SCRIPTS)
-
-
-def player() -> str:
-    """The page that plays matches, without the match and its title."""
-    return Template(text_of(PLAYER, "page.html")).safe_substitute(style=text_of(PLAYER, "page.css"), script=player_script())
 
 
 def packed(data: bytes) -> str:
@@ -101,13 +60,13 @@ def data_of(module: str, manual: Page) -> str:
     with open(module, "rb") as file:
         coded = packed(file.read())
     data = {"robots": samples(), "steps": steps(WEB), "functions": functions(manual), "editor": os.path.isdir(EDITOR),
-            "player": player(), "worker": script_of("worker"), "module": coded}
+            "player": framed(), "worker": script_of(os.path.join(WEB, "worker.js")), "module": coded}
     return f"globalThis.CROBOTS = {json.dumps(data, indent=1)};\n"
 
 
 def policy() -> str:
     """What the page may do."""
-    digest = hashlib.sha256(f"\n{player_script()}".encode()).digest()
+    digest = hashlib.sha256(f"\n{framed_script()}".encode()).digest()
     return Template(POLICY).substitute(player=base64.b64encode(digest).decode())
 
 
@@ -169,7 +128,7 @@ def lay(folder: str, module: str) -> None:
         shutil.copy(os.path.join(WEB, name), folder)
     if licence():
         shutil.copy(os.path.join(TOP, licence()), os.path.join(folder, f"{licence()}.txt"))
-    put(folder, "page.js", script_of("page"))
+    put(folder, "page.js", script_of(os.path.join(WEB, "page.js")))
     put(folder, "data.js", data_of(module, manuals[0]))
     pack(folder)
     if os.path.abspath(module) != f"{folder}.wasm":

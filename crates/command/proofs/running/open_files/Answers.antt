@@ -30,7 +30,7 @@ loop-word-preserved g c =
           c.in-Ok.ensures.contents),
       rw items
           (All-push (λ feed. (g.D.File.Feed.device feed).account.failures ≡ 0) c.loop-word.feeds.items c.in-Ok.file
-          c.loop-word.invariant.1 c.in-Ok.ensures.calm),
+          c.loop-word.invariant.1 c.in-Ok.ensures.never_failed),
       rw items
           (All-push (λ feed. (g.D.File.Feed.device feed).ended ≡ false) c.loop-word.feeds.items c.in-Ok.file
           c.loop-word.invariant.2 c.in-Ok.ensures.not_ended),

@@ -194,7 +194,7 @@ def the_replays(facts: Facts, site: str, trace: str) -> Results:
     linked = [(place, card, href) for place, card in cards(site) for href in links(card) if "replays/" in href]
     with Browser(program) as browser:
         for place, card, href in linked[:2]:
-            browser.load(os.path.normpath(os.path.join(site, os.path.dirname(place), href)))
+            browser.load_replay(os.path.normpath(os.path.join(site, os.path.dirname(place), href)))
             browser.value("document.querySelector('#to-end').click()")
             percents = browser.value(PERCENTS)
             yield f"{place}: the replay's damages {percents}", [str(it) for it in percents] == shown(card)[2]

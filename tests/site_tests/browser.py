@@ -86,7 +86,7 @@ def tab(browser: Browser) -> None:
 
 def replay(browser: Browser, path: str) -> Results:
     """A replay opens, and plays."""
-    browser.load(path)
+    browser.load_replay(path)
     browser.value("document.querySelector('#play-pause').click()")
     yield "a replay opens", browser.value("document.querySelectorAll('#robots li').length") == 2
     yield f"a replay's console {browser.messages}", not browser.messages

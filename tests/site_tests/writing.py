@@ -29,7 +29,7 @@ WRITER = """
 import sys
 sys.dont_write_bytecode = True
 sys.path[:0] = sys.argv[3:]
-from site_parts import made
+from site_tests import made
 from sites.publishing import publish
 publish(made.league(int(sys.argv[1])), sys.argv[2])
 """

@@ -1,0 +1,52 @@
+"""Puts modules of JavaScript together as one script: a browser that opens a page from a file loads no modules."""
+
+from __future__ import annotations
+
+import os
+import re
+
+IMPORT = re.compile(r'^import (\{.*\}) from "(\.[\w./]*/(\w+)\.js)";$', re.MULTILINE)
+EXPORT = re.compile(r"^export ((?:async )?(?:const|function|class) (\w+))", re.MULTILINE)
+# A comment with lines of its own.
+COMMENT = re.compile(r"^ *(?://.*|/\*\*(?:.|\n)*?\*/)\n", re.MULTILINE)
+
+
+def text_of(path: str) -> str:
+    with open(path, encoding="utf-8") as file:
+        return file.read()
+
+
+def in_order(path: str, before: tuple[str, ...] = ()) -> tuple[str, ...]:
+    """The modules that a module imports, each once and before those that import it, and the module itself."""
+    for _, place, _ in IMPORT.findall(text_of(path)):
+        below = os.path.normpath(os.path.join(os.path.dirname(path), place))
+        before = before if below in before else in_order(below, before)
+    return (*before, path)
+
+
+def bare(script: str) -> str:
+    """A script without the comments that have lines of their own, and without the blanks before its lines if no text goes over
+    several of them. The repository has the comments."""
+    lines = COMMENT.sub("", script).split("\n")
+    goes_on = any(line.count("`") % 2 or line.endswith("\\") for line in lines)
+    return "\n".join(lines if goes_on else [line.strip() for line in lines])
+
+
+def name_of(path: str) -> str:
+    """The name of a module: of modules that are put together each has its own."""
+    return os.path.basename(path).removesuffix(".js")
+
+
+def wrapped(path: str) -> str:
+    """A module as a function, whose result is what it exports."""
+    text = bare(text_of(path))
+    exports = ", ".join(found for _, found in EXPORT.findall(text))
+    body = EXPORT.sub(r"\1", IMPORT.sub(r"const \1 = modules.\3;", text))
+    return f"modules.{name_of(path)} = (() => {{\n{body}return {{{exports}}};\n}})();\n"
+
+
+def script_of(path: str) -> str:
+    """A module, with those that it imports, as one script."""
+    paths = in_order(os.path.normpath(path))
+    assert len(set(map(name_of, paths))) == len(paths), paths
+    return '"use strict";\n(() => {\nconst modules = {};\n' + "".join(map(wrapped, paths)) + "})();\n"

@@ -1,0 +1,14 @@
+// Elements of the page.
+
+/** The element of the page with this name. */
+export const element = id => document.getElementById(id);
+/** A number with commas. */
+export const shown = number => number.toLocaleString("en");
+
+/** Makes an element with a class and a text. */
+export function made(tag, name = "", text = "") {
+    const it = document.createElement(tag);
+    it.className = name;
+    it.textContent = text;
+    return it;
+}

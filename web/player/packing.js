@@ -1,0 +1,53 @@
+// Unpacks what a page carries: texts that were deflated and written in base 64, and films.
+
+const WORDED = new Set(["name", "restart"]);
+
+/** Reads a stream's bytes, and no more than so many: a stream that has more is given up at once. */
+export async function bytesOf(stream, most = Infinity) {
+    const reader = stream.getReader();
+    const parts = [];
+    for (let size = 0; ;) {
+        const {done, value} = await reader.read();
+        if (done) {
+            return new Uint8Array(await new Blob(parts).arrayBuffer());
+        }
+        parts.push(value);
+        size += value.length;
+        if (size > most) {
+            await reader.cancel();
+            throw new RangeError(`more than ${most} bytes`);
+        }
+    }
+}
+
+/** Returns the bytes of a text in base 64, of either alphabet. */
+function toBytes(text) {
+    const binary = atob(text.replaceAll("-", "+").replaceAll("_", "/"));
+    return Uint8Array.from(binary, letter => letter.charCodeAt(0));
+}
+
+/** Returns the bytes that a text in base 64 packs, if they aren't more than so many. */
+export function unpacked(text, most = Infinity) {
+    const packed = new Blob([toBytes(text)]).stream();
+    return bytesOf(packed.pipeThrough(new DecompressionStream("deflate-raw")), most);
+}
+
+/**
+ * Returns a film's text, of which a page carries each number as a difference: a row's cycle from that of the row before, and the
+ * others from those of the last row of the same robot and kind. Values that are no numbers alone are carried as they are.
+ */
+export function summed(text) {
+    const [header, ...lines] = text.trimEnd().split("\n");
+    const last = new Map();
+    let cycle = 0;
+    const sums = lines.map(line => {
+        const [difference, robot, kind, ...values] = line.split("\t");
+        cycle += Number(difference);
+        const key = robot + kind;
+        if (!WORDED.has(kind)) {
+            last.set(key, values.map((value, at) => Number(value) + (last.get(key)?.[at] ?? 0)));
+        }
+        return [cycle, robot, kind, ...(last.get(key) ?? values)].join("\t");
+    });
+    return [header, ...sums, ""].join("\n");
+}
