@@ -24,7 +24,8 @@ turned : (c : goal.After-has_two_live) (robots : List Behaviour) (s : Stage) →
 turned c robots s are reached = elim c.if-not-pass_interval.branch [
   | then-not-pass_interval w ↦
       rw (w.runners-is, w.arena-is)
-      (w.play_interval.ensures.stage robots s are (rw (c.pass_interval.ensures.stays w.if-not-pass_interval.true) reached))
+      (w.play_interval.ensures.stage robots s are
+      (rw (c.pass_interval.ensures.stays w.if-not-pass_interval.true) reached))
   | else-not-pass_interval w ↦
       rw (w.runners-is, w.arena-is)
       (c.pass_interval.ensures.stage w.if-not-pass_interval.false c.args.executables.now robots s are reached)
