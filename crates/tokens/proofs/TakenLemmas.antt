@@ -3,14 +3,14 @@ use Rattle.std.proofs.Common.{◌≡◌, refl, ℕ, zero, suc, ◌+◌, ◌*◌,
 use Rattle.std.specs.Prelude.{IsErrAnd, OnErr, fold, nat_le}
 use Rattle.std.specs.List.{prefix_len}
 use Rattle.std.proofs.lemmas.Option.{same_Some}
-use Rattle.tokens.specs.Feed.{Account, failed_again}
+use Rattle.tokens.specs.Feed.{Account, Device, failed_again}
 use Rattle.tokens.specs.Punctuators.{punctuator_of, spelling}
 use Rattle.tokens.specs.Keywords.{keyword_of}
 use Rattle.tokens.specs.Ends.{is_decided_by_last_byte, undecided_until}
 use Rattle.tokens.specs.Front.{Front, Nothing, Space, Unclosed, Lexeme, front, up_to_close, begins_with, name_or}
-use Rattle.tokens.specs.Tokens.{Ahead, ahead_after_byte, ahead_after, at_end, located, last_located_token, tokens_within, tokens_of_front, located_tokens}
+use Rattle.tokens.specs.Tokens.{Ahead, ahead_after_byte, ahead_after, at_end, located, last_located_token, tokens_within, tokens_of_front, located_tokens, FitsToken}
 use Rattle.tokens.specs.Window.{LeavesAsked, Window, TakesBytes, HasReadOn, ahead}
-use Rattle.tokens.specs.Lexing.{to_read, followed, token_ending, in_token_run, name_going_on, constant_going_on, value_token, in_punctuator, extended, in_comment, closed_at, LeavesUnread, StopsWithin}
+use Rattle.tokens.specs.Lexing.{to_read, followed, token_ending, in_token_run, name_going_on, constant_going_on, value_token, in_punctuator, extended, in_comment, closed_at, LeavesUnread, StopsWithin, Finds, FindsToken, IsFound, IsRead, ReadsToken}
 use Rattle.tokens.specs.declared.devices.DeviceFault.{DeviceFault}
 use Rattle.tokens.specs.declared.located_tokens.Punctuator.{Punctuator}
 use Rattle.tokens.specs.declared.located_tokens.Punctuator.TheVariants.{Slash}
@@ -286,3 +286,66 @@ pub fails-from : (made made' : Ahead → List LocatedToken) (here old new : Wind
     LeavesUnread made' old new told located_token new_token
 fails-from made made' here old new told told' s h f =
     record { within = stops-from made made' here old new told told' s f.within; unread = f.unread ∙ h }
+
+-- a token that ends here was found
+pub found-here : (here : LocatedToken) (token : Token) (window : Window) →
+    here ≡ (record { token = token; line = window.line; end = window.offset }) → FitsToken token → IsFound here window
+found-here here token window e fits = record {
+  reached = omega (arith, ap (λ x. x.end) e);
+  fits = subst (λ (x : LocatedToken). FitsToken x.token) (sym e) fits;
+}
+
+-- and read, if the window went on
+pub found-reads : (here : LocatedToken) (old new : Window) → old.offset < new.offset → IsFound here new →
+    IsRead here old new
+found-reads here old new forward found =
+    record { progress = λ e. forward; reached = found.reached; fits = found.fits }
+
+-- what finds a token behind its first byte reads it
+pub finds-reads : {T : Type 0} (r : Result T DeviceFault) (inside : Ahead → List LocatedToken) (old mid new : Window)
+    (before after : Device) (here here' : LocatedToken) →
+    to_read inside mid before.to_come ≡ to_read located_tokens old before.to_come → old.offset < mid.offset →
+    LeavesAsked r mid new before.to_come after.to_come before.account after.account after.ended →
+    FindsToken r inside mid new before after here here' → ReadsToken r old new before after here here'
+finds-reads (Ok x) inside old mid new before after here here' same forward asks finds = record {
+  tokens = finds.tokens ∙ same;
+  read = found-reads here' old new (omega (arith, forward, asks.forward)) finds.found;
+}
+finds-reads (Err x) inside old mid new before after here here' same forward asks finds =
+    fails-from inside located_tokens mid old new before.to_come before.to_come same refl finds
+
+-- what reads a token behind blanks reads it from before them
+pub then-reads : {T : Type 0} (r : Result T DeviceFault) (old mid new : Window) (before between after : Device)
+    (here mid_here new_here : LocatedToken) →
+    to_read located_tokens mid between.to_come ≡ to_read located_tokens old before.to_come →
+    old.offset ≤ mid.offset → mid_here ≡ here → ReadsToken r mid new between after mid_here new_here →
+    ReadsToken r old new before after here new_here
+then-reads (Ok x) old mid new before between after here mid_here new_here same forward stays reads = record {
+  tokens = reads.tokens ∙ same;
+  read = record {
+    progress = λ e. omega (arith, forward, reads.read.progress e);
+    reached = reads.read.reached;
+    fits = reads.read.fits;
+  };
+}
+then-reads (Err x) old mid new before between after here mid_here new_here same forward stays reads =
+    fails-from located_tokens located_tokens mid old new before.to_come between.to_come same stays reads
+
+-- a call that failed neither finds a token nor reads one
+pub fails-finds : {T : Type 0} (r : Result T DeviceFault) (P : DeviceFault → Type 0) → IsErrAnd r P →
+    (inside : Ahead → List LocatedToken) (old new : Window) (before after : Device) (here here' : LocatedToken) →
+    LeavesUnread inside old new before.to_come here here' → FindsToken r inside old new before after here here'
+fails-finds (Ok x) P h inside old new before after here here' left = absurd h
+fails-finds (Err x) P h inside old new before after here here' left = left
+
+pub fails-reads : {T : Type 0} (r : Result T DeviceFault) (P : DeviceFault → Type 0) → IsErrAnd r P →
+    (old new : Window) (before after : Device) (here here' : LocatedToken) →
+    LeavesUnread located_tokens old new before.to_come here here' → ReadsToken r old new before after here here'
+fails-reads (Ok x) P h old new before after here here' left = absurd h
+fails-reads (Err x) P h old new before after here here' left = left
+
+-- so was a name that ends here
+pub name-found : (here : LocatedToken) (token : Token) (window : Window) →
+    here ≡ (record { token = token; line = window.line; end = window.offset }) → FitsToken here.token →
+    IsFound here window
+name-found here token window e fits = record { reached = omega (arith, ap (λ x. x.end) e); fits = fits }

@@ -1,6 +1,6 @@
 -- What is still to be read, at a token's begin or inside of one.
 use Rattle.std.specs.Prelude.{ℕ, Bool, true, false, List, [], ◌∷◌, ◌++◌, Option, Some, None, length, take, fold, ◌+◌}
-use Rattle.std.specs.Prelude.{◌*◌, ◌-◌, ◌<◌, ◌≤◌, ◌≡◌, ◌≢◌, if◌then◌else◌, nat_le, slice_get}
+use Rattle.std.specs.Prelude.{◌*◌, ◌-◌, ◌<◌, ◌≤◌, ◌≡◌, ◌≢◌, if◌then◌else◌, nat_le, slice_get, Result, Ok, Err}
 use Rattle.std.specs.List.{prefix_len}
 use Rattle.std.specs.Option.{option_map}
 use Rattle.tokens.specs.Characters.{is_blank, is_name_byte, is_digit}
@@ -9,7 +9,9 @@ use Rattle.tokens.specs.Front.{up_to_close, name_token}
 use Rattle.tokens.specs.Tokens.{Ahead, FitsToken, is_last, ahead_after_byte, ahead_after, at_end, located, last_located_token}
 use Rattle.tokens.specs.Tokens.{followed_by, located_tokens}
 use Rattle.tokens.specs.Ends.{undecided_until}
+use Rattle.tokens.specs.Feed.{Device}
 use Rattle.tokens.specs.Window.{Window, seen}
+use Rattle.tokens.specs.declared.devices.DeviceFault.{DeviceFault}
 use Rattle.tokens.specs.declared.located_tokens.Punctuator.{Punctuator}
 use Rattle.tokens.specs.declared.located_tokens.LexicalError.TheVariants.{CommentNotClosed, NameTooLong}
 use Rattle.tokens.specs.declared.located_tokens.LexicalError.TheVariants.{ConstantTooLarge}
@@ -115,6 +117,29 @@ pub record IsRead (located_token : LocatedToken) (old new : Window) : Type 0 whe
   pub progress : is_last located_token.token ≡ false → old.offset < new.offset
   pub reached : new.offset ≤ located_token.end
   pub fits : FitsToken located_token.token
+
+-- A token was found from inside of it: it is the first of those that were to be read, and behind it the others are.
+pub record Finds (inside : Ahead → List LocatedToken) (old new : Window) (before after : Device) (here : LocatedToken)
+    : Type 0 where
+  pub tokens : to_read (followed here) new after.to_come ≡ to_read inside old before.to_come
+  pub found : IsFound here new
+
+-- the same from its begin
+pub record Reads (old new : Window) (before after : Device) (here : LocatedToken) : Type 0 where
+  pub tokens : to_read (followed here) new after.to_come ≡ to_read located_tokens old before.to_come
+  pub read : IsRead here old new
+
+-- what a call leaves that finds a token from inside of it, or fails
+abbrev pub FindsToken : {T : Type 0} → Result T DeviceFault → (Ahead → List LocatedToken) → (old new : Window)
+    → (before after : Device) → (here here' : LocatedToken) → Type 0
+FindsToken (Ok x) inside old new before after here here' = Finds inside old new before after here'
+FindsToken (Err e) inside old new before after here here' = LeavesUnread inside old new before.to_come here here'
+
+-- what a call leaves that reads the next token, or fails
+abbrev pub ReadsToken : {T : Type 0} → Result T DeviceFault → (old new : Window) → (before after : Device)
+    → (here here' : LocatedToken) → Type 0
+ReadsToken (Ok x) old new before after here here' = Reads old new before after here'
+ReadsToken (Err e) old new before after here here' = LeavesUnread located_tokens old new before.to_come here here'
 
 -- A call that was at a `/`: it found a token, or went past a comment and put none.
 pub record ReadsSlash (found : Bool) (old new : Window) (told told' : Option (List ℕ)) (here here' : LocatedToken) :

@@ -6,9 +6,9 @@ ghost use Rattle.tokens.specs.Characters.{is_blank, is_digit};
 ghost use Rattle.tokens.specs.Front.{name_token};
 ghost use Rattle.tokens.specs.Tokens.{FitsToken, located_tokens, last_located_token};
 ghost use Rattle.tokens.specs.Window.{MayHaveAsked, IsNextByte, MayAsk, ahead, untouched};
-ghost use Rattle.tokens.specs.Lexing.{BeginsBlank, BeginsConstant, BeginsToken, LeavesUnread, IsFound, IsRead, ReadsSlash};
-ghost use Rattle.tokens.specs.Lexing.{StopsWithin, after_comment, followed, in_comment, in_constant, in_name};
-ghost use Rattle.tokens.specs.Lexing.{in_punctuator, name_going_on, to_read, value_token};
+ghost use Rattle.tokens.specs.Lexing.{BeginsBlank, BeginsConstant, BeginsToken, FindsToken, LeavesUnread, ReadsSlash, ReadsToken};
+ghost use Rattle.tokens.specs.Lexing.{StopsWithin, after_comment, in_comment, in_constant, in_name, in_punctuator};
+ghost use Rattle.tokens.specs.Lexing.{name_going_on, to_read, value_token};
 
 use crate::characters::{is_blank, is_digit, is_letter, is_name_byte};
 use crate::devices::{DeviceFault, Feed};
@@ -44,11 +44,8 @@ impl Lexer {
         feed: &mut F,
     ) -> Result<(), DeviceFault>
         requires ready { MayAsk self.old.window (F.device feed.old) }
-        ensures tokens { OnOk result (to_read (followed here.new) self.new.window (F.device feed.new).to_come
-            ≡ to_read located_tokens self.old.window (F.device feed.old).to_come) }
-        ensures read { OnOk result (IsRead here.new self.old.window self.new.window) }
-        ensures stopped { OnErr result (LeavesUnread located_tokens self.old.window self.new.window
-            (F.device feed.old).to_come here.old here.new) }
+        ensures reads { ReadsToken result self.old.window self.new.window (F.device feed.old) (F.device feed.new)
+            here.old here.new }
         ensures kept { MayHaveAsked result self.old.window self.new.window (F.device feed.old) (F.device feed.new) }
     {
         match self.window.first_at_hand() {
@@ -65,11 +62,8 @@ impl Lexer {
         feed: &mut F,
     ) -> Result<(), DeviceFault>
         requires ready { MayAsk self.old.window (F.device feed.old) }
-        ensures tokens { OnOk result (to_read (followed here.new) self.new.window (F.device feed.new).to_come
-            ≡ to_read located_tokens self.old.window (F.device feed.old).to_come) }
-        ensures read { OnOk result (IsRead here.new self.old.window self.new.window) }
-        ensures stopped { OnErr result (LeavesUnread located_tokens self.old.window self.new.window
-            (F.device feed.old).to_come here.old here.new) }
+        ensures reads { ReadsToken result self.old.window self.new.window (F.device feed.old) (F.device feed.new)
+            here.old here.new }
         ensures kept { MayHaveAsked result self.old.window self.new.window (F.device feed.old) (F.device feed.new) }
     {
         match self.window.first_at_hand() {
@@ -88,11 +82,8 @@ impl Lexer {
     ) -> Result<(), DeviceFault>
         requires ready { MayAsk self.old.window (F.device feed.old) }
         requires begins { BeginsBlank blank self.old.window }
-        ensures tokens { OnOk result (to_read (followed here.new) self.new.window (F.device feed.new).to_come
-            ≡ to_read located_tokens self.old.window (F.device feed.old).to_come) }
-        ensures read { OnOk result (IsRead here.new self.old.window self.new.window) }
-        ensures stopped { OnErr result (LeavesUnread located_tokens self.old.window self.new.window
-            (F.device feed.old).to_come here.old here.new) }
+        ensures reads { ReadsToken result self.old.window self.new.window (F.device feed.old) (F.device feed.new)
+            here.old here.new }
         ensures kept { MayHaveAsked result self.old.window self.new.window (F.device feed.old) (F.device feed.new) }
     {
         self.window.skip_byte();
@@ -110,11 +101,8 @@ impl Lexer {
         feed: &mut F,
     ) -> Result<(), DeviceFault>
         requires ready { MayAsk self.old.window (F.device feed.old) }
-        ensures tokens { OnOk result (to_read (followed here.new) self.new.window (F.device feed.new).to_come
-            ≡ to_read located_tokens self.old.window (F.device feed.old).to_come) }
-        ensures read { OnOk result (IsRead here.new self.old.window self.new.window) }
-        ensures stopped { OnErr result (LeavesUnread located_tokens self.old.window self.new.window
-            (F.device feed.old).to_come here.old here.new) }
+        ensures reads { ReadsToken result self.old.window self.new.window (F.device feed.old) (F.device feed.new)
+            here.old here.new }
         ensures kept { MayHaveAsked result self.old.window self.new.window (F.device feed.old) (F.device feed.new) }
     {
         loop {
@@ -223,11 +211,8 @@ impl Lexer {
     ) -> Result<(), DeviceFault>
         requires ready { MayAsk self.old.window (F.device feed.old) }
         requires begins { BeginsToken first self.old.window }
-        ensures tokens { OnOk result (to_read (followed here.new) self.new.window (F.device feed.new).to_come
-            ≡ to_read located_tokens self.old.window (F.device feed.old).to_come) }
-        ensures read { OnOk result (IsRead here.new self.old.window self.new.window) }
-        ensures stopped { OnErr result (LeavesUnread located_tokens self.old.window self.new.window
-            (F.device feed.old).to_come here.old here.new) }
+        ensures reads { ReadsToken result self.old.window self.new.window (F.device feed.old) (F.device feed.new)
+            here.old here.new }
         ensures kept { MayHaveAsked result self.old.window self.new.window (F.device feed.old) (F.device feed.new) }
     {
         self.window.skip_byte();
@@ -259,11 +244,8 @@ impl Lexer {
         first: u8,
     ) -> Result<(), DeviceFault>
         requires ready { MayAsk self.old.window (F.device feed.old) }
-        ensures tokens { OnOk result (to_read (followed here.new) self.new.window (F.device feed.new).to_come
-            ≡ to_read (in_name (first ∷ []) false) self.old.window (F.device feed.old).to_come) }
-        ensures found { OnOk result (IsFound here.new self.new.window) }
-        ensures stopped { OnErr result (LeavesUnread (in_name (first ∷ []) false) self.old.window self.new.window
-            (F.device feed.old).to_come here.old here.new) }
+        ensures finds { FindsToken result (in_name (first ∷ []) false) self.old.window self.new.window
+            (F.device feed.old) (F.device feed.new) here.old here.new }
         ensures kept { MayHaveAsked result self.old.window self.new.window (F.device feed.old) (F.device feed.new) }
     {
         match self.window.first_at_hand() {
@@ -284,11 +266,8 @@ impl Lexer {
         first: u8,
     ) -> Result<(), DeviceFault>
         requires ready { MayAsk self.old.window (F.device feed.old) }
-        ensures tokens { OnOk result (to_read (followed here.new) self.new.window (F.device feed.new).to_come
-            ≡ to_read (in_name (first ∷ []) false) self.old.window (F.device feed.old).to_come) }
-        ensures found { OnOk result (IsFound here.new self.new.window) }
-        ensures stopped { OnErr result (LeavesUnread (in_name (first ∷ []) false) self.old.window self.new.window
-            (F.device feed.old).to_come here.old here.new) }
+        ensures finds { FindsToken result (in_name (first ∷ []) false) self.old.window self.new.window
+            (F.device feed.old) (F.device feed.new) here.old here.new }
         ensures kept { MayHaveAsked result self.old.window self.new.window (F.device feed.old) (F.device feed.new) }
     {
         let mut name = Name::new();
@@ -309,11 +288,8 @@ impl Lexer {
         first: u8,
     ) -> Result<(), DeviceFault>
         requires ready { MayAsk self.old.window (F.device feed.old) }
-        ensures tokens { OnOk result (to_read (followed here.new) self.new.window (F.device feed.new).to_come
-            ≡ to_read (in_name (first ∷ []) false) self.old.window (F.device feed.old).to_come) }
-        ensures found { OnOk result (IsFound here.new self.new.window) }
-        ensures stopped { OnErr result (LeavesUnread (in_name (first ∷ []) false) self.old.window self.new.window
-            (F.device feed.old).to_come here.old here.new) }
+        ensures finds { FindsToken result (in_name (first ∷ []) false) self.old.window self.new.window
+            (F.device feed.old) (F.device feed.new) here.old here.new }
         ensures kept { MayHaveAsked result self.old.window self.new.window (F.device feed.old) (F.device feed.new) }
     {
         let mut name = Name::new();
@@ -347,11 +323,8 @@ impl Lexer {
     ) -> Result<(), DeviceFault>
         requires ready { MayAsk self.old.window (F.device feed.old) }
         requires digit { is_digit first ≡ true }
-        ensures tokens { OnOk result (to_read (followed here.new) self.new.window (F.device feed.new).to_come
-            ≡ to_read (in_constant (first - 48)) self.old.window (F.device feed.old).to_come) }
-        ensures found { OnOk result (IsFound here.new self.new.window) }
-        ensures stopped { OnErr result (LeavesUnread (in_constant (first - 48)) self.old.window self.new.window
-            (F.device feed.old).to_come here.old here.new) }
+        ensures finds { FindsToken result (in_constant (first - 48)) self.old.window self.new.window
+            (F.device feed.old) (F.device feed.new) here.old here.new }
         ensures kept { MayHaveAsked result self.old.window self.new.window (F.device feed.old) (F.device feed.new) }
     {
         if let Some((value, count)) = short_constant(first, self.window.at_hand()) {
@@ -372,11 +345,8 @@ impl Lexer {
     ) -> Result<(), DeviceFault>
         requires ready { MayAsk self.old.window (F.device feed.old) }
         requires digit { is_digit first ≡ true }
-        ensures tokens { OnOk result (to_read (followed here.new) self.new.window (F.device feed.new).to_come
-            ≡ to_read (in_constant (first - 48)) self.old.window (F.device feed.old).to_come) }
-        ensures found { OnOk result (IsFound here.new self.new.window) }
-        ensures stopped { OnErr result (LeavesUnread (in_constant (first - 48)) self.old.window self.new.window
-            (F.device feed.old).to_come here.old here.new) }
+        ensures finds { FindsToken result (in_constant (first - 48)) self.old.window self.new.window
+            (F.device feed.old) (F.device feed.new) here.old here.new }
         ensures kept { MayHaveAsked result self.old.window self.new.window (F.device feed.old) (F.device feed.new) }
     {
         let mut value = u64::from(first - b'0');
@@ -403,11 +373,8 @@ impl Lexer {
         mut punctuator: Punctuator,
     ) -> Result<(), DeviceFault>
         requires ready { MayAsk self.old.window (F.device feed.old) }
-        ensures tokens { OnOk result (to_read (followed here.new) self.new.window (F.device feed.new).to_come
-            ≡ to_read (in_punctuator punctuator) self.old.window (F.device feed.old).to_come) }
-        ensures found { OnOk result (IsFound here.new self.new.window) }
-        ensures stopped { OnErr result (LeavesUnread (in_punctuator punctuator) self.old.window self.new.window
-            (F.device feed.old).to_come here.old here.new) }
+        ensures finds { FindsToken result (in_punctuator punctuator) self.old.window self.new.window
+            (F.device feed.old) (F.device feed.new) here.old here.new }
         ensures kept { MayHaveAsked result self.old.window self.new.window (F.device feed.old) (F.device feed.new) }
     {
         loop {

@@ -12,10 +12,10 @@ returns-in_ok-read_token-clause-steps g c =
     rw (← c.self.view_is) (record {
       tokens =
           shown-advanced s.next s.after c.read_token.new.here c.read_token.new.self.window s.lexer.window _ _ not_last
-          read.tokens;
+          read.reads.tokens;
       progress =
           most_left-advanced s.next s.after c.read_token.new.here c.read_token.new.self.window s.lexer.window not_last
-          (sym c.if-not-is_last.ensures) read.read.progress read.kept.within;
+          (sym c.if-not-is_last.ensures) read.reads.read.progress read.kept.within;
       near = search rules;
     })
 
@@ -37,4 +37,4 @@ returns-in_err-read_token-clause-stopped g c =
     on_err-from c.from_residual.result
     (rw (← c.self.view_is)
     (advanced-stopped c.read_token.new.self.window.taken s.next s.after s.lexer.window _ not_last
-    (sym c.if-not-is_last.ensures) c.in_err-read_token.ensures.stopped.within))
+    (sym c.if-not-is_last.ensures) c.in_err-read_token.ensures.reads.within))

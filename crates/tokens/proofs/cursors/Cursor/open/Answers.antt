@@ -12,7 +12,7 @@ pub returns-clause-opens : goal.returns-clause-opens
 returns-clause-opens g c =
     let next = c.read_token.new.here in
     let first =
-    c.in_ok-read_token.ensures.tokens ∙
+    c.in_ok-read_token.ensures.reads.tokens ∙
     ap (λ h. to_read located_tokens h (g.F.Feed.device c.args.feed.now).to_come) c.new-lexer.ensures ∙
     shown-opened (g.F.Feed.device c.args.feed.now).to_come in
     let tells =
@@ -23,7 +23,7 @@ returns-clause-opens g c =
       | else-not-is_last w ↦ rw (w.feed-is, w.lexer-is, w.after-is)
           (shown-last next next _ _ (sym w.if-not-is_last.ensures) ∙ first)
       | then-not-is_last+in_ok-read_token-2 w ↦ rw (w.feed-is, w.lexer-is, w.after-is)
-          (shown-read next w.read_token-then-not-is_last.new.here _ _ _ _ w.in_ok-read_token-2.ensures.tokens ∙ first)
+          (shown-read next w.read_token-then-not-is_last.new.here _ _ _ _ w.in_ok-read_token-2.ensures.reads.tokens ∙ first)
     ] in
     record {
       tokens = tells;
@@ -40,7 +40,7 @@ returns-in_err-read_token-clause-stopped g c = on_err-from c.from_residual.resul
       c.read_token.new.self.window.taken,
       read.kept.took.rest (Some bytes) (e ∙ ap (λ h. option_map (drop h.taken) (Some bytes)) (sym c.new-lexer.ensures)),
       opened-stopped bytes c.read_token.new.self.window.taken c.new-lexer.result.window _ c.new-lexer.ensures e
-          read.stopped.within,
+          read.reads.within,
     ))
 
 pub returns-in_err-read_token-2-clause-stopped : goal.returns-in_err-read_token-2-clause-stopped
@@ -52,6 +52,6 @@ returns-in_err-read_token-2-clause-stopped g c = on_err-from c.from_residual-in_
           (e ∙ ap (λ h. option_map (drop h.taken) (Some bytes)) (sym c.new-lexer.ensures)),
       second-stopped bytes c.read_token-then-not-is_last.new.self.window.taken c.read_token.new.here
           c.new-lexer.result.window
-          c.read_token.new.self.window _ _ c.new-lexer.ensures e (sym c.if-not-is_last.ensures) first.tokens
-          read.stopped.within,
+          c.read_token.new.self.window _ _ c.new-lexer.ensures e (sym c.if-not-is_last.ensures) first.reads.tokens
+          read.reads.within,
     ))

@@ -1,5 +1,4 @@
 use Rattle.tokens.proofs.CommentLemmas.{ended-beyond}
-use Rattle.std.proofs.lemmas.Result.{on_err_weaker}
 use Rattle.std.proofs.Common.{◌≡◌, ◌∙◌, sym, ap, refl, [], true, false, arith}
 use Rattle.tokens.specs.Tokens.{is_last, located_tokens}
 use Rattle.tokens.specs.Window.{ahead}
@@ -8,29 +7,47 @@ use Rattle.tokens.specs.declared.located_tokens.Token.TheVariants as variant
 use Rattle.tokens.proofs.ToRead.{to_read-here, none-ahead}
 use Rattle.tokens.proofs.TokenLemmas.{nothing-left}
 use Rattle.tokens.proofs.BeginLemmas.{last-is_last, last-fits}
-use Rattle.tokens.proofs.TakenLemmas.{TakesBytes-then, fails-from, on_err-from, stops-from, then-fails, then-asks}
+use Rattle.tokens.proofs.TakenLemmas.{TakesBytes-then, fails-from, fails-reads, found-reads, stops-from, then-fails, then-asks, then-reads}
 use Rattle.tokens.proofs.lexer.Lexer.read_after_blanks.Goals as goal
 
-pub returns-in-None-clause-tokens : goal.returns-in-None-clause-tokens
-returns-in-None-clause-tokens g c =
+pub returns-in-None-clause-reads : goal.returns-in-None-clause-reads
+returns-in-None-clause-reads g c =
     let here = c.skip_blanks.new.self.window in
-    let found = c.in_ok-skip_blanks.ensures in
-    to_read-here (followed c.put_source_end.new.here) located_tokens here _ (λ to_come.
-    let a = ahead here to_come in
-    ap (λ x. followed x a) (c.put_source_end.ensures.value to_come)
-    ∙ nothing-left a (none-ahead here to_come found.next.ready (sym found.next.first ∙ c.in-None.is)))
-    ∙ found.tokens ∙ c.loop-self.invariant.tokens
-
-pub returns-in-None-clause-read : goal.returns-in-None-clause-read
-returns-in-None-clause-read g c =
-    let here = c.skip_blanks.new.self.window in
+    let blanks = c.in_ok-skip_blanks.ensures in
     let end = c.put_source_end.ensures in
     let last : is_last c.put_source_end.new.here.token ≡ true =
     ap (λ x. is_last x.token) (end.value []) ∙ last-is_last variant.End here.line (ahead here []) refl in
     record {
-      progress = λ e. absurd cc;
-      reached = end.reached;
-      fits = rw (end.value []) (last-fits variant.End here.line (ahead here []) tt);
+      tokens =
+          to_read-here (followed c.put_source_end.new.here) located_tokens here _ (λ to_come.
+          let a = ahead here to_come in
+          ap (λ x. followed x a) (end.value to_come)
+          ∙ nothing-left a (none-ahead here to_come blanks.next.ready (sym blanks.next.first ∙ c.in-None.is)))
+          ∙ blanks.tokens ∙ c.loop-self.invariant.tokens;
+      read = record {
+        progress = λ e. absurd cc;
+        reached = end.reached;
+        fits = rw (end.value []) (last-fits variant.End here.line (ahead here []) tt);
+      };
+    }
+
+pub returns-then-branch-clause-reads : goal.returns-then-branch-clause-reads
+returns-then-branch-clause-reads g c =
+    let now = c.loop-self.invariant in
+    let blanks = c.in_ok-skip_blanks.ensures in
+    let slash = c.in_ok-read_slash_or_comment-in-Some-eq47.ensures in
+    let here = c.read_slash_or_comment.new.here in
+    let window = c.read_slash_or_comment.new.self.window in
+    record {
+      tokens =
+          to_read-here (followed here) (after_slash true here) window _ (λ to_come. refl)
+          ∙
+          ap
+          (λ found. to_read (after_slash found here) window (g.F.Feed.device c.read_slash_or_comment.new.feed).to_come)
+          (sym c.if-branch.true)
+          ∙ slash.past.tokens ∙ blanks.tokens ∙ now.tokens;
+      read = found-reads here _ window (omega (arith, now.forward, blanks.kept.forward, slash.forward))
+          (slash.past.token c.if-branch.true);
     }
 
 pub loop-self-preserved : goal.loop-self-preserved
@@ -83,27 +100,32 @@ returns-in-Some-clause-kept g c =
     (TakesBytes-then now.took blanks.took)
     (omega (arith, now.forward, blanks.forward)) (blanks.count ∙ now.count) c.read_begun_token.ensures.kept
 
-pub returns-in_err-skip_blanks-clause-stopped : goal.returns-in_err-skip_blanks-clause-stopped
-returns-in_err-skip_blanks-clause-stopped g c =
+pub returns-in_err-skip_blanks-clause-reads : goal.returns-in_err-skip_blanks-clause-reads
+returns-in_err-skip_blanks-clause-reads g c =
     let now = c.loop-self.invariant in
-    on_err-from c.from_residual.result (record {
+    fails-reads c.from_residual.result _ c.from_residual.ensures.1 _ _ (g.F.Feed.device c.args.feed.now)
+    (g.F.Feed.device c.skip_blanks.new.feed) _ _ (record {
       within = stops-from located_tokens located_tokens _ _ c.skip_blanks.new.self.window _ _ now.tokens
           c.in_err-skip_blanks.ensures.stopped;
       unread = now.here;
     })
 
-pub returns-in_err-read_slash_or_comment-in-Some-eq47-clause-stopped :
-    goal.returns-in_err-read_slash_or_comment-in-Some-eq47-clause-stopped
-returns-in_err-read_slash_or_comment-in-Some-eq47-clause-stopped g c =
+pub returns-in_err-read_slash_or_comment-in-Some-eq47-clause-reads :
+    goal.returns-in_err-read_slash_or_comment-in-Some-eq47-clause-reads
+returns-in_err-read_slash_or_comment-in-Some-eq47-clause-reads g c =
     let now = c.loop-self.invariant in
-    on_err-from c.from_residual-in_err-read_slash_or_comment-in-Some-eq47.result
+    fails-reads c.from_residual-in_err-read_slash_or_comment-in-Some-eq47.result _
+    c.from_residual-in_err-read_slash_or_comment-in-Some-eq47.ensures.1 _ _ (g.F.Feed.device c.args.feed.now)
+    (g.F.Feed.device c.read_slash_or_comment.new.feed) _ _
     (fails-from located_tokens located_tokens _ _ c.read_slash_or_comment.new.self.window _ _
     (c.in_ok-skip_blanks.ensures.tokens ∙ now.tokens) now.here
     c.in_err-read_slash_or_comment-in-Some-eq47.ensures.stopped)
 
-pub returns-in-Some-clause-stopped : goal.returns-in-Some-clause-stopped
-returns-in-Some-clause-stopped g c =
+pub returns-in-Some-clause-reads : goal.returns-in-Some-clause-reads
+returns-in-Some-clause-reads g c =
     let now = c.loop-self.invariant in
-    on_err_weaker c.read_begun_token.result
-    (fails-from located_tokens located_tokens _ _ c.read_begun_token.new.self.window _ _
-    (c.in_ok-skip_blanks.ensures.tokens ∙ now.tokens) now.here) c.read_begun_token.ensures.stopped
+    let blanks = c.in_ok-skip_blanks.ensures in
+    then-reads c.read_begun_token.result c.args.self.now.window c.skip_blanks.new.self.window
+    c.read_begun_token.new.self.window (g.F.Feed.device c.args.feed.now) (g.F.Feed.device c.skip_blanks.new.feed) _ _ _ _
+    (blanks.tokens ∙ now.tokens) (omega (arith, now.forward, blanks.kept.forward)) now.here
+    c.read_begun_token.ensures.reads

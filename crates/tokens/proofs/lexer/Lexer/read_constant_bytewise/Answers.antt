@@ -3,7 +3,7 @@ use Rattle.tokens.specs.Characters.{is_digit}
 use Rattle.tokens.specs.Lexing.{to_read, in_constant, constant_going_on}
 use Rattle.tokens.proofs.ToRead.{to_read-pass, to_read-seen}
 use Rattle.tokens.proofs.TokenLemmas.{constant-takes, token_run-stops, StopsAt}
-use Rattle.tokens.proofs.TakenLemmas.{on_err-from, stops, stops-from, in_token_run-ends, constant-undecided, TakesBytes-pass, TakesBytes-then, then-fails}
+use Rattle.tokens.proofs.TakenLemmas.{fails-finds, found-here, stops, stops-from, in_token_run-ends, constant-undecided, TakesBytes-pass, TakesBytes-then, then-fails}
 use Rattle.tokens.proofs.lexer.Lexer.read_constant_bytewise.Goals as goal
 use Rattle.tokens.proofs.lexer.Lexer.read_constant_bytewise.Goals.{in_default-via-in-Some+else-is_digit, in_default-via-in_default}
 
@@ -27,24 +27,28 @@ loop-b-preserved g c =
       known = λ e. seen.kept.known (sym c.skip_byte.ensures.kept.beyond ∙ e);
     }
 
-pub returns-in_default-clause-tokens : goal.returns-in_default-clause-tokens
-returns-in_default-clause-tokens g c =
+pub returns-in_default-clause-finds : goal.returns-in_default-clause-finds
+returns-in_default-clause-finds g c =
     let now = in_constant c.loop-b.value in
     let seen = c.in_ok-b.ensures in
     let stops : StopsAt is_digit c.in_ok-b.field-0 = elim c.in_default.branch [
       | in_default-via-in-Some+else-is_digit w ↦ subst (StopsAt is_digit) (sym w.in-Some.is) (sym w.if-is_digit.ensures)
       | in_default-via-in_default w ↦ subst (StopsAt is_digit) (sym w.in_default.is) tt
     ] in
-    token_run-stops is_digit (constant_going_on c.loop-b.value) c.token_ending_here.result c.constant_token.result _ _ _
-    seen.next.ready
-    seen.next.first stops (λ _. c.token_ending_here.ensures) c.constant_token.ensures.token
-    ∙ to_read-seen now _ _ _ _ seen.seen ∙ c.loop-b.invariant.tokens
-    ∙
-    ap (λ v. to_read (in_constant v) c.args.self.now.window (g.F.Feed.device c.args.feed.now).to_come)
-    c.from-value.ensures
+    record {
+      tokens =
+          token_run-stops is_digit (constant_going_on c.loop-b.value) c.token_ending_here.result c.constant_token.result _ _ _
+          seen.next.ready
+          seen.next.first stops (λ _. c.token_ending_here.ensures) c.constant_token.ensures.token
+          ∙ to_read-seen now _ _ _ _ seen.seen ∙ c.loop-b.invariant.tokens
+          ∙
+          ap (λ v. to_read (in_constant v) c.args.self.now.window (g.F.Feed.device c.args.feed.now).to_come)
+          c.from-value.ensures;
+      found = found-here _ _ _ c.token_ending_here.ensures c.constant_token.ensures.fits;
+    }
 
-pub returns-in_err-b-clause-stopped : goal.returns-in_err-b-clause-stopped
-returns-in_err-b-clause-stopped g c =
+pub returns-in_err-b-clause-finds : goal.returns-in_err-b-clause-finds
+returns-in_err-b-clause-finds g c =
     let seen = c.in_err-b.ensures in
     let now = in_constant c.loop-b.value in
     let chain =
@@ -52,7 +56,8 @@ returns-in_err-b-clause-stopped g c =
     ap (λ v. to_read (in_constant v) c.args.self.now.window (g.F.Feed.device c.args.feed.now).to_come)
     c.from-value.ensures
     in
-    on_err-from c.from_residual.result (record {
+    fails-finds c.from_residual.result _ c.from_residual.ensures.1 (in_constant (c.args.first - 48)) _ _
+    (g.F.Feed.device c.args.feed.now) (g.F.Feed.device c.peek.new.feed) _ _ (record {
       within = stops-from now (in_constant (c.args.first - 48)) _ _ c.peek.new.self _ _ chain
           (stops now (in_token_run-ends is_digit (constant_going_on c.loop-b.value) (constant-undecided c.loop-b.value))
           c.loop-b.self.window c.peek.new.self _ seen.failed seen.offset.offset);

@@ -3,7 +3,7 @@ use Rattle.tokens.specs.Characters.{is_name_byte}
 use Rattle.tokens.specs.Lexing.{to_read, in_name, name_going_on}
 use Rattle.tokens.proofs.ToRead.{to_read-pass, to_read-seen}
 use Rattle.tokens.proofs.TokenLemmas.{name-takes, name-overflows, token_run-stops, StopsAt}
-use Rattle.tokens.proofs.TakenLemmas.{on_err-from, stops, stops-from, in_token_run-ends, name-undecided, TakesBytes-pass, TakesBytes-then, then-fails}
+use Rattle.tokens.proofs.TakenLemmas.{fails-finds, name-found, stops, stops-from, in_token_run-ends, name-undecided, TakesBytes-pass, TakesBytes-then, then-fails}
 use Rattle.tokens.proofs.lexer.Lexer.read_name_bytewise.Goals as goal
 use Rattle.tokens.proofs.lexer.Lexer.read_name_bytewise.Goals.{then-is_full, else-is_full, in_default-via-in-Some+else-is_name_byte, in_default-via-in_default}
 
@@ -34,8 +34,8 @@ loop-b-preserved g c =
       known = λ e. seen.kept.known (sym c.skip_byte.ensures.kept.beyond ∙ e);
     }
 
-pub returns-in_default-clause-tokens : goal.returns-in_default-clause-tokens
-returns-in_default-clause-tokens g c =
+pub returns-in_default-clause-finds : goal.returns-in_default-clause-finds
+returns-in_default-clause-finds g c =
     let now = in_name c.loop-b.name c.loop-b.too_long in
     let seen = c.in_ok-b.ensures in
     let stops : StopsAt is_name_byte c.in_ok-b.field-0 = elim c.in_default.branch [
@@ -43,23 +43,28 @@ returns-in_default-clause-tokens g c =
           (sym w.if-is_name_byte.ensures)
       | in_default-via-in_default w ↦ subst (StopsAt is_name_byte) (sym w.in_default.is) tt
     ] in
-    token_run-stops is_name_byte (name_going_on c.loop-b.name c.loop-b.too_long) c.put_name_token.new.here
-    (name_going_on c.loop-b.name c.loop-b.too_long []) _ _ _ seen.next.ready seen.next.first stops
-    (λ _. c.put_name_token.ensures.value) refl
-    ∙ to_read-seen now _ _ _ _ seen.seen ∙ c.loop-b.invariant.tokens
-    ∙
-    ap (λ name. to_read (in_name name false) c.args.self.now.window (g.F.Feed.device c.args.feed.now).to_come)
-    (c.push.ensures ∙ ap (λ name. name ++ c.args.first ∷ []) c.new-name.ensures)
+    record {
+      tokens =
+          token_run-stops is_name_byte (name_going_on c.loop-b.name c.loop-b.too_long) c.put_name_token.new.here
+          (name_going_on c.loop-b.name c.loop-b.too_long []) _ _ _ seen.next.ready seen.next.first stops
+          (λ _. c.put_name_token.ensures.value) refl
+          ∙ to_read-seen now _ _ _ _ seen.seen ∙ c.loop-b.invariant.tokens
+          ∙
+          ap (λ name. to_read (in_name name false) c.args.self.now.window (g.F.Feed.device c.args.feed.now).to_come)
+          (c.push.ensures ∙ ap (λ name. name ++ c.args.first ∷ []) c.new-name.ensures);
+      found = name-found _ _ _ c.put_name_token.ensures.value c.put_name_token.ensures.fits;
+    }
 
-pub returns-in_err-b-clause-stopped : goal.returns-in_err-b-clause-stopped
-returns-in_err-b-clause-stopped g c =
+pub returns-in_err-b-clause-finds : goal.returns-in_err-b-clause-finds
+returns-in_err-b-clause-finds g c =
     let seen = c.in_err-b.ensures in
     let now = in_name c.loop-b.name c.loop-b.too_long in
     let begun = c.push.ensures ∙ ap (λ name. name ++ c.args.first ∷ []) c.new-name.ensures in
     let chain =
     c.loop-b.invariant.tokens ∙
     ap (λ name. to_read (in_name name false) c.args.self.now.window (g.F.Feed.device c.args.feed.now).to_come) begun in
-    on_err-from c.from_residual.result (record {
+    fails-finds c.from_residual.result _ c.from_residual.ensures.1 (in_name (c.args.first ∷ []) false) _ _
+    (g.F.Feed.device c.args.feed.now) (g.F.Feed.device c.peek.new.feed) _ _ (record {
       within = stops-from now (in_name (c.args.first ∷ []) false) _ _ c.peek.new.self _ _ chain
           (stops now
           (in_token_run-ends is_name_byte (name_going_on c.loop-b.name c.loop-b.too_long)

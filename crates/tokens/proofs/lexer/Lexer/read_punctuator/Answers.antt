@@ -2,7 +2,7 @@ use Rattle.std.proofs.Common.{◌∙◌, sym, arith}
 use Rattle.tokens.specs.Lexing.{in_punctuator}
 use Rattle.tokens.proofs.ToRead.{to_read-seen}
 use Rattle.tokens.proofs.TokenLemmas.{punctuator_front-passes, punctuator_front-stops}
-use Rattle.tokens.proofs.TakenLemmas.{on_err-from, stops, stops-from, in_punctuator-ends, TakesBytes-pass, TakesBytes-then, then-fails}
+use Rattle.tokens.proofs.TakenLemmas.{fails-finds, found-here, stops, stops-from, in_punctuator-ends, TakesBytes-pass, TakesBytes-then, then-fails}
 use Rattle.tokens.proofs.lexer.Lexer.read_punctuator.Goals as goal
 
 pub loop-next-preserved : goal.loop-next-preserved
@@ -22,20 +22,25 @@ loop-next-preserved g c =
       known = λ e. seen.kept.known (sym c.skip_byte.ensures.kept.beyond ∙ e);
     }
 
-pub returns-in-None-clause-tokens : goal.returns-in-None-clause-tokens
-returns-in-None-clause-tokens g c =
+pub returns-in-None-clause-finds : goal.returns-in-None-clause-finds
+returns-in-None-clause-finds g c =
     let now = in_punctuator c.loop-next.punctuator in
     let seen = c.in_ok-next.ensures in
-    punctuator_front-stops c.loop-next.punctuator c.token_ending_here.result _ _ c.in_ok-next.next seen.next.ready
-    seen.next.first
-    (sym c.in-None.ensures) (λ _. c.token_ending_here.ensures)
-    ∙ to_read-seen now _ _ _ _ seen.seen ∙ c.loop-next.invariant.tokens
+    record {
+      tokens =
+          punctuator_front-stops c.loop-next.punctuator c.token_ending_here.result _ _ c.in_ok-next.next seen.next.ready
+          seen.next.first
+          (sym c.in-None.ensures) (λ _. c.token_ending_here.ensures)
+          ∙ to_read-seen now _ _ _ _ seen.seen ∙ c.loop-next.invariant.tokens;
+      found = found-here _ _ _ c.token_ending_here.ensures tt;
+    }
 
-pub returns-in_err-next-clause-stopped : goal.returns-in_err-next-clause-stopped
-returns-in_err-next-clause-stopped g c =
+pub returns-in_err-next-clause-finds : goal.returns-in_err-next-clause-finds
+returns-in_err-next-clause-finds g c =
     let seen = c.in_err-next.ensures in
     let now = in_punctuator c.loop-next.punctuator in
-    on_err-from c.from_residual.result (record {
+    fails-finds c.from_residual.result _ c.from_residual.ensures.1 (in_punctuator c.args.punctuator) _ _
+    (g.F.Feed.device c.args.feed.now) (g.F.Feed.device c.peek.new.feed) _ _ (record {
       within = stops-from now (in_punctuator c.args.punctuator) _ _ c.peek.new.self _ _ c.loop-next.invariant.tokens
           (stops now (in_punctuator-ends c.loop-next.punctuator) c.loop-next.self.window c.peek.new.self _ seen.failed
           seen.offset.offset);

@@ -16,13 +16,13 @@ returns-then-ne-clause-past g c =
     let seen = c.in_ok-peek.ensures in
     record {
       tokens =
-          c.in_ok-read_punctuator.ensures.tokens ∙
+          c.in_ok-read_punctuator.ensures.finds.tokens ∙
           slash-stays line _ _ _ seen.next.ready seen.next.first (not_true _ c.if-ne.ensures)
           ∙ to_read-seen (in_slash line) _ _ _ _ seen.seen
           ∙
           to_read-pass_line (in_slash line) located_tokens _ _ _ 47 line c.skip_byte.ensures.value c.requires.slash
           c.line-line.ensures (slash-begins line);
-      token = λ _. c.in_ok-read_punctuator.ensures.found;
+      token = λ _. c.in_ok-read_punctuator.ensures.finds.found;
       unread = λ e. absurd cc;
     }
 
@@ -105,7 +105,7 @@ returns-in_err-read_punctuator-clause-stopped g c =
     ∙
     to_read-pass_line (in_slash line) located_tokens _ _ _ 47 line c.skip_byte.ensures.value c.requires.slash
     c.line-line.ensures (slash-begins line))
-    refl c.in_err-read_punctuator.ensures.stopped)
+    refl c.in_err-read_punctuator.ensures.finds)
 
 pub returns-in_err-skip_comment-clause-stopped : goal.returns-in_err-skip_comment-clause-stopped
 returns-in_err-skip_comment-clause-stopped g c =
