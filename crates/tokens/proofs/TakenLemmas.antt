@@ -10,7 +10,7 @@ use Rattle.tokens.specs.Ends.{is_decided_by_last_byte, undecided_until}
 use Rattle.tokens.specs.Front.{Front, Nothing, Space, Unclosed, Lexeme, front, up_to_close, begins_with, name_or}
 use Rattle.tokens.specs.Tokens.{Ahead, ahead_after_byte, ahead_after, at_end, located, last_located_token, tokens_within, tokens_of_front, located_tokens, FitsToken}
 use Rattle.tokens.specs.Window.{LeavesAsked, Window, TakesBytes, HasReadOn, ahead}
-use Rattle.tokens.specs.Lexing.{to_read, followed, token_ending, in_token_run, name_going_on, constant_going_on, value_token, in_punctuator, extended, in_comment, closed_at, LeavesUnread, StopsWithin, Finds, FindsToken, IsFound, IsRead, ReadsToken}
+use Rattle.tokens.specs.Lexing.{to_read, followed, token_ending, in_token_run, name_going_on, constant_going_on, value_token, in_punctuator, extended, in_comment, closed_at, LeavesUnread, StopsWithin, FindsToken, IsFound, IsRead, ReadsToken}
 use Rattle.tokens.specs.declared.devices.DeviceFault.{DeviceFault}
 use Rattle.tokens.specs.declared.located_tokens.Punctuator.{Punctuator}
 use Rattle.tokens.specs.declared.located_tokens.Punctuator.TheVariants.{Slash}

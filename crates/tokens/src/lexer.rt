@@ -24,8 +24,8 @@ pub struct Lexer {
 }
 
 // Each call here that has the device as an argument may ask it: it needs `MayAsk`, and `MayHaveAsked` says what it leaves.
-// Beside that a call that reads a token has three clauses: which tokens are still to be read, what is known of the one
-// that was read, and what a call leaves that failed (`LeavesUnread`). A byte that was seen takes one more.
+// Beside that a call that reads a token says which, and what it leaves if it fails, in one clause: `ReadsToken` if it
+// starts where the token begins or ahead of that, `FindsToken` if it starts inside. A byte that was seen takes one more.
 impl Lexer {
     /// Makes a lexer of a source of which nothing was read.
     pub fn new() -> Self

@@ -23,7 +23,8 @@ returns-clause-opens g c =
       | else-not-is_last w ↦ rw (w.feed-is, w.lexer-is, w.after-is)
           (shown-last next next _ _ (sym w.if-not-is_last.ensures) ∙ first)
       | then-not-is_last+in_ok-read_token-2 w ↦ rw (w.feed-is, w.lexer-is, w.after-is)
-          (shown-read next w.read_token-then-not-is_last.new.here _ _ _ _ w.in_ok-read_token-2.ensures.reads.tokens ∙ first)
+          (shown-read next w.read_token-then-not-is_last.new.here _ _ _ _ w.in_ok-read_token-2.ensures.reads.tokens ∙
+          first)
     ] in
     record {
       tokens = tells;

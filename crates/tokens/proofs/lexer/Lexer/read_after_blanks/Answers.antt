@@ -126,6 +126,7 @@ returns-in-Some-clause-reads g c =
     let now = c.loop-self.invariant in
     let blanks = c.in_ok-skip_blanks.ensures in
     then-reads c.read_begun_token.result c.args.self.now.window c.skip_blanks.new.self.window
-    c.read_begun_token.new.self.window (g.F.Feed.device c.args.feed.now) (g.F.Feed.device c.skip_blanks.new.feed) _ _ _ _
+    c.read_begun_token.new.self.window (g.F.Feed.device c.args.feed.now) (g.F.Feed.device c.skip_blanks.new.feed) _ _ _
+    _
     (blanks.tokens ∙ now.tokens) (omega (arith, now.forward, blanks.kept.forward)) now.here
     c.read_begun_token.ensures.reads

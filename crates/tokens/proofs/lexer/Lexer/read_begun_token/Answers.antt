@@ -20,7 +20,8 @@ returns-then-is_letter-clause-reads g c =
     to_read-pass (in_name (b ∷ []) false) located_tokens _ _ (g.F.Feed.device c.args.feed.now).to_come (Some b) b
     c.skip_byte.ensures.value (sym c.requires.begins.first) refl
     (name-begins b c.requires.begins.no_blank (sym c.if-is_letter.ensures)) in
-    finds-reads c.read_name.result _ _ c.skip_byte.new.self c.read_name.new.self.window (g.F.Feed.device c.args.feed.now) _ _ _
+    finds-reads c.read_name.result _ _ c.skip_byte.new.self c.read_name.new.self.window
+    (g.F.Feed.device c.args.feed.now) _ _ _
     begins (omega (arith, c.skip_byte.ensures.forward)) c.read_name.ensures.kept c.read_name.ensures.finds
 
 pub returns-then-is_digit-clause-reads : goal.returns-then-is_digit-clause-reads
@@ -30,7 +31,8 @@ returns-then-is_digit-clause-reads g c =
     to_read-pass (in_constant (b - 48)) located_tokens _ _ (g.F.Feed.device c.args.feed.now).to_come (Some b) b
     c.skip_byte.ensures.value (sym c.requires.begins.first) refl
     (constant-begins b c.requires.begins.no_blank (sym c.if-is_letter.ensures) (sym c.if-is_digit.ensures)) in
-    finds-reads c.read_constant.result _ _ c.skip_byte.new.self c.read_constant.new.self.window (g.F.Feed.device c.args.feed.now) _ _ _
+    finds-reads c.read_constant.result _ _ c.skip_byte.new.self c.read_constant.new.self.window
+    (g.F.Feed.device c.args.feed.now) _ _ _
     begins (omega (arith, c.skip_byte.ensures.forward)) c.read_constant.ensures.kept c.read_constant.ensures.finds
 
 pub returns-else-ends_before-clause-reads : goal.returns-else-ends_before-clause-reads
@@ -42,7 +44,8 @@ returns-else-ends_before-clause-reads g c =
     (Some b) b c.skip_byte.ensures.value (sym c.requires.begins.first) refl
     (other-begins c.in-Some-of_byte.punctuator b c.requires.begins.no_blank (sym c.if-is_letter.ensures)
     (sym c.if-is_digit.ensures) c.requires.begins.no_slash (sym c.in-Some-of_byte.ensures)) in
-    finds-reads c.read_punctuator.result _ _ c.skip_byte.new.self c.read_punctuator.new.self.window (g.F.Feed.device c.args.feed.now) _ _ _
+    finds-reads c.read_punctuator.result _ _ c.skip_byte.new.self c.read_punctuator.new.self.window
+    (g.F.Feed.device c.args.feed.now) _ _ _
     begins (omega (arith, c.skip_byte.ensures.forward)) c.read_punctuator.ensures.kept c.read_punctuator.ensures.finds
 
 pub returns-then-ends_before-clause-reads : goal.returns-then-ends_before-clause-reads
@@ -60,7 +63,8 @@ returns-then-ends_before-clause-reads g c =
           (Some b) b c.skip_byte.ensures.value (sym c.requires.begins.first) refl
           (other-begins c.in-Some-of_byte.punctuator b c.requires.begins.no_blank (sym c.if-is_letter.ensures)
           (sym c.if-is_digit.ensures) c.requires.begins.no_slash (sym c.in-Some-of_byte.ensures));
-      read = found-reads _ _ _ (omega (arith, c.skip_byte.ensures.forward)) (found-here _ _ _ c.token_ending_here-then-ends_before.ensures tt);
+      read = found-reads _ _ _ (omega (arith, c.skip_byte.ensures.forward))
+          (found-here _ _ _ c.token_ending_here-then-ends_before.ensures tt);
     }
 
 pub returns-in_default-of_byte-clause-reads : goal.returns-in_default-of_byte-clause-reads
@@ -73,11 +77,13 @@ returns-in_default-of_byte-clause-reads g c =
           (λ to_come. ap (λ x. followed x (ahead c.skip_byte.new.self to_come))
           c.token_ending_here-in_default-of_byte.ensures)
           ∙
-          to_read-pass bad located_tokens _ _ (g.F.Feed.device c.args.feed.now).to_come (Some b) b c.skip_byte.ensures.value
+          to_read-pass bad located_tokens _ _ (g.F.Feed.device c.args.feed.now).to_come (Some b) b
+          c.skip_byte.ensures.value
           (sym c.requires.begins.first) refl
           (bad-begins b c.requires.begins.no_blank (sym c.if-is_letter.ensures) (sym c.if-is_digit.ensures)
           c.requires.begins.no_slash (sym c.in_default-of_byte.ensures));
-      read = found-reads _ _ _ (omega (arith, c.skip_byte.ensures.forward)) (found-here _ _ _ c.token_ending_here-in_default-of_byte.ensures tt);
+      read = found-reads _ _ _ (omega (arith, c.skip_byte.ensures.forward))
+          (found-here _ _ _ c.token_ending_here-in_default-of_byte.ensures tt);
     }
 
 pub returns-in-Some-clause-reads : goal.returns-in-Some-clause-reads
@@ -90,9 +96,11 @@ returns-in-Some-clause-reads g c =
           punctuator_front-whole punctuator c.token_ending_here.result c.skip_byte.new.self _ whole.ends
           (λ _. c.token_ending_here.ensures)
           ∙
-          to_read-pass (in_punctuator punctuator) located_tokens _ _ (g.F.Feed.device c.args.feed.now).to_come (Some b) b
+          to_read-pass (in_punctuator punctuator) located_tokens _ _ (g.F.Feed.device c.args.feed.now).to_come (Some b)
+          b
           c.skip_byte.ensures.value (sym c.requires.begins.first) refl
           (other-begins punctuator b c.requires.begins.no_blank (sym c.if-is_letter.ensures)
           (no-digit b punctuator c.ranges.first.fits whole.is) c.requires.begins.no_slash whole.is);
-      read = found-reads _ _ _ (omega (arith, c.skip_byte.ensures.forward)) (found-here _ _ _ c.token_ending_here.ensures tt);
+      read = found-reads _ _ _ (omega (arith, c.skip_byte.ensures.forward))
+          (found-here _ _ _ c.token_ending_here.ensures tt);
     }

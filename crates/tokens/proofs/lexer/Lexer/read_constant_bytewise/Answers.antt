@@ -37,7 +37,8 @@ returns-in_default-clause-finds g c =
     ] in
     record {
       tokens =
-          token_run-stops is_digit (constant_going_on c.loop-b.value) c.token_ending_here.result c.constant_token.result _ _ _
+          token_run-stops is_digit (constant_going_on c.loop-b.value) c.token_ending_here.result c.constant_token.result
+          _ _ _
           seen.next.ready
           seen.next.first stops (λ _. c.token_ending_here.ensures) c.constant_token.ensures.token
           ∙ to_read-seen now _ _ _ _ seen.seen ∙ c.loop-b.invariant.tokens

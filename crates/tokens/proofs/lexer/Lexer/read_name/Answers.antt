@@ -15,10 +15,12 @@ returns-in-Some-clause-finds g c =
     subst (StopsAt is_name_byte) (sym c.in-Some.is) (sym c.if-not-is_name_byte.ensures) in
     record {
       tokens =
-          token_run-stops is_name_byte (name_going_on name false) c.put_name_token.new.here (name_going_on name false []) here
+          token_run-stops is_name_byte (name_going_on name false) c.put_name_token.new.here
+          (name_going_on name false []) here
           told
           c.first_at_hand.result
-          (is-at_hand here c.in-Some.b (sym c.in-Some.is ∙ c.first_at_hand.ensures.value)) c.first_at_hand.ensures.value stops
+          (is-at_hand here c.in-Some.b (sym c.in-Some.is ∙ c.first_at_hand.ensures.value)) c.first_at_hand.ensures.value
+          stops
           (λ _. c.put_name_token.ensures.value) refl
           ∙ ap (λ name. to_read (in_name name false) here told) c.from_byte.ensures;
       found = name-found _ _ _ c.put_name_token.ensures.value c.put_name_token.ensures.fits;
