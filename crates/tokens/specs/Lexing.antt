@@ -96,14 +96,18 @@ pub record LeavesUnread (made : Ahead → List LocatedToken) (old new : Window) 
   pub within : StopsWithin made old new told
   pub unread : here' ≡ here
 
--- the next byte is a blank
-pub record BeginsBlank (byte : ℕ) (window : Window) : Type 0 where
-  pub first : slice_get window.at_hand 0 ≡ Some byte
-  pub blank : is_blank byte ≡ true
-
 -- the next byte begins a token, and no comment
 pub record BeginsToken (byte : ℕ) (window : Window) : Type 0 where
   pub first : slice_get window.at_hand 0 ≡ Some byte
+  pub no_blank : is_blank byte ≡ false
+  pub no_slash : byte ≢ 47
+
+-- the next byte is a blank, and this one behind it begins a token, and no comment
+pub record IsAfterBlank (byte : ℕ) (window : Window) : Type 0 where
+  pub blank : ℕ
+  pub first : slice_get window.at_hand 0 ≡ Some blank
+  pub is : is_blank blank ≡ true
+  pub second : slice_get window.at_hand 1 ≡ Some byte
   pub no_blank : is_blank byte ≡ false
   pub no_slash : byte ≢ 47
 

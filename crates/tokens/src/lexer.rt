@@ -6,7 +6,7 @@ ghost use Rattle.tokens.specs.Characters.{is_blank, is_digit};
 ghost use Rattle.tokens.specs.Front.{name_token};
 ghost use Rattle.tokens.specs.Tokens.{FitsToken, located_tokens, last_located_token};
 ghost use Rattle.tokens.specs.Window.{MayHaveAsked, IsNextByte, MayAsk, ahead, untouched};
-ghost use Rattle.tokens.specs.Lexing.{BeginsBlank, BeginsConstant, BeginsToken, FindsToken, LeavesUnread, ReadsSlash, ReadsToken};
+ghost use Rattle.tokens.specs.Lexing.{BeginsConstant, BeginsToken, FindsToken, LeavesUnread, ReadsSlash, ReadsToken};
 ghost use Rattle.tokens.specs.Lexing.{StopsWithin, after_comment, in_comment, in_constant, in_name, in_punctuator};
 ghost use Rattle.tokens.specs.Lexing.{name_going_on, to_read, value_token};
 
@@ -50,50 +50,11 @@ impl Lexer {
     {
         match self.window.first_at_hand() {
             Some(b) if !is_blank(b) && b != b'/' => self.read_begun_token(b, here, feed),
-            _ => self.read_from_blank_or_slash(here, feed),
-        }
-    }
-
-    /// Does the same if the next byte begins no token, or is a `/`.
-    #[inline(never)]
-    fn read_from_blank_or_slash<F: Feed>(
-        &mut self,
-        here: &mut LocatedToken,
-        feed: &mut F,
-    ) -> Result<(), DeviceFault>
-        requires ready { MayAsk self.old.window (F.device feed.old) }
-        ensures reads { ReadsToken result self.old.window self.new.window (F.device feed.old) (F.device feed.new)
-            here.old here.new }
-        ensures kept { MayHaveAsked result self.old.window self.new.window (F.device feed.old) (F.device feed.new) }
-    {
-        match self.window.first_at_hand() {
-            Some(b) if is_blank(b) => self.read_after_one_blank(b, here, feed),
             _ => self.read_after_blanks(here, feed),
         }
     }
 
-    /// Does the same at a blank, which is the next byte. Most blanks stand alone.
-    #[inline(always)]
-    fn read_after_one_blank<F: Feed>(
-        &mut self,
-        blank: u8,
-        here: &mut LocatedToken,
-        feed: &mut F,
-    ) -> Result<(), DeviceFault>
-        requires ready { MayAsk self.old.window (F.device feed.old) }
-        requires begins { BeginsBlank blank self.old.window }
-        ensures reads { ReadsToken result self.old.window self.new.window (F.device feed.old) (F.device feed.new)
-            here.old here.new }
-        ensures kept { MayHaveAsked result self.old.window self.new.window (F.device feed.old) (F.device feed.new) }
-    {
-        self.window.skip_byte();
-        match self.window.first_at_hand() {
-            Some(b) if !is_blank(b) && b != b'/' => self.read_begun_token(b, here, feed),
-            _ => self.read_after_blanks(here, feed),
-        }
-    }
-
-    /// Does the same after blanks and comments.
+    /// Does the same after blanks and comments. Most blanks stand alone, before a token that is at hand.
     #[inline(never)]
     fn read_after_blanks<F: Feed>(
         &mut self,
@@ -105,10 +66,14 @@ impl Lexer {
             here.old here.new }
         ensures kept { MayHaveAsked result self.old.window self.new.window (F.device feed.old) (F.device feed.new) }
     {
+        if let Some(first) = self.window.first_after_blank() {
+            self.window.skip_byte();
+            return self.read_begun_token(first, here, feed);
+        }
         loop {
             match self.skip_blanks(feed)? {
                 None => {
-                    self.put_source_end(here);
+                    *here = self.last_token(Token::End, self.window.line());
                     return Ok(());
                 }
                 Some(b'/') => {
@@ -169,7 +134,7 @@ impl Lexer {
         if self.skip_comment(feed)? {
             Ok(false)
         } else {
-            self.put_unclosed_comment(line, here);
+            *here = self.last_token(Token::Fault(LexicalError::CommentNotClosed), line);
             Ok(true)
         }
     }
@@ -440,29 +405,8 @@ impl Lexer {
         }
     }
 
-    /// Puts the end of the source here.
-    #[inline(never)]
-    fn put_source_end(&self, here: &mut LocatedToken)
-        requires { self.now.window.beyond ≢ Beyond.Unread }
-        ensures value { (to_come : List ℕ) → here.new
-            ≡ last_located_token Token.End self.now.window.line (ahead self.now.window to_come) }
-        ensures reached { self.now.window.offset ≤ here.new.end }
-    {
-        *here = self.last_token(Token::End, self.window.line());
-    }
-
-    /// Puts the fault of a comment here that began on this line and is not closed.
-    #[inline(never)]
-    fn put_unclosed_comment(&self, line: u32, here: &mut LocatedToken)
-        requires { self.now.window.beyond ≢ Beyond.Unread }
-        ensures value { (to_come : List ℕ) → here.new
-            ≡ last_located_token (Token.Fault LexicalError.CommentNotClosed) line (ahead self.now.window to_come) }
-        ensures reached { self.now.window.offset ≤ here.new.end }
-    {
-        *here = self.last_token(Token::Fault(LexicalError::CommentNotClosed), line);
-    }
-
     /// Makes the last token, at the end of what can be read: this one, unless the source is too long.
+    #[inline(never)]
     fn last_token(&self, token: Token, line: u32) -> LocatedToken
         requires { self.now.window.beyond ≢ Beyond.Unread }
         ensures value { (to_come : List ℕ) → result ≡ last_located_token token line (ahead self.now.window to_come) }
