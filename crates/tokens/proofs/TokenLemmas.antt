@@ -9,7 +9,7 @@ use Rattle.tokens.specs.Punctuators.{spelling, punctuator_of}
 use Rattle.tokens.specs.Front.{front, name_token}
 use Rattle.tokens.specs.Tokens.{Ahead, ahead_after_byte, line_after, ahead_after, located, last_located_token, followed_by, tokens_of_front, located_tokens}
 use Rattle.tokens.specs.Window.{Window, ahead, window_after, window_after_byte, window_after_blanks, IsAtHandOrEnd}
-use Rattle.tokens.specs.Lexing.{to_read, followed, token_ending, in_token_run, in_name, name_going_on, in_constant, constant_going_on, value_token, in_punctuator, extended, BeginsToken, IsAfterBlank}
+use Rattle.tokens.specs.Lexing.{to_read, followed, token_ending, in_token_run, in_name, name_going_on, in_constant, constant_going_on, value_token, in_punctuator, extended}
 use Rattle.tokens.specs.declared.located_tokens.Punctuator.{Punctuator}
 use Rattle.tokens.specs.declared.located_tokens.LexicalError.TheVariants.{NameTooLong}
 use Rattle.tokens.specs.declared.located_tokens.Token.{Token}
@@ -343,17 +343,3 @@ punctuator_front-ended old located_token here told b f h x =
     let r = first-ahead here b to_come (sym f) in
     ap (λ l. followed l (ahead here to_come)) (x to_come) ∙
     punctuator_front-ends-at old (ahead here to_come) b r.0 r.1 h)
-
--- behind a single blank the token begins
-pub behind-blank : (byte : ℕ) (new here : Window) → new ≡ window_after_byte here → IsAfterBlank byte here →
-    BeginsToken byte new
-behind-blank byte new here e blank = record {
-  first = ap (λ w. slice_get w.at_hand 0) e ∙ by here.at_hand blank.second;
-  no_blank = blank.no_blank;
-  no_slash = blank.no_slash;
-}
-  where
-    by : (xs : List ℕ) → slice_get xs 1 ≡ Some byte →
-        slice_get (window_after_byte (record here { at_hand = xs })).at_hand 0 ≡ Some byte
-    by [] e = absurd cc
-    by (x ∷ xs) e = e

@@ -102,15 +102,6 @@ pub record BeginsToken (byte : ℕ) (window : Window) : Type 0 where
   pub no_blank : is_blank byte ≡ false
   pub no_slash : byte ≢ 47
 
--- the next byte is a blank, and this one behind it begins a token, and no comment
-pub record IsAfterBlank (byte : ℕ) (window : Window) : Type 0 where
-  pub blank : ℕ
-  pub first : slice_get window.at_hand 0 ≡ Some blank
-  pub is : is_blank blank ≡ true
-  pub second : slice_get window.at_hand 1 ≡ Some byte
-  pub no_blank : is_blank byte ≡ false
-  pub no_slash : byte ≢ 47
-
 -- a token ends where the window is or behind, and fits
 pub record IsFound (located_token : LocatedToken) (new : Window) : Type 0 where
   pub reached : new.offset ≤ located_token.end

@@ -50,11 +50,35 @@ impl Lexer {
     {
         match self.window.first_at_hand() {
             Some(b) if !is_blank(b) && b != b'/' => self.read_begun_token(b, here, feed),
+            _ => self.read_from_blank_or_slash(here, feed),
+        }
+    }
+
+    /// Does the same if the next byte begins no token, or is a `/`.
+    #[inline(never)]
+    fn read_from_blank_or_slash<F: Feed>(
+        &mut self,
+        here: &mut LocatedToken,
+        feed: &mut F,
+    ) -> Result<(), DeviceFault>
+        requires ready { MayAsk self.old.window (F.device feed.old) }
+        ensures reads { ReadsToken result self.old.window self.new.window (F.device feed.old) (F.device feed.new)
+            here.old here.new }
+        ensures kept { MayHaveAsked result self.old.window self.new.window (F.device feed.old) (F.device feed.new) }
+    {
+        match self.window.first_at_hand() {
+            Some(blank) if is_blank(blank) => {
+                self.window.skip_byte();
+                match self.window.first_at_hand() {
+                    Some(b) if !is_blank(b) && b != b'/' => self.read_begun_token(b, here, feed),
+                    _ => self.read_after_blanks(here, feed),
+                }
+            }
             _ => self.read_after_blanks(here, feed),
         }
     }
 
-    /// Does the same after blanks and comments. Most blanks stand alone, before a token that is at hand.
+    /// Does the same after blanks and comments.
     #[inline(never)]
     fn read_after_blanks<F: Feed>(
         &mut self,
@@ -66,14 +90,10 @@ impl Lexer {
             here.old here.new }
         ensures kept { MayHaveAsked result self.old.window self.new.window (F.device feed.old) (F.device feed.new) }
     {
-        if let Some(first) = self.window.first_after_blank() {
-            self.window.skip_byte();
-            return self.read_begun_token(first, here, feed);
-        }
         loop {
             match self.skip_blanks(feed)? {
                 None => {
-                    *here = self.last_token(Token::End, self.window.line());
+                    self.put_source_end(here);
                     return Ok(());
                 }
                 Some(b'/') => {
@@ -134,7 +154,7 @@ impl Lexer {
         if self.skip_comment(feed)? {
             Ok(false)
         } else {
-            *here = self.last_token(Token::Fault(LexicalError::CommentNotClosed), line);
+            self.put_unclosed_comment(line, here);
             Ok(true)
         }
     }
@@ -405,8 +425,29 @@ impl Lexer {
         }
     }
 
-    /// Makes the last token, at the end of what can be read: this one, unless the source is too long.
+    /// Puts the end of the source here.
     #[inline(never)]
+    fn put_source_end(&self, here: &mut LocatedToken)
+        requires { self.now.window.beyond ≢ Beyond.Unread }
+        ensures value { (to_come : List ℕ) → here.new
+            ≡ last_located_token Token.End self.now.window.line (ahead self.now.window to_come) }
+        ensures reached { self.now.window.offset ≤ here.new.end }
+    {
+        *here = self.last_token(Token::End, self.window.line());
+    }
+
+    /// Puts the fault of a comment here that began on this line and is not closed.
+    #[inline(never)]
+    fn put_unclosed_comment(&self, line: u32, here: &mut LocatedToken)
+        requires { self.now.window.beyond ≢ Beyond.Unread }
+        ensures value { (to_come : List ℕ) → here.new
+            ≡ last_located_token (Token.Fault LexicalError.CommentNotClosed) line (ahead self.now.window to_come) }
+        ensures reached { self.now.window.offset ≤ here.new.end }
+    {
+        *here = self.last_token(Token::Fault(LexicalError::CommentNotClosed), line);
+    }
+
+    /// Makes the last token, at the end of what can be read: this one, unless the source is too long.
     fn last_token(&self, token: Token, line: u32) -> LocatedToken
         requires { self.now.window.beyond ≢ Beyond.Unread }
         ensures value { (to_come : List ℕ) → result ≡ last_located_token token line (ahead self.now.window to_come) }

@@ -1,11 +1,10 @@
 //! The window of fixed size through which a source is read.
 
-ghost use Rattle.std.specs.Prelude.{◌≡◌, ◌+◌, ◌<◌, ◌≤◌, [], ◌==◌, length, take, slice_get, OnOk, OnErr, IfOk, IfSome};
+ghost use Rattle.std.specs.Prelude.{◌≡◌, ◌+◌, ◌<◌, ◌≤◌, [], ◌==◌, length, take, slice_get, OnOk, OnErr, IfOk};
 ghost use Rattle.std.specs.List.{count_by};
 ghost use Rattle.tokens.specs.TokenLimits.{most_source_bytes};
 ghost use Rattle.tokens.specs.WindowLimits.{window_bytes};
 ghost use Rattle.tokens.specs.Source.{source};
-ghost use Rattle.tokens.specs.Lexing.{IsAfterBlank};
 ghost use Rattle.tokens.specs.Window.{MayHaveAsked, Splits, IsAtSameOffset, IsBounded, IsNextByte, MayAsk, SkipsBytes, Shows};
 ghost use Rattle.tokens.specs.Window.{window_after, window_after_blanks, window_after_byte, window_after_plain, seen, untouched};
 
@@ -171,23 +170,6 @@ impl Window {
     {
         if self.next < self.filled {
             Some(self.bytes[self.next])
-        } else {
-            None
-        }
-    }
-
-    /// Returns the byte that begins a token behind a single blank, if both are at hand.
-    #[inline(always)]
-    pub fn first_after_blank(&self) -> Option<u8>
-        ensures { IfSome result (λ first. IsAfterBlank first self.now) }
-    {
-        let rest = self.at_hand();
-        if rest.len() < 2 {
-            return None;
-        }
-        let (blank, first) = (rest[0], rest[1]);
-        if is_blank(blank) && !is_blank(first) && first != b'/' {
-            Some(first)
         } else {
             None
         }

@@ -1,46 +1,33 @@
 use Rattle.tokens.proofs.CommentLemmas.{ended-beyond}
-use Rattle.std.proofs.Common.{◌≡◌, ◌∙◌, sym, ap, refl, [], true, false, arith, Some}
-use Rattle.tokens.specs.Tokens.{is_last, last_located_token, located_tokens}
+use Rattle.std.proofs.Common.{◌≡◌, ◌∙◌, sym, ap, refl, [], true, false, arith}
+use Rattle.tokens.specs.Tokens.{is_last, located_tokens}
 use Rattle.tokens.specs.Window.{ahead}
 use Rattle.tokens.specs.Lexing.{to_read, followed, after_slash}
 use Rattle.tokens.specs.declared.located_tokens.Token.TheVariants as variant
-use Rattle.tokens.proofs.ToRead.{to_read-here, to_read-pass, none-ahead}
-use Rattle.tokens.proofs.TokenLemmas.{nothing-left, blank-skipped, behind-blank}
+use Rattle.tokens.proofs.ToRead.{to_read-here, none-ahead}
+use Rattle.tokens.proofs.TokenLemmas.{nothing-left}
 use Rattle.tokens.proofs.BeginLemmas.{last-is_last, last-fits}
 use Rattle.tokens.proofs.TakenLemmas.{TakesBytes-then, fails-from, fails-reads, found-reads, stops-from, then-fails, then-asks, then-reads}
 use Rattle.tokens.proofs.lexer.Lexer.read_after_blanks.Goals as goal
-
-pub read_begun_token-requires-clause-begins : goal.read_begun_token-requires-clause-begins
-read_begun_token-requires-clause-begins g c =
-    behind-blank _ c.skip_byte.new.self c.args.self.now.window c.skip_byte.ensures.value c.in-Some.ensures
-
-pub returns-in-Some-clause-reads : goal.returns-in-Some-clause-reads
-returns-in-Some-clause-reads g c =
-    let device = g.F.Feed.device c.args.feed.now in
-    let blank = c.in-Some.ensures in
-    then-reads c.read_begun_token.result _ _ c.read_begun_token.new.self.window device device _ _ _ _
-    (to_read-pass located_tokens located_tokens _ _ device.to_come (Some blank.blank) blank.blank
-    c.skip_byte.ensures.value (sym blank.first) refl (blank-skipped blank.blank blank.is))
-    (omega (arith, c.skip_byte.ensures.forward)) refl c.read_begun_token.ensures.reads
 
 pub returns-in-None-clause-reads : goal.returns-in-None-clause-reads
 returns-in-None-clause-reads g c =
     let here = c.skip_blanks.new.self.window in
     let blanks = c.in_ok-skip_blanks.ensures in
-    let end = c.last_token.ensures in
-    let last : is_last c.last_token.result.token ≡ true =
-    ap (λ x. is_last x.token) (end.value []) ∙ last-is_last variant.End c.line.result (ahead here []) refl in
+    let end = c.put_source_end.ensures in
+    let last : is_last c.put_source_end.new.here.token ≡ true =
+    ap (λ x. is_last x.token) (end.value []) ∙ last-is_last variant.End here.line (ahead here []) refl in
     record {
       tokens =
-          to_read-here (followed c.last_token.result) located_tokens here _ (λ to_come.
+          to_read-here (followed c.put_source_end.new.here) located_tokens here _ (λ to_come.
           let a = ahead here to_come in
-          ap (λ x. followed x a) (end.value to_come ∙ ap (λ n. last_located_token variant.End n a) c.line.ensures)
+          ap (λ x. followed x a) (end.value to_come)
           ∙ nothing-left a (none-ahead here to_come blanks.next.ready (sym blanks.next.first ∙ c.in-None.is)))
           ∙ blanks.tokens ∙ c.loop-self.invariant.tokens;
       read = record {
         progress = λ e. absurd cc;
         reached = end.reached;
-        fits = rw (end.value []) (last-fits variant.End c.line.result (ahead here []) tt);
+        fits = rw (end.value []) (last-fits variant.End here.line (ahead here []) tt);
       };
     }
 
@@ -89,8 +76,8 @@ returns-in_err-skip_blanks-clause-kept g c =
     then-fails c.from_residual.result _ c.from_residual.ensures.1 _ _ _ _ _ _ _ _ _ _ now.took now.forward now.count
     c.in_err-skip_blanks.ensures.kept
 
-pub last_token-requires : goal.last_token-requires
-last_token-requires g c =
+pub put_source_end-requires : goal.put_source_end-requires
+put_source_end-requires g c =
     let next = c.in_ok-skip_blanks.ensures.next in
     ended-beyond c.skip_blanks.new.self.window _ next.ready next.first c.in-None.is
 
@@ -105,13 +92,13 @@ returns-in_err-read_slash_or_comment-in-Some-eq47-clause-kept g c =
     (omega (arith, now.forward, blanks.forward)) (blanks.count ∙ now.count)
     c.in_err-read_slash_or_comment-in-Some-eq47.ensures.kept
 
-pub returns-in-Some-2-clause-kept : goal.returns-in-Some-2-clause-kept
-returns-in-Some-2-clause-kept g c =
+pub returns-in-Some-clause-kept : goal.returns-in-Some-clause-kept
+returns-in-Some-clause-kept g c =
     let now = c.loop-self.invariant in
     let blanks = c.in_ok-skip_blanks.ensures.kept in
-    then-asks c.read_begun_token-in-Some-2.result _ c.skip_blanks.new.self.window _ _ _ _ _ _ _ _
+    then-asks c.read_begun_token.result _ c.skip_blanks.new.self.window _ _ _ _ _ _ _ _
     (TakesBytes-then now.took blanks.took)
-    (omega (arith, now.forward, blanks.forward)) (blanks.count ∙ now.count) c.read_begun_token-in-Some-2.ensures.kept
+    (omega (arith, now.forward, blanks.forward)) (blanks.count ∙ now.count) c.read_begun_token.ensures.kept
 
 pub returns-in_err-skip_blanks-clause-reads : goal.returns-in_err-skip_blanks-clause-reads
 returns-in_err-skip_blanks-clause-reads g c =
@@ -134,12 +121,12 @@ returns-in_err-read_slash_or_comment-in-Some-eq47-clause-reads g c =
     (c.in_ok-skip_blanks.ensures.tokens ∙ now.tokens) now.here
     c.in_err-read_slash_or_comment-in-Some-eq47.ensures.stopped)
 
-pub returns-in-Some-2-clause-reads : goal.returns-in-Some-2-clause-reads
-returns-in-Some-2-clause-reads g c =
+pub returns-in-Some-clause-reads : goal.returns-in-Some-clause-reads
+returns-in-Some-clause-reads g c =
     let now = c.loop-self.invariant in
     let blanks = c.in_ok-skip_blanks.ensures in
-    then-reads c.read_begun_token-in-Some-2.result c.args.self.now.window c.skip_blanks.new.self.window
-    c.read_begun_token-in-Some-2.new.self.window (g.F.Feed.device c.args.feed.now)
-    (g.F.Feed.device c.skip_blanks.new.feed) _ _ _ _
+    then-reads c.read_begun_token.result c.args.self.now.window c.skip_blanks.new.self.window
+    c.read_begun_token.new.self.window (g.F.Feed.device c.args.feed.now) (g.F.Feed.device c.skip_blanks.new.feed) _ _ _
+    _
     (blanks.tokens ∙ now.tokens) (omega (arith, now.forward, blanks.kept.forward)) now.here
-    c.read_begun_token-in-Some-2.ensures.reads
+    c.read_begun_token.ensures.reads

@@ -56,10 +56,10 @@ returns-else-branch-clause-past g c =
     let seen = c.in_ok-peek.ensures in
     record {
       tokens =
-          to_read-here (after_slash true c.last_token.result) (after_comment false line)
+          to_read-here (after_slash true c.put_unclosed_comment.new.here) (after_comment false line)
           c.skip_comment.new.self.window _ (λ to_come.
           let a = ahead c.skip_comment.new.self.window to_come in
-          ap (λ x. followed x a) (c.last_token.ensures.value to_come) ∙
+          ap (λ x. followed x a) (c.put_unclosed_comment.ensures.value to_come) ∙
           last-followed (variant.Fault CommentNotClosed) line a refl)
           ∙
           ap
@@ -74,8 +74,8 @@ returns-else-branch-clause-past g c =
           to_read-pass_line (in_slash line) located_tokens _ _ _ 47 line c.skip_byte.ensures.value c.requires.slash
           c.line-line.ensures (slash-begins line);
       token = λ _. record {
-        reached = c.last_token.ensures.reached;
-        fits = rw (c.last_token.ensures.value [])
+        reached = c.put_unclosed_comment.ensures.reached;
+        fits = rw (c.put_unclosed_comment.ensures.value [])
             (last-fits (variant.Fault CommentNotClosed) line (ahead c.skip_comment.new.self.window []) tt);
       };
       unread = λ e. absurd cc;
