@@ -19,14 +19,14 @@ use Rattle.tokens.specs.declared.windows.Beyond.{Beyond}
 use Rattle.tokens.proofs.WindowLemmas.{held, window_after-is}
 use Rattle.tokens.proofs.TokenLemmas.{chosen, no_line, punctuator_front-whole, punctuator_front-ended}
 
--- a run that ends within the first bytes ends there whatever follows
+-- a span that ends within the first bytes ends there whatever follows
 token_run-within : (test : ℕ → Bool) (xs ys : List ℕ) → prefix_len test xs < length xs →
     prefix_len test (xs ++ ys) ≡ prefix_len test xs
 token_run-within test xs ys h =
     prefix_len-append test xs ys ∙
     cond-false _ _ _ (ne_eqb (prefix_len test xs) (length xs) (λ same. omega (arith, same, h)))
 
--- no line ends within a run
+-- no line ends within a span
 pub no_lines : (test : ℕ → Bool) → test 10 ≡ false → (xs : List ℕ) →
     count_by (λ b. eqb b 10) (take (prefix_len test xs) xs) ≡ 0
 no_lines test e [] = refl
@@ -52,7 +52,7 @@ ahead-window_after (suc n) line place taken [] to_come beyond h = absurd (omega 
 ahead-window_after (suc n) line place taken (b ∷ xs) to_come beyond h =
     ahead-window_after n (line_after b line) (place + 1) taken xs to_come beyond (omega (arith, h))
 
--- a run that ends at hand is passed at once
+-- a span that ends at hand is passed at once
 pub token_run-at_hand : (test : ℕ → Bool) (token_of : List ℕ → Token) (located_token : LocatedToken) (here new : Window)
     (told : Option (List ℕ)) → test 10 ≡ false → prefix_len test here.at_hand < length here.at_hand →
     new ≡ window_after (prefix_len test here.at_hand) here →

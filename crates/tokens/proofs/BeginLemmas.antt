@@ -169,7 +169,7 @@ punctuator_front-here m b line place (c ∷ d ∷ rest) t h = by (punctuator_of 
         three k (punctuator_of (b ∷ c ∷ d ∷ [])) e refl ∙
         sym (extended-step m (b ∷ []) c (d ∷ rest) (ahead_after_byte a) (Some k) h e)
 
--- a punctuator of one byte begins a punctuator, if the rest begins as no other piece
+-- a punctuator of one byte begins a punctuator, if no other input element begins there
 pub punctuator_front-begins : (m : Punctuator) (b : ℕ) → punctuator_of (b ∷ []) ≡ Some m → (a : Ahead) (rest : List ℕ) →
     a.bytes ≡ b ∷ rest → front (b ∷ rest) ≡ punctuator_front (longest_punctuator (b ∷ rest)) →
     in_punctuator m (ahead_after_byte a) ≡ located_tokens a

@@ -1,4 +1,4 @@
--- The table of the blanks, looked up at the low four bits of each byte of a block.
+-- The table of the blanks, looked up at the low four bits of each byte of a vector.
 use Rattle.std.proofs.Common.{◌≡◌, ℕ, ◌+◌, ◌*◌, ◌/◌, ◌%◌, ◌<◌, true, eqb, List, map, length, get_or, replicate, bit_and, refl, sym, ap, ◌∙◌, arith, w8}
 use Rattle.std.proofs.lemmas.Bool.{agree_below, agree_below_at, eqb-true}
 use Rattle.std.proofs.lemmas.List.{get_or-map, length-map, ext_get_or}

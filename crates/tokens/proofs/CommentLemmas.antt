@@ -77,7 +77,7 @@ unfolding in_star
 slash-closes began a rest e =
     sym (ap (λ s. cond s (located_tokens (ahead_after_byte a)) (in_comment began a)) (ap (begins_with 47) e))
 
--- another byte, or none, leaves the comment open
+-- another byte, or none, doesn't close the comment
 pub star-open : (began : ℕ) (here : Window) (told : Option (List ℕ)) (first : Option ℕ) → IsAtHandOrEnd here →
     first ≡ slice_get here.at_hand 0 → option_eq eqb first (Some 47) ≡ false →
     to_read (in_comment began) here told ≡ to_read (in_star began) here told

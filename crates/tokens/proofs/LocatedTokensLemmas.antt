@@ -14,7 +14,7 @@ use Rattle.tokens.proofs.PunctuatorLemmas.{spelling-nonempty}
 abbrev pub here : ℕ → ℕ → List ℕ → Bool → Ahead
 here line place bytes too_long = record { line = line; offset = place; bytes = bytes; too_long = too_long }
 
--- a piece has at least one byte
+-- an input element has at least one byte
 abbrev pub IsPiece : Front → Type 0
 IsPiece Nothing = Unit {0}
 IsPiece Unclosed = Unit {0}
@@ -78,7 +78,7 @@ tokens_of_front-same Unclosed a others others' p h = refl
 tokens_of_front-same (Space count) a others others' p h = h count p
 tokens_of_front-same (Lexeme sign count) a others others' p h = ap (followed_by (located sign count a)) (h count p)
 
--- more pieces than bytes make no difference
+-- more input elements than bytes make no difference
 tokens_within-enough : (m n line place : ℕ) (bytes : List ℕ) (too_long : Bool) → length bytes < m → length bytes < n →
     tokens_within m (here line place bytes too_long) ≡ tokens_within n (here line place bytes too_long)
 tokens_within-enough zero n line place xs t h k = absurd (omega (arith, h))

@@ -158,7 +158,7 @@ advanced-stopped n next after window (Some to_come) l m f x others e =
     let rest : after ∷ some.0 ∷ some.1 ≡ others = cc in
     subst (λ (xs : List LocatedToken). n ≤ undecided_reach_of xs) rest (f some.0 some.1 (ap Some some.2))
 
--- How far the tokens of a source may be open.
+-- Up to where the tokens of a source may be undecided.
 
 open-reach : (rest : List LocatedToken) → undecided_reach_of rest ≤ reach_of rest
 open-reach [] = omega arith
@@ -186,7 +186,7 @@ all-last : (place : ℕ) (passed rest : List LocatedToken) → StaysUndecided pl
 all-last place [] rest s = reach-last place rest s
 all-last place (x ∷ passed) rest s = omega (arith, last-window_after x (passed ++ rest), all-last x.end passed rest s.1)
 
--- what leaves the second of these tokens open ends by its end, and leaves the last token of the source open
+-- bytes that leave the second of these tokens undecided end by its end, and leave the source's last token undecided
 pub open-within : (rest : List LocatedToken) (n : ℕ) → n ≤ undecided_reach_of rest → n ≤ reach_of rest
 open-within rest n h = omega (arith, h, open-reach rest)
 

@@ -1,4 +1,4 @@
--- Runs of bytes: what the bits of a block say of it, and one block after another.
+-- Spans of bytes: what the bits of a vector say of it, and one vector after another.
 use Rattle.std.proofs.Common.{◌≡◌, ℕ, suc, ◌+◌, ◌*◌, ◌-◌, ◌/◌, ◌%◌, ◌^◌, ◌<◌, ◌≤◌, Bool, true, false, not, ◌||◌, ◌&&◌, cond, eqb, List, [], ◌∷◌, ◌++◌, map, length, take, drop, Fits, w8, refl, sym, ap, ap₂, ◌∙◌, arith}
 use Rattle.std.specs.List.{prefix_len, count_by, slice_range}
 use Rattle.std.specs.Int.RustNames.{bit_and, count_ones}
@@ -19,7 +19,7 @@ map-agree f g [] fits all = refl
 map-agree f g (x ∷ xs) fits all =
     ap₂ (λ t ts. t ∷ ts) (agree_below_at f g 256 x all fits.0.fits) (map-agree f g xs fits.1 all)
 
--- the bits of a block whose lanes were computed from its bytes
+-- the bits of a vector whose lanes were computed from its bytes
 pub bits_are : (test : ℕ → Bool) (f : ℕ → ℕ) (v : List ℕ) {z : List ℕ} → length v ≡ 32 → Each1 (Fits w8) v →
     z ≡ map f v → agree_below (λ x. top 7 (f x)) test 256 ≡ true
     → mask_l (map (top 7) z) % 2 ^ 64 ≡ mask_l (map test v)
@@ -27,7 +27,7 @@ bits_are test f v long fits lanes all =
     let tested = ap (map (top 7)) lanes ∙ map-map (top 7) f v ∙ map-agree (λ x. top 7 (f x)) test v fits all in
     ap (λ ms. mask_l ms % 2 ^ 64) tested ∙ mask_l-mod (map test v) 64 (omega (arith, length-map v test, long))
 
--- how many bytes of a block pass a test, by its bits
+-- how many bytes of a vector pass a test, by its bits
 pub ones_whole : (test : ℕ → Bool) (v : List ℕ) {m : ℕ} → length v ≡ 32 → m ≡ mask_l (map test v) →
     count_ones m ≡ count_by test (take 32 v)
 ones_whole test v long e =
@@ -129,7 +129,7 @@ pub neither : (a b : Bool) → (a || b) ≡ false → (a ≡ false) × (b ≡ fa
 neither true b e = absurd cc
 neither false b e = (refl, e)
 
--- a block with no stop is passed, and the run goes on after it
+-- a vector with no stop is passed, and the span goes on after it
 pub block_passed : (q : ℕ → Bool) (xs : List ℕ) (i n r : ℕ) → i + n ≤ length xs → r ≡ prefix_len q (chunk i n xs) →
     r ≡ n → prefix_len q (drop i xs) ≡ n + prefix_len q (drop (i + n) xs)
 block_passed q xs i n r room e whole =
@@ -137,7 +137,7 @@ block_passed q xs i n r room e whole =
     ap (prefix_len q) (chunk-drop i n xs) ∙ prefix_len-append q (chunk i n xs) (drop (i + n) xs)
     ∙ cond-true _ _ _ (eq-eqb _ _ (sym e ∙ whole ∙ sym long)) ∙ ap (λ k. k + prefix_len q (drop (i + n) xs)) long
 
--- the run ends within a block
+-- the span ends within a vector
 pub block_stops : (q : ℕ → Bool) (xs : List ℕ) (i r : ℕ) → i + 32 ≤ length xs → r ≡ prefix_len q (chunk i 32 xs) →
     r < 32 → prefix_len q (drop i xs) ≡ r
 block_stops q xs i r room e short =
@@ -159,13 +159,13 @@ counts_more test xs n m h =
     (ap (λ k. take (k + m) (take n xs ++ drop n xs)) (sym l) ∙ take-append-add (take n xs) (drop n xs) m) in
     ap (count_by test) t ∙ sum_by-append (λ b. cond (test b) 1 0) (take n xs) (take m (drop n xs))
 
--- a block's, after those before it
+-- a vector's, after those before it
 pub counts_block : (test : ℕ → Bool) (xs : List ℕ) (i r a b : ℕ) → i ≤ length xs → r ≤ 32 →
     a ≡ count_by test (take i xs) → b ≡ count_by test (take r (chunk i 32 xs)) → a + b ≡ count_by test (take (i + r) xs)
 counts_block test xs i r a b h few e f =
     ap₂ (λ x y. x + y) e (f ∙ ap (count_by test) (take-take r 32 (drop i xs) few)) ∙ sym (counts_more test xs i r h)
 
--- those of the bytes after the blocks
+-- those of the bytes after the vectors
 pub counts_rest : (test : ℕ → Bool) (xs : List ℕ) (i r a b : ℕ) → i ≤ length xs → a ≡ count_by test (take i xs) →
     b ≡ count_by test (take r (slice_range xs i (length xs))) → a + b ≡ count_by test (take (i + r) xs)
 counts_rest test xs i r a b h e f =

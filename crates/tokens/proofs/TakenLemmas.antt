@@ -77,7 +77,7 @@ pub on_err-from : {T E P : Type 0} (r : Result T E) → P → OnErr r P
 on_err-from (Ok x) p = tt
 on_err-from (Err x) p = p
 
--- the first token is open at its beginning
+-- the first token is undecided at its beginning
 pub record EndsBehind (made : Ahead → List LocatedToken) : Type 0 where
   pub ends : (a : Ahead) (first : LocatedToken) (others : List LocatedToken) → made a ≡ first ∷ others →
       a.offset ≤ undecided_until first
@@ -89,7 +89,7 @@ at_most : (place : ℕ) (x first : LocatedToken) (xs others : List LocatedToken)
     x ∷ xs ≡ first ∷ others → place ≤ undecided_until first
 at_most place x first xs others h e = omega (arith, h, ap undecided_until (same_first x first xs others e))
 
--- a token of more than no bytes is open at its beginning, and any other that isn't decided by its last byte
+-- a token of at least a byte is undecided at its beginning, and so is any other that isn't decided by its last byte
 pub open-located : (token : Token) (count : ℕ) (a : Ahead) → 0 < count →
     a.offset ≤ undecided_until (located token count a)
 open-located token count a h = by (is_decided_by_last_byte token)
@@ -301,7 +301,7 @@ pub found-reads : (here : LocatedToken) (old new : Window) → old.offset < new.
 found-reads here old new forward found =
     record { progress = λ e. forward; reached = found.reached; fits = found.fits }
 
--- what finds a token behind its first byte reads it
+-- what finds a token after its first byte reads it
 pub finds-reads : {T : Type 0} (r : Result T DeviceFault) (inside : Ahead → List LocatedToken) (old mid new : Window)
     (before after : Device) (here here' : LocatedToken) →
     to_read inside mid before.to_come ≡ to_read located_tokens old before.to_come → old.offset < mid.offset →
@@ -314,7 +314,7 @@ finds-reads (Ok x) inside old mid new before after here here' same forward asks 
 finds-reads (Err x) inside old mid new before after here here' same forward asks finds =
     fails-from inside located_tokens mid old new before.to_come before.to_come same refl finds
 
--- what reads a token behind blanks reads it from before them
+-- what reads a token after blanks reads it from before them
 pub then-reads : {T : Type 0} (r : Result T DeviceFault) (old mid new : Window) (before between after : Device)
     (here mid_here new_here : LocatedToken) →
     to_read located_tokens mid between.to_come ≡ to_read located_tokens old before.to_come →

@@ -90,7 +90,7 @@ prefix_len-passes : (test : ℕ → Bool) (b : ℕ) (rest : List ℕ) → test b
     prefix_len test (b ∷ rest) ≡ suc (prefix_len test rest)
 prefix_len-passes test b rest e = chosen (test b) _ _ e ∙ omega arith
 
--- a run goes on
+-- a span goes on
 token_run-goes_on-here : (test : ℕ → Bool) (token_of : List ℕ → Token) (line place b : ℕ) (rest : List ℕ)
     (too_long : Bool) →
     test b ≡ true → eqb b 10 ≡ false →
@@ -121,7 +121,7 @@ token_run-goes_on test token_of b passes no_line a rest e =
     in_token_run test token_of (here a.line a.offset xs a.too_long)) (sym e)
     (token_run-goes_on-here test token_of a.line a.offset b rest a.too_long passes no_line)
 
--- a run ends
+-- a span ends
 pub token_run-ends : (test : ℕ → Bool) (token_of : List ℕ → Token) (a : Ahead) → prefix_len test a.bytes ≡ 0 →
     followed (token_ending (token_of []) a) a ≡ in_token_run test token_of a
 unfolding in_token_run
@@ -134,7 +134,7 @@ in_token_run-same test token_of token_of' a h =
     ap (λ t. followed (located t (prefix_len test a.bytes) a) (ahead_after (prefix_len test a.bytes) a))
     (h (take (prefix_len test a.bytes) a.bytes))
 
--- a byte that a run has doesn't end a line
+-- a byte of a span doesn't end a line
 pub no_line : (test : ℕ → Bool) (b : ℕ) → test 10 ≡ false → test b ≡ true → eqb b 10 ≡ false
 no_line test b e h = by (eqb b 10) refl
   where
@@ -206,7 +206,7 @@ constant-takes value b h =
     refl h
     (capped (10 * value + (b - 48)))
 
--- a run stops at the end, and at a byte that doesn't pass
+-- a span stops at the end, and at a byte that doesn't pass
 abbrev pub StopsAt : (ℕ → Bool) → Option ℕ → Type 0
 StopsAt test None = Unit {0}
 StopsAt test (Some b) = test b ≡ false

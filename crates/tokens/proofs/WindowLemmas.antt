@@ -49,7 +49,7 @@ window_after-is line place taken beyond (suc n) (b ∷ xs) h =
 pub between-further : (xs : List ℕ) (i n j : ℕ) → between (i + n) j xs ≡ drop n (between i j xs)
 between-further xs i n j = rw (between_is, between_is, drop-drop) refl
 
--- after a run of the bytes at hand
+-- after a span of the bytes at hand
 pub token_run-ahead_after : (q : ℕ → Bool) (line start taken next filled count lines : ℕ) (beyond : Beyond)
     (bytes : List ℕ) →
     count ≡ prefix_len q (between next filled bytes) →

@@ -41,11 +41,11 @@ beyond cursor = cursor.window.beyond
 abbrev pub reach : Cursor → ℕ
 reach cursor = if is_last cursor.next.token then cursor.next.end else cursor.after.end
 
--- this many bytes are no more than a window after these
+-- this many bytes end at most a window after the tokens that are held
 abbrev pub IsNearTo : Cursor → ℕ → Type 0
 IsNearTo cursor count = count ≤ reach cursor + window_bytes
 
--- no more was taken than that
+-- no more bytes were taken than that
 abbrev pub IsNear : Cursor → Type 0
 IsNear cursor = IsNearTo cursor (bytes_taken cursor)
 
@@ -55,7 +55,7 @@ reach_of [] = 0
 reach_of (next ∷ []) = next.end
 reach_of (next ∷ after ∷ others) = after.end
 
--- the most bytes that may leave the second of these tokens open, or the first if it is the last
+-- the most bytes that may leave the second of these tokens undecided, or the first if it is the last
 abbrev pub undecided_reach_of : List LocatedToken → ℕ
 undecided_reach_of [] = 0
 undecided_reach_of (next ∷ []) = undecided_until next

@@ -6,7 +6,7 @@ use Rattle.tokens.specs.declared.located_tokens.Token.{Token}
 use Rattle.tokens.specs.declared.located_tokens.Token.TheVariants as variant
 use Rattle.tokens.specs.declared.located_tokens.LocatedToken.{LocatedToken}
 
--- no token ends before this offset, or before the one ahead of it
+-- no token ends before this offset, or before the end of the one that precedes it
 abbrev pub IsRising : ℕ → List LocatedToken → Type 0
 IsRising place [] = Unit {0}
 IsRising place (located_token ∷ others) = (place ≤ located_token.end) × IsRising located_token.end others
@@ -34,18 +34,18 @@ is_decided_by_last_byte (variant.Constant value) = false
 is_decided_by_last_byte (variant.Punctuator punctuator) = false
 is_decided_by_last_byte variant.End = false
 
--- the most bytes of a source that may leave this token open
+-- the most bytes of a source that may leave this token undecided
 abbrev pub undecided_until : LocatedToken → ℕ
 undecided_until located_token =
     if is_decided_by_last_byte located_token.token then located_token.end - 1 else located_token.end
 
--- the most bytes of a source that may leave the last of its tokens open
+-- the most bytes of a source that may leave the last of its tokens undecided
 abbrev pub last_undecided_until : List LocatedToken → ℕ
 last_undecided_until [] = 0
 last_undecided_until (located_token ∷ []) = undecided_until located_token
 last_undecided_until (located_token ∷ other ∷ others) = last_undecided_until (other ∷ others)
 
--- each token is open at this offset, or at the end of the one ahead of it
+-- each token is undecided at this offset, or at the end of the one that precedes it
 abbrev pub StaysUndecided : ℕ → List LocatedToken → Type 0
 StaysUndecided place [] = Unit {0}
 StaysUndecided place (located_token ∷ others) =

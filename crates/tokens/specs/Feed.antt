@@ -24,7 +24,7 @@ pub record MayRead (device : Device) : Type 0 where
   pub countable : device.account.failures < 2 ^ 64 - 1
   pub not_ended : device.ended ≡ false
 
--- the next n bytes of those to come are at the front of the buffer, and n is 0 only at the end
+-- the buffer begins with the next n bytes of those to come, and n is 0 only at the end
 pub record GivesFront (bytes : List ℕ) (after : Option (List ℕ)) (buffer : List ℕ) (n : ℕ) : Type 0 where
   pub within : n ≤ length bytes
   pub front : take n buffer ≡ take n bytes

@@ -13,7 +13,8 @@ use Rattle.tokens.specs.declared.located_tokens.LexicalError.TheVariants.{BadCha
 use Rattle.tokens.specs.declared.located_tokens.Token.{Token}
 use Rattle.tokens.specs.declared.located_tokens.Token.TheVariants as variant
 
--- nothing, a blank or a comment of this many bytes, a comment that isn't closed, or a token of this many bytes
+-- an input element: nothing, a blank or a comment of this many bytes, a comment that isn't closed, or a token of this
+-- many bytes
 pub data Front : Type 0 where
   Nothing : Front
   Space : (count : ℕ) → Front
@@ -35,7 +36,7 @@ abbrev pub comment_front : Option ℕ → Front
 comment_front None = Unclosed
 comment_front (Some count) = Space (suc (suc count))
 
--- a name, unless the language keeps it for itself
+-- a name, or the keyword that it is
 abbrev pub name_or : List ℕ → Option Keyword → Token
 name_or name None = variant.Name name
 name_or name (Some word) = variant.Keyword word
@@ -58,7 +59,7 @@ abbrev pub punctuator_front : Option Punctuator → Front
 punctuator_front None = Lexeme (variant.Fault BadCharacter) 1
 punctuator_front (Some m) = Lexeme (variant.Punctuator m) (length (spelling m))
 
--- the longest run of bytes at the front that pass a test, as a token
+-- the longest prefix of bytes that pass a test, as a token
 abbrev pub token_run : (ℕ → Bool) → (List ℕ → Token) → List ℕ → Front
 token_run test token_of bytes = Lexeme (token_of (take (prefix_len test bytes) bytes)) (prefix_len test bytes)
 

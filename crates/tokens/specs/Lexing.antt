@@ -19,15 +19,15 @@ use Rattle.tokens.specs.declared.located_tokens.Token.{Token}
 use Rattle.tokens.specs.declared.located_tokens.Token.TheVariants as variant
 use Rattle.tokens.specs.declared.located_tokens.LocatedToken.{LocatedToken}
 
--- what is made of what a window shows, where the device tells its bytes to come
+-- what is made of what a window shows, if the device's bytes to come are known
 unfoldable pub to_read : (Ahead → List LocatedToken) → Window → Option (List ℕ) → Option (List LocatedToken)
 to_read made window told = option_map made (seen window told)
 
--- a token, and those that lie ahead behind it
+-- a token, and after it those that lie ahead
 unfoldable pub followed : LocatedToken → Ahead → List LocatedToken
 followed located_token ahead = followed_by located_token (located_tokens ahead)
 
--- behind the token that was found there, or behind a comment
+-- after a `/`: from the token that was found there, or after a comment
 abbrev pub after_slash : Bool → LocatedToken → Ahead → List LocatedToken
 after_slash true located_token ahead = followed located_token ahead
 after_slash false located_token ahead = located_tokens ahead
@@ -36,7 +36,7 @@ after_slash false located_token ahead = located_tokens ahead
 abbrev pub token_ending : Token → Ahead → LocatedToken
 token_ending token ahead = record { token = token; line = ahead.line; end = ahead.offset }
 
--- inside a run of bytes that pass a test: the token is made of those ahead
+-- inside a token of bytes that pass a test: it is made of those ahead
 unfoldable pub in_token_run : (ℕ → Bool) → (List ℕ → Token) → Ahead → List LocatedToken
 in_token_run test token_of ahead =
     followed (located (token_of (take (prefix_len test ahead.bytes) ahead.bytes)) (prefix_len test ahead.bytes) ahead)
@@ -80,17 +80,17 @@ closed_at (Some count) line ahead = located_tokens (ahead_after count ahead)
 unfoldable pub in_comment : ℕ → Ahead → List LocatedToken
 in_comment line ahead = closed_at (up_to_close ahead.bytes) line ahead
 
--- behind a comment, or where the source ended within it
+-- after a comment, or where the source ended within it
 abbrev pub after_comment : Bool → ℕ → Ahead → List LocatedToken
 after_comment true line ahead = located_tokens ahead
 after_comment false line ahead = last_located_token (variant.Fault CommentNotClosed) line ahead ∷ []
 
--- no more was taken than may leave the first token open that is to be read
+-- no more was taken than may leave the first token undecided that is to be read
 abbrev pub StopsWithin : (Ahead → List LocatedToken) → Window → Window → Option (List ℕ) → Type 0
 StopsWithin made old new told = (first : LocatedToken) (others : List LocatedToken)
     → to_read made old told ≡ Some (first ∷ others) → new.taken ≤ undecided_until first
 
--- what a call leaves that failed: that, and no token was put in the place of the old one
+-- what a call leaves that failed: that, and the old token
 pub record LeavesUnread (made : Ahead → List LocatedToken) (old new : Window) (told : Option (List ℕ))
     (here here' : LocatedToken) : Type 0 where
   pub within : StopsWithin made old new told
@@ -102,7 +102,7 @@ pub record BeginsToken (byte : ℕ) (window : Window) : Type 0 where
   pub no_blank : is_blank byte ≡ false
   pub no_slash : byte ≢ 47
 
--- a token ends where the window is or behind, and fits
+-- a token ends at the window's offset or after it, and fits
 pub record IsFound (located_token : LocatedToken) (new : Window) : Type 0 where
   pub reached : new.offset ≤ located_token.end
   pub fits : FitsToken located_token.token
@@ -113,13 +113,13 @@ pub record IsRead (located_token : LocatedToken) (old new : Window) : Type 0 whe
   pub reached : new.offset ≤ located_token.end
   pub fits : FitsToken located_token.token
 
--- A token was found from inside of it: it is the first of those that were to be read, and behind it the others are.
+-- A token was found from inside of it: it is the first of those that were to be read, and the others follow it.
 pub record Finds (inside : Ahead → List LocatedToken) (old new : Window) (before after : Device) (here : LocatedToken)
     : Type 0 where
   pub tokens : to_read (followed here) new after.to_come ≡ to_read inside old before.to_come
   pub found : IsFound here new
 
--- the same from its begin
+-- the same from its beginning
 pub record Reads (old new : Window) (before after : Device) (here : LocatedToken) : Type 0 where
   pub tokens : to_read (followed here) new after.to_come ≡ to_read located_tokens old before.to_come
   pub read : IsRead here old new
@@ -149,7 +149,7 @@ pub record BeginsName (first : ℕ) (rest name : List ℕ) : Type 0 where
   pub is : name ≡ first ∷ take (prefix_len is_name_byte rest) rest
   pub ended : prefix_len is_name_byte rest < length rest
 
--- the value of a constant that begins with a digit and so many of the rest, in which it ends
+-- the value of a constant that begins with a digit and has so many more of the rest, in which it ends
 pub record BeginsConstant (first : ℕ) (rest : List ℕ) (value count : ℕ) : Type 0 where
   pub is : value ≡ fold (λ value digit. 10 * value + (digit - 48)) (first - 48) (take count rest)
   pub fits : value ≤ 2147483647

@@ -32,7 +32,7 @@ device_of supply = record {
   ended = supply.ended;
 }
 
--- No read gives more than a piece, and the only reads that fail are those from the given one on.
+-- No read gives more bytes than it may, and the only reads that fail are those from the given one on.
 pub record GivesPiece (result : Result ℕ DeviceFault) (old new : MemoryFeed) : Type 0 where
   pub few : IfOk result (λ n. n ≤ old.most)
   pub most : new.most ≡ old.most

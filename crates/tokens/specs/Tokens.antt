@@ -79,7 +79,7 @@ located token count ahead = record { token = token; line = ahead.line; end = ahe
 abbrev pub followed_by : LocatedToken → List LocatedToken → List LocatedToken
 followed_by located_token others = located_token ∷ (if is_last located_token.token then [] else others)
 
--- what a front gives, and then the tokens of the rest
+-- what an input element gives, and then the tokens of the rest
 abbrev pub tokens_of_front : Front → Ahead → (Ahead → List LocatedToken) → List LocatedToken
 tokens_of_front Nothing ahead others = end_token variant.End ahead ∷ []
 tokens_of_front Unclosed ahead others = end_token (variant.Fault CommentNotClosed) ahead ∷ []
@@ -87,12 +87,12 @@ tokens_of_front (Space count) ahead others = others (ahead_after count ahead)
 tokens_of_front (Lexeme sign count) ahead others =
     followed_by (located sign count ahead) (others (ahead_after count ahead))
 
--- the tokens of what lies ahead, which is cut into at most this many pieces
+-- the tokens of what lies ahead, which is cut into at most this many input elements
 abbrev pub tokens_within : ℕ → Ahead → List LocatedToken
 tokens_within zero ahead = []
 tokens_within (suc n) ahead = tokens_of_front (front ahead.bytes) ahead (tokens_within n)
 
--- each piece has at least a byte
+-- each input element has at least a byte, but for the end
 unfoldable pub located_tokens : Ahead → List LocatedToken
 located_tokens ahead = tokens_within (suc (length ahead.bytes)) ahead
 

@@ -119,7 +119,8 @@ pub record TakesBytes (before now : ℕ) (told told' : Option (List ℕ)) : Type
 
 -- What each call on a window needs and keeps. Every contract of the lexer cites these facts.
 
--- every window: it took no more bytes than a window past its offset, and than the most, and its offset is in the source
+-- what holds of every window: the bytes taken are at most a window after its offset, and at most as many as may be
+-- taken, and its offset is in the source
 pub record IsBounded (window : Window) : Type 0 where
   pub near : window.taken ≤ window.offset + window_bytes
   pub limited : window.taken ≤ most_taken_bytes

@@ -1,4 +1,4 @@
-//! Runs of bytes up to the first one of a kind, a block at a time.
+//! Spans of bytes up to the first one of a kind, 32 bytes at a time.
 
 ghost use Rattle.std.specs.Prelude.{◌≡◌, ℕ, ◌≤◌, Bool, false, not, ◌==◌, length, map, take};
 ghost use Rattle.std.specs.List.{prefix_len, count_by};
@@ -18,10 +18,10 @@ pub const LINE_FEED: u8 = 10;
 /// How many bytes are tested together.
 const BLOCK: usize = 32;
 
-/// How many bytes are tested together if few of them stop a run.
+/// How many bytes are tested together if few of them end a span.
 const WIDE: usize = 64;
 
-/// A kind of bytes that ends a run of others.
+/// A kind of bytes that ends a span of others.
 pub trait StopByte {
     // whether a byte is of the kind
     ghost stops: { ℕ → Bool };
@@ -30,7 +30,7 @@ pub trait StopByte {
     fn is_stop(b: u8) -> bool
         ensures { result ≡ stops b };
 
-    /// Reports this of each byte of a block, as a bit. No byte of the kind ends a line.
+    /// Reports this of each byte of a vector, as a bit. No byte of the kind ends a line.
     fn stop_bits(block: u8x32) -> u64
         ensures bits { result ≡ mask_l (map stops block) }
         ensures in_line { stops 10 ≡ false };
@@ -104,7 +104,7 @@ pub fn run_before_end(bytes: &[u8]) -> usize
     ensures { result ≡ prefix_len (λ b. not (b == 26)) bytes.now }
 {
     let mut count = 0;
-    // Two wide blocks fit before this index.
+    // Two wide vectors fit before this index.
     let room = bytes.len().saturating_sub(2 * WIDE - 1);
     while count < room {
         let here = has_end(u8x64::from_slice(&bytes[count..]));
@@ -117,7 +117,7 @@ pub fn run_before_end(bytes: &[u8]) -> usize
     count + run_before::<SourceEndByte>(&bytes[count..]).0
 }
 
-/// Reports whether a byte of a wide block is 26.
+/// Reports whether a byte of a wide vector is 26.
 #[inline(always)]
 fn has_end(block: u8x64) -> bool
     ensures { result ≡ false → prefix_len (λ b. not (b == 26)) block ≡ 64 }
@@ -145,7 +145,7 @@ pub fn run_before<S: StopByte>(bytes: &[u8]) -> (usize, u32)
     (count + run, lines + ended)
 }
 
-/// Returns the same for a block.
+/// Returns the same for a vector.
 #[inline(always)]
 fn run_in_block<S: StopByte>(block: u8x32) -> (usize, u32)
     ensures count { result.0 ≡ prefix_len (λ b. not (S.stops b)) block }

@@ -71,7 +71,7 @@ impl Cursor {
         &self.after
     }
 
-    /// Goes past the next token. After an `Err`, which is the device's, the cursor is of no more use.
+    /// Goes past the next token. After an `Err`, which is the device's, the cursor can't be used any more.
     pub fn advance<F: Feed>(&mut self, feed: &mut F) -> Result<(), DeviceFault>
         requires not_last { is_last self.old.next.token ≡ false }
         requires ready { MayAsk self.old.window (F.device feed.old) }

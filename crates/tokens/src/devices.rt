@@ -13,7 +13,7 @@ pub trait Feed {
     /// are known; and whether a read has given no byte. Such a device has ended, and is not read again.
     ghost device: { Self → Device };
 
-    /// Puts the next bytes at the front of `buf`, and returns how many: 0 only at the end.
+    /// Puts the next bytes at the beginning of `buf`, and returns how many: 0 only at the end.
     /// After an `Err` no byte was taken.
     fn fill(&mut self, buf: &mut [u8]) -> Result<usize, DeviceFault>
         requires nonempty { 0 < length buf.old }

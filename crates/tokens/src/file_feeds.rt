@@ -53,8 +53,8 @@ impl<F: Read> Feed for FileFeed<F> {
     }
 }
 
-/// A file whose bytes are known, such as bytes in memory that are read as a file. A run over such files has all that is
-/// promised of known contents.
+/// A `FileFeed` of a file whose bytes are known, such as bytes in memory that are read as a file. A run over such files
+/// has all that is promised of known contents.
 #[derive(Drop)]
 pub struct KnownFeed<F: Read> {
     feed: FileFeed<F>,

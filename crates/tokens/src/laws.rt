@@ -6,8 +6,8 @@ ghost use Rattle.tokens.specs.Source.{source};
 ghost use Rattle.tokens.specs.Tokens.{tokens};
 ghost use Rattle.tokens.specs.Ends.{IsRising, AllEndBy, StaysUndecided};
 
-/// Proves that tokens end one after the other, and none after the source. None is decided before the one ahead of it
-/// ends.
+/// Proves that tokens end one after the other, and none after the source. None is decided before the one that precedes
+/// it ends.
 pub fn ends_rise()
     ensures rising { (bytes : List ℕ) → IsRising 0 (tokens bytes) }
     ensures within { (bytes : List ℕ) → AllEndBy (length (source bytes)) (tokens bytes) }

@@ -24,8 +24,9 @@ pub struct Lexer {
 }
 
 // Each call here that has the device as an argument may ask it: it needs `MayAsk`, and `MayHaveAsked` says what it leaves.
-// Beside that a call that reads a token says which, and what it leaves if it fails, in one clause: `ReadsToken` if it
-// starts where the token begins or ahead of that, `FindsToken` if it starts inside. A byte that was seen takes one more.
+// A call that reads a token has one more clause, on the token or on what it leaves if it fails: `ReadsToken` if it
+// starts before the token, `FindsToken` if it starts inside of it. One that relies on a byte that was seen requires it.
+// What is not inlined is kept out of the functions that read most tokens, so that these need no stack frame.
 impl Lexer {
     /// Makes a lexer of a source of which nothing was read.
     pub fn new() -> Self
@@ -36,7 +37,7 @@ impl Lexer {
         }
     }
 
-    /// Puts the next token here. After an `Err` what stood here stays.
+    /// Puts the next token here. After an `Err` the old one is still here.
     #[inline(never)]
     pub fn read_token<F: Feed>(
         &mut self,
@@ -54,7 +55,7 @@ impl Lexer {
         }
     }
 
-    /// Does the same if the next byte begins no token, or is a `/`.
+    /// Does the same at a blank, at a `/`, or if no byte is at hand. Most blanks stand alone, before a token.
     #[inline(never)]
     fn read_from_blank_or_slash<F: Feed>(
         &mut self,
@@ -128,7 +129,7 @@ impl Lexer {
         }
     }
 
-    /// Skips a comment at a `/`, or puts the token that begins there here. Answers whether there was one.
+    /// At a `/`: skips a comment, or puts the token here that begins with it. Answers whether there was a token.
     fn read_slash_or_comment<F: Feed>(
         &mut self,
         here: &mut LocatedToken,
@@ -159,7 +160,7 @@ impl Lexer {
         }
     }
 
-    /// Goes past the `*/` of a comment that it is inside. Answers `false` if there is none.
+    /// Goes past the `*/` of a comment, from inside of it. Answers whether there was one.
     fn skip_comment<F: Feed>(&mut self, feed: &mut F) -> Result<bool, DeviceFault>
         requires ready { MayAsk self.old.window (F.device feed.old) }
         ensures tokens { IfOk result (λ closed. (line : ℕ)
@@ -220,7 +221,7 @@ impl Lexer {
         }
     }
 
-    /// Puts the name here of which the first byte was passed. Many names are a letter.
+    /// Puts the name here of which the first byte was passed. Many names are a single letter.
     #[inline(always)]
     fn read_name<F: Feed>(
         &mut self,
@@ -264,7 +265,7 @@ impl Lexer {
         self.read_name_bytewise(here, feed, first)
     }
 
-    /// Does the same for a name that is not all at hand, or long.
+    /// Does the same for a name that is not all at hand, or has `MOST_NAME_BYTES` bytes or more.
     #[inline(never)]
     fn read_name_bytewise<F: Feed>(
         &mut self,
@@ -320,7 +321,7 @@ impl Lexer {
         self.read_constant_bytewise(here, feed, first)
     }
 
-    /// Does the same for a constant that is not all at hand, or large.
+    /// Does the same for a constant that is not all at hand, or has more than nine digits, leading zeros aside.
     #[inline(never)]
     fn read_constant_bytewise<F: Feed>(
         &mut self,
@@ -377,7 +378,7 @@ impl Lexer {
         }
     }
 
-    /// Puts the token of a whole name here, of which some bytes may have been left out.
+    /// Puts the token of a whole name here. If it is too long, some of its bytes were left out.
     #[inline(always)]
     fn put_name_token(&self, name: &Name, is_too_long: bool, here: &mut LocatedToken)
         ensures value { here.new ≡ record {
@@ -396,7 +397,7 @@ impl Lexer {
         }
     }
 
-    /// Puts a name here, or the word that it is.
+    /// Puts a name here, or the keyword that it is.
     #[inline(never)]
     fn put_name_or_word(&self, name: &Name, here: &mut LocatedToken)
         ensures value { here.new ≡ record {
@@ -469,14 +470,14 @@ impl Lexer {
     }
 }
 
-/// The greatest value of eight digits. With one digit more it is a constant still.
+/// The greatest value of eight digits. With one digit more a value is still within the limit of a constant.
 const LARGEST_OF_EIGHT_DIGITS: u32 = 99_999_999;
 
-/// A value above the greatest constant, in place of all such values.
+/// The value that represents all those above the greatest constant.
 const TOO_LARGE: u64 = MOST_CONSTANT_VALUE as u64 + 1;
 
-/// Returns the value of a constant of at most nine digits that ends within these bytes, and how many of its digits they
-/// begin with.
+/// Returns the value of a constant that begins with this digit and ends within these bytes, and how many of them it
+/// has. It is `None` for one of more than nine digits, leading zeros aside.
 #[inline(always)]
 fn short_constant(first: u8, rest: &[u8]) -> Option<(u32, usize)>
     requires digit { is_digit first ≡ true }

@@ -124,7 +124,7 @@ pub enum LexicalError {
 pub enum Token {
     /// A name that isn't a `Keyword`.
     Name(Name),
-    /// A keyword, a type word or a refused word.
+    /// A name that the language keeps for itself.
     Keyword(Keyword),
     /// A constant, at most `MOST_CONSTANT_VALUE`.
     Constant(u32),

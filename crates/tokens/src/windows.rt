@@ -25,7 +25,7 @@ pub enum Beyond {
     TooMuch,
 }
 
-/// The bytes at hand of a source that is read from a device, in an array that is filled again once it is read out.
+/// The bytes at hand of a source that is read from a device, in an array that is filled again once all of it was read.
 #[derive(Drop)]
 pub struct Window {
     bytes: [u8; WINDOW_BYTES],
@@ -175,7 +175,7 @@ impl Window {
         }
     }
 
-    /// Asks the device for the next bytes, if it has not ended.
+    /// Asks the device for the next bytes, if it has not ended. This is rare, so it is not inlined.
     #[inline(never)]
     fn refill<F: Feed>(&mut self, feed: &mut F) -> Result<(), DeviceFault>
         requires empty { self.old.at_hand ≡ [] }
