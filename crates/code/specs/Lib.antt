@@ -10,6 +10,7 @@ pub mod Finishing
 pub mod Registers
 pub mod QuietRuns
 pub mod ReachedMachines
+pub mod Wanted
 pub mod Codes
 pub mod Laws
 pub mod KnownPrograms

@@ -2,6 +2,7 @@
 
 use crate::tests::made::{operations_of, program_of};
 use code::Profile;
+use operations::Operation;
 use std::alloc::{AllocError, Global};
 use std::process::Abort;
 use std::test::Fail;
@@ -117,4 +118,11 @@ fn constants_are_counted(rt: HostRuntime) -> Result<(), Fail> {
 #[test]
 fn operations_are_counted(rt: HostRuntime) -> Result<(), Fail> {
     check_most(&rt, Profile::second(), "a=b=a=b=a=b=a=b=", 255)
+}
+
+#[test]
+fn an_operation_has_eight_bytes(rt: HostRuntime) -> Result<(), Fail> {
+    // a byte of its own, and of a call within another five numbers of one byte and one of two
+    assert_eq!(rt; size_of::<Operation>(), 8);
+    Ok(())
 }
