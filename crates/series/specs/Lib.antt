@@ -8,7 +8,8 @@ pub mod Pieces
 pub mod Compiling
 pub mod Playing
 pub mod Output
-pub mod Runs
+pub mod SourceContents
+pub mod CompiledFiles
 pub mod ProgramKeeping
 pub mod SourceReading
 pub mod Failures

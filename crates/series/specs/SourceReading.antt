@@ -6,7 +6,7 @@ use Rattle.parser.specs.ParsedFiles.{LeavesUndecided, TakesUpTo}
 use Rattle.settings.specs.Settings.{Settings}
 use Rattle.series.specs.Compiling.{Source, compiling}
 use Rattle.series.specs.Pieces.{Begins, Piece, Taken, Writes}
-use Rattle.series.specs.Runs.{AreSources}
+use Rattle.series.specs.SourceContents.{AreSources}
 use Rattle.series.specs.declared.run_results.RunFault.{RunFault}
 use Rattle.series.specs.declared.run_results.RunFault.TheVariants as fault
 

@@ -7,7 +7,8 @@ ghost use Rattle.series.specs.Failures.{FailsAsAnswered, AreReady, CountsFile, f
 ghost use Rattle.series.specs.Pieces.{taken_by_sinks};
 ghost use Rattle.series.specs.SourceReading.{ReadsSources, ReadsFile};
 ghost use Rattle.series.specs.ProgramKeeping.{CanKeep, IsNewKeeper, KeepsAll, KeepsOn, worse_status};
-ghost use Rattle.series.specs.Runs.{AreSources, CompilesAll, CompilesFile, told_by};
+ghost use Rattle.series.specs.CompiledFiles.{CompilesAll, CompilesFile};
+ghost use Rattle.series.specs.SourceContents.{AreSources, told_by};
 
 use crate::keeping::TakesPrograms;
 use crate::run_results::{RunFault, Status};

@@ -5,7 +5,7 @@ use Rattle.grammar.specs.Compiled.{compiled}
 use Rattle.series.specs.Compiling.{pieces_of}
 use Rattle.series.specs.Failures.{Failures}
 use Rattle.series.specs.Pieces.{taken_by_sinks}
-use Rattle.series.specs.Runs.{AreSources, told_by}
+use Rattle.series.specs.SourceContents.{AreSources, told_by}
 use Rattle.series.proofs.CompilingLemmas.{all_compiled, all_manned, kept_with, manned_with, none_kept, none_manned, none_other, pieces_more, pieces_cut, room_left, status_more}
 use Rattle.series.proofs.ReadingLemmas.{cut_at, fails_at, reads_all, reads_first, reads_more, same_length}
 use Rattle.series.proofs.RunsLemmas.{all_of_one, feed_here, told_here, name_here, length_sources, no_source, none_failed, read_failed, rest_more, write_failed}
