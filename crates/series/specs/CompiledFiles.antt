@@ -5,6 +5,7 @@ use Rattle.grammar.specs.Profile.{Profile}
 use Rattle.code.specs.Generation.{Program}
 use Rattle.settings.specs.declared.settings.Mode.{Mode}
 use Rattle.settings.specs.Settings.{Settings}
+use Rattle.series.specs.declared.compiling.CompileFault.{CompileFault}
 use Rattle.series.specs.declared.run_results.RunFault.{RunFault}
 use Rattle.series.specs.declared.run_results.Status.{Status}
 use Rattle.series.specs.Compiling.{Source, codes_of, compiled_code, compiling, files_of, pieces_of, compile_status}
@@ -30,11 +31,11 @@ PutsPieces result before after pieces = MatchResult result (λ _. Writes before 
 
 -- A file of these bytes was compiled: the sinks took what that gives, or a beginning of it. If they took all of it, the
 -- status and what is kept then are those of the file.
-pub record CompilesFile {E : Type 0} (mode : Mode) (profile : Profile) (name bytes : List ℕ) (put : Result Status E)
+pub record CompilesFile (mode : Mode) (profile : Profile) (name bytes : List ℕ) (result : Result Status CompileFault)
     (kept later : Option (List Program)) (before after : Taken) : Type 0 where
-  pub output : PutsPieces put before after (pieces_of mode profile name (compiled profile bytes))
-  pub status : IfOk put (λ status. status ≡ status_by (compiled_code profile bytes))
-  pub keeps : IfOk put (λ status. later ≡ and_compiled kept (compiled_code profile bytes))
+  pub output : PutsPieces result before after (pieces_of mode profile name (compiled profile bytes))
+  pub status : IfOk result (λ status. status ≡ status_by (compiled_code profile bytes))
+  pub keeps : IfOk result (λ status. later ≡ and_compiled kept (compiled_code profile bytes))
 
 -- These sources were compiled: the sinks took what that gives, the status is theirs, and their programs are kept.
 pub record CompilesAll (settings : Settings) (sources : List Source) (result : Result Status RunFault)
