@@ -5,6 +5,7 @@ pub mod Totals
 pub mod Outcomes
 pub mod SeriesSteps
 pub mod Pieces
+pub mod DiagnosticLines
 pub mod Compiling
 pub mod Playing
 pub mod Output

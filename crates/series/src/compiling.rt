@@ -9,13 +9,14 @@ ghost use Rattle.series.specs.ProgramKeeping.{CanKeep, IsNewKeeper, KeepsAll, Ke
 ghost use Rattle.series.specs.CompiledFiles.{CompilesAll, CompilesFile};
 ghost use Rattle.series.specs.SourceContents.{AreSources, told_by};
 
+use crate::diagnostic_lines::put_diagnostic;
 use crate::keeping::TakesPrograms;
 use crate::run_results::{RunFault, Status};
 use code::Maker;
 use grammar::{Diagnostic, ParseFault, Profile, Scope};
 use parser::parse_into;
 use settings::Settings;
-use sinks::{Sink, file_name, put_diagnostic};
+use sinks::{Sink, file_name};
 use tokens::{DeviceFault, Feed};
 
 /// Which device failed while a file was compiled.
