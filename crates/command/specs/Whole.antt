@@ -11,7 +11,7 @@ use Rattle.series.specs.Failures.{FailsAsAnswered as Counts}
 use Rattle.series.specs.Output.{Runs}
 use Rattle.series.specs.Pieces.{Taken, taken_by_sinks}
 use Rattle.sinks.specs.Portions.{Takes, TakesFront, Written}
-use Rattle.series.specs.Runs.{AreSources}
+use Rattle.series.specs.SourceContents.{AreSources}
 use Rattle.settings.specs.declared.faults.UseFault.{UseFault}
 use Rattle.settings.specs.Settings.{Settings}
 use Rattle.command.specs.declared.endings.Ending.{Ending}

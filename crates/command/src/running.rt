@@ -8,7 +8,7 @@ ghost use Rattle.command.specs.Endings.{FailsAsEnded};
 ghost use Rattle.command.specs.Files.{EachShows, HasFailed};
 ghost use Rattle.sinks.specs.Puts.{CanFail};
 ghost use Rattle.command.specs.Whole.{Concludes, Ends, IsNotOpened, IsStatusOf, RunsTo, TellsWrites};
-ghost use Rattle.series.specs.Runs.{told_by};
+ghost use Rattle.series.specs.SourceContents.{told_by};
 
 use crate::endings::Ending;
 use crate::openers::{OpenFault, Opener};

@@ -9,7 +9,7 @@ use Rattle.code.specs.Generation.{Program, code_of}
 use Rattle.series.proofs.OutputLemmas.{kept_codes}
 use Rattle.series.specs.Compiling.{files_of, compile_status}
 use Rattle.series.specs.Pieces.{on_both}
-use Rattle.series.specs.Runs.{Compiles}
+use Rattle.series.specs.CompiledFiles.{Compiles}
 use Rattle.series.specs.declared.run_results.RunFault.{RunFault}
 use Rattle.series.specs.declared.run_results.RunFault.TheVariants as fault
 use Rattle.series.specs.declared.run_results.Status.TheVariants as status

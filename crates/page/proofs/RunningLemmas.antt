@@ -7,7 +7,7 @@ use Rattle.std.proofs.lemmas.Simd.{map-map}
 use Rattle.settings.specs.Settings.{Settings}
 use Rattle.series.specs.Compiling.{Source}
 use Rattle.series.specs.Output.{Output}
-use Rattle.series.specs.Runs.{AreSources}
+use Rattle.series.specs.SourceContents.{AreSources}
 use Rattle.series.specs.Failures.{FailsAsAnswered, Failures, SinkFailed, failing, no_device}
 use Rattle.tokens.specs.Feed.{Account, failed_again}
 use Rattle.series.specs.Pieces.{Channel, Piece, Taken, Text, Faults, Writes, TakesOn, on_both}

@@ -4,7 +4,7 @@ ghost use Rattle.std.specs.Prelude.{◌≡◌, ◌<◌, ◌≤◌, All, IfErr, I
 ghost use Rattle.series.specs.Compiling.{Source};
 ghost use Rattle.series.specs.Output.{Runs};
 ghost use Rattle.series.specs.Pieces.{on_both};
-ghost use Rattle.series.specs.Runs.{AreSources};
+ghost use Rattle.series.specs.SourceContents.{AreSources};
 ghost use Rattle.page.specs.Robots.{name_bytes, source_bytes};
 ghost use Rattle.page.specs.Running.{AreFresh, AreNamed, IsAccepted, IsFull, RunsRobots};
 ghost use Rattle.page.specs.Sheets.{contents_of};

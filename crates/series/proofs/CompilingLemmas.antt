@@ -15,7 +15,7 @@ use Rattle.settings.specs.Settings.{Settings}
 use Rattle.series.specs.Compiling.{Source, and_file, files_of, codes_of, code_or_fault, compiled_code, pieces_of, source_pieces, compile_status, compiling}
 use Rattle.series.specs.Pieces.{Taken, Writes, Begins}
 use Rattle.series.specs.ProgramKeeping.{and_code, and_compiled, worse_status, count_of, kept_by, KeepsMore, status_by}
-use Rattle.series.specs.Runs.{CompilesAll}
+use Rattle.series.specs.CompiledFiles.{CompilesAll}
 use Rattle.series.specs.declared.run_results.Status.{Status}
 use Rattle.series.specs.declared.run_results.Status.TheVariants.{Done, Faulty}
 use Rattle.sinks.specs.Texts.{file_name}

@@ -11,7 +11,7 @@ use Rattle.grammar.specs.Tree.{File}
 use Rattle.battles.specs.Battle.{Outcome, alive, battle}
 use Rattle.battles.specs.Pairing.{robots_of}
 use Rattle.settings.specs.Settings.{Settings}
-use Rattle.series.specs.declared.tallies.Score.{Score}
+use Rattle.series.specs.declared.totals.Score.{Score}
 use Rattle.series.specs.SeriesSteps.{Tally, IsTallyOf, next_text, played_after, score_at, next_step, with_match}
 use Rattle.series.specs.RobotNames.{robot_names}
 use Rattle.series.specs.Outcomes.{outcome_of, outcomes, report_text, totals_text}

@@ -24,7 +24,7 @@ use Rattle.series.specs.Compiling.{Source, and_file, codes_of, compiling, files_
 use Rattle.series.specs.Output.{output, played, Runs, StopsRun}
 use Rattle.series.specs.Pieces.{Piece, Taken, Writes, Begins}
 use Rattle.series.specs.Playing.{playing}
-use Rattle.series.specs.Runs.{PutsPieces, StopsCompiling}
+use Rattle.series.specs.CompiledFiles.{PutsPieces}
 use Rattle.series.proofs.PiecesLemmas.{writes_then, begins_then, begins_more}
 
 -- with a faulty file nothing is played
@@ -147,13 +147,13 @@ plays_run settings sources files before now after (Ok status) matches good first
     λ s. Writes before after (output settings sources).pieces × (s ≡ (output settings sources).status) in
     subst Ends (sym is) (played_run settings sources files before now after matches good first second)
 plays_run settings sources files before now after (Err stopped) matches good first second is =
-    let Ends : RunFault → Type 0 = λ f. StopsRun settings sources f before after in
+    let Ends : RunFault → Type 0 = λ f. StopsRun settings sources (output settings sources).pieces f before after in
     subst Ends (sym is) (played_stop settings sources files before now after matches good first second)
 
 -- compiling was stopped
 pub stops_run : (settings : Settings) (sources : List Source) (stopped : RunFault) (before after : Taken) →
-    StopsCompiling settings sources stopped before after
-    → StopsRun settings sources stopped before after
+    StopsRun settings sources (compiling settings.mode settings.profile sources) stopped before after
+    → StopsRun settings sources (output settings sources).pieces stopped before after
 stops_run settings sources (fault.Read file) before after writes = writes
 stops_run settings sources fault.Write before after begins =
     begins_more before after (compiling settings.mode settings.profile sources)

@@ -13,7 +13,7 @@ use Rattle.series.specs.declared.run_results.Status.TheVariants.{Done}
 use Rattle.series.specs.Compiling.{Source, compiling, source_pieces}
 use Rattle.series.specs.Pieces.{Begins, Piece, Taken, Writes}
 use Rattle.series.specs.SourceReading.{FailsToRead, MayLeaveUndecided, ReadsSources, ReadsFirst, StopsReading, TakesOf, TakesOfFirst, TakesPast}
-use Rattle.series.specs.Runs.{AreSources}
+use Rattle.series.specs.SourceContents.{AreSources}
 use Rattle.series.proofs.PiecesLemmas.{begins_then, writes_split}
 use Rattle.series.proofs.RunsLemmas.{feed_here, rest_more}
 

@@ -7,7 +7,7 @@ use Rattle.std.proofs.Math.Seq.{map-set_same}
 use Rattle.series.specs.Compiling.{Source}
 use Rattle.tokens.specs.Feed.{Account, failed_again}
 use Rattle.series.specs.Failures.{Failures, failing, feed_failed, no_device, SinkFailed}
-use Rattle.series.specs.Runs.{AreSources}
+use Rattle.series.specs.SourceContents.{AreSources}
 use Rattle.sinks.specs.Texts.{file_name}
 
 -- no source at all

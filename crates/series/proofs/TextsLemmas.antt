@@ -6,7 +6,7 @@ use Rattle.std.proofs.lemmas.List.{get_or-map, length-map}
 use Rattle.series.specs.Lines.{ended_line, lines_text}
 use Rattle.battles.specs.Battle.{Outcome, alive}
 use Rattle.battles.specs.Pairing.{paired}
-use Rattle.series.specs.declared.tallies.Score.{Score}
+use Rattle.series.specs.declared.totals.Score.{Score}
 use Rattle.series.specs.Reports.{report, robot_line, robot_lines, state_text}
 use Rattle.series.specs.RobotNames.{robot_names}
 use Rattle.sinks.specs.Texts.{column, file_name}

@@ -12,8 +12,9 @@ use Rattle.settings.specs.declared.settings.Mode.{Mode}
 use Rattle.settings.specs.declared.settings.Mode.TheVariants.{Listing, Matches}
 use Rattle.series.specs.declared.run_results.Status.{Status}
 use Rattle.series.specs.declared.run_results.Status.TheVariants.{Done, Faulty}
+use Rattle.series.specs.DiagnosticLines.{diagnostic_line}
 use Rattle.series.specs.Pieces.{Piece, Text, Faults}
-use Rattle.sinks.specs.Texts.{file_name, diagnostic_line}
+use Rattle.sinks.specs.Texts.{file_name}
 
 -- a source file: the word that names it, and its bytes
 pub record Source : Type 0 where

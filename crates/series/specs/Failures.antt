@@ -1,11 +1,13 @@
 -- Which devices failed, and how often.
-use Rattle.std.specs.Prelude.{◌≡◌, ◌⊎◌, ℕ, ◌+◌, ◌-◌, ◌^◌, ◌<◌, Bool, false, true, List, Result, MatchResult, All, IfOk, is_err, length, map, slice_index_or, slice_set}
-use Rattle.tokens.specs.declared.devices.DeviceFault.{DeviceFault}
-use Rattle.tokens.specs.Feed.{Account, Counts, Device, failed_again}
+use Rattle.std.specs.Prelude.{◌≡◌, ◌⊎◌, ⊤, ℕ, ◌+◌, ◌-◌, ◌^◌, ◌<◌, Bool, false, true, List, Result, MatchResult, All, is_err, length, map, slice_index_or, slice_set}
+use Rattle.tokens.specs.Feed.{Account, Device, failed_again}
 use Rattle.sinks.specs.Portions.{Written}
 use Rattle.sinks.specs.Puts.{CanFail, CountsSink}
+use Rattle.series.specs.declared.compiling.CompileFault.{CompileFault}
 use Rattle.series.specs.declared.run_results.RunFault.{RunFault}
 use Rattle.series.specs.declared.run_results.RunFault.TheVariants as fault
+use Rattle.series.specs.declared.run_results.Status.{Status}
+use Rattle.series.specs.SourceReading.{IfRead}
 
 -- which device each feed is and how often it has failed, and how often the sink of texts and that of faults have
 pub record Failures : Type 0 where
@@ -72,7 +74,7 @@ pub record AreReady {F : Type 0} (device : F → Device) (count : ℕ) (given : 
   pub faults : CanFail err
 
 -- of one file's devices none failed, or the feed once if the file was not read, or a sink once if not all was put
-pub record CountsFile {T E : Type 0} (result : Result (Result T E) DeviceFault) (account later_account : Account)
+pub record CountsFile (result : Result Status CompileFault) (account later_account : Account)
     (text faults later_text later_faults : Written) : Type 0 where
-  pub feed : Counts result account later_account
-  pub sinks : IfOk result (λ put. CountsSinks put text faults later_text later_faults)
+  pub feed : IfRead result (later_account ≡ account) (later_account ≡ failed_again account)
+  pub sinks : IfRead result (CountsSinks result text faults later_text later_faults) ⊤

@@ -4,6 +4,7 @@ use Rattle.battles.specs.Battle.{Outcome}
 use Rattle.grammar.specs.Profile.{first_profile}
 use Rattle.series.specs.declared.run_results.Status.TheVariants.{Done, Faulty}
 use Rattle.series.specs.Compiling.{Source}
+use Rattle.series.specs.DiagnosticLines.{diagnostic_line}
 use Rattle.series.specs.Output.{Output, output}
 use Rattle.settings.specs.Settings.{Settings}
 use Rattle.settings.specs.declared.settings.Mode.{Mode}
@@ -11,7 +12,7 @@ use Rattle.settings.specs.declared.settings.Mode.TheVariants.{Listing}
 use Rattle.series.specs.RobotNames.{robot_names}
 use Rattle.series.specs.Pieces.{Text, Faults}
 use Rattle.series.specs.Reports.{report}
-use Rattle.sinks.specs.Texts.{file_name, column, diagnostic_line}
+use Rattle.sinks.specs.Texts.{file_name, column}
 use Rattle.series.specs.Totals.{score_of, totals}
 
 pub record KnownTexts : Type 0 where

@@ -5,10 +5,12 @@ pub mod Totals
 pub mod Outcomes
 pub mod SeriesSteps
 pub mod Pieces
+pub mod DiagnosticLines
 pub mod Compiling
 pub mod Playing
 pub mod Output
-pub mod Runs
+pub mod SourceContents
+pub mod CompiledFiles
 pub mod ProgramKeeping
 pub mod SourceReading
 pub mod Failures

@@ -30,16 +30,16 @@ output settings sources = record {
   status = compile_status (files_of settings.profile sources);
 }
 
--- what the sinks took of a run that a device stopped: after a failed write a beginning of the output, and after a
--- failed read what the files before it give
-abbrev pub StopsRun : Settings → List Source → RunFault → Taken → Taken → Type 0
-StopsRun settings sources (Read file) before after = Writes before after
+-- what the sinks took if a device stopped what writes these pieces: after a failed write a beginning of the pieces, and
+-- after a failed read what the files before it give
+abbrev pub StopsRun : Settings → List Source → List Piece → RunFault → Taken → Taken → Type 0
+StopsRun settings sources pieces (Read file) before after = Writes before after
     (compiling settings.mode settings.profile (take file sources))
-StopsRun settings sources Write before after = Begins before after (output settings sources).pieces
-StopsRun settings sources Memory before after = ⊥
+StopsRun settings sources pieces Write before after = Begins before after pieces
+StopsRun settings sources pieces Memory before after = ⊥
 
 -- a run of these source files: the sinks took its output, and it ended with its status, or a device stopped it
 abbrev pub Runs : Settings → List Source → Result Status RunFault → Taken → Taken → Type 0
 Runs settings sources result before after = MatchResult result
     (λ status. Writes before after (output settings sources).pieces × (status ≡ (output settings sources).status))
-    (λ fault. StopsRun settings sources fault before after)
+    (λ fault. StopsRun settings sources (output settings sources).pieces fault before after)

@@ -6,6 +6,7 @@ use Rattle.grammar.specs.declared.diagnostics.Diagnostic.{Diagnostic}
 use Rattle.code.specs.Generation.{Program}
 use Rattle.settings.specs.declared.settings.Mode.{Mode}
 use Rattle.settings.specs.SettingsLimits.{most_files}
+use Rattle.series.specs.declared.compiling.CompileFault.{CompileFault}
 use Rattle.series.specs.declared.run_results.Status.{Status}
 use Rattle.series.specs.declared.run_results.Status.TheVariants.{Done, Faulty}
 
@@ -59,11 +60,11 @@ pub record IsNewKeeper (asked mode : Mode) (kept : Option (List Program)) : Type
 
 -- after one file a keeper has the mode that it had, its programs are of this profile, and of a good file there is one
 -- more
-pub record KeepsOn {E F : Type 0} (profile : Profile) (result : Result (Result Status E) F) (mode later_mode : Mode)
+pub record KeepsOn (profile : Profile) (result : Result Status CompileFault) (mode later_mode : Mode)
     (kept later : Option (List Program)) : Type 0 where
   pub same_mode : later_mode ≡ mode
   pub alike : IfSome later (λ codes. AreOfProfile profile codes)
-  pub manned : IfOk result (λ put. IfOk put (λ status. KeepsMore status kept later))
+  pub manned : IfOk result (λ status. KeepsMore status kept later)
 
 -- after all files a keeper's programs are of this profile, and if all files are good there is one for each
 pub record KeepsAll {F : Type 0} (profile : Profile) (count : ℕ) (result : Result Status F)

@@ -8,7 +8,7 @@ use Rattle.settings.specs.Settings.{Settings}
 use Rattle.series.specs.declared.run_results.SeriesFault.{SeriesFault}
 use Rattle.series.specs.declared.run_results.Step.{Step}
 use Rattle.series.specs.declared.run_results.Step.TheVariants.{Played, Over}
-use Rattle.series.specs.declared.tallies.Score.{Score}
+use Rattle.series.specs.declared.totals.Score.{Score}
 use Rattle.series.specs.Outcomes.{outcomes, report_text}
 use Rattle.series.specs.Totals.{score_of}
 

@@ -1,14 +1,17 @@
 -- How much of the source files a run reads.
-use Rattle.std.specs.Prelude.{◌≡◌, ℕ, ◌+◌, ◌-◌, ◌<◌, List, Option, Some, None, Result, MatchResult, drop, get_or, length, take}
+use Rattle.std.specs.Prelude.{◌≡◌, ℕ, ◌+◌, ◌-◌, ◌<◌, List, Option, Some, None, Result, Ok, Err, MatchResult, drop, get_or, length, take}
 use Rattle.tokens.specs.WindowLimits.{window_bytes}
 use Rattle.grammar.specs.Profile.{Profile}
 use Rattle.parser.specs.ParsedFiles.{LeavesUndecided, TakesUpTo}
 use Rattle.settings.specs.Settings.{Settings}
 use Rattle.series.specs.Compiling.{Source, compiling}
 use Rattle.series.specs.Pieces.{Begins, Piece, Taken, Writes}
-use Rattle.series.specs.Runs.{AreSources}
+use Rattle.series.specs.SourceContents.{AreSources}
+use Rattle.series.specs.declared.compiling.CompileFault.{CompileFault}
+use Rattle.series.specs.declared.compiling.CompileFault.TheVariants as compile_fault
 use Rattle.series.specs.declared.run_results.RunFault.{RunFault}
 use Rattle.series.specs.declared.run_results.RunFault.TheVariants as fault
+use Rattle.series.specs.declared.run_results.Status.{Status}
 
 -- of a file whose contents are known no more was taken than decides what it is, and so many more bytes
 abbrev pub TakesOf : Profile → (told later : Option (List ℕ)) → ℕ → Type 0
@@ -18,10 +21,16 @@ TakesOf profile told later more = (bytes : List ℕ) → told ≡ Some bytes →
 abbrev pub MayLeaveUndecided : Profile → (told later : Option (List ℕ)) → Type 0
 MayLeaveUndecided profile told later = (bytes : List ℕ) → told ≡ Some bytes → LeavesUndecided profile bytes later
 
+-- the first if a file was read, whether or not the sinks took what it gives, and the second if it was not
+abbrev pub IfRead : Result Status CompileFault → (read unread : Type 0) → Type 0
+IfRead (Ok status) read unread = read
+IfRead (Err compile_fault.Write) read unread = read
+IfRead (Err compile_fault.Read) read unread = unread
+
 -- what was taken of a file that was read, or whose read failed
-abbrev pub ReadsFile : {T E : Type 0} → Profile → Result T E → (told later : Option (List ℕ)) → Type 0
-ReadsFile profile result told later = MatchResult result (λ _. TakesOf profile told later window_bytes)
-    (λ _. MayLeaveUndecided profile told later)
+abbrev pub ReadsFile : Profile → Result Status CompileFault → (told later : Option (List ℕ)) → Type 0
+ReadsFile profile result told later =
+    IfRead result (TakesOf profile told later window_bytes) (MayLeaveUndecided profile told later)
 
 -- of each of the first files a window of 4,096 bytes at most was taken past what decides it
 abbrev pub TakesOfFirst : Profile → (told later : List (Option (List ℕ))) → ℕ → Type 0

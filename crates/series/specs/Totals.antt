@@ -2,7 +2,7 @@
 use Rattle.std.specs.Prelude.{ℕ, ◌+◌, List, [], ◌∷◌, ◌++◌, Bool, not, ◌&&◌, ◌||◌, ◌==◌, nat_lt, nat_le, map, length, get_or, count_by, codes, decimal}
 use Rattle.std.specs.List.{range_with_len}
 use Rattle.battles.specs.Battle.{Outcome, alive}
-use Rattle.series.specs.declared.tallies.Score.{Score}
+use Rattle.series.specs.declared.totals.Score.{Score}
 use Rattle.series.specs.Lines.{lines_text}
 
 abbrev pub survivors : Outcome → ℕ

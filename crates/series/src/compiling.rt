@@ -1,22 +1,32 @@
 //! Files are compiled: each good one's program is taken, and each faulty one's diagnostic put.
 
-ghost use Rattle.std.specs.Prelude.{◌≡◌, ℕ, ◌+◌, ◌-◌, ◌^◌, ◌<◌, ◌≤◌, List, [], ◌∷◌, Some, length, map, MatchResult};
-ghost use Rattle.grammar.specs.Scope.{no_names};
+ghost use Rattle.std.specs.Prelude.{◌≡◌, ℕ, ◌+◌, ◌-◌, ◌^◌, ◌<◌, ◌≤◌, List, [], ◌∷◌, Some, length, map};
 ghost use Rattle.series.specs.Compiling.{Source};
 ghost use Rattle.series.specs.Failures.{FailsAsAnswered, AreReady, CountsFile, failures};
 ghost use Rattle.series.specs.Pieces.{taken_by_sinks};
-ghost use Rattle.series.specs.SourceReading.{ReadsSources, ReadsFile};
+ghost use Rattle.series.specs.SourceReading.{IfRead, ReadsSources, ReadsFile};
 ghost use Rattle.series.specs.ProgramKeeping.{CanKeep, IsNewKeeper, KeepsAll, KeepsOn, worse_status};
-ghost use Rattle.series.specs.Runs.{AreSources, CompilesAll, CompilesFile, told_by};
+ghost use Rattle.series.specs.CompiledFiles.{CompilesAll, CompilesFile};
+ghost use Rattle.series.specs.SourceContents.{AreSources, told_by};
 
+use crate::diagnostic_lines::put_diagnostic;
 use crate::keeping::TakesPrograms;
 use crate::run_results::{RunFault, Status};
 use code::Maker;
 use grammar::{Diagnostic, ParseFault, Profile, Scope};
 use parser::parse_into;
 use settings::Settings;
-use sinks::{Sink, file_name, put_diagnostic};
+use sinks::{Sink, file_name};
 use tokens::{DeviceFault, Feed};
+
+/// Which device failed while a file was compiled.
+#[derive(Clone, Copy, Debug, PartialEq, Eq)]
+pub(crate) enum CompileFault {
+    /// The file was not read.
+    Read,
+    /// A sink didn't take what the file gives.
+    Write,
+}
 
 /// Compiles each file. The keeper takes the program of a good one; of a faulty one puts the diagnostic.
 ///
@@ -49,8 +59,7 @@ pub(crate) fn compile_all<K: TakesPrograms, F: Feed, O: Sink, E: Sink>(
     let mut names = Scope::new();
     for file in 0..feeds.len() {
         let name = file_name(words[file].as_bytes());
-        names.clear();
-        let put = match compile_file(
+        let compiled = match compile_file(
             keeper,
             profile,
             name,
@@ -59,12 +68,9 @@ pub(crate) fn compile_all<K: TakesPrograms, F: Feed, O: Sink, E: Sink>(
             out,
             err,
         ) {
-            Ok(put) => put,
-            Err(DeviceFault) => return Err(RunFault::Read(file)),
-        };
-        let compiled = match put {
             Ok(compiled) => compiled,
-            Err(DeviceFault) => return Err(RunFault::Write),
+            Err(CompileFault::Read) => return Err(RunFault::Read(file)),
+            Err(CompileFault::Write) => return Err(RunFault::Write),
         };
         status = worse_status(status, compiled);
     }
@@ -81,9 +87,9 @@ pub(crate) fn worse_status(first: Status, second: Status) -> Status
     }
 }
 
-/// Compiles the file of a feed. The keeper takes a good file's program; of a faulty one puts the diagnostic. Answers
-/// whether the file was read, and then whether all was put, and then whether the file is good. The file's names are left
-/// in a scope that knew none: they are large, so they stay where the caller made them.
+/// Compiles the file of a feed, and answers whether it is good. The keeper takes a good file's program; of a faulty one
+/// puts the diagnostic. The file's names take the place of those in the scope: they are large, so they stay where the
+/// caller made them.
 #[inline(never)]
 fn compile_file<K: TakesPrograms, F: Feed, O: Sink, E: Sink>(
     keeper: &mut K,
@@ -93,37 +99,37 @@ fn compile_file<K: TakesPrograms, F: Feed, O: Sink, E: Sink>(
     feed: &mut F,
     out: &mut O,
     err: &mut E,
-) -> Result<Result<Status, DeviceFault>, DeviceFault>
-    requires nothing { names.old ≡ no_names }
+) -> Result<Status, CompileFault>
     requires keeps { CanKeep profile (K.kept keeper.old) }
     requires ready { AreReady F.device 1 (feed.old ∷ []) (O.written out.old) (E.written err.old) }
     // If the file was not read nothing was put.
-    ensures output { MatchResult result (λ put. (bytes : List ℕ) → (F.device feed.old).to_come ≡ Some bytes
-        → CompilesFile (K.mode keeper.old) profile name.now bytes put (K.kept keeper.old) (K.kept keeper.new)
+    ensures output { IfRead result ((bytes : List ℕ) → (F.device feed.old).to_come ≡ Some bytes
+        → CompilesFile (K.mode keeper.old) profile name.now bytes result (K.kept keeper.old) (K.kept keeper.new)
         (taken_by_sinks (O.written out.old) (E.written err.old)) (taken_by_sinks (O.written out.new) (E.written err.new)))
-        (λ _. (out.new ≡ out.old) × (err.new ≡ err.old)) }
+        ((out.new ≡ out.old) × (err.new ≡ err.old)) }
     ensures keeps { KeepsOn profile result (K.mode keeper.old) (K.mode keeper.new)
         (K.kept keeper.old) (K.kept keeper.new) }
     ensures read { ReadsFile profile result (F.device feed.old).to_come (F.device feed.new).to_come }
     ensures failures { CountsFile result (F.device feed.old).account (F.device feed.new).account
         (O.written out.old) (E.written err.old) (O.written out.new) (E.written err.new) }
 {
+    names.clear();
     let mut maker = Maker::new(profile);
     match parse_into(feed, &mut maker, names) {
         Ok(()) => {
             let names = names.pools();
             match keeper.take_program(name, names, maker.finish(names), out) {
-                Ok(()) => Ok(Ok(Status::Done)),
-                Err(DeviceFault) => Ok(Err(DeviceFault)),
+                Ok(()) => Ok(Status::Done),
+                Err(DeviceFault) => Err(CompileFault::Write),
             }
         }
         Err(ParseFault::Source(Diagnostic { line, code })) => {
             match put_diagnostic(err, name, line, code.text().as_bytes()) {
-                Ok(()) => Ok(Ok(Status::Faulty)),
-                Err(DeviceFault) => Ok(Err(DeviceFault)),
+                Ok(()) => Ok(Status::Faulty),
+                Err(DeviceFault) => Err(CompileFault::Write),
             }
         }
-        Err(ParseFault::Device) => Err(DeviceFault),
+        Err(ParseFault::Device) => Err(CompileFault::Read),
         Err(ParseFault::Memory) => unreachable!(),
     }
 }

@@ -5,7 +5,7 @@ ghost use Rattle.code.specs.Generation.{Program};
 ghost use Rattle.series.specs.Compiling.{listed, listing_piece};
 ghost use Rattle.series.specs.Pieces.{taken_by_sinks};
 ghost use Rattle.series.specs.ProgramKeeping.{CanKeep, and_program};
-ghost use Rattle.series.specs.Runs.{PutsPieces};
+ghost use Rattle.series.specs.CompiledFiles.{PutsPieces};
 ghost use Rattle.settings.specs.declared.settings.Mode.{Mode};
 ghost use Rattle.settings.specs.declared.settings.Mode.TheVariants.{Listing};
 ghost use Rattle.sinks.specs.Portions.{Written};

@@ -12,7 +12,8 @@ ghost use Rattle.series.specs.Playing.{playing};
 ghost use Rattle.sinks.specs.Portions.{Written};
 ghost use Rattle.sinks.specs.Puts.{CanFail, CountsSink};
 ghost use Rattle.series.specs.SourceReading.{ReadsSources};
-ghost use Rattle.series.specs.Runs.{AreSources, Compiles, PutsPieces, told_by};
+ghost use Rattle.series.specs.CompiledFiles.{Compiles, PutsPieces};
+ghost use Rattle.series.specs.SourceContents.{AreSources, told_by};
 ghost use Rattle.settings.specs.declared.settings.Mode.TheVariants.{Matches};
 
 use crate::compiling::compile_all;

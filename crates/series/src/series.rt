@@ -11,7 +11,7 @@ ghost use Rattle.sinks.specs.Puts.{CanFail, Puts};
 
 use crate::reports::put_report;
 use crate::run_results::{SeriesFault, Step};
-use crate::tallies::{Tally, put_totals};
+use crate::totals::{Tally, put_totals};
 use battles::{Machines, Programs, battle};
 use settings::Settings;
 use sinks::Sink;

@@ -1,4 +1,5 @@
--- What a sink took, one portion for each call, in the order of the calls, and how often it failed.
+-- What is said of a sink: the portions that it took, if they are known, and how often it failed. A portion is what one
+-- call took; all portions joined, in the order of the calls, are the bytes that the sink took.
 use Rattle.std.specs.Prelude.{◌≡◌, ℕ, ◌<◌, ◌≤◌, Bool, true, List, [], ◌∷◌, ◌++◌, length, Option, Some, None}
 use Rattle.std.specs.List.{concat}
 
@@ -6,26 +7,27 @@ use Rattle.std.specs.List.{concat}
 abbrev pub buffer_bytes : ℕ
 buffer_bytes = 512
 
--- the portions that a sink took so far, and whether it takes each put whole: all bytes of a call, if it succeeds
+-- of a sink whose contents are known: each portion that it took so far, and whether it takes each put whole, which is
+-- all bytes of a call that succeeds
 pub record Contents : Type 0 where
   pub portions : List (List ℕ)
   pub whole : Bool
 
--- what a sink took so far, if its contents are known
+-- the same of any sink: `None` if its contents aren't known, as those of a real stream
 abbrev pub Portions : Type 0
 Portions = Option Contents
 
--- what is said of a sink: what it took so far, and how many calls failed
+-- all that is said of a sink: which portions it took so far, if they are known, and how many calls failed
 pub record Written : Type 0 where
   pub portions : Portions
   pub failures : ℕ
 
--- the same, with these portions taken since
+-- what is known of a sink after it took these portions more: nothing, if nothing was known before
 abbrev pub and_portions : Portions → List (List ℕ) → Portions
 and_portions None more = None
 and_portions (Some taken) more = Some (record taken { portions = taken.portions ++ more })
 
--- the sink takes each put whole
+-- the sink is known to take each put whole
 abbrev pub TakesWhole : Portions → Type 0
 TakesWhole None = ⊥
 TakesWhole (Some taken) = taken.whole ≡ true

@@ -1,5 +1,5 @@
--- The texts that are written.
-use Rattle.std.specs.Prelude.{ℕ, ◌-◌, List, ◌++◌, length, replicate, codes, decimal, ◌==◌}
+-- How texts name a file, and columns of numbers.
+use Rattle.std.specs.Prelude.{ℕ, ◌-◌, List, ◌++◌, length, replicate, decimal, ◌==◌}
 use Rattle.std.specs.List.{after_last}
 
 -- the name of a file in all texts: the part of its word after the last `/`
@@ -9,7 +9,3 @@ file_name word = after_last (λ b. b == 47) word
 -- a number at the right of a column of this width
 abbrev pub column : ℕ → ℕ → List ℕ
 column width n = replicate (width - length (decimal n)) 32 ++ decimal n
-
--- `{name}:{line}: {text}`
-abbrev pub diagnostic_line : List ℕ → ℕ → List ℕ → List ℕ
-diagnostic_line name line text = name ++ codes ":" ++ decimal line ++ codes ": " ++ text ++ codes "\n"

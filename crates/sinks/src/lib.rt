@@ -11,5 +11,5 @@ pub use memory_sinks::MemorySink;
 pub use pen::{BUFFER_BYTES, Pen};
 pub use sink::{Sink, put_all};
 pub use streams::StreamSink;
-pub use texts::{file_name, put_diagnostic};
+pub use texts::file_name;
 pub use tokens::DeviceFault;

@@ -1,13 +1,11 @@
-//! Numbers, columns and lines of text.
+//! Numbers and columns of text, and the name of a file in it.
 
 ghost use Rattle.std.specs.Prelude.{◌≡◌, ℕ, ◌+◌, ◌-◌, ◌^◌, ◌<◌, ◌≤◌, List, [], ◌∷◌, ◌++◌, length, OnOk, OnErr, decimal, replicate};
-ghost use Rattle.sinks.specs.Puts.{CanFail, Puts};
 ghost use Rattle.sinks.specs.Pens.{Pen, MayFail, Adds};
-ghost use Rattle.sinks.specs.Texts.{file_name, column, diagnostic_line};
+ghost use Rattle.sinks.specs.Texts.{file_name, column};
 
 use crate::pen::Pen;
 use crate::sink::Sink;
-use tokens::DeviceFault;
 
 impl Pen {
     /// Adds a number in decimal.
@@ -57,25 +55,4 @@ pub fn file_name(word: &[u8]) -> &[u8]
         start -= 1;
     }
     &word[start..]
-}
-
-/// Puts the line of a diagnostic: the file's name, the line's number and the diagnostic's text.
-pub fn put_diagnostic<S: Sink>(
-    sink: &mut S,
-    name: &[u8],
-    line: u32,
-    text: &[u8],
-) -> Result<(), DeviceFault>
-    requires { CanFail (S.written sink.old) }
-    ensures { Puts result (S.written sink.old) (S.written sink.new)
-        (diagnostic_line name.now line text.now) }
-{
-    let mut pen = Pen::new();
-    pen.add(sink, name);
-    pen.add(sink, b":");
-    pen.add_number(sink, line);
-    pen.add(sink, b": ");
-    pen.add(sink, text);
-    pen.add(sink, b"\n");
-    pen.finish(sink)
 }

@@ -1,6 +1,7 @@
 //! What no contract says: that calls with room and memory succeed, and how pieces are cut into portions.
 
-use sinks::{MemorySink, Pen, Sink, file_name, put_all, put_diagnostic};
+use series::put_diagnostic;
+use sinks::{MemorySink, Pen, Sink, file_name, put_all};
 use std::alloc::{AllocError, Global};
 use std::process::Abort;
 use std::test::Fail;

@@ -1,7 +1,7 @@
 use Rattle.std.proofs.Common.{◌≡◌, false, map, take}
 use Rattle.std.specs.Prelude.{All}
 use Rattle.command.specs.Files.{EachShows}
-use Rattle.series.specs.Runs.{told_by}
+use Rattle.series.specs.SourceContents.{told_by}
 use Rattle.command.proofs.running.open_files.Given as goal
 
 -- a file for each word so far, of which nothing is read and which has neither failed nor ended

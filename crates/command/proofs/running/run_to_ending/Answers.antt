@@ -3,7 +3,7 @@ use Rattle.std.proofs.lemmas.Simd.{map-map}
 use Rattle.command.specs.Files.{EachShows}
 use Rattle.command.proofs.FilesLemmas.{shown}
 use Rattle.command.proofs.WholeLemmas.{ends_by_run}
-use Rattle.series.specs.Runs.{told_by}
+use Rattle.series.specs.SourceContents.{told_by}
 use Rattle.command.proofs.running.run_to_ending.Goals as goal
 
 pub returns-clause-ends : goal.returns-clause-ends

@@ -1,7 +1,7 @@
 use Rattle.std.proofs.Common.{◌≡◌, List, ℕ, Ok, Some, map, Bor, ap, sym, ◌∙◌, ◌≢◌, rules}
 use Rattle.series.specs.Compiling.{Source}
 use Rattle.series.specs.Pieces.{Taken, on_both}
-use Rattle.series.specs.Runs.{Compiles}
+use Rattle.series.specs.CompiledFiles.{Compiles}
 use Rattle.settings.specs.Settings.{Settings}
 use Rattle.page.specs.declared.films.Shown.TheVariants.{Faulty}
 use Rattle.page.specs.Sheets.{contents_of}

@@ -5,14 +5,14 @@ use Rattle.grammar.specs.Compiled.{compiled}
 use Rattle.series.specs.Compiling.{pieces_of}
 use Rattle.series.specs.Failures.{Failures}
 use Rattle.series.specs.Pieces.{taken_by_sinks}
-use Rattle.series.specs.Runs.{AreSources, told_by}
+use Rattle.series.specs.SourceContents.{AreSources, told_by}
 use Rattle.series.proofs.CompilingLemmas.{all_compiled, all_manned, kept_with, manned_with, none_kept, none_manned, none_other, pieces_more, pieces_cut, room_left, status_more}
 use Rattle.series.proofs.ReadingLemmas.{cut_at, fails_at, reads_all, reads_first, reads_more, same_length}
 use Rattle.series.proofs.RunsLemmas.{all_of_one, feed_here, told_here, name_here, length_sources, no_source, none_failed, read_failed, rest_more, write_failed}
 use Rattle.series.proofs.compiling.compile_all.Goals as goal
 
-pub returns-in-Err-put-clause-read : goal.returns-in-Err-put-clause-read
-returns-in-Err-put-clause-read g c = record {
+pub returns-in-Err-Write-clause-read : goal.returns-in-Err-Write-clause-read
+returns-in-Err-Write-clause-read g c = record {
   count = c.loop-file.file + 1;
   reads =
       reads_first (λ feed. (g.F.Feed.device feed).to_come) c.args.settings.now.profile c.args.feeds.now
@@ -23,7 +23,7 @@ returns-in-Err-put-clause-read g c = record {
       c.loop-file.feeds c.loop-file.file
       c.index-feeds-file.result c.compile_file.new.feed
       (omega arith) c.loop-file.invariant.0 c.loop-file.invariant.5
-      (rw c.profile-profile.ensures.value at c.in-Ok.ensures.read));
+      (rw (c.in-Err-Write.field-0-is, c.profile-profile.ensures.value) at c.in-Err-Write.ensures.read));
   puts = λ sources are.
       let told =
       told_here (λ feed. (g.F.Feed.device feed).to_come) c.args.feeds.now c.loop-file.feeds sources
@@ -35,16 +35,17 @@ returns-in-Err-put-clause-read g c = record {
       (taken_by_sinks (g.O.Sink.written c.compile_file.new.out) (g.E.Sink.written c.compile_file.new.err))
       (pieces_of (g.K.TakesPrograms.mode c.loop-file.keeper) c.profile-profile.result c.file_name-name.result.now
       (compiled c.profile-profile.result (get_or sources c.loop-file.file no_source).bytes))
-      (c.loop-file.invariant.4 sources are).0 ((rw c.in-Err-put.is at c.in-Ok.ensures.output) _ told).output;
+      (c.loop-file.invariant.4 sources are).0
+      ((rw c.in-Err-Write.field-0-is at c.in-Err-Write.ensures.output) _ told).output;
 }
 
-pub returns-in-Err-clause-read : goal.returns-in-Err-clause-read
-returns-in-Err-clause-read g c =
+pub returns-in-Err-Read-clause-read : goal.returns-in-Err-Read-clause-read
+returns-in-Err-Read-clause-read g c =
     fails_at (λ feed. (g.F.Feed.device feed).to_come) c.args.settings.now.profile c.args.feeds.now c.loop-file.feeds
     c.loop-file.file
     c.index-feeds-file.result c.compile_file.new.feed
     (omega arith) c.loop-file.invariant.0 c.loop-file.invariant.5
-    (rw c.profile-profile.ensures.value at c.in-Err.ensures.read)
+    (rw (c.in-Err-Read.field-0-is, c.profile-profile.ensures.value) at c.in-Err-Read.ensures.read)
 
 pub loop-file-preserved : goal.loop-file-preserved
 loop-file-preserved g c = (
@@ -53,13 +54,13 @@ loop-file-preserved g c = (
     none_failed (λ feed. (g.F.Feed.device feed).account) c.loop-file.feeds c.loop-file.file c.index-feeds-file.result
         c.compile_file.new.feed
         c.in-Ok.ensures.failures.feed,
-    (rw c.in-Ok-put.is at c.in-Ok.ensures.failures.sinks).0,
-    (rw c.in-Ok-put.is at c.in-Ok.ensures.failures.sinks).1,
+    c.in-Ok.ensures.failures.sinks.0,
+    c.in-Ok.ensures.failures.sinks.1,
   ) c.loop-file.invariant.1,
   c.compile_file.ensures.keeps.same_mode ∙ c.loop-file.invariant.2,
   rw c.worse_status-status.ensures
-      (manned_with c.loop-file.status c.in-Ok-put.compiled c.loop-file.file _ _
-      (rw c.in-Ok-put.is at c.in-Ok.ensures.keeps.manned) c.loop-file.invariant.3),
+      (manned_with c.loop-file.status c.in-Ok.compiled c.loop-file.file _ _
+      c.in-Ok.ensures.keeps.manned c.loop-file.invariant.3),
   λ sources are.
       let within : c.loop-file.file < length c.args.feeds.now = omega arith in
       let Named : List (List ℕ) → Type 0 =
@@ -91,17 +92,17 @@ loop-file-preserved g c = (
                   c.as_bytes.result.now
                   c.file_name-name.result.now
                   named in_words c.as_bytes.ensures.value c.file_name-name.ensures,
-            ) at ((rw c.in-Ok-put.is at c.in-Ok.ensures.output) _ told).output),
+            ) at (c.in-Ok.ensures.output _ told).output),
         c.worse_status-status.ensures
             ∙
-            status_more c.args.settings.now.profile sources c.loop-file.file c.loop-file.status c.in-Ok-put.compiled
+            status_more c.args.settings.now.profile sources c.loop-file.file c.loop-file.status c.in-Ok.compiled
             in_sources (c.loop-file.invariant.4 sources are).1
-            (rw c.profile-profile.ensures.value at ((rw c.in-Ok-put.is at c.in-Ok.ensures.output) _ told).status),
+            (rw c.profile-profile.ensures.value at (c.in-Ok.ensures.output _ told).status),
         rw c.worse_status-status.ensures
-            (kept_with c.args.settings.now.profile sources c.loop-file.file c.loop-file.status c.in-Ok-put.compiled _ _
+            (kept_with c.args.settings.now.profile sources c.loop-file.file c.loop-file.status c.in-Ok.compiled _ _
             in_sources (c.loop-file.invariant.4 sources are).2
-            (rw c.profile-profile.ensures.value at ((rw c.in-Ok-put.is at c.in-Ok.ensures.output) _ told).status)
-            (rw c.profile-profile.ensures.value at ((rw c.in-Ok-put.is at c.in-Ok.ensures.output) _ told).keeps)),
+            (rw c.profile-profile.ensures.value at (c.in-Ok.ensures.output _ told).status)
+            (rw c.profile-profile.ensures.value at (c.in-Ok.ensures.output _ told).keeps)),
       ),
   reads_more (λ feed. (g.F.Feed.device feed).to_come) c.args.settings.now.profile c.args.feeds.now c.loop-file.feeds
       c.loop-file.file
@@ -111,28 +112,30 @@ loop-file-preserved g c = (
   rw c.profile-profile.ensures.value at c.compile_file.ensures.keeps.alike,
 )
 
-pub returns-in-Err-clause-failures : goal.returns-in-Err-clause-failures
-returns-in-Err-clause-failures g c =
-    let within : c.loop-file.file < length c.args.feeds.now = omega arith in (
+pub returns-in-Err-Read-clause-failures : goal.returns-in-Err-Read-clause-failures
+returns-in-Err-Read-clause-failures g c =
+    let within : c.loop-file.file < length c.args.feeds.now = omega arith in
+    let nothing = rw c.in-Err-Read.field-0-is at c.in-Err-Read.ensures.output in (
       rw (length-map c.args.feeds.now (λ feed. (g.F.Feed.device feed).account)) within,
-      rw (c.in-Err.ensures.output.0, c.in-Err.ensures.output.1)
+      rw (nothing.0, nothing.1)
           (read_failed (λ feed. (g.F.Feed.device feed).account) c.args.feeds.now c.loop-file.feeds c.loop-file.file _ _
           _ _
           c.index-feeds-file.result c.compile_file.new.feed
           c.loop-file.invariant.1
           (same_length c.args.feeds.now c.loop-file.feeds c.loop-file.file within c.loop-file.invariant.0)
-          c.in-Err.ensures.failures.feed),
+          (rw c.in-Err-Read.field-0-is at c.in-Err-Read.ensures.failures.feed)),
     )
 
-pub returns-in-Err-put-clause-failures : goal.returns-in-Err-put-clause-failures
-returns-in-Err-put-clause-failures g c =
+pub returns-in-Err-Write-clause-failures : goal.returns-in-Err-Write-clause-failures
+returns-in-Err-Write-clause-failures g c =
     write_failed (λ feed. (g.F.Feed.device feed).account) c.args.feeds.now c.loop-file.feeds c.loop-file.file _ _ _ _ _
     _
     c.index-feeds-file.result c.compile_file.new.feed
-    c.loop-file.invariant.1 c.in-Ok.ensures.failures.feed (rw c.in-Err-put.is at c.in-Ok.ensures.failures.sinks)
+    c.loop-file.invariant.1 (rw c.in-Err-Write.field-0-is at c.in-Err-Write.ensures.failures.feed)
+    (rw c.in-Err-Write.field-0-is at c.in-Err-Write.ensures.failures.sinks)
 
-pub returns-in-Err-put-clause-output : goal.returns-in-Err-put-clause-output
-returns-in-Err-put-clause-output g c =
+pub returns-in-Err-Write-clause-output : goal.returns-in-Err-Write-clause-output
+returns-in-Err-Write-clause-output g c =
     λ sources are. record {
       output = (
           let within : c.loop-file.file < length c.args.feeds.now = omega arith in
@@ -166,7 +169,7 @@ returns-in-Err-put-clause-output g c =
                 c.as_bytes.result.now
                 c.file_name-name.result.now
                 named in_words c.as_bytes.ensures.value c.file_name-name.ensures,
-          ) at ((rw c.in-Err-put.is at c.in-Ok.ensures.output) _ told).output)
+          ) at ((rw c.in-Err-Write.field-0-is at c.in-Err-Write.ensures.output) _ told).output)
           );
       programs = tt;
     }
@@ -217,19 +220,22 @@ loop-file-init g c = (
   none_other _ _ c.requires.new.none,
 )
 
-pub returns-in-Err-clause-output : goal.returns-in-Err-clause-output
-returns-in-Err-clause-output g c =
+pub returns-in-Err-Read-clause-output : goal.returns-in-Err-Read-clause-output
+returns-in-Err-Read-clause-output g c =
     λ sources are. record {
-      output = rw (c.in-Err.ensures.output.0, c.in-Err.ensures.output.1) (c.loop-file.invariant.4 sources are).0;
+      output = (
+          let nothing = rw c.in-Err-Read.field-0-is at c.in-Err-Read.ensures.output in
+          rw (nothing.0, nothing.1) (c.loop-file.invariant.4 sources are).0
+          );
       programs = tt;
     }
 
-pub returns-in-Err-clause-keeps : goal.returns-in-Err-clause-keeps
-returns-in-Err-clause-keeps g c =
+pub returns-in-Err-Read-clause-keeps : goal.returns-in-Err-Read-clause-keeps
+returns-in-Err-Read-clause-keeps g c =
     record { alike = rw c.profile-profile.ensures.value at c.compile_file.ensures.keeps.alike; manned = tt }
 
-pub returns-in-Err-put-clause-keeps : goal.returns-in-Err-put-clause-keeps
-returns-in-Err-put-clause-keeps g c =
+pub returns-in-Err-Write-clause-keeps : goal.returns-in-Err-Write-clause-keeps
+returns-in-Err-Write-clause-keeps g c =
     record { alike = rw c.profile-profile.ensures.value at c.compile_file.ensures.keeps.alike; manned = tt }
 
 pub returns-clause-output : goal.returns-clause-output

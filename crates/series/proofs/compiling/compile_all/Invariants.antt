@@ -6,7 +6,7 @@ use Rattle.series.specs.Failures.{failures}
 use Rattle.series.specs.Pieces.{taken_by_sinks, Writes}
 use Rattle.series.specs.SourceReading.{TakesOfFirst}
 use Rattle.series.specs.ProgramKeeping.{kept_by}
-use Rattle.series.specs.Runs.{AreSources, told_by}
+use Rattle.series.specs.SourceContents.{AreSources, told_by}
 use Rattle.series.proofs.CompilingLemmas.{IsManned}
 use Rattle.series.proofs.compiling.compile_all.Given as goal
 

@@ -3,7 +3,7 @@ use Rattle.series.specs.Pieces.{taken_by_sinks}
 use Rattle.series.specs.Playing.{playing}
 use Rattle.series.proofs.OutputLemmas.{faulty_run, kept_codes, plays_run, stops_run}
 use Rattle.series.proofs.ReadingLemmas.{cut_behind, reads_played}
-use Rattle.series.specs.Runs.{told_by}
+use Rattle.series.specs.SourceContents.{told_by}
 use Rattle.series.proofs.runs.play_files.Goals as goal
 
 pub play_all-requires-clause-manned : goal.play_all-requires-clause-manned

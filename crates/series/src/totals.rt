@@ -12,6 +12,7 @@ ghost use Rattle.series.specs.Lines.{lines_text};
 ghost use Rattle.series.specs.Totals.{totals, score_line, score_lines, survivors};
 
 use crate::robot_names::robot_name;
+use arena::DEADLY;
 use battles::Outcome;
 use settings::MOST_FILES;
 use sinks::{Pen, Sink};
@@ -110,7 +111,7 @@ fn survivor_count(outcome: &Outcome) -> usize
     outcome
         .damages()
         .iter()
-        .filter(|damage| **damage < 100)
+        .filter(|damage| **damage < DEADLY)
         .count()
 }
 

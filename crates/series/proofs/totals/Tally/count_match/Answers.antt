@@ -2,7 +2,7 @@ use Rattle.std.proofs.Common.{refl, ◌<◌, ◌∙◌, ap, sym, arith}
 use Rattle.battles.specs.Battle.{alive}
 use Rattle.series.specs.SeriesSteps.{with_match}
 use Rattle.series.proofs.CoursesLemmas.{score_more}
-use Rattle.series.proofs.tallies.Tally.count_match.Goals as goal
+use Rattle.series.proofs.totals.Tally.count_match.Goals as goal
 
 pub returns-clause-tally : goal.returns-clause-tally
 returns-clause-tally c = λ ended is i below.

@@ -1,41 +1,23 @@
 -- What compiling leaves: what the sinks took, and the programs.
-use Rattle.std.specs.Prelude.{◌≡◌, ℕ, List, Option, Some, Result, MatchResult, IfOk, IfSome, map, take}
-use Rattle.tokens.specs.Feed.{Device}
+use Rattle.std.specs.Prelude.{◌≡◌, ℕ, List, Option, Result, MatchResult, IfOk, IfSome}
 use Rattle.grammar.specs.Compiled.{compiled}
 use Rattle.grammar.specs.Profile.{Profile}
 use Rattle.code.specs.Generation.{Program}
 use Rattle.settings.specs.declared.settings.Mode.{Mode}
 use Rattle.settings.specs.Settings.{Settings}
+use Rattle.series.specs.declared.compiling.CompileFault.{CompileFault}
 use Rattle.series.specs.declared.run_results.RunFault.{RunFault}
-use Rattle.series.specs.declared.run_results.RunFault.TheVariants as fault
 use Rattle.series.specs.declared.run_results.Status.{Status}
 use Rattle.series.specs.Compiling.{Source, codes_of, compiled_code, compiling, files_of, pieces_of, compile_status}
 use Rattle.series.specs.ProgramKeeping.{and_compiled, kept_by, status_by}
+use Rattle.series.specs.Output.{StopsRun}
 use Rattle.series.specs.Pieces.{Piece, Taken, Writes, Begins}
 
--- of each feed the bytes still to come, if its contents are known
-abbrev pub told_by : {F : Type 0} → (F → Device) → List F → List (Option (List ℕ))
-told_by device feeds = map (λ feed. (device feed).to_come) feeds
-
--- the sources have these words, and their bytes are known
-pub record AreSources (sources : List Source) (words : List (List ℕ)) (known : List (Option (List ℕ))) : Type 0 where
-  pub named : map (λ s. s.word) sources ≡ words
-  pub bytes : map (λ s. Some s.bytes) sources ≡ known
-
--- What the sinks took if a device stopped the compiling: after a failed write a beginning of what compiling writes, and
--- after a failed read what the files before it give.
-abbrev pub StopsCompiling : Settings → List Source → RunFault → Taken → Taken → Type 0
-StopsCompiling settings sources (fault.Read file) before after = Writes before after
-    (compiling settings.mode settings.profile (take file sources))
-StopsCompiling settings sources fault.Write before after =
-    Begins before after (compiling settings.mode settings.profile sources)
-StopsCompiling settings sources fault.Memory before after = ⊥
-
--- the files were compiled: the sinks took what that writes, and this is the answer
+-- the files were compiled: the sinks took what that writes, and this is the answer, or a device stopped it
 abbrev pub CompilesTo : {T : Type 0} → T → Settings → List Source → Result T RunFault → Taken → Taken → Type 0
 CompilesTo answer settings sources result before after = MatchResult result
     (λ given. Writes before after (compiling settings.mode settings.profile sources) × (given ≡ answer))
-    (λ fault. StopsCompiling settings sources fault before after)
+    (λ fault. StopsRun settings sources (compiling settings.mode settings.profile sources) fault before after)
 
 -- the programs are theirs, if none has a fault
 abbrev pub Compiles : Settings → List Source → Result (Option (List Program)) RunFault → Taken → Taken → Type 0
@@ -49,11 +31,11 @@ PutsPieces result before after pieces = MatchResult result (λ _. Writes before 
 
 -- A file of these bytes was compiled: the sinks took what that gives, or a beginning of it. If they took all of it, the
 -- status and what is kept then are those of the file.
-pub record CompilesFile {E : Type 0} (mode : Mode) (profile : Profile) (name bytes : List ℕ) (put : Result Status E)
+pub record CompilesFile (mode : Mode) (profile : Profile) (name bytes : List ℕ) (result : Result Status CompileFault)
     (kept later : Option (List Program)) (before after : Taken) : Type 0 where
-  pub output : PutsPieces put before after (pieces_of mode profile name (compiled profile bytes))
-  pub status : IfOk put (λ status. status ≡ status_by (compiled_code profile bytes))
-  pub keeps : IfOk put (λ status. later ≡ and_compiled kept (compiled_code profile bytes))
+  pub output : PutsPieces result before after (pieces_of mode profile name (compiled profile bytes))
+  pub status : IfOk result (λ status. status ≡ status_by (compiled_code profile bytes))
+  pub keeps : IfOk result (λ status. later ≡ and_compiled kept (compiled_code profile bytes))
 
 -- These sources were compiled: the sinks took what that gives, the status is theirs, and their programs are kept.
 pub record CompilesAll (settings : Settings) (sources : List Source) (result : Result Status RunFault)

@@ -1,4 +1,4 @@
-use Rattle.sinks.proofs.texts.put_diagnostic.Goals as goal
+use Rattle.series.proofs.diagnostic_lines.put_diagnostic.Goals as goal
 
 pub returns : goal.returns
 returns g c =

@@ -4,7 +4,7 @@ use Rattle.sinks.specs.Pens.{MayFail, Adds}
 use Rattle.series.specs.RobotNames.{robot_names}
 use Rattle.series.specs.Totals.{score_lines}
 use Rattle.series.specs.Lines.{lines_text}
-use Rattle.series.proofs.tallies.add_scores.Given as goal
+use Rattle.series.proofs.totals.add_scores.Given as goal
 
 -- the lines of so many robots are added
 abbrev pub invariant-loop-robot : goal.invariant-loop-robot

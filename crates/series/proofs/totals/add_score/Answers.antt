@@ -1,5 +1,5 @@
 use Rattle.series.proofs.TextsLemmas.{score_line_added}
-use Rattle.series.proofs.tallies.add_score.Goals as goal
+use Rattle.series.proofs.totals.add_score.Goals as goal
 
 pub returns-clause-text : goal.returns-clause-text
 returns-clause-text g c = λ before text so_far.

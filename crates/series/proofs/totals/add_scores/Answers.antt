@@ -1,12 +1,12 @@
 use Rattle.std.proofs.Common.{◌≡◌, ◌<◌, ◌≤◌, ap, List, ℕ, length, map, get_or, arith}
 use Rattle.std.proofs.lemmas.List.{take_all}
-use Rattle.series.specs.declared.tallies.Score.{Score}
+use Rattle.series.specs.declared.totals.Score.{Score}
 use Rattle.series.specs.SeriesSteps.{no_score, score_at}
 use Rattle.series.specs.RobotNames.{robot_names}
 use Rattle.series.specs.Totals.{score_lines}
 use Rattle.series.proofs.LinesLemmas.{lines_text_then}
 use Rattle.series.proofs.TextsLemmas.{score_line_at, length_score_lines, length_robot_names, robots_there}
-use Rattle.series.proofs.tallies.add_scores.Goals as goal
+use Rattle.series.proofs.totals.add_scores.Goals as goal
 
 pub robot_name-requires : goal.robot_name-requires
 robot_name-requires g c = omega (arith, robots_there c.args.words.now c.requires.some, c.max-robot-end.ensures)

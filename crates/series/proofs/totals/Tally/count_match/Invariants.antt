@@ -2,7 +2,7 @@ use Rattle.std.proofs.Common.{◌≡◌, ℕ, ◌+◌, ◌<◌, ◌≤◌, lengt
 use Rattle.battles.specs.Battle.{alive}
 use Rattle.series.specs.SeriesSteps.{no_score, with_match}
 use Rattle.series.specs.Totals.{survivors}
-use Rattle.series.proofs.tallies.Tally.count_match.Given as goal
+use Rattle.series.proofs.totals.Tally.count_match.Given as goal
 
 -- the scores of so many robots have one more match, and the others are as they were
 abbrev pub invariant-loop-robot : goal.invariant-loop-robot

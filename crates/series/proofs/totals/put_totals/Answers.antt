@@ -1,6 +1,6 @@
 use Rattle.std.proofs.Common.{◌≡◌, ap}
 use Rattle.series.specs.Totals.{totals}
-use Rattle.series.proofs.tallies.put_totals.Goals as goal
+use Rattle.series.proofs.totals.put_totals.Goals as goal
 
 pub returns : goal.returns
 unfolding totals
