@@ -7,8 +7,8 @@ ghost use Rattle.arena.specs.Leg.{clamped, along};
 use crate::axes::SCALE;
 use crate::rules::LAST_PLACE;
 
-/// Returns the coordinate to which a way leads from an origin, in tenths of a metre, perhaps beyond a wall. The way is in
-/// hundred-thousandths of a tenth of a metre.
+/// Returns the coordinate to which a way leads from an origin, in tenths of a metre, perhaps beyond a wall. The way is
+/// in hundred-thousandths of a tenth of a metre.
 #[tactic(auto, unfolding(crate::specs::Leg::along))]
 pub(crate) fn along(origin: u16, way: i32) -> i32
     ensures { result ≡ along origin way }

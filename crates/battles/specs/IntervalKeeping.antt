@@ -10,7 +10,7 @@ use Rattle.engine.specs.declared.questions.Question.{Question}
 use Rattle.engine.specs.Questions.{IsAsked, want_of}
 use Rattle.code.specs.declared.want.Want.TheVariants.{Quiet}
 use Rattle.battles.specs.declared.intervals.TheConstants.{MOST_AHEAD}
-use Rattle.battles.specs.Battle.{Behaviour, Stage}
+use Rattle.battles.specs.Battle.{Behaviour, Stage, update_cycles}
 use Rattle.battles.specs.Carrying.{Runner, EachFits, HasReached}
 use Rattle.battles.specs.Intervals.{AreTurnNumbers, AreWaiting, WaitsToDraw, periods}
 
@@ -45,10 +45,10 @@ pub record KeepsPlayable (exe : Executable) (machine : Engine) (before after : A
   pub robots : length after.robots ≡ length before.robots
   pub updates : after.updates ≡ before.updates
 
--- A machine that runs in an interval of so many cycles may go this far from its begin: not less far than the interval,
--- which is no longer than the cycles between two updates.
+-- How far from the begin of an interval of so many cycles a machine may run: to its end at least, and no further than
+-- any machine runs that asks nothing. An interval is at most the cycles between two updates.
 pub record MayRunAhead (cycles farthest : ℕ) : Type 0 where
-  pub within : cycles ≤ 15
+  pub within : cycles ≤ update_cycles
   pub far : cycles ≤ farthest
   pub near : farthest ≤ MOST_AHEAD
 

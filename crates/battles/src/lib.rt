@@ -21,6 +21,7 @@ mod scheduler;
 mod turns;
 
 pub use battles::battle;
+pub use intervals::UPDATE_CYCLES;
 pub use outcome::Outcome;
 pub use programs::Programs;
 pub use runners::Machines;
