@@ -102,19 +102,39 @@ def surface(folder: Path, only_public: bool) -> bytes:
     return surfaces.read(folder, only_public).encode()
 
 
-def wrong(top: Path, edit: Path) -> str:
-    """What is wrong with an edit: each of its old texts stands once in its file, after the pairs before it; nothing if all is well."""
-    crate, texts, path, old, pairs = edit.parent.parent, {}, "", None, 0
+def pairs(edit: Path) -> tuple[tuple[str, str, str], ...]:
+    """The pairs of an edit, in their order: of each its file, its old and its new text."""
+    found: list[tuple[str, str, str]] = []
+    path, old = "", None
     for line in edit.read_text(encoding="utf-8").split("\n"):
         if line.startswith("file: "):
             path = line.removeprefix("file: ").strip()
         elif line.startswith("old: "):
             old = line.removeprefix("old: ")
         elif line.startswith("new:") and old is not None:
-            if path not in texts:
-                texts[path] = (crate / path).read_text(encoding="utf-8") if (crate / path).is_file() else ""
-            if (found := texts[path].count(old)) != 1:
-                return f"an old text is in {path} {found} times, and not once"
-            texts[path] = texts[path].replace(old, line.removeprefix("new:").removeprefix(" "))
-            old, pairs = None, pairs + 1
-    return "" if pairs else "it has no old and new text"
+            found.append((path, old, line.removeprefix("new:").removeprefix(" ")))
+            old = None
+    return tuple(found)
+
+
+def wrong(top: Path, edit: Path) -> str:
+    """What is wrong with an edit: each of its old texts stands once in its file, after the pairs before it; nothing if all is well."""
+    crate, texts = edit.parent.parent, dict[str, str]()
+    for path, old, new in pairs(edit):
+        if path not in texts:
+            texts[path] = (crate / path).read_text(encoding="utf-8") if (crate / path).is_file() else ""
+        if (found := texts[path].count(old)) != 1:
+            return f"an old text is in {path} {found} times, and not once"
+        texts[path] = texts[path].replace(old, new)
+    return "" if pairs(edit) else "it has no old and new text"
+
+
+def twice(edits: list[Path]) -> list[tuple[Path, Path]]:
+    """The edits that make the change of an earlier one of their crate, each after that one."""
+    first: dict[tuple[Path, tuple[tuple[str, str, str], ...]], Path] = {}
+    found: list[tuple[Path, Path]] = []
+    for edit in edits:
+        earlier = first.setdefault((edit.parent.parent, pairs(edit)), edit)
+        if earlier != edit:
+            found.append((earlier, edit))
+    return found

@@ -1,5 +1,5 @@
 -- The rules of the field in numbers. Places and distances are in tenths of a metre, headings in degrees, speeds and
--- damage in percent, if nothing else is said. What a burst takes is in `ring` (Shots).
+-- damage in percent, if nothing else is said.
 use Rattle.std.specs.Prelude.{ℕ}
 
 -- both axes of the field go from 0 to here
@@ -54,6 +54,25 @@ missile_speed = 50
 
 abbrev pub most_missiles : ℕ
 most_missiles = 2
+
+-- how far the three rings of a burst reach, and what a burst takes in each
+abbrev pub inner_ring : ℕ
+inner_ring = 50
+
+abbrev pub inner_ring_damage : ℕ
+inner_ring_damage = 10
+
+abbrev pub middle_ring : ℕ
+middle_ring = 200
+
+abbrev pub middle_ring_damage : ℕ
+middle_ring_damage = 5
+
+abbrev pub last_ring : ℕ
+last_ring = 400
+
+abbrev pub last_ring_damage : ℕ
+last_ring_damage = 3
 
 -- the greatest limit of a random number
 abbrev pub most_random_limit : ℕ

@@ -2,7 +2,7 @@
 use Rattle.std.specs.Prelude.{ℕ, ◌+◌, ◌*◌, max, ◌&&◌, ◌==◌, nat_lt, nat_le, if◌then◌else◌, List, filter, map, pos, ◌*ℤ◌}
 use Rattle.std.specs.Int.{div_ceil}
 use Rattle.arith.specs.Circle.{sine_at, cosine_at}
-use Rattle.arena.specs.Rules.{last_place, missile_speed}
+use Rattle.arena.specs.Rules.{last_place, missile_speed, inner_ring, inner_ring_damage, middle_ring, middle_ring_damage, last_ring, last_ring_damage}
 use Rattle.arena.specs.Leg.{Leg, clamped, along, place_x, place_y}
 use Rattle.arena.specs.Field.{Shot}
 use Rattle.arena.specs.Collisions.{square}
@@ -35,12 +35,12 @@ in_air updates owner shots = filter (λ s. (s.owner == owner) && nat_lt updates 
 unfoldable pub due_at : ℕ → List Shot → List Shot
 due_at update shots = filter (λ s. s.burst == update) shots
 
--- the damage of a burst at this squared distance, by the smallest ring: 5, 20 and 40 metres
+-- the damage of a burst at this squared distance: that of the smallest ring that reaches there
 unfoldable pub ring : ℕ → ℕ
 ring square =
-    if nat_le square (50 * 50) then 10
-    else if nat_le square (200 * 200) then 5
-    else if nat_le square (400 * 400) then 3
+    if nat_le square (inner_ring * inner_ring) then inner_ring_damage
+    else if nat_le square (middle_ring * middle_ring) then middle_ring_damage
+    else if nat_le square (last_ring * last_ring) then last_ring_damage
     else 0
 
 -- what each burst of an update takes from a robot at a place

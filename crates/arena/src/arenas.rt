@@ -6,7 +6,7 @@ ghost use Rattle.arena.specs.Rules.{last_place};
 ghost use Rattle.arena.specs.Leg.{clamped, place_x, place_y};
 ghost use Rattle.arena.specs.Field.{Field, no_robot, damage_of, robot_at, is_live, live_count};
 ghost use Rattle.arena.specs.Moved.{moved};
-ghost use Rattle.arena.specs.Still.{IsStill, moved_times};
+ghost use Rattle.arena.specs.Still.{IsStill, Stays, moved_times};
 ghost use Rattle.arena.specs.Start.{start};
 ghost use Rattle.arena.specs.Placed.{placed, IsPlace};
 ghost use Rattle.arena.specs.Answer.{answer};
@@ -20,7 +20,7 @@ use crate::robots::Robot;
 use crate::rules::{DEADLY, MOST_MISSILES, MOST_RANGE, MOST_RESOLUTION, MOST_ROBOTS, MOST_SPEED};
 use crate::scans::nearest_range;
 use crate::starts::{drawn_robots, placed_robots};
-use crate::updates::{is_still, move_robots};
+use crate::updates::move_robots;
 use arith::{atan, cos, norm_degree, root, sin, tan};
 use arrayvec::ArrayVec;
 use grammar::Intrinsic;
@@ -342,6 +342,29 @@ fn two_are_live(robots: &[Robot]) -> bool
         }
     }
     false
+}
+
+/// Reports whether an update changes nothing but the number of updates: each robot is dead or at rest, and no missile
+/// is in the air.
+fn is_still(robots: &[Robot], missiles: &Missiles) -> bool
+    ensures { result ≡ true → IsStill robots.now missiles.now }
+{
+    if missiles.may_burst() {
+        return false;
+    }
+    all_stay(robots) && missiles.none_flies()
+}
+
+/// Reports whether each robot is dead or at rest.
+fn all_stay(robots: &[Robot]) -> bool
+    ensures { result ≡ true → All Stays robots.now }
+{
+    for robot in robots {
+        if !robot.stays() {
+            return false;
+        }
+    }
+    true
 }
 
 /// Returns a number from 0 to `most` as it is, and the nearer end of that range for any other.

@@ -6,7 +6,7 @@ ghost use Rattle.arena.specs.Sums.{sum_from, is_beyond, place_of, place_near, Is
 
 use crate::rules::{LAST_METRE, LAST_PLACE, MOST_SPEED};
 
-/// How many of them a tenth of a metre has.
+/// How many of them a tenth of a metre has: a way is in the same units.
 pub const SCALE: i32 = 100_000;
 
 /// The greatest sum of a place of the field.

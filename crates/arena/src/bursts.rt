@@ -7,7 +7,17 @@ ghost use Rattle.arena.specs.Shots.{ring};
 ghost use Rattle.arena.specs.Due.{harm};
 
 use crate::points::Point;
-use crate::rules::{LAST_RING, MOST_BURSTS, MOST_HARM, MOST_HARM_OF_ALL, MOST_ROBOTS};
+use crate::rules::{
+    INNER_RING, LAST_RING, LAST_RING_DAMAGE, MIDDLE_RING, MIDDLE_RING_DAMAGE, MOST_BURSTS,
+    MOST_HARM, MOST_HARM_OF_ALL, MOST_ROBOTS,
+};
+
+/// The squared radius of each ring.
+const INNER_SQUARE: u32 = INNER_RING as u32 * INNER_RING as u32;
+
+const MIDDLE_SQUARE: u32 = MIDDLE_RING as u32 * MIDDLE_RING as u32;
+
+const LAST_SQUARE: u32 = LAST_RING as u32 * LAST_RING as u32;
 
 /// A missile that bursts in an update: the robot that fired it, and the place of the burst.
 #[derive(Clone, Copy, Default, Drop)]
@@ -93,17 +103,20 @@ fn is_far(from: u16, to: u16) -> bool
     difference < -i32::from(LAST_RING) || difference > i32::from(LAST_RING)
 }
 
-/// Returns the damage in percent of a burst at a squared distance in tenths of a metre: by the smallest ring of 5, 20
-/// and 40 metres.
+/// Returns the damage in percent of a burst at a squared distance in tenths of a metre: that of the smallest ring that
+/// reaches there.
 #[tactic(auto, unfolding(crate::specs::Shots::ring))]
 fn ring(square: u32) -> u8
     ensures value { result ≡ ring square }
     ensures most { result ≤ MOST_HARM }
 {
-    match square {
-        0..=2_500 => MOST_HARM,
-        2_501..=40_000 => 5,
-        40_001..=160_000 => 3,
-        _ => 0,
+    if square <= INNER_SQUARE {
+        MOST_HARM
+    } else if square <= MIDDLE_SQUARE {
+        MIDDLE_RING_DAMAGE
+    } else if square <= LAST_SQUARE {
+        LAST_RING_DAMAGE
+    } else {
+        0
     }
 }

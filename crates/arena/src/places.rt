@@ -4,17 +4,16 @@ ghost use Rattle.std.specs.Prelude.{◌≡◌, ◌≤◌};
 ghost use Rattle.arena.specs.Rules.{last_place};
 ghost use Rattle.arena.specs.Leg.{clamped, along};
 
+use crate::axes::SCALE;
 use crate::rules::LAST_PLACE;
 
-/// Ways are in hundred-thousandths of a tenth of a metre.
-const WAY_SCALE: i32 = 100_000;
-
-/// Returns the coordinate to which a way leads from an origin, in tenths of a metre, perhaps beyond a wall.
+/// Returns the coordinate to which a way leads from an origin, in tenths of a metre, perhaps beyond a wall. The way is
+/// in hundred-thousandths of a tenth of a metre.
 #[tactic(auto, unfolding(crate::specs::Leg::along))]
 pub(crate) fn along(origin: u16, way: i32) -> i32
     ensures { result ≡ along origin way }
 {
-    i32::from(origin) + way / WAY_SCALE
+    i32::from(origin) + way / SCALE
 }
 
 /// Returns the place of the field that is nearest to a coordinate.

@@ -1,5 +1,5 @@
 //! The rules of the field in numbers. Places and distances are in tenths of a metre, speeds and damage in percent, if
-//! nothing else is said. What a burst takes is in `bursts`.
+//! nothing else is said.
 
 /// The most robots in a match.
 pub const MOST_ROBOTS: usize = 4;
@@ -55,14 +55,26 @@ pub const MOST_MISSILES: usize = 2;
 /// The most missiles that burst in an update.
 pub const MOST_BURSTS: usize = MOST_ROBOTS * MOST_MISSILES;
 
-/// The most that a burst takes.
+/// The radius of the inner ring of a burst.
+pub const INNER_RING: u16 = 50;
+
+/// The radius of the middle ring of a burst.
+pub const MIDDLE_RING: u16 = 200;
+
+/// The radius of the last ring of a burst, the widest.
+pub const LAST_RING: u16 = 400;
+
+/// What a burst takes in the inner ring, and the most that a burst takes.
 pub const MOST_HARM: u8 = 10;
+
+/// What a burst takes in the middle ring.
+pub const MIDDLE_RING_DAMAGE: u8 = 5;
+
+/// What a burst takes in the last ring.
+pub const LAST_RING_DAMAGE: u8 = 3;
 
 /// The most that the bursts of an update take.
 pub const MOST_HARM_OF_ALL: u8 = MOST_BURSTS as u8 * MOST_HARM;
-
-/// The radius of the widest ring of a burst.
-pub const LAST_RING: u16 = 400;
 
 /// The greatest limit of a random number.
 pub const MOST_RANDOM_LIMIT: i32 = 32767;

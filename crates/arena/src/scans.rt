@@ -100,7 +100,9 @@ fn range_at(square: u32) -> u16
     whole_root(square.max(1))
 }
 
-/// Returns the whole root of a squared distance, by Newton's steps down from a guess that isn't below it.
+/// Returns the whole root of a squared distance, by Newton's steps down from a guess that isn't below it. `arith::root`
+/// is the same number, with one or two divisions more: it begins further above the root, and ends with a step that leads
+/// no further down.
 fn whole_root(square: u32) -> u16
     requires some { 0 < square }
     requires most { square ≤ MOST_SQUARE }

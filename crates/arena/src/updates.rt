@@ -13,7 +13,7 @@
 //! `move_robots` answers for how many more updates they are known to be apart: 0 after `move_close_robots`. The arena
 //! keeps that number for the next update.
 
-ghost use Rattle.std.specs.Prelude.{◌≡◌, ℕ, ◌+◌, ◌/◌, ◌<◌, ◌≤◌, List, All, map, true, length};
+ghost use Rattle.std.specs.Prelude.{◌≡◌, ℕ, ◌+◌, ◌/◌, ◌<◌, ◌≤◌, List, All, map, length};
 ghost use Rattle.arena.specs.Field.{Shot, FieldRobot, Field};
 ghost use Rattle.arena.specs.Collisions.{mover, touches};
 ghost use Rattle.arena.specs.Moved.{moved_robot, moved};
@@ -21,7 +21,6 @@ ghost use Rattle.arena.specs.Arena.{robot_of};
 ghost use Rattle.arena.specs.Ahead.{robot_ahead};
 ghost use Rattle.arena.specs.Due.{HarmLikeShots};
 ghost use Rattle.arena.specs.Apart.{robot_in, gap, IsNearby, IsAtPlace, AreApartFor};
-ghost use Rattle.arena.specs.Still.{Stays, IsStill};
 ghost use Rattle.arena.specs.Representing.{HoldsShots};
 
 use crate::axes::{LAST_SUM, SCALE};
@@ -37,29 +36,6 @@ const CLOSE: u32 = NEAR as u32 * SCALE as u32;
 
 /// By how much the sums of two robots come nearer to each other in an update, at most: each moves ten metres.
 const APPROACH: u32 = 2 * MOST_SPEED as u32 * SCALE as u32;
-
-/// Reports whether an update changes nothing but the number of updates: each robot is dead or at rest, and no missile
-/// is in the air.
-pub fn is_still(robots: &[Robot], missiles: &Missiles) -> bool
-    ensures { result ≡ true → IsStill robots.now missiles.now }
-{
-    if missiles.may_burst() {
-        return false;
-    }
-    all_stay(robots) && missiles.none_flies()
-}
-
-/// Reports whether each robot is dead or at rest.
-fn all_stay(robots: &[Robot]) -> bool
-    ensures { result ≡ true → All Stays robots.now }
-{
-    for robot in robots {
-        if !robot.stays() {
-            return false;
-        }
-    }
-    true
-}
 
 /// Moves all robots on, each as far as walls let it, and returns what collisions have to know.
 pub fn move_all_as_movers(robots: &mut [Robot]) -> ArrayVec<Mover, MOST_ROBOTS>
@@ -178,9 +154,9 @@ fn updates_apart(robots: &[Robot]) -> u32
 
 /// Moves robots on that don't come close to each other for some updates, and returns for how many more they don't.
 #[inline(always)]
-fn move_apart_robots(robots: &mut [Robot], missiles: &Missiles, update: u32, calm: u32) -> u32
-    requires some { 0 < calm }
-    requires far { AreApartFor calm robots.old }
+fn move_apart_robots(robots: &mut [Robot], missiles: &Missiles, update: u32, apart: u32) -> u32
+    requires some { 0 < apart }
+    requires far { AreApartFor apart robots.old }
     ensures far { AreApartFor result robots.new }
     ensures robots { (f : Field) → update ≡ f.updates + 1 → robots.old ≡ map robot_of f.robots
         → HoldsShots f.updates missiles.now f.shots → robots.new ≡ map robot_of (moved f).robots }
@@ -189,7 +165,7 @@ fn move_apart_robots(robots: &mut [Robot], missiles: &Missiles, update: u32, cal
     if !missiles.is_quiet(update) {
         hurt_near_bursts(robots, missiles, update);
     }
-    calm - 1
+    apart - 1
 }
 
 /// Moves robots on of which it isn't known whether any come close to each other, and returns for how many more updates
@@ -201,26 +177,26 @@ fn move_measured_robots(robots: &mut [Robot], missiles: &Missiles, update: u32) 
     ensures robots { (f : Field) → update ≡ f.updates + 1 → robots.old ≡ map robot_of f.robots
         → HoldsShots f.updates missiles.now f.shots → robots.new ≡ map robot_of (moved f).robots }
 {
-    let calm = updates_apart(robots);
-    if calm == 0 {
+    let apart = updates_apart(robots);
+    if apart == 0 {
         move_close_robots(robots, missiles, update);
         return 0;
     }
-    move_apart_robots(robots, missiles, update, calm)
+    move_apart_robots(robots, missiles, update, apart)
 }
 
 /// Moves robots to where they are after an update, of which this is the number, and returns for how many more updates
 /// no two of them come close to each other, as far as it is known. Whether any may is asked only if it isn't known that
 /// they don't.
-pub fn move_robots(robots: &mut [Robot], missiles: &Missiles, update: u32, calm: u32) -> u32
+pub fn move_robots(robots: &mut [Robot], missiles: &Missiles, update: u32, apart: u32) -> u32
     requires most { length robots.old ≤ MOST_ROBOTS }
-    requires far { AreApartFor calm robots.old }
+    requires far { AreApartFor apart robots.old }
     ensures far { AreApartFor result robots.new }
     ensures robots { (f : Field) → update ≡ f.updates + 1 → robots.old ≡ map robot_of f.robots
         → HoldsShots f.updates missiles.now f.shots → robots.new ≡ map robot_of (moved f).robots }
 {
-    if calm == 0 {
+    if apart == 0 {
         return move_measured_robots(robots, missiles, update);
     }
-    move_apart_robots(robots, missiles, update, calm)
+    move_apart_robots(robots, missiles, update, apart)
 }

@@ -13,7 +13,7 @@ use Rattle.battles.specs.Carrying.{Runner, AreRobotsOf, EachIsAheadOf, HasReache
 use Rattle.battles.specs.Intervals.{AreTurnNumbers, HasCome, HasRunAlone, IsLike, OthersArePast, alone, RunsAlone, turns_left, is_left, rounds}
 use Rattle.battles.proofs.Alike.{stands_like, stages_refl, like_same, stages_trans}
 use Rattle.battles.proofs.Commuting.{TurnsAlone}
-use Rattle.battles.proofs.Turns.{rest_all, rest_none, left_not, turn_numbers_one, turn_numbers_set, next_taken}
+use Rattle.battles.proofs.TurnNumbers.{rest_all, rest_none, left_not, turn_numbers_one, turn_numbers_set, next_taken}
 use Rattle.battles.proofs.Stages.{robot_at, robots_length, stands_at, stands_set}
 
 -- a robot has run alone for so many cycles

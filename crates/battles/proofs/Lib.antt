@@ -3,7 +3,7 @@ pub mod Stages
 pub mod Cycles
 pub mod Alike
 pub mod Commuting
-pub mod Turns
+pub mod TurnNumbers
 pub mod Ahead
 pub mod Passed
 pub mod Skipping

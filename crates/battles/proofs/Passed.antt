@@ -16,7 +16,7 @@ use Rattle.battles.proofs.Ahead.{Runs, come_alone, opens, closes}
 use Rattle.battles.proofs.Alone.{quiet_alone, quiet_runs}
 use Rattle.battles.proofs.Running.{at_less, quiet_less}
 use Rattle.battles.proofs.Stages.{fits_at, fits_length, fits_set}
-use Rattle.battles.proofs.Turns.{turn_numbers_set}
+use Rattle.battles.proofs.TurnNumbers.{turn_numbers_set}
 
 -- a live robot goes on
 pub goes_ahead : (runner : Runner) (exe : Executable) (r : Behaviour) (i : ℕ) (f : Field) (trace : List ℤ) (n : ℕ)

@@ -42,9 +42,12 @@ unfoldable pub turns : List Behaviour → ℕ → Stage → Stage
 turns robots zero stage = stage
 turns robots (suc n) stage = turn robots n (turns robots n stage)
 
--- an update of the field follows every 15th cycle
+-- an update of the field follows each cycle whose number is a multiple of this
+abbrev pub update_cycles : ℕ
+update_cycles = 15
+
 unfoldable pub is_due : ℕ → Bool
-is_due number = number % 15 == 0
+is_due number = number % update_cycles == 0
 
 unfoldable pub updated : ℕ → Stage → Stage
 updated number stage =

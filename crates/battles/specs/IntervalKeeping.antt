@@ -1,12 +1,16 @@
 -- What playing an interval needs of the machines and the arena, and what it keeps.
-use Rattle.std.specs.Prelude.{◌≡◌, ℕ, ◌<◌, ◌≤◌, ◌*◌, List, Bool, length, slice_index_or, nat_le}
+use Rattle.std.specs.Prelude.{◌≡◌, ◌≢◌, ℕ, ◌<◌, ◌≤◌, ◌*◌, List, Bool, true, length, slice_index_or, nat_le}
 use Rattle.arena.specs.Field.{live_count}
-use Rattle.arena.specs.Arena.{Arena}
+use Rattle.arena.specs.Arena.{Arena, lives}
 use Rattle.arena.specs.declared.rules.TheConstants.{MOST_ROBOTS}
 use Rattle.engine.specs.Executables.{Executable}
 use Rattle.engine.specs.declared.engines.Engine.{Engine}
 use Rattle.engine.specs.Engines.{EngineFits}
-use Rattle.battles.specs.Battle.{Behaviour, Stage}
+use Rattle.engine.specs.declared.questions.Question.{Question}
+use Rattle.engine.specs.Questions.{IsAsked, want_of}
+use Rattle.code.specs.declared.want.Want.TheVariants.{Quiet}
+use Rattle.battles.specs.declared.intervals.TheConstants.{MOST_AHEAD}
+use Rattle.battles.specs.Battle.{Behaviour, Stage, update_cycles}
 use Rattle.battles.specs.Carrying.{Runner, EachFits, HasReached}
 use Rattle.battles.specs.Intervals.{AreTurnNumbers, AreWaiting, WaitsToDraw, periods}
 
@@ -27,11 +31,26 @@ pub record CanPlay (i : ℕ) (exe : Executable) (machine : Engine) (arena : Aren
   pub inside : i < length arena.robots
   pub fits : EngineFits machine exe
 
--- a robot's turns keep that, the number of robots, and the number of updates
+-- a live one, whose machine asks this: a reply or a restart
+pub record MayTakeTurn (i : ℕ) (exe : Executable) (machine : Engine) (arena : Arena)
+    (question : Question) : Type 0 where
+  pub plays : CanPlay i exe machine arena
+  pub alive : lives arena i ≡ true
+  pub asked : IsAsked exe machine question
+  pub some : want_of question ≢ Quiet
+
+-- a robot's turns keep that it can play, the number of robots, and the number of updates
 pub record KeepsPlayable (exe : Executable) (machine : Engine) (before after : Arena) : Type 0 where
   pub fits : EngineFits machine exe
   pub robots : length after.robots ≡ length before.robots
   pub updates : after.updates ≡ before.updates
+
+-- How far from the begin of an interval of so many cycles a machine may run: to its end at least, and no further than
+-- any machine runs that asks nothing. An interval is at most the cycles between two updates.
+pub record MayRunAhead (cycles farthest : ℕ) : Type 0 where
+  pub within : cycles ≤ update_cycles
+  pub far : cycles ≤ farthest
+  pub near : farthest ≤ MOST_AHEAD
 
 -- A robot ran for n cycles of at most so many. If it stopped before these were over, its machine waits.
 pub record RanWithin (limit n : ℕ) (exe : Executable) (runner : Runner) : Type 0 where

@@ -4,7 +4,7 @@ ghost use Rattle.std.specs.Prelude.{◌≡◌, ◌<◌, ◌≤◌, ◌+◌, List
 ghost use Rattle.arena.specs.Arena.{most_updates};
 ghost use Rattle.battles.specs.Battle.{Behaviour, Stage, stage_after, last_cycle};
 ghost use Rattle.battles.specs.Carrying.{AreRobotsOf, HasReached};
-ghost use Rattle.battles.specs.IntervalKeeping.{AreManned, HasUpdated};
+ghost use Rattle.battles.specs.IntervalKeeping.{AreManned, HasUpdated, MayRunAhead};
 ghost use Rattle.battles.specs.Intervals.{period};
 
 use crate::battle_executables::Executables;
@@ -23,8 +23,7 @@ fn play_period(
 ) -> bool
     requires manned { AreManned executables.now runners.old arena.old }
     requires updates { arena.old.updates < most_updates }
-    requires far { UPDATE_CYCLES ≤ farthest }
-    requires near { farthest ≤ MOST_AHEAD }
+    requires ahead { MayRunAhead UPDATE_CYCLES farthest }
     ensures stage { (robots : List Behaviour) (s : Stage) → AreRobotsOf executables.now robots
         → HasReached runners.old executables.now arena.old s
         → HasUpdated executables.now runners.new arena.new (period robots s) result }

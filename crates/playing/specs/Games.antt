@@ -1,7 +1,7 @@
 -- A match that is played cycle by cycle, by the definition of a battle.
 use Rattle.std.specs.Prelude.{◌≡◌, ◌⊎◌, ◌<◌, ◌≤◌, ◌+◌, ◌*◌, ◌/◌, ℕ, Bool, true, false, List}
 use Rattle.arena.specs.Arena.{Arena}
-use Rattle.battles.specs.Battle.{Behaviour, Stage, is_over, stage_after}
+use Rattle.battles.specs.Battle.{Behaviour, Stage, is_over, stage_after, update_cycles}
 use Rattle.code.specs.Generation.{Program}
 use Rattle.playing.specs.Pilot.{Pilot}
 use Rattle.playing.specs.Played.{HavePlayed, IsEndOf}
@@ -25,16 +25,16 @@ pub record GoesOn (old new : Game) : Type 0 where
   pub cycles : new.ending.cycles ≡ old.ending.cycles + 1
   pub limit : new.limit ≡ old.limit
 
--- there was an update for each 15 cycles, and a match that isn't over is below its limit
+-- each update that was due was done, and a match that isn't over is below its limit
 pub record IsCounted (game : Game) : Type 0 where
-  pub updates : game.arena.updates ≡ game.ending.cycles / 15
+  pub updates : game.arena.updates ≡ game.ending.cycles / update_cycles
   pub most : game.ending.cycles ≤ game.limit
   pub goes_on : game.ending.is_over ≡ false → game.ending.cycles < game.limit
 
 -- a match that is over ends at its limit or with an update
 abbrev pub EndsWell : Game → Type 0
 EndsWell game = game.ending.is_over ≡ true
-    → (game.ending.cycles ≡ game.limit) ⊎ (game.ending.cycles ≡ game.ending.cycles / 15 * 15)
+    → (game.ending.cycles ≡ game.limit) ⊎ (game.ending.cycles ≡ game.ending.cycles / update_cycles * update_cycles)
 
 -- the cycle after so many was run, which may decide the match
 abbrev pub HaveRun : List Program → List Behaviour → Stage → (before : ℕ) → List Pilot → Arena → List Pilot → Arena

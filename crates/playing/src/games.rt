@@ -12,11 +12,9 @@ ghost use Rattle.playing.specs.Played.{HavePlayed, HaveUpdated, IsPlayed, codes_
 use crate::pilot::Pilot;
 use crate::watcher::{Turn, Watcher};
 use arena::{Arena, MOST_ROBOTS};
+use battles::UPDATE_CYCLES;
 use settings::MOST_CYCLES;
 use std::marker::Model;
-
-/// An update follows each cycle whose number is a multiple of this.
-pub const UPDATE_CYCLES: u32 = 15;
 
 /// How far a match was played.
 #[derive(Clone, Copy)]

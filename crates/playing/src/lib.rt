@@ -5,6 +5,7 @@ mod games;
 mod pilot;
 mod watcher;
 
-pub use games::{Game, PlayEnd, UPDATE_CYCLES, play};
+pub use battles::UPDATE_CYCLES;
+pub use games::{Game, PlayEnd, play};
 pub use pilot::{Pilot, pilots};
 pub use watcher::{Exchange, Turn, Watcher, word_of};

@@ -110,7 +110,7 @@ pub struct Recording {
 impl Recording {
     /// Returns how many updates the match had.
     pub fn updates(&self) -> u32
-        ensures { result ≡ self.now.cycles / 15 }
+        ensures { result ≡ self.now.cycles / UPDATE_CYCLES }
     {
         self.cycles / UPDATE_CYCLES
     }

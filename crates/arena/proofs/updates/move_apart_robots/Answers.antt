@@ -20,7 +20,7 @@ returns-clause-far c =
           record { on_x = omega (arith, near.on_x, same.on_x); on_y = omega (arith, near.on_y, same.on_y) })
       | else-not-is_quiet w ↦ subst P (sym w.robots-is) c.move_all.ensures.nearby
     ] in
-    far_less c.args.calm c.args.robots.now c.if-not-is_quiet.robots
+    far_less c.args.apart c.args.robots.now c.if-not-is_quiet.robots
     (c.if-not-is_quiet.auto.robots ∙ c.move_all.auto.robots) near c.requires.far
 
 pub returns-clause-robots : goal.returns-clause-robots
@@ -28,7 +28,7 @@ returns-clause-robots c = λ f u e holds.
     let there = c.move_all.ensures.ahead f.robots e in
     let size = ap length e ∙ length-map f.robots robot_of in
     let far : AreApartFor 1 c.args.robots.now =
-    far_one c.args.calm c.args.robots.now (λ z. absurd (omega (arith, z, c.requires.some))) c.requires.far in
+    far_one c.args.apart c.args.robots.now (λ z. absurd (omega (arith, z, c.requires.some))) c.requires.far in
     let untouched = calm f c.args.robots.now c.move_all.new.robots size there c.move_all.ensures.nearby far in
     elim c.if-not-is_quiet.branch [
       | then-not-is_quiet w ↦ w.robots-is ∙ w.hurt_near_bursts.ensures.robots f u there holds untouched

@@ -1,15 +1,14 @@
-//! Replies: what the field answers to a live robot, and the turn that its machine takes with that.
+//! Turns: the cycles of a live robot in which it asks, with what the field replies.
 
-ghost use Rattle.std.specs.Prelude.{◌≡◌, ◌≢◌, true, ℤ, List, length};
+ghost use Rattle.std.specs.Prelude.{◌≡◌, true, ℤ, List, length};
 ghost use Rattle.arena.specs.Answer.{answer};
 ghost use Rattle.arena.specs.Field.{Field, is_live};
 ghost use Rattle.arena.specs.Arena.{lives};
 ghost use Rattle.arena.specs.Representing.{RepresentsField};
-ghost use Rattle.code.specs.declared.want.Want.TheVariants.{Quiet};
 ghost use Rattle.engine.specs.Engines.{EngineIsReached};
-ghost use Rattle.engine.specs.Questions.{IsAsked, want_of};
+ghost use Rattle.engine.specs.Questions.{want_of};
 ghost use Rattle.battles.specs.Battle.{Behaviour, robot_turn};
-ghost use Rattle.battles.specs.IntervalKeeping.{CanPlay, KeepsPlayable};
+ghost use Rattle.battles.specs.IntervalKeeping.{KeepsPlayable, MayTakeTurn};
 
 use arena::Arena;
 use code::Want;
@@ -26,10 +25,7 @@ pub(crate) fn take_turn(
     robot: usize,
     question: Question,
 )
-    requires runs { CanPlay robot exe.now machine.old arena.old }
-    requires asked { IsAsked exe.now machine.old question }
-    requires some { want_of question ≢ Quiet }
-    requires lives { lives arena.old robot ≡ true }
+    requires { MayTakeTurn robot exe.now machine.old arena.old question }
     ensures field { (r : Behaviour) (f : Field) (trace : List ℤ) → r trace ≡ want_of question
         → is_live f robot ≡ true → RepresentsField arena.old f → RepresentsField arena.new (robot_turn r robot f trace).0 }
     ensures trace { (r : Behaviour) (f : Field) (trace : List ℤ) → r trace ≡ want_of question
@@ -57,7 +53,7 @@ pub(crate) fn take_turn(
             Want::Ask(intrinsic, words) => {
                 machine.reply(exe, question, ask_plainly(arena, robot, intrinsic, words));
             }
-            // no quiet want is asked (`some`), so it wants a restart
+            // no quiet want is asked (`some` of `MayTakeTurn`), so it wants a restart
             _ => machine.restart(exe),
         },
     }

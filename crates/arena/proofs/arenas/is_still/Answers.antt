@@ -1,4 +1,4 @@
-use Rattle.arena.proofs.updates.is_still.Goals as goal
+use Rattle.arena.proofs.arenas.is_still.Goals as goal
 
 pub returns-then-all_stay : goal.returns-then-all_stay
 returns-then-all_stay c =

@@ -3,7 +3,7 @@ use Rattle.std.specs.List.{All}
 use Rattle.std.proofs.lemmas.List.{take_all}
 use Rattle.arena.specs.Arena.{Robot}
 use Rattle.arena.specs.Still.{Stays}
-use Rattle.arena.proofs.updates.all_stay.Goals as goal
+use Rattle.arena.proofs.arenas.all_stay.Goals as goal
 
 pub returns : goal.returns
 returns c = λ e.
