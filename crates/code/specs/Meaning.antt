@@ -76,42 +76,45 @@ pass trace go =
 -- an operator after both of its sides
 abbrev pub full : Op → ℕ → Evaluated ℤ → (Vars → ℕ → List ℤ → Evaluated ℤ) → Evaluated ℤ
 full o depth left right =
-    and_then left (λ x vars rest.
-    and_then (right vars (depth + 1) rest) (λ y vars rest.
-    pass rest (λ rest.
+    and_then left (λ x vars rest_of_left.
+    and_then (right vars (depth + 1) rest_of_left) (λ y vars rest_of_right.
+    pass rest_of_right (λ rest.
     Gives (value_of o x y) vars rest)))
 
 -- an operator that leaves out its right side if the left one decides
 abbrev pub short : Profile → Op → ℕ → Evaluated ℤ → (Vars → ℕ → List ℤ → Evaluated ℤ) → Evaluated ℤ
 short p op.And depth left right =
-    and_then left (λ x vars rest.
-    pass rest (λ rest.
+    and_then left (λ x vars rest_of_left.
+    pass rest_of_left (λ rest_of_test.
     if holds x then
-    and_then (right vars depth rest) (λ y vars rest.
-    pass rest (λ rest.
-    push p (depth + 1) rest (λ rest.
-    pass rest (λ rest.
+    and_then (right vars depth rest_of_test) (λ y vars rest_of_right.
+    pass rest_of_right (λ rest_of_pass.
+    push p (depth + 1) rest_of_pass (λ rest_of_push.
+    pass rest_of_push (λ rest.
     Gives (truth (holds y)) vars rest))))
     else
-    push p depth rest (λ rest.
+    push p depth rest_of_test (λ rest.
     Gives (pos 0) vars rest)))
 short p op.Or depth left right =
-    and_then left (λ x vars rest.
-    pass rest (λ rest.
+    and_then left (λ x vars rest_of_left.
+    pass rest_of_left (λ rest_of_test.
     if holds x then
-    push p depth rest (λ rest.
-    push p (depth + 1) rest (λ rest.
-    pass rest (λ rest.
+    push p depth rest_of_test (λ rest_of_push.
+    push p (depth + 1) rest_of_push (λ rest_of_second_push.
+    pass rest_of_second_push (λ rest.
     Gives (pos 1) vars rest)))
     else
-    and_then (right vars depth rest) (λ y vars rest.
-    pass rest (λ rest.
+    and_then (right vars depth rest_of_test) (λ y vars rest_of_right.
+    pass rest_of_right (λ rest.
     Gives (truth (holds y)) vars rest))))
 short p o depth left right = full o depth left right
 
 abbrev pub binary : Profile → Op → ℕ → Evaluated ℤ → (Vars → ℕ → List ℤ → Evaluated ℤ) → Evaluated ℤ
 binary p o depth left right =
-    if p.short_circuit then short p o depth left right else full o depth left right
+    if p.short_circuit then
+    short p o depth left right
+    else
+    full o depth left right
 
 -- what follows a statement that is passed through
 abbrev pub on_through : Flow → Vars → List ℤ → (Vars → List ℤ → Evaluated Flow) → Evaluated Flow
@@ -133,9 +136,9 @@ over p depth trace go =
 abbrev pub closed : {A : Type 0} → Profile → ℕ → ℕ → Flow → Vars → List ℤ → (ℤ → Vars → List ℤ → Evaluated A) →
     Evaluated A
 closed p depth frames (Returns x) vars rest go = go x vars rest
-closed p depth frames Through vars rest go =
-    push p depth rest (λ rest.
-    tick (nat_lt 1 frames) Quiet rest (λ reply rest.
+closed p depth frames Through vars rest_of_body go =
+    push p depth rest_of_body (λ rest_of_push.
+    tick (nat_lt 1 frames) Quiet rest_of_push (λ reply rest.
     go (pos 0) vars rest))
 
 -- the value of a call, with the caller's variables again
@@ -143,7 +146,8 @@ abbrev pub returned : Vars → ℤ → Vars → List ℤ → Evaluated ℤ
 returned caller x vars rest = Gives x (record { externals = vars.externals; locals = caller.locals }) rest
 
 module _ (p : Profile) (file : File) (again : Again) where
-  -- a call after its arguments
+  -- A call after its arguments, at the depth below them. The function's own depth is behind all of its variables, of
+  -- which the arguments are the first.
   abbrev pub called : Callee → List ℤ → Vars → ℕ → ℕ → List ℤ → Evaluated ℤ
   called (callee.Intrinsic i) arguments vars depth frames trace =
       tick (nat_le (depth + 1) p.words) (Ask i (asked_words i arguments)) trace (λ reply rest.
@@ -151,8 +155,8 @@ module _ (p : Profile) (file : File) (again : Again) where
   called (callee.Function k) arguments vars depth frames trace =
       let f = function_at file k in
       let inside : Vars = record { externals = vars.externals; locals = first_locals f arguments } in
-      tick (nat_le (depth + length f.variables) p.words) Quiet trace (λ reply rest.
-      and_then (again f.body inside (depth + length f.variables) (frames + 1) rest) (λ flow after rest.
+      tick (nat_le (depth + length f.variables) p.words) Quiet trace (λ reply rest_of_call.
+      and_then (again f.body inside (depth + length f.variables) (frames + 1) rest_of_call) (λ flow after rest.
       closed p (depth + length f.variables) (frames + 1) flow after rest (returned vars)))
 
   abbrev mutual
@@ -168,67 +172,68 @@ module _ (p : Profile) (file : File) (again : Again) where
         binary p o depth (value a vars depth frames trace) (λ vars depth rest.
         value b vars depth frames rest)
     value (Assign o v e) vars depth frames trace =
-        and_then (value e vars depth frames trace) (λ x vars rest.
-        pass rest (λ rest.
+        and_then (value e vars depth frames trace) (λ x vars rest_of_value.
+        pass rest_of_value (λ rest.
         let y = stored o (value_of_variable vars v) x in
         Gives y (assigned vars v y) rest))
     value (Postfix o v) vars depth frames trace =
-        push p depth trace (λ rest.
+        push p depth trace (λ rest_of_push.
         let x = value_of_variable vars v in
-        push p (depth + 1) rest (λ rest.
-        pass rest (λ rest.
-        pass rest (λ rest.
+        push p (depth + 1) rest_of_push (λ rest_of_second_push.
+        pass rest_of_second_push (λ rest_of_pass.
+        pass rest_of_pass (λ rest.
         Gives x (assigned vars v (stored o x (pos 1))) rest))))
     value (Call f arguments) vars depth frames trace =
-        tick (nat_lt frames p.frames) Quiet trace (λ reply rest.
-        and_then (values arguments vars depth (frames + 1) rest) (λ xs vars rest.
+        tick (nat_lt frames p.frames) Quiet trace (λ reply rest_of_frame.
+        and_then (values arguments vars depth (frames + 1) rest_of_frame) (λ xs vars rest.
         called f xs vars depth frames rest))
 
-    -- the values of arguments, in order: each is pushed on those before it
+    -- The values of arguments, in order. Each is pushed on those before it, so `depth` is that of the argument, and not
+    -- of the function called.
     pub values : Args → Vars → ℕ → ℕ → List ℤ → Evaluated (List ℤ)
     values NoMore vars depth frames trace = Gives [] vars trace
     values (Argument e arguments) vars depth frames trace =
-        and_then (value e vars depth frames trace) (λ x vars rest.
-        and_then (values arguments vars (depth + 1) frames rest) (λ xs vars rest.
+        and_then (value e vars depth frames trace) (λ x vars rest_of_first.
+        and_then (values arguments vars (depth + 1) frames rest_of_first) (λ xs vars rest.
         Gives (x ∷ xs) vars rest))
 
   -- the effect of statements
   abbrev pub effect : Body → Vars → ℕ → ℕ → List ℤ → Evaluated Flow
   effect Done vars depth frames trace = Gives Through vars trace
   effect (ExpressionStatement e next) vars depth frames trace =
-      and_then (value e vars depth frames trace) (λ x vars rest.
-      pass rest (λ rest.
+      and_then (value e vars depth frames trace) (λ x vars rest_of_value.
+      pass rest_of_value (λ rest.
       effect next vars depth frames rest))
   effect (IfStatement c s next) vars depth frames trace =
-      and_then (value c vars depth frames trace) (λ x vars rest.
-      pass rest (λ rest.
+      and_then (value c vars depth frames trace) (λ x vars rest_of_condition.
+      pass rest_of_condition (λ rest_of_test.
       if holds x then
-      and_on (effect s vars depth frames rest) (λ vars rest.
+      and_on (effect s vars depth frames rest_of_test) (λ vars rest.
       effect next vars depth frames rest)
       else
-      effect next vars depth frames rest))
+      effect next vars depth frames rest_of_test))
   effect (IfElseStatement c s t next) vars depth frames trace =
-      and_then (value c vars depth frames trace) (λ x vars rest.
-      pass rest (λ rest.
+      and_then (value c vars depth frames trace) (λ x vars rest_of_condition.
+      pass rest_of_condition (λ rest_of_test.
       if holds x then
-      and_on (effect s vars depth frames rest) (λ vars rest.
-      over p depth rest (λ rest.
+      and_on (effect s vars depth frames rest_of_test) (λ vars rest_of_branch.
+      over p depth rest_of_branch (λ rest.
       effect next vars depth frames rest))
       else
-      and_on (effect t vars depth frames rest) (λ vars rest.
+      and_on (effect t vars depth frames rest_of_test) (λ vars rest.
       effect next vars depth frames rest)))
   effect (While c s next) vars depth frames trace =
-      and_then (value c vars depth frames trace) (λ x vars rest.
-      pass rest (λ rest.
+      and_then (value c vars depth frames trace) (λ x vars rest_of_condition.
+      pass rest_of_condition (λ rest_of_test.
       if holds x then
-      and_on (effect s vars depth frames rest) (λ vars rest.
-      over p depth rest (λ rest.
+      and_on (effect s vars depth frames rest_of_test) (λ vars rest_of_turn.
+      over p depth rest_of_turn (λ rest.
       again (While c s next) vars depth frames rest))
       else
-      effect next vars depth frames rest))
+      effect next vars depth frames rest_of_test))
   effect (Return e next) vars depth frames trace =
-      and_then (value e vars depth frames trace) (λ x vars rest.
-      tick (nat_lt 1 frames) Quiet rest (λ reply rest.
+      and_then (value e vars depth frames trace) (λ x vars rest_of_value.
+      tick (nat_lt 1 frames) Quiet rest_of_value (λ reply rest.
       Gives (Returns x) vars rest))
 
 -- with at most n turns and calls inside one another
@@ -252,8 +257,8 @@ want_within p file n trace =
     let depth = length main.variables in
     let vars : Vars = record { externals = zeros (length file.externals); locals = zeros depth } in
     wanted (
-    and_then (effect_within p file n main.body vars depth 1 trace) (λ flow vars rest.
-    closed p depth 1 flow vars rest (λ x vars rest.
+    and_then (effect_within p file n main.body vars depth 1 trace) (λ flow vars rest_of_main.
+    closed p depth 1 flow vars rest_of_main (λ x vars rest.
     Awaits Restart)))
 
 -- What a file wants along the replies. Each turn and each call uses up a reply, so a greater bound changes nothing

@@ -10,7 +10,7 @@ use Rattle.grammar.specs.declared.diagnostics.Code.{Code}
 use Rattle.grammar.specs.declared.diagnostics.Code.TheVariants as code
 use Rattle.grammar.specs.Compiled.{diagnostic}
 use Rattle.grammar.specs.Derivation.{State, state, Value, Definition, definition_of, last_body, stepped, derived, next_token, token_after_next, line_at, name_of_token}
-use Rattle.grammar.specs.Faults.{Fault, fault, faults_at, is_first, item_faults, level_faults, length_faults, name_faults, role_faults, no_room, misfits, misfit_code, levels, code_number, is_too_long, only_if}
+use Rattle.grammar.specs.Faults.{Fault, fault, faults_at, is_first, stack_faults, level_faults, length_faults, name_faults, role_faults, no_room, misfits, misfit_code, levels, code_number, is_too_long, only_if}
 use Rattle.grammar.specs.Grammar.{Item, Exactly, AKeyword, AName, AConstant, AnEnd, Part, Make, Close, Symbol, Role, Defined, External, Parameter, Typed, Local, Called, Mentioned, Define, choice, enters, is_punctuator, is_keyword, is_fault}
 use Rattle.grammar.specs.Intrinsics.{is_intrinsic}
 use Rattle.grammar.specs.Laws.Parsing.{IsIn, IsFirstFault, Fails}
@@ -61,7 +61,7 @@ at_fault profile stack rest values scope functions is = fails_stuck profile _ re
 pub no_part : (profile : Profile) (symbol : Symbol) (stack : List Item) (rest : List LocatedToken) (values : List Value)
     (scope : Scope) (functions : List Definition) →
     is_fault (next_token rest) ≡ false → choice symbol (next_token rest) (token_after_next rest) ≡ None →
-    level_faults symbol stack rest ≡ [] →
+    level_faults symbol (state stack rest values scope functions) ≡ [] →
     Fails profile (state (Part symbol ∷ stack) rest values scope functions)
     (diagnostic (line_at rest) (misfit_code (next_token rest)))
 no_part profile symbol stack rest values scope functions sound none clean =
@@ -155,7 +155,7 @@ name_rest g role (Some name) scope rest h = role_rest g role name scope rest h
 
 item_rest : (profile : Profile) (g : Fault) (stack : List Item) (rest : List LocatedToken) (values : List Value)
     (scope : Scope) (functions : List Definition) →
-    IsIn g (item_faults profile stack rest values scope functions) → g.rest ≡ rest
+    IsIn g (stack_faults profile stack (state stack rest values scope functions)) → g.rest ≡ rest
 item_rest profile g [] rest values scope functions h = absurd h
 item_rest profile g (Exactly m ∷ stack) rest values scope functions h = absurd h
 item_rest profile g (AKeyword w ∷ stack) rest values scope functions h = absurd h
@@ -252,7 +252,8 @@ name_fails profile role name c stack located_token rest values scope functions s
 pub too_long : (profile : Profile) (stack : List Item) (located_token : LocatedToken) (rest : List LocatedToken)
     (values : List Value) (scope : Scope) (functions : List Definition) →
     is_fault located_token.token ≡ false → is_punctuator punctuator.CloseCurly located_token.token ≡ true →
-    length_faults profile scope functions values (located_token ∷ rest) ≡
+    length_faults profile
+    (state (Exactly punctuator.CloseCurly ∷ stack) (located_token ∷ rest) values scope functions) ≡
     fault (located_token ∷ rest) code.TooMuchCode ∷ [] →
     Fails profile
     (state (Make Define ∷ Exactly punctuator.CloseCurly ∷ stack) (located_token ∷ rest) values scope functions)
@@ -273,7 +274,8 @@ pub too_deep : (profile : Profile) (symbol : Symbol) (m : Punctuator) (items sta
     is_fault located_token.token ≡ false →
     choice symbol located_token.token (next_token rest) ≡ Some (Exactly m ∷ items) →
     is_punctuator m located_token.token ≡ true →
-    level_faults symbol stack (located_token ∷ rest) ≡ fault (located_token ∷ rest) code.NestedTooDeeply ∷ [] →
+    level_faults symbol (state stack (located_token ∷ rest) values scope functions) ≡
+    fault (located_token ∷ rest) code.NestedTooDeeply ∷ [] →
     Fails profile (state (Part symbol ∷ stack) (located_token ∷ rest) values scope functions)
     (diagnostic located_token.line code.NestedTooDeeply)
 too_deep profile symbol m items stack located_token rest values scope functions sound chosen fits deep = record {
@@ -292,7 +294,8 @@ pub too_deep_word : (profile : Profile) (symbol : Symbol) (w : Keyword) (items s
     is_fault located_token.token ≡ false →
     choice symbol located_token.token (next_token rest) ≡ Some (AKeyword w ∷ items) →
     is_keyword w located_token.token ≡ true →
-    level_faults symbol stack (located_token ∷ rest) ≡ fault (located_token ∷ rest) code.NestedTooDeeply ∷ [] →
+    level_faults symbol (state stack (located_token ∷ rest) values scope functions) ≡
+    fault (located_token ∷ rest) code.NestedTooDeeply ∷ [] →
     Fails profile (state (Part symbol ∷ stack) (located_token ∷ rest) values scope functions)
     (diagnostic located_token.line code.NestedTooDeeply)
 too_deep_word profile symbol w items stack located_token rest values scope functions sound chosen fits deep = record {
@@ -373,7 +376,8 @@ pub too_deep_name : (profile : Profile) (symbol : Symbol) (role : Role) (name : 
     is_fault located_token.token ≡ false →
     choice symbol located_token.token (next_token rest) ≡ Some (AName role ∷ items) →
     name_of_token located_token.token ≡ Some name →
-    level_faults symbol stack (located_token ∷ rest) ≡ fault (located_token ∷ rest) code.NestedTooDeeply ∷ [] →
+    level_faults symbol (state stack (located_token ∷ rest) values scope functions) ≡
+    fault (located_token ∷ rest) code.NestedTooDeeply ∷ [] →
     Fails profile (state (Part symbol ∷ stack) (located_token ∷ rest) values scope functions)
     (diagnostic located_token.line code.NestedTooDeeply)
 too_deep_name profile symbol role name items stack located_token rest values scope functions sound chosen fits deep =

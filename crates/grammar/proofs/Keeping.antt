@@ -9,7 +9,7 @@ use Rattle.tokens.specs.declared.located_tokens.Token.TheVariants as token
 use Rattle.tokens.specs.declared.located_tokens.Keyword.TheVariants as keyword
 use Rattle.arith.specs.declared.operators.Op.{Op}
 use Rattle.grammar.specs.declared.operators.StoreOp.{StoreOp}
-use Rattle.grammar.specs.Derivation.{State, state, Value, Definition, step, item_step, stepped, derived, next_token, token_after_next, line_at, matched, name_matched, constant_matched, replaced, name_of_token, constant_value, is_end, functions_defined, scope_after_action}
+use Rattle.grammar.specs.Derivation.{State, state, Value, Definition, step, item_step, stack_step, stepped, derived, next_token, token_after_next, line_at, matched, name_matched, constant_matched, replaced, name_of_token, constant_value, is_end, functions_defined, scope_after_action}
 use Rattle.grammar.specs.Grammar.{Symbol, Source, Types, Head, More, Parameters, ParameterTypes, FunctionBlock, Block, Declarations, Statements, Statement, ElsePart, Back, Expression, Level, Tail, Unary, Primary, Arguments, MoreArguments, Role, Defined, External, Parameter, Typed, Local, Called, Mentioned, Item, Exactly, AKeyword, AName, AConstant, AnEnd, Part, Make, Close, SemanticAction, Define, Production, choice, assignment_or, tail_production, is_fault, is_punctuator, is_keyword}
 use Rattle.grammar.specs.Laws.{KeepsFunction, BlocksKeepTheFunction}
 use Rattle.grammar.specs.Operators.{operator_at, store_of}
@@ -197,7 +197,7 @@ IfStands base known count (Some s) = Stands base known count s
 
 matched_stands : (fits : Bool) (items base : List Item) (rest : List LocatedToken) (values : List Value) (scope : Scope)
     (functions : List Definition) → all_inner items ≡ true →
-    IfStands base scope (length functions) (matched fits (items ++ base) rest values scope functions)
+    IfStands base scope (length functions) (matched fits (state (items ++ base) rest values scope functions))
 matched_stands false items base rest values scope functions h = tt
 matched_stands true items base rest values scope functions h =
     record { items = items; inner = h; over = refl; keeps = kept scope; same = refl }
@@ -205,14 +205,14 @@ matched_stands true items base rest values scope functions h =
 name_stands : (role : Role) (o : Option (List ℕ)) (items base : List Item) (rest : List LocatedToken)
     (values : List Value) (scope : Scope) (functions : List Definition) → is_inner_role role ≡ true →
     all_inner items ≡ true →
-    IfStands base scope (length functions) (name_matched role o (items ++ base) rest values scope functions)
+    IfStands base scope (length functions) (name_matched role o (state (items ++ base) rest values scope functions))
 name_stands role None items base rest values scope functions r h = tt
 name_stands role (Some name) items base rest values scope functions r h =
     record { items = items; inner = h; over = refl; keeps = name_keeps role name (line_at rest) scope r; same = refl }
 
 constant_stands : (o : Option ℕ) (items base : List Item) (rest : List LocatedToken) (values : List Value)
     (scope : Scope) (functions : List Definition) → all_inner items ≡ true →
-    IfStands base scope (length functions) (constant_matched o (items ++ base) rest values scope functions)
+    IfStands base scope (length functions) (constant_matched o (state (items ++ base) rest values scope functions))
 constant_stands None items base rest values scope functions h = tt
 constant_stands (Some value) items base rest values scope functions h =
     record { items = items; inner = h; over = refl; keeps = kept scope; same = refl }
@@ -220,7 +220,7 @@ constant_stands (Some value) items base rest values scope functions h =
 part_stands : (production : Production) (items base : List Item) (rest : List LocatedToken) (values : List Value)
     (scope : Scope) (functions : List Definition) → inner_production production ≡ true →
     all_inner items ≡ true →
-    IfStands base scope (length functions) (replaced production (items ++ base) rest values scope functions)
+    IfStands base scope (length functions) (replaced production (state (items ++ base) rest values scope functions))
 part_stands None items base rest values scope functions p h = tt
 part_stands (Some front) items base rest values scope functions p h =
     record {
@@ -233,7 +233,7 @@ part_stands (Some front) items base rest values scope functions p h =
 
 item_stands : (item : Item) (items base : List Item) (rest : List LocatedToken) (values : List Value) (scope : Scope)
     (functions : List Definition) → is_inner item ≡ true → all_inner items ≡ true →
-    IfStands base scope (length functions) (item_step (item ∷ items ++ base) rest values scope functions)
+    IfStands base scope (length functions) (item_step item (state (items ++ base) rest values scope functions))
 item_stands (Exactly m) items base rest values scope functions i h =
     matched_stands (is_punctuator m (next_token rest)) items base rest values scope functions h
 item_stands (AKeyword w) items base rest values scope functions i h =
@@ -283,30 +283,31 @@ IfMore count (Some s) = count ≤ length s.functions
 
 matched_more : (fits : Bool) (stack : List Item) (rest : List LocatedToken) (values : List Value) (scope : Scope)
     (functions : List Definition) →
-    IfMore (length functions) (matched fits stack rest values scope functions)
+    IfMore (length functions) (matched fits (state stack rest values scope functions))
 matched_more false stack rest values scope functions = tt
 matched_more true stack rest values scope functions = omega arith
 
 name_more : (role : Role) (o : Option (List ℕ)) (stack : List Item) (rest : List LocatedToken) (values : List Value)
     (scope : Scope) (functions : List Definition) →
-    IfMore (length functions) (name_matched role o stack rest values scope functions)
+    IfMore (length functions) (name_matched role o (state stack rest values scope functions))
 name_more role None stack rest values scope functions = tt
 name_more role (Some name) stack rest values scope functions = omega arith
 
 constant_more : (o : Option ℕ) (stack : List Item) (rest : List LocatedToken) (values : List Value) (scope : Scope)
     (functions : List Definition) →
-    IfMore (length functions) (constant_matched o stack rest values scope functions)
+    IfMore (length functions) (constant_matched o (state stack rest values scope functions))
 constant_more None stack rest values scope functions = tt
 constant_more (Some value) stack rest values scope functions = omega arith
 
 part_more : (production : Production) (stack : List Item) (rest : List LocatedToken) (values : List Value)
     (scope : Scope) (functions : List Definition) →
-    IfMore (length functions) (replaced production stack rest values scope functions)
+    IfMore (length functions) (replaced production (state stack rest values scope functions))
 part_more None stack rest values scope functions = tt
 part_more (Some items) stack rest values scope functions = omega arith
 
 item_more : (stack : List Item) (rest : List LocatedToken) (values : List Value) (scope : Scope)
-    (functions : List Definition) → IfMore (length functions) (item_step stack rest values scope functions)
+    (functions : List Definition) →
+    IfMore (length functions) (stack_step stack (state stack rest values scope functions))
 item_more [] rest values scope functions = tt
 item_more (Exactly m ∷ stack) rest values scope functions =
     matched_more (is_punctuator m (next_token rest)) stack rest values scope functions
@@ -336,7 +337,7 @@ run_more (suc n) s =
     omega (
       arith,
       run_more n (stepped s),
-      stepped_more (is_fault (next_token s.rest)) s (item_step s.stack s.rest s.values s.scope s.functions)
+      stepped_more (is_fault (next_token s.rest)) s (stack_step s.stack s)
           (item_more s.stack s.rest s.values s.scope s.functions),
     )
 
@@ -349,7 +350,7 @@ KeepsFrom n known count s = length (derived n s).functions ≡ count → KeepsFu
 end_keeps : (b : Bool) (n : ℕ) (stack : List Item) (known : Scope) (count : ℕ) (s : State) →
     length s.functions ≡ count → KeepsFrom n known count s →
     KeepsFrom n known count
-    (unwrap_or (if b then None else item_step (Make Define ∷ stack) s.rest s.values s.scope s.functions) s)
+    (unwrap_or (if b then None else stack_step (Make Define ∷ stack) s) s)
 end_keeps true n stack known count s before again = again
 end_keeps false n stack known count s before again = λ same. absurd (
     let behind : State =
@@ -366,14 +367,14 @@ step_keeps : (n : ℕ) (items stack : List Item) (known : Scope) (count : ℕ) (
 step_keeps n [] stack known count s inner over h again =
     subst
     (λ (xs : List Item). KeepsFrom n known count
-    (unwrap_or (if is_fault (next_token s.rest) then None else item_step xs s.rest s.values s.scope s.functions) s))
+    (unwrap_or (if is_fault (next_token s.rest) then None else stack_step xs s) s))
     (sym over)
     (end_keeps (is_fault (next_token s.rest)) n stack known count s h.same (again s h))
 step_keeps n (item ∷ items) stack known count s inner over h again =
     again (stepped s) (stays base known count s (step s) h (guarded_stands (is_fault (next_token s.rest)) base s.scope
-    (length s.functions) (item_step s.stack s.rest s.values s.scope s.functions)
+    (length s.functions) (stack_step s.stack s)
     (subst
-    (λ (xs : List Item). IfStands base s.scope (length s.functions) (item_step xs s.rest s.values s.scope s.functions))
+    (λ (xs : List Item). IfStands base s.scope (length s.functions) (stack_step xs s))
     (sym over)
     (item_stands item items base s.rest s.values s.scope s.functions
     (front_inner (is_inner item) (all_inner items) inner) (others_inner (is_inner item) (all_inner items) inner)))))

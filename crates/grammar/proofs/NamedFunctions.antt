@@ -3,7 +3,7 @@ use Rattle.std.proofs.Common.{◌≡◌, ℕ, zero, suc, ◌<◌, List, [], ◌�
 use Rattle.std.specs.Prelude.{Option, Some, None, if◌then◌else◌, unwrap_or, slice_get, set}
 use Rattle.tokens.specs.declared.located_tokens.LocatedToken.{LocatedToken}
 use Rattle.grammar.specs.Compiled.{order_of}
-use Rattle.grammar.specs.Derivation.{State, state, initial_state, Value, Definition, definition_of, last_body, next_token, token_after_next, line_at, name_of_token, constant_value, is_end, matched, name_matched, constant_matched, replaced, item_step, step, stepped, derived}
+use Rattle.grammar.specs.Derivation.{State, state, initial_state, Value, Definition, definition_of, last_body, next_token, token_after_next, line_at, name_of_token, constant_value, is_end, matched, name_matched, constant_matched, replaced, stack_step, step, stepped, derived}
 use Rattle.grammar.specs.Faults.{faults_at, faults_in}
 use Rattle.grammar.specs.Grammar.{Item, Exactly, AKeyword, AName, AConstant, AnEnd, Part, Make, Close, Define, Role, Defined, External, Parameter, Typed, Local, Called, Mentioned, Production, choice, is_fault, is_punctuator, is_keyword}
 use Rattle.grammar.specs.Laws.Parsing.{Passes}
@@ -104,25 +104,25 @@ IfNamed (Some s) = AreNamed s.scope.functions s.functions
 
 matched_named : (fits : Bool) (stack : List Item) (rest : List LocatedToken) (values : List Value) (scope : Scope)
     (ds : List Definition) → AreNamed scope.functions ds →
-    IfNamed (matched fits stack rest values scope ds)
+    IfNamed (matched fits (state stack rest values scope ds))
 matched_named true stack rest values scope ds h = h
 matched_named false stack rest values scope ds h = tt
 
 name_named : (role : Role) (name : Option (List ℕ)) (stack : List Item) (rest : List LocatedToken) (values : List Value)
     (scope : Scope) (ds : List Definition) → AreNamed scope.functions ds →
-    IfNamed (name_matched role name stack rest values scope ds)
+    IfNamed (name_matched role name (state stack rest values scope ds))
 name_named role None stack rest values scope ds h = tt
 name_named role (Some name) stack rest values scope ds h = role_named role name (line_at rest) scope ds h
 
 constant_named : (value : Option ℕ) (stack : List Item) (rest : List LocatedToken) (values : List Value) (scope : Scope)
     (ds : List Definition) → AreNamed scope.functions ds →
-    IfNamed (constant_matched value stack rest values scope ds)
+    IfNamed (constant_matched value (state stack rest values scope ds))
 constant_named None stack rest values scope ds h = tt
 constant_named (Some value) stack rest values scope ds h = h
 
 part_named : (production : Production) (stack : List Item) (rest : List LocatedToken) (values : List Value)
     (scope : Scope) (ds : List Definition) → AreNamed scope.functions ds →
-    IfNamed (replaced production stack rest values scope ds)
+    IfNamed (replaced production (state stack rest values scope ds))
 part_named None stack rest values scope ds h = tt
 part_named (Some items) stack rest values scope ds h = h
 
@@ -132,7 +132,7 @@ same_named functions ds h = subst (λ (xs : List Definition). AreNamed functions
 
 step_named : (stack : List Item) (rest : List LocatedToken) (values : List Value) (scope : Scope) (ds : List Definition)
     → Sound (state stack rest values scope ds) →
-    AreNamed scope.functions ds → IfNamed (item_step stack rest values scope ds)
+    AreNamed scope.functions ds → IfNamed (stack_step stack (state stack rest values scope ds))
 step_named [] rest values scope ds s h = tt
 step_named (Exactly m ∷ stack) rest values scope ds s h =
     matched_named (is_punctuator m (next_token rest)) stack rest values scope ds h
@@ -164,7 +164,7 @@ kept_named s (Some t) h k = k
 stepped_named : (s : State) → Sound s → AreNamed s.scope.functions s.functions →
     AreNamed (stepped s).scope.functions (stepped s).functions
 stepped_named s sound h = kept_named s (step s) h
-    (guarded_named (is_fault (next_token s.rest)) (item_step s.stack s.rest s.values s.scope s.functions)
+    (guarded_named (is_fault (next_token s.rest)) (stack_step s.stack s)
     (step_named s.stack s.rest s.values s.scope s.functions (record { known = sound.known; tied = sound.tied }) h))
 
 run_named : (profile : Profile) (n : ℕ) (s : State) → faults_in profile n s ≡ [] → Sound s →

@@ -6,8 +6,8 @@ use Rattle.std.specs.Prelude.{Option, Some, None, Result, Ok, Err, if◌then◌e
 use Rattle.tokens.specs.declared.located_tokens.LocatedToken.{LocatedToken}
 use Rattle.grammar.specs.declared.diagnostics.Diagnostic.{Diagnostic}
 use Rattle.grammar.specs.Compiled.{order_of, defined_as, in_front, all_defined, file_of, resolved, verdict, main_name, all_faults, last_state, enough_steps, last_line}
-use Rattle.grammar.specs.Derivation.{State, state, initial_state, Value, Definition, definition_of, last_body, trees_after, name_tree, next_token, token_after_next, line_at, name_of_token, constant_value, matched, name_matched, constant_matched, replaced, item_step, step, stepped, derived}
-use Rattle.grammar.specs.Faults.{Fault, faults_at, faults_in, item_faults, name_faults, role_faults, misfit, misfits}
+use Rattle.grammar.specs.Derivation.{State, state, initial_state, Value, Definition, definition_of, last_body, trees_after, name_tree, next_token, token_after_next, line_at, name_of_token, constant_value, matched, name_matched, constant_matched, replaced, stack_step, step, stepped, derived}
+use Rattle.grammar.specs.Faults.{Fault, faults_at, faults_in, stack_faults, name_faults, role_faults, misfit, misfits}
 use Rattle.grammar.specs.Grammar.{Item, Exactly, AKeyword, AName, AConstant, AnEnd, Part, Make, Close, Symbol, SemanticAction, Operate, Negate, Not, Complement, Fetch, Store, PrefixIncrement, PostfixIncrement, Pass, Invoke, Empty, Evaluate, Decide, DecideElse, Repeat, Zero, GiveBack, Define, Role, Defined, External, Parameter, Typed, Local, Called, Mentioned, Production, choice, is_fault}
 use Rattle.grammar.specs.Laws.{CompiledIsResolved}
 use Rattle.grammar.specs.Profile.{Profile}
@@ -236,14 +236,14 @@ IfSound (Some s) = Sound s
 
 matched_sound : (fits : Bool) (stack : List Item) (rest : List LocatedToken) (values : List Value) (scope : Scope)
     (ds : List Definition) →
-    Sound (state stack rest values scope ds) → IfSound (matched fits stack rest values scope ds)
+    Sound (state stack rest values scope ds) → IfSound (matched fits (state stack rest values scope ds))
 matched_sound true stack rest values scope ds s = record { known = s.known; tied = s.tied }
 matched_sound false stack rest values scope ds s = tt
 
 constant_sound : (value : Option ℕ) (stack : List Item) (rest : List LocatedToken) (values : List Value) (scope : Scope)
     (ds : List Definition) →
     Known scope ds → Tied (inside (phase_of stack)) values scope ds →
-    IfSound (constant_matched value stack rest values scope ds)
+    IfSound (constant_matched value (state stack rest values scope ds))
 constant_sound None stack rest values scope ds k t = tt
 constant_sound (Some value) stack rest values scope ds k t = record {
   known = k;
@@ -254,7 +254,7 @@ constant_sound (Some value) stack rest values scope ds k t = record {
 named_sound : (role : Role) (name : Option (List ℕ)) (stack : List Item) (rest : List LocatedToken)
     (values : List Value) (scope : Scope) (ds : List Definition) →
     Clean (name_faults role name scope rest) → Known scope ds → Tied (by_role role (phase_of stack)) values scope ds →
-    IfSound (name_matched role name stack rest values scope ds)
+    IfSound (name_matched role name (state stack rest values scope ds))
 named_sound role None stack rest values scope ds clean k t = tt
 named_sound role (Some name) stack rest values scope ds clean k t =
     name_sound role name stack rest (line_at rest) (drop 1 rest) values scope ds k clean t
@@ -263,7 +263,7 @@ part_sound : (symbol : Symbol) (production : Production) (stack : List Item) (re
     (values : List Value) (scope : Scope) (ds : List Definition) →
     choice symbol (next_token rest) (token_after_next rest) ≡ production →
     Sound (state (Part symbol ∷ stack) rest values scope ds) →
-    IfSound (replaced production stack rest values scope ds)
+    IfSound (replaced production (state stack rest values scope ds))
 part_sound symbol None stack rest values scope ds e s = tt
 part_sound symbol (Some items) stack rest values scope ds e s = record {
   known = s.known;
@@ -273,8 +273,8 @@ part_sound symbol (Some items) stack rest values scope ds e s = record {
 
 sound_of : (profile : Profile) (stack : List Item) (rest : List LocatedToken) (values : List Value) (scope : Scope)
     (ds : List Definition) →
-    Clean (item_faults profile stack rest values scope ds) → Sound (state stack rest values scope ds) →
-    IfSound (item_step stack rest values scope ds)
+    Clean (stack_faults profile stack (state stack rest values scope ds)) → Sound (state stack rest values scope ds) →
+    IfSound (stack_step stack (state stack rest values scope ds))
 sound_of profile [] rest values scope ds clean s = tt
 sound_of profile (Exactly m ∷ stack) rest values scope ds clean s =
     matched_sound _ stack rest values scope ds (record { known = s.known; tied = s.tied })
@@ -338,9 +338,9 @@ kept_sound s (Some t) h k = k
 pub stepped_sound : (profile : Profile) (s : State) → faults_at profile s ≡ [] → Sound s → Sound (stepped s)
 stepped_sound profile s clean h = kept_sound s (step s) h
     (guarded_sound (is_fault (next_token s.rest)) s.rest
-    (item_faults profile s.stack s.rest s.values s.scope s.functions)
-    (misfits s.stack s.rest (item_step s.stack s.rest s.values s.scope s.functions))
-    (item_step s.stack s.rest s.values s.scope s.functions) clean
+    (stack_faults profile s.stack s)
+    (misfits s.stack s.rest (stack_step s.stack s))
+    (stack_step s.stack s) clean
     (λ c. sound_of profile s.stack s.rest s.values s.scope s.functions c (record { known = h.known; tied = h.tied })))
 
 pub run_sound : (profile : Profile) (n : ℕ) (s : State) → faults_in profile n s ≡ [] → Sound s → Sound (derived n s)

@@ -2,7 +2,7 @@
 use Rattle.std.proofs.Common.{◌≡◌, ◌≤◌, ℕ, zero, suc, List, [], ◌∷◌, ◌++◌, refl, sym, ap, ◌∙◌, Bool, true, false, arith, length, drop, append_assoc, length-append}
 use Rattle.std.specs.Prelude.{Option, Some, None, unwrap_or, if◌then◌else◌}
 use Rattle.tokens.specs.declared.located_tokens.LocatedToken.{LocatedToken}
-use Rattle.grammar.specs.Derivation.{State, Value, Definition, step, item_step, stepped, derived, next_token, matched, name_matched, replaced, constant_matched}
+use Rattle.grammar.specs.Derivation.{State, state, Value, Definition, step, stack_step, stepped, derived, next_token, matched, name_matched, replaced, constant_matched}
 use Rattle.grammar.specs.Grammar.{Item, Exactly, AKeyword, AName, AConstant, AnEnd, Part, Make, Close, Role, Production, is_fault}
 use Rattle.grammar.specs.Scope.{Scope}
 
@@ -29,27 +29,28 @@ Rests rest (Some t) = IsRest t.rest rest
 
 name_rests : (role : Role) (name : Option (List ℕ)) (stack : List Item) (rest : List LocatedToken) (values : List Value)
     (scope : Scope) (functions : List Definition) →
-    Rests rest (name_matched role name stack rest values scope functions)
+    Rests rest (name_matched role name (state stack rest values scope functions))
 name_rests role (Some name) stack rest values scope functions = rest_fewer rest
 name_rests role None stack rest values scope functions = tt
 
 matched_rests : (fits : Bool) (stack : List Item) (rest : List LocatedToken) (values : List Value) (scope : Scope)
-    (functions : List Definition) → Rests rest (matched fits stack rest values scope functions)
+    (functions : List Definition) → Rests rest (matched fits (state stack rest values scope functions))
 matched_rests true stack rest values scope functions = rest_fewer rest
 matched_rests false stack rest values scope functions = tt
 
 constant_rests : (value : Option ℕ) (stack : List Item) (rest : List LocatedToken) (values : List Value) (scope : Scope)
-    (functions : List Definition) → Rests rest (constant_matched value stack rest values scope functions)
+    (functions : List Definition) → Rests rest (constant_matched value (state stack rest values scope functions))
 constant_rests (Some value) stack rest values scope functions = rest_fewer rest
 constant_rests None stack rest values scope functions = tt
 
 replaced_rests : (items : Production) (stack : List Item) (rest : List LocatedToken) (values : List Value)
-    (scope : Scope) (functions : List Definition) → Rests rest (replaced items stack rest values scope functions)
+    (scope : Scope) (functions : List Definition) →
+    Rests rest (replaced items (state stack rest values scope functions))
 replaced_rests (Some items) stack rest values scope functions = rest_itself rest
 replaced_rests None stack rest values scope functions = tt
 
 step_rests : (stack : List Item) (rest : List LocatedToken) (values : List Value) (scope : Scope)
-    (functions : List Definition) → Rests rest (item_step stack rest values scope functions)
+    (functions : List Definition) → Rests rest (stack_step stack (state stack rest values scope functions))
 step_rests [] rest values scope functions = tt
 step_rests (Exactly m ∷ stack) rest values scope functions = matched_rests _ stack rest values scope functions
 step_rests (AKeyword w ∷ stack) rest values scope functions = matched_rests _ stack rest values scope functions

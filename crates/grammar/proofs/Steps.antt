@@ -18,7 +18,7 @@ one profile s t clean leads = record { steps = 1; leads = leads; clean = ap (λ 
 pub part : (profile : Profile) (symbol : Symbol) (items stack : List Item) (rest : List LocatedToken)
     (values : List Value) (scope : Scope) (functions : List Definition) →
     is_fault (next_token rest) ≡ false → choice symbol (next_token rest) (token_after_next rest) ≡ Some items →
-    level_faults symbol stack rest ≡ [] →
+    level_faults symbol (state stack rest values scope functions) ≡ [] →
     Passes profile (state (Part symbol ∷ stack) rest values scope functions)
     (state (items ++ stack) rest values scope functions)
 part profile symbol items stack rest values scope functions sound chosen clean =
@@ -75,7 +75,8 @@ close profile stack rest values scope functions sound = one profile _ _ (rw soun
 
 pub make : (profile : Profile) (rule : SemanticAction) (stack : List Item) (rest : List LocatedToken)
     (values : List Value) (scope : Scope) (functions : List Definition) →
-    is_fault (next_token rest) ≡ false → item_faults profile (Make rule ∷ stack) rest values scope functions ≡ [] →
+    is_fault (next_token rest) ≡ false →
+    item_faults profile (Make rule) (state stack rest values scope functions) ≡ [] →
     Passes profile (state (Make rule ∷ stack) rest values scope functions)
     (state stack rest (trees_after rule values) (scope_after_action rule scope)
     (functions ++ functions_defined rule values scope))

@@ -1,6 +1,6 @@
 -- The leftmost derivation of a file, step by step, and the trees that it makes.
 use Rattle.std.specs.Prelude.{ℕ, pos, negsuc, List, [], ◌∷◌, ◌++◌, Bool, true, false, Option, Some, None, drop}
-use Rattle.std.specs.Prelude.{unwrap_or, zero, suc, if◌then◌else◌}
+use Rattle.std.specs.Prelude.{unwrap_or, zero, suc, option_map, if◌then◌else◌}
 use Rattle.tokens.specs.declared.located_tokens.LocatedToken.{LocatedToken}
 use Rattle.tokens.specs.declared.located_tokens.Token.{Token}
 use Rattle.tokens.specs.declared.located_tokens.Token.TheVariants as token
@@ -125,58 +125,63 @@ abbrev pub constant_value : Token → Option ℕ
 constant_value (token.Constant value) = Some value
 constant_value next = None
 
+-- the state behind the next token
+abbrev pub past_token : State → State
+past_token s = record s { rest = drop 1 s.rest }
+
+-- with these items in front of those of the stack, and with these trees on those made
+abbrev pub with_items : List Item → State → State
+with_items items s = record s { stack = items ++ s.stack }
+
+abbrev pub with_trees : List Value → State → State
+with_trees trees s = record s { values = trees ++ s.values }
+
 -- if the next token is the one wanted, the state after it
-abbrev pub matched : Bool → List Item → List LocatedToken → List Value → Scope → List Definition → Option State
-matched fits stack rest values scope functions = if fits then Some (state stack (drop 1 rest) values scope functions)
-    else None
+abbrev pub matched : Bool → State → Option State
+matched fits s = if fits then Some (past_token s) else None
 
-abbrev pub name_matched : Role → Option (List ℕ) → List Item → List LocatedToken → List Value → Scope
-    → List Definition → Option State
-name_matched role None stack rest values scope functions = None
-name_matched role (Some name) stack rest values scope functions =
-    Some (state stack (drop 1 rest) (name_tree role name scope ++ values)
-    (scope_after_name role name (line_at rest) scope)
-    functions)
+-- the state after a name in a role
+abbrev pub after_name : Role → List ℕ → State → State
+after_name role name s = record (with_trees (name_tree role name s.scope) (past_token s)) {
+  scope = scope_after_name role name (line_at s.rest) s.scope;
+}
 
-abbrev pub constant_matched : Option ℕ → List Item → List LocatedToken → List Value → Scope → List Definition
-    → Option State
-constant_matched None stack rest values scope functions = None
-constant_matched (Some value) stack rest values scope functions =
-    Some (state stack (drop 1 rest) (AnExpr (tree.Constant (pos value)) ∷ values) scope functions)
+abbrev pub name_matched : Role → Option (List ℕ) → State → Option State
+name_matched role name s = option_map (λ n. after_name role n s) name
 
-abbrev pub replaced : Production → List Item → List LocatedToken → List Value → Scope → List Definition → Option State
-replaced None stack rest values scope functions = None
-replaced (Some items) stack rest values scope functions = Some (state (items ++ stack) rest values scope functions)
+abbrev pub constant_matched : Option ℕ → State → Option State
+constant_matched value s = option_map (λ n. with_trees (AnExpr (tree.Constant (pos n)) ∷ []) (past_token s)) value
 
--- One step if the next token is no lexical error: none if the derivation is done, or the token doesn't fit.
-abbrev pub item_step : List Item → List LocatedToken → List Value → Scope → List Definition → Option State
-item_step [] rest values scope functions = None
-item_step (Exactly m ∷ stack) rest values scope functions =
-    matched (is_punctuator m (next_token rest)) stack rest values
-    scope functions
-item_step (AKeyword w ∷ stack) rest values scope functions =
-    matched (is_keyword w (next_token rest)) stack rest values scope
-    functions
-item_step (AName role ∷ stack) rest values scope functions =
-    name_matched role (name_of_token (next_token rest)) stack rest
-    values scope functions
-item_step (AConstant ∷ stack) rest values scope functions =
-    constant_matched (constant_value (next_token rest)) stack rest
-    values scope functions
-item_step (AnEnd ∷ stack) rest values scope functions =
-    matched (is_end (next_token rest)) stack rest values scope functions
-item_step (Part symbol ∷ stack) rest values scope functions =
-    replaced (choice symbol (next_token rest) (token_after_next rest))
-    stack rest values scope functions
-item_step (Make rule ∷ stack) rest values scope functions =
-    Some
-    (state stack rest (trees_after rule values) (scope_after_action rule scope)
-    (functions ++ functions_defined rule values scope))
-item_step (Close ∷ stack) rest values scope functions = Some (state stack rest values scope functions)
+abbrev pub replaced : Production → State → Option State
+replaced production s = option_map (λ items. with_items items s) production
+
+-- what a semantic action makes of a state
+abbrev pub acted : SemanticAction → State → State
+acted action s = record s {
+  values = trees_after action s.values;
+  scope = scope_after_action action s.scope;
+  functions = s.functions ++ functions_defined action s.values s.scope;
+}
+
+-- One step with this item in front: none if the token doesn't fit. The state has the items behind it.
+abbrev pub item_step : Item → State → Option State
+item_step (Exactly m) s = matched (is_punctuator m (next_token s.rest)) s
+item_step (AKeyword w) s = matched (is_keyword w (next_token s.rest)) s
+item_step (AName role) s = name_matched role (name_of_token (next_token s.rest)) s
+item_step AConstant s = constant_matched (constant_value (next_token s.rest)) s
+item_step AnEnd s = matched (is_end (next_token s.rest)) s
+item_step (Part symbol) s = replaced (choice symbol (next_token s.rest) (token_after_next s.rest)) s
+item_step (Make action) s = Some (acted action s)
+item_step Close s = Some s
+
+-- one step with these items in front: none if there is none, and the derivation is done
+abbrev pub stack_step : List Item → State → Option State
+stack_step [] s = None
+stack_step (item ∷ stack) s = item_step item (record s { stack = stack })
 
 -- One step. A lexical error fits nothing: the derivation stops if one is next.
 abbrev pub step : State → Option State
-step s = if is_fault (next_token s.rest) then None else item_step s.stack s.rest s.values s.scope s.functions
+step s = if is_fault (next_token s.rest) then None else stack_step s.stack s
 
 -- the state after a step; if there is none, the derivation stays
 abbrev pub stepped : State → State

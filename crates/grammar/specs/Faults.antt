@@ -11,7 +11,7 @@ use Rattle.grammar.specs.declared.diagnostics.Code.{Code}
 use Rattle.grammar.specs.declared.diagnostics.Code.TheVariants as code
 use Rattle.grammar.specs.declared.actions.Action.{Action}
 use Rattle.grammar.specs.Actions.{code_length, function_actions}
-use Rattle.grammar.specs.Derivation.{State, Value, Definition, definition_of, last_body, item_step, stepped, next_token}
+use Rattle.grammar.specs.Derivation.{State, Definition, definition_of, last_body, stack_step, stepped, next_token}
 use Rattle.grammar.specs.Derivation.{token_after_next, name_of_token}
 use Rattle.grammar.specs.Grammar.{Item, AName, Part, Make, Close, Define, Symbol, Role, Defined, External, Parameter}
 use Rattle.grammar.specs.Grammar.{Typed, Local, Called, Mentioned, is_fault, enters}
@@ -70,10 +70,10 @@ abbrev pub only_if : Bool → List Fault → List Fault
 only_if b faults = if b then faults else []
 
 -- a symbol enters a level beyond the last one
-abbrev pub level_faults : Symbol → List Item → List LocatedToken → List Fault
-level_faults symbol stack rest =
-    only_if (enters symbol (next_token rest) (token_after_next rest))
-    (only_if (nat_le most_levels (levels stack)) (fault rest code.NestedTooDeeply ∷ []))
+abbrev pub level_faults : Symbol → State → List Fault
+level_faults symbol s =
+    only_if (enters symbol (next_token s.rest) (token_after_next s.rest))
+    (only_if (nat_le most_levels (levels s.stack)) (fault s.rest code.NestedTooDeeply ∷ []))
 
 -- a new name for which there is no room after this many
 abbrev pub no_room : Bool → ℕ → Code → List LocatedToken → List Fault
@@ -121,20 +121,21 @@ abbrev pub is_too_long : Profile → List Definition → Bool
 is_too_long profile functions = nat_lt profile.instructions (code_length profile (definitions_actions functions) + 1)
 
 -- the code with the function that is about to be defined exceeds the limit, at its closing brace
-abbrev pub length_faults : Profile → Scope → List Definition → List Value → List LocatedToken → List Fault
-length_faults profile scope functions values rest =
-    only_if (is_too_long profile (functions ++ definition_of scope (last_body values) ∷ []))
-    (fault rest code.TooMuchCode ∷ [])
+abbrev pub length_faults : Profile → State → List Fault
+length_faults profile s =
+    only_if (is_too_long profile (s.functions ++ definition_of s.scope (last_body s.values) ∷ []))
+    (fault s.rest code.TooMuchCode ∷ [])
 
--- the faults at the next item
-abbrev pub item_faults : Profile → List Item → List LocatedToken → List Value → Scope → List Definition → List Fault
-item_faults profile (Part symbol ∷ stack) rest values scope functions = level_faults symbol stack rest
-item_faults profile (AName role ∷ stack) rest values scope functions =
-    name_faults role (name_of_token (next_token rest))
-    scope rest
-item_faults profile (Make Define ∷ stack) rest values scope functions = length_faults profile scope functions values
-    rest
-item_faults profile stack rest values scope functions = []
+-- the faults at the item in front; the state has the items behind it
+abbrev pub item_faults : Profile → Item → State → List Fault
+item_faults profile (Part symbol) s = level_faults symbol s
+item_faults profile (AName role) s = name_faults role (name_of_token (next_token s.rest)) s.scope s.rest
+item_faults profile (Make Define) s = length_faults profile s
+item_faults profile item s = []
+
+abbrev pub stack_faults : Profile → List Item → State → List Fault
+stack_faults profile [] s = []
+stack_faults profile (item ∷ stack) s = item_faults profile item (record s { stack = stack })
 
 -- the fault of a token that doesn't fit
 abbrev pub misfit : List LocatedToken → List Fault
@@ -147,14 +148,10 @@ misfits (item ∷ stack) rest None = misfit rest
 misfits (item ∷ stack) rest (Some s) = []
 
 -- the faults at one state of a derivation
-abbrev pub faults_of : Profile → List Item → List LocatedToken → List Value → Scope → List Definition → List Fault
-faults_of profile stack rest values scope functions =
-    if is_fault (next_token rest) then misfit rest
-    else item_faults profile stack rest values scope functions
-    ++ misfits stack rest (item_step stack rest values scope functions)
-
 abbrev pub faults_at : Profile → State → List Fault
-faults_at profile s = faults_of profile s.stack s.rest s.values s.scope s.functions
+faults_at profile s =
+    if is_fault (next_token s.rest) then misfit s.rest
+    else stack_faults profile s.stack s ++ misfits s.stack s.rest (stack_step s.stack s)
 
 -- the faults at the first n states
 abbrev pub faults_in : Profile → ℕ → State → List Fault

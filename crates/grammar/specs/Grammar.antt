@@ -127,8 +127,8 @@ choice Head (token.Name name) (token.Punctuator punctuator.OpenRound) =
     ∷ Part ParameterTypes ∷ Part FunctionBlock ∷ [])
 choice Head (token.Name name) after = Some (AName External ∷ Part (More External) ∷ Exactly punctuator.Semicolon ∷ [])
 choice Head next after = None
-choice (More role) (token.Punctuator punctuator.Comma) after = Some
-    (Exactly punctuator.Comma ∷ AName role ∷ Part (More role) ∷ [])
+choice (More role) (token.Punctuator punctuator.Comma) after =
+    Some (Exactly punctuator.Comma ∷ AName role ∷ Part (More role) ∷ [])
 choice (More role) next after = Some []
 choice Parameters (token.Name name) after = Some (AName Parameter ∷ Part (More Parameter) ∷ [])
 choice Parameters next after = Some []
@@ -153,53 +153,53 @@ choice Statements next after = Some (Part Statement ∷ Part Statements ∷ [])
 choice Statement (token.Punctuator punctuator.Semicolon) after = Some (Exactly punctuator.Semicolon ∷ [])
 choice Statement (token.Punctuator punctuator.OpenCurly) after = Some (Part Block ∷ [])
 choice Statement (token.Keyword keyword.If) after =
-    Some (AKeyword keyword.If ∷ Exactly punctuator.OpenRound ∷ Part Expression ∷ Exactly punctuator.CloseRound ∷
-    Make Empty
-    ∷ Part Statement ∷ Part ElsePart ∷ Close ∷ [])
+    Some (AKeyword keyword.If ∷ Exactly punctuator.OpenRound ∷ Part Expression ∷ Exactly punctuator.CloseRound
+    ∷ Make Empty ∷ Part Statement ∷ Part ElsePart ∷ Close ∷ [])
 choice Statement (token.Keyword keyword.While) after =
     Some (AKeyword keyword.While ∷ Exactly punctuator.OpenRound ∷ Part Expression ∷ Exactly punctuator.CloseRound
     ∷ Make Empty ∷ Part Statement ∷ Make Repeat ∷ Close ∷ [])
-choice Statement (token.Keyword keyword.Return) after = Some
-    (AKeyword keyword.Return ∷ Part Back ∷ Exactly punctuator.Semicolon ∷ Make GiveBack ∷ [])
+choice Statement (token.Keyword keyword.Return) after =
+    Some (AKeyword keyword.Return ∷ Part Back ∷ Exactly punctuator.Semicolon ∷ Make GiveBack ∷ [])
 choice Statement next after = Some (Part Expression ∷ Exactly punctuator.Semicolon ∷ Make Evaluate ∷ [])
-choice ElsePart (token.Keyword keyword.Else) after = Some
-    (AKeyword keyword.Else ∷ Make Empty ∷ Part Statement ∷ Make DecideElse ∷ [])
+choice ElsePart (token.Keyword keyword.Else) after =
+    Some (AKeyword keyword.Else ∷ Make Empty ∷ Part Statement ∷ Make DecideElse ∷ [])
 choice ElsePart next after = Some (Make Decide ∷ [])
 choice Back (token.Punctuator punctuator.Semicolon) after = Some (Make Zero ∷ [])
 choice Back next after = Some (Part Expression ∷ [])
 choice Expression (token.Name name) (token.Punctuator m) = Some (assignment_or (store_of m) m)
 choice Expression next after = Some (Part (Level 1) ∷ [])
-choice (Level n) next after = if nat_lt n 11 then Some (Part (Level (n + 1)) ∷ Part (Tail n) ∷ []) else Some
-    (Part Unary ∷ [])
+choice (Level n) next after =
+    if nat_lt n 11 then Some (Part (Level (n + 1)) ∷ Part (Tail n) ∷ [])
+    else Some (Part Unary ∷ [])
 choice (Tail n) (token.Punctuator m) after = Some (tail_production n (operator_at n (token.Punctuator m)) m)
 choice (Tail n) next after = Some []
-choice Unary (token.Punctuator punctuator.Minus) after = Some
-    (Exactly punctuator.Minus ∷ Part Unary ∷ Make Negate ∷ Close ∷ [])
-choice Unary (token.Punctuator punctuator.Not) after = Some
-    (Exactly punctuator.Not ∷ Part Unary ∷ Make Not ∷ Close ∷ [])
-choice Unary (token.Punctuator punctuator.Tilde) after = Some
-    (Exactly punctuator.Tilde ∷ Part Unary ∷ Make Complement ∷ Close ∷ [])
-choice Unary (token.Punctuator punctuator.PlusPlus) after = Some
-    (Exactly punctuator.PlusPlus ∷ AName Mentioned ∷ Make (PrefixIncrement store.Add) ∷ [])
-choice Unary (token.Punctuator punctuator.MinusMinus) after = Some
-    (Exactly punctuator.MinusMinus ∷ AName Mentioned ∷ Make (PrefixIncrement store.Subtract) ∷ [])
+choice Unary (token.Punctuator punctuator.Minus) after =
+    Some (Exactly punctuator.Minus ∷ Part Unary ∷ Make Negate ∷ Close ∷ [])
+choice Unary (token.Punctuator punctuator.Not) after =
+    Some (Exactly punctuator.Not ∷ Part Unary ∷ Make Not ∷ Close ∷ [])
+choice Unary (token.Punctuator punctuator.Tilde) after =
+    Some (Exactly punctuator.Tilde ∷ Part Unary ∷ Make Complement ∷ Close ∷ [])
+choice Unary (token.Punctuator punctuator.PlusPlus) after =
+    Some (Exactly punctuator.PlusPlus ∷ AName Mentioned ∷ Make (PrefixIncrement store.Add) ∷ [])
+choice Unary (token.Punctuator punctuator.MinusMinus) after =
+    Some (Exactly punctuator.MinusMinus ∷ AName Mentioned ∷ Make (PrefixIncrement store.Subtract) ∷ [])
 choice Unary next after = Some (Part Primary ∷ [])
 choice Primary (token.Constant value) after = Some (AConstant ∷ [])
 choice Primary (token.Name name) (token.Punctuator punctuator.OpenRound) =
     Some (AName Called ∷ Exactly punctuator.OpenRound ∷ Part Arguments ∷ Exactly punctuator.CloseRound ∷ Make Invoke
     ∷ Close ∷ [])
-choice Primary (token.Name name) (token.Punctuator punctuator.PlusPlus) = Some
-    (AName Mentioned ∷ Exactly punctuator.PlusPlus ∷ Make (PostfixIncrement store.Add) ∷ [])
-choice Primary (token.Name name) (token.Punctuator punctuator.MinusMinus) = Some
-    (AName Mentioned ∷ Exactly punctuator.MinusMinus ∷ Make (PostfixIncrement store.Subtract) ∷ [])
+choice Primary (token.Name name) (token.Punctuator punctuator.PlusPlus) =
+    Some (AName Mentioned ∷ Exactly punctuator.PlusPlus ∷ Make (PostfixIncrement store.Add) ∷ [])
+choice Primary (token.Name name) (token.Punctuator punctuator.MinusMinus) =
+    Some (AName Mentioned ∷ Exactly punctuator.MinusMinus ∷ Make (PostfixIncrement store.Subtract) ∷ [])
 choice Primary (token.Name name) after = Some (AName Mentioned ∷ Make Fetch ∷ [])
 choice Primary (token.Punctuator punctuator.OpenRound) after =
     Some (Exactly punctuator.OpenRound ∷ Part Expression ∷ Exactly punctuator.CloseRound ∷ Close ∷ [])
 choice Primary next after = None
 choice Arguments (token.Punctuator punctuator.CloseRound) after = Some []
 choice Arguments next after = Some (Part Expression ∷ Make Pass ∷ Part MoreArguments ∷ [])
-choice MoreArguments (token.Punctuator punctuator.Comma) after = Some
-    (Exactly punctuator.Comma ∷ Part Expression ∷ Make Pass ∷ Part MoreArguments ∷ [])
+choice MoreArguments (token.Punctuator punctuator.Comma) after =
+    Some (Exactly punctuator.Comma ∷ Part Expression ∷ Make Pass ∷ Part MoreArguments ∷ [])
 choice MoreArguments next after = Some []
 
 -- Whether the production chosen enters a level: a block, an `if`, a `while`, an assignment, a unary `-`, `!` or `~`,

@@ -6,11 +6,10 @@ use Rattle.tokens.specs.declared.located_tokens.LocatedToken.{LocatedToken}
 use Rattle.grammar.specs.declared.actions.Action.{Action}
 use Rattle.grammar.specs.Actions.{function_actions}
 use Rattle.grammar.specs.Compiled.{all_faults, enough_steps}
-use Rattle.grammar.specs.Derivation.{State, Value, definition_of, last_body, is_end, initial_state, stepped}
+use Rattle.grammar.specs.Derivation.{State, definition_of, last_body, is_end, initial_state, stepped}
 use Rattle.grammar.specs.Faults.{Fault, first_fault}
 use Rattle.grammar.specs.Grammar.{Item, Make, Define}
 use Rattle.grammar.specs.Profile.{Profile}
-use Rattle.grammar.specs.Scope.{Scope}
 
 -- the end of the last token: the source's end
 abbrev pub last_end : List LocatedToken → ℕ
@@ -44,17 +43,19 @@ abbrev pub is_behind_brace : ℕ → List LocatedToken → Bool
 is_behind_brace count [] = false
 is_behind_brace count (brace ∷ rest) = has_ahead 3 count rest
 
--- the actions of the function whose closing brace is next, if they have been reported to a builder
-abbrev pub built_of : ℕ → List Item → List LocatedToken → List Value → Scope → List Action
-built_of count (Make Define ∷ stack) rest values scope =
-    if is_behind_brace count rest then function_actions scope.number (definition_of scope (last_body values)).function
+-- the actions of the function whose closing brace is next, with these items in front, if they have been reported to a
+-- builder
+abbrev pub built_of : ℕ → List Item → State → List Action
+built_of count (Make Define ∷ stack) s =
+    if is_behind_brace count s.rest
+    then function_actions s.scope.number (definition_of s.scope (last_body s.values)).function
     else []
-built_of count stack rest values scope = []
+built_of count stack s = []
 
 -- the actions of the functions that are defined in the first n states
 abbrev pub built_in : ℕ → ℕ → State → List Action
 built_in count zero s = []
-built_in count (suc n) s = built_of count s.stack s.rest s.values s.scope ++ built_in count n (stepped s)
+built_in count (suc n) s = built_of count s.stack s ++ built_in count n (stepped s)
 
 abbrev pub built_tokens : List LocatedToken → ℕ → List Action
 built_tokens located_tokens count = built_in count (enough_steps located_tokens) (initial_state located_tokens)

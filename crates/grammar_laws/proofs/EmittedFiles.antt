@@ -7,9 +7,9 @@ use Rattle.tokens.specs.declared.located_tokens.LocatedToken.{LocatedToken}
 use Rattle.grammar.specs.Actions.{actions}
 use Rattle.grammar.specs.Compiled.{all_defined, all_faults, defined_as, enough_steps, last_line, last_state}
 use Rattle.grammar.specs.Compiled.{main_name, order_of}
-use Rattle.grammar.specs.Derivation.{Definition, State, next_token, derived, initial_state, item_step}
+use Rattle.grammar.specs.Derivation.{Definition, State, next_token, derived, initial_state, stack_step}
 use Rattle.grammar_laws.specs.Emitted.{EmitsItsFile}
-use Rattle.grammar.specs.Faults.{Fault, definitions_actions, faults_at, faults_in, item_faults, misfit, misfits}
+use Rattle.grammar.specs.Faults.{Fault, definitions_actions, faults_at, faults_in, stack_faults, misfit, misfits}
 use Rattle.grammar.specs.Grammar.{Item, is_fault}
 use Rattle.grammar.specs.Profile.{Profile}
 use Rattle.grammar.specs.Scope.{function_number}
@@ -37,8 +37,8 @@ nothing_left (item ∷ stack) rest false xs (Some s) final clean = absurd (cc)
 done : (profile : Profile) (s : State) → IsFinal s → faults_at profile s ≡ [] → s.stack ≡ []
 done profile s final clean =
     nothing_left s.stack s.rest (is_fault (next_token s.rest))
-    (item_faults profile s.stack s.rest s.values s.scope s.functions)
-    (item_step s.stack s.rest s.values s.scope s.functions) final clean
+    (stack_faults profile s.stack s)
+    (stack_step s.stack s) final clean
 
 -- one step before the last of those that are enough the derivation has ended
 last_is_done : (profile : Profile) (located_tokens : List LocatedToken) → all_faults profile located_tokens ≡ [] →

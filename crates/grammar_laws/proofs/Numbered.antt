@@ -7,8 +7,8 @@ use Rattle.tokens.specs.declared.located_tokens.Token.{Token}
 use Rattle.tokens.specs.declared.located_tokens.Token.TheVariants as token
 use Rattle.grammar.specs.declared.diagnostics.Code.TheVariants as code
 use Rattle.grammar.specs.Compiled.{order_of, all_defined, all_faults, defined_as, enough_steps, last_line, last_state, main_name}
-use Rattle.grammar.specs.Derivation.{State, state, initial_state, Value, Definition, definition_of, last_body, name_tree, next_token, token_after_next, line_at, name_of_token, constant_value, is_end, matched, name_matched, constant_matched, replaced, item_step, step, stepped, derived}
-use Rattle.grammar.specs.Faults.{Fault, fault, faults_at, faults_in, item_faults, definition_faults, name_faults, role_faults, misfit, misfits}
+use Rattle.grammar.specs.Derivation.{State, state, initial_state, Value, Definition, definition_of, last_body, name_tree, next_token, token_after_next, line_at, name_of_token, constant_value, is_end, matched, name_matched, constant_matched, replaced, stack_step, step, stepped, derived}
+use Rattle.grammar.specs.Faults.{Fault, fault, faults_at, faults_in, stack_faults, definition_faults, name_faults, role_faults, misfit, misfits}
 use Rattle.grammar.specs.Grammar.{Item, Exactly, AKeyword, AName, AConstant, AnEnd, Part, Make, Close, Define, Role, Defined, External, Parameter, Typed, Local, Called, Mentioned, Production, choice, is_fault, is_punctuator, is_keyword}
 use Rattle.grammar.specs.Intrinsics.{is_intrinsic}
 use Rattle.grammar.specs.Pools.{FunctionNames, names_of_function}
@@ -33,31 +33,31 @@ IfAgrees more h (Some s) = Agrees (more ++ h) s.scope
 
 matched_agrees : (fits : Bool) (stack : List Item) (rest : List LocatedToken) (values : List Value) (scope : Scope)
     (ds : List Definition) (h : History) → Agrees h scope →
-    IfAgrees [] h (matched fits stack rest values scope ds)
+    IfAgrees [] h (matched fits (state stack rest values scope ds))
 matched_agrees true stack rest values scope ds h a = a
 matched_agrees false stack rest values scope ds h a = refl
 
 name_agrees : (role : Role) (name : Option (List ℕ)) (stack : List Item) (rest : List LocatedToken)
     (values : List Value) (scope : Scope) (ds : List Definition) (h : History) → Agrees h scope →
-    IfAgrees (says role name) h (name_matched role name stack rest values scope ds)
+    IfAgrees (says role name) h (name_matched role name (state stack rest values scope ds))
 name_agrees role None stack rest values scope ds h a = refl
 name_agrees role (Some name) stack rest values scope ds h a = agrees_named role name (line_at rest) h scope a
 
 constant_agrees : (value : Option ℕ) (stack : List Item) (rest : List LocatedToken) (values : List Value)
     (scope : Scope) (ds : List Definition) (h : History) → Agrees h scope →
-    IfAgrees [] h (constant_matched value stack rest values scope ds)
+    IfAgrees [] h (constant_matched value (state stack rest values scope ds))
 constant_agrees None stack rest values scope ds h a = refl
 constant_agrees (Some value) stack rest values scope ds h a = a
 
 part_agrees : (production : Production) (stack : List Item) (rest : List LocatedToken) (values : List Value)
     (scope : Scope) (ds : List Definition) (h : History) → Agrees h scope →
-    IfAgrees [] h (replaced production stack rest values scope ds)
+    IfAgrees [] h (replaced production (state stack rest values scope ds))
 part_agrees None stack rest values scope ds h a = refl
 part_agrees (Some items) stack rest values scope ds h a = a
 
 step_agrees : (stack : List Item) (rest : List LocatedToken) (values : List Value) (scope : Scope)
     (ds : List Definition) (h : History) → Agrees h scope →
-    IfAgrees (said_of stack rest) h (item_step stack rest values scope ds)
+    IfAgrees (said_of stack rest) h (stack_step stack (state stack rest values scope ds))
 step_agrees [] rest values scope ds h a = refl
 step_agrees (Exactly m ∷ stack) rest values scope ds h a =
     matched_agrees (is_punctuator m (next_token rest)) stack rest values scope ds h a
@@ -88,7 +88,7 @@ kept_agrees s more h (Some t) a k = k
 stepped_agrees : (s : State) (h : History) → Agrees h s.scope → Agrees (said s ++ h) (stepped s).scope
 stepped_agrees s h a = kept_agrees s (said s) h (step s) a
     (guarded_agrees (is_fault (next_token s.rest)) (said_of s.stack s.rest) h
-    (item_step s.stack s.rest s.values s.scope s.functions)
+    (stack_step s.stack s)
     (step_agrees s.stack s.rest s.values s.scope s.functions h a))
 
 run_agrees : (n : ℕ) (s : State) (h : History) → Agrees h s.scope → Agrees (said_in n s ++ h) (derived n s).scope
@@ -246,34 +246,35 @@ IfCounts more h (Some s) = Counts (more ++ h) s.scope s.functions
 
 matched_counts : (fits : Bool) (stack : List Item) (rest : List LocatedToken) (values : List Value) (scope : Scope)
     (ds : List Definition) (h : History) → Counts h scope ds →
-    IfCounts [] h (matched fits stack rest values scope ds)
+    IfCounts [] h (matched fits (state stack rest values scope ds))
 matched_counts true stack rest values scope ds h c = c
 matched_counts false stack rest values scope ds h c = refl
 
 name_counts : (role : Role) (name : Option (List ℕ)) (stack : List Item) (rest : List LocatedToken)
     (values : List Value) (scope : Scope) (ds : List Definition) (h : History) →
     name_faults role name scope rest ≡ [] → Counts h scope ds →
-    IfCounts (says role name) h (name_matched role name stack rest values scope ds)
+    IfCounts (says role name) h (name_matched role name (state stack rest values scope ds))
 name_counts role None stack rest values scope ds h clean c = refl
 name_counts role (Some name) stack rest values scope ds h clean c =
     named_counts role name (line_at rest) rest h scope ds clean c
 
 constant_counts : (value : Option ℕ) (stack : List Item) (rest : List LocatedToken) (values : List Value)
     (scope : Scope) (ds : List Definition) (h : History) → Counts h scope ds →
-    IfCounts [] h (constant_matched value stack rest values scope ds)
+    IfCounts [] h (constant_matched value (state stack rest values scope ds))
 constant_counts None stack rest values scope ds h c = refl
 constant_counts (Some value) stack rest values scope ds h c = c
 
 part_counts : (production : Production) (stack : List Item) (rest : List LocatedToken) (values : List Value)
     (scope : Scope) (ds : List Definition) (h : History) → Counts h scope ds →
-    IfCounts [] h (replaced production stack rest values scope ds)
+    IfCounts [] h (replaced production (state stack rest values scope ds))
 part_counts None stack rest values scope ds h c = refl
 part_counts (Some items) stack rest values scope ds h c = c
 
 step_counts : (profile : Profile) (stack : List Item) (rest : List LocatedToken) (values : List Value) (scope : Scope)
     (ds : List Definition) (h : History) →
-    item_faults profile stack rest values scope ds ≡ [] → Sound (state stack rest values scope ds) → Counts h scope ds →
-    IfCounts (said_of stack rest) h (item_step stack rest values scope ds)
+    stack_faults profile stack (state stack rest values scope ds) ≡ [] → Sound (state stack rest values scope ds) →
+    Counts h scope ds →
+    IfCounts (said_of stack rest) h (stack_step stack (state stack rest values scope ds))
 step_counts profile [] rest values scope ds h clean s c = refl
 step_counts profile (Exactly m ∷ stack) rest values scope ds h clean s c =
     matched_counts (is_punctuator m (next_token rest)) stack rest values scope ds h c
@@ -309,9 +310,9 @@ stepped_counts : (profile : Profile) (s : State) (h : History) → faults_at pro
     Counts h s.scope s.functions → Counts (said s ++ h) (stepped s).scope (stepped s).functions
 stepped_counts profile s h clean sound c = kept_counting s (said s) h (step s) c
     (guarded_counts (is_fault (next_token s.rest)) (said_of s.stack s.rest) h s.rest
-    (item_faults profile s.stack s.rest s.values s.scope s.functions)
-    (misfits s.stack s.rest (item_step s.stack s.rest s.values s.scope s.functions))
-    (item_step s.stack s.rest s.values s.scope s.functions) clean
+    (stack_faults profile s.stack s)
+    (misfits s.stack s.rest (stack_step s.stack s))
+    (stack_step s.stack s) clean
     (λ e. step_counts profile s.stack s.rest s.values s.scope s.functions h e
     (record { known = sound.known; tied = sound.tied }) c))
 

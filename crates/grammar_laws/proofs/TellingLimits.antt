@@ -6,8 +6,8 @@ use Rattle.tokens.specs.declared.located_tokens.LocatedToken.{LocatedToken}
 use Rattle.grammar.specs.declared.diagnostics.Code.TheVariants as code
 use Rattle.grammar.specs.Compiled.{order_of}
 use Rattle.grammar.specs.Derivation.{State, state, Value, Definition, next_token, token_after_next, line_at, name_of_token}
-use Rattle.grammar.specs.Derivation.{item_step}
-use Rattle.grammar.specs.Faults.{Fault, fault, faults_at, item_faults, levels, misfit, misfits}
+use Rattle.grammar.specs.Derivation.{stack_step}
+use Rattle.grammar.specs.Faults.{Fault, fault, faults_at, stack_faults, levels, misfit, misfits}
 use Rattle.grammar.specs.Faults.{name_faults, only_if, role_faults}
 use Rattle.grammar.specs.Grammar.{Symbol, FunctionBlock, Item, AName, Part, Make, Define, Role, Called, Mentioned}
 use Rattle.grammar.specs.Grammar.{enters, is_fault}
@@ -80,7 +80,7 @@ begins_allowed symbol stack rest values scope ds s = tt
 -- Any item.
 
 item_allowed : (profile : Profile) (stack : List Item) (rest : List LocatedToken) (values : List Value) (scope : Scope)
-    (ds : List Definition) → Clean (item_faults profile stack rest values scope ds) →
+    (ds : List Definition) → Clean (stack_faults profile stack (state stack rest values scope ds)) →
     Sound (state stack rest values scope ds) → Allows (Unit {0}) stack rest scope
 item_allowed profile [] rest values scope ds clean s = tt
 item_allowed profile (Part symbol ∷ stack) rest values scope ds clean s = (
@@ -105,8 +105,8 @@ pub allowed : (profile : Profile) (s : State) → faults_at profile s ≡ [] →
 allowed profile s clean h e =
     item_allowed profile s.stack s.rest s.values s.scope s.functions
     (guarded_clean (is_fault (next_token s.rest)) s.rest
-    (item_faults profile s.stack s.rest s.values s.scope s.functions)
-    (misfits s.stack s.rest (item_step s.stack s.rest s.values s.scope s.functions)) clean e)
+    (stack_faults profile s.stack s)
+    (misfits s.stack s.rest (stack_step s.stack s)) clean e)
     (record { known = h.known; tied = h.tied })
 
 -- Without limits nothing is asked.

@@ -11,9 +11,9 @@ use Rattle.grammar.specs.declared.actions.Action.TheVariants as action
 use Rattle.grammar.specs.declared.actions.Action.{Action}
 use Rattle.grammar.specs.declared.actions.Action.TheVariants.{PushConstant, BeginFunction, EndFunction}
 use Rattle.grammar.specs.Actions.{body_actions}
-use Rattle.grammar.specs.Derivation.{State, Value, AnExpr, AVariable, ACall, Definition, definition_of, last_body, trees_after}
+use Rattle.grammar.specs.Derivation.{State, state, Value, AnExpr, AVariable, ACall, Definition, definition_of, last_body, trees_after}
 use Rattle.grammar.specs.Derivation.{name_tree, next_token, token_after_next, line_at, name_of_token, constant_value, is_end}
-use Rattle.grammar.specs.Derivation.{matched, name_matched, constant_matched, replaced, item_step, stepped}
+use Rattle.grammar.specs.Derivation.{matched, name_matched, constant_matched, replaced, stack_step, stepped}
 use Rattle.grammar.specs.declared.operators.StoreOp.{StoreOp}
 use Rattle.grammar_laws.specs.Emission.{on_choice, on_name, on_constant, on_rule, on_item, emitted}
 use Rattle.grammar.specs.Faults.{definitions_actions}
@@ -64,14 +64,14 @@ Allows A stack rest scope = Unit {0}
 matched_tells : (A : Type 0) (fits : Bool) (stack : List Item) (rest : List LocatedToken) (values : List Value)
     (scope : Scope) (ds : List Definition) (acts : List Action) →
     Tells A stack values scope.number scope.current.parameters ds acts →
-    After A (matched fits stack rest values scope ds) acts []
+    After A (matched fits (state stack rest values scope ds)) acts []
 matched_tells A true stack rest values scope ds acts h = h
 matched_tells A false stack rest values scope ds acts h = refl
 
 constant_tells : (A : Type 0) (value : Option ℕ) (stack : List Item) (rest : List LocatedToken) (values : List Value)
     (scope : Scope) (ds : List Definition) (acts : List Action) →
     Tells A (AConstant ∷ stack) values scope.number scope.current.parameters ds acts →
-    After A (constant_matched value stack rest values scope ds) acts (on_constant value)
+    After A (constant_matched value (state stack rest values scope ds)) acts (on_constant value)
 constant_tells A None stack rest values scope ds acts h = refl
 constant_tells A (Some value) stack rest values scope ds acts h = h value
 
@@ -115,7 +115,7 @@ nameless role = refl
 named_tells : (A : Type 0) (role : Role) (name : Option (List ℕ)) (stack : List Item) (rest : List LocatedToken)
     (values : List Value) (scope : Scope) (ds : List Definition) (acts : List Action) → NameAllows A role name scope →
     Named A role (Tells A stack) values scope.number scope.current.parameters ds acts →
-    After A (name_matched role name stack rest values scope ds) acts (on_name role name)
+    After A (name_matched role name (state stack rest values scope ds)) acts (on_name role name)
 named_tells A role None stack rest values scope ds acts allows h = nameless role
 named_tells A role (Some name) stack rest values scope ds acts allows h =
     name_tells A role name (line_at rest) stack values scope ds acts allows h
@@ -139,7 +139,7 @@ replaced_tells : (A : Type 0) (production : Production) (stack : List Item) (res
     (values : List Value) (scope : Scope) (ds : List Definition) (acts more : List Action) →
     (production ≡ None → more ≡ []) →
     Produced A production stack values scope.number scope.current.parameters ds (and_then acts more) →
-    After A (replaced production stack rest values scope ds) acts more
+    After A (replaced production (state stack rest values scope ds)) acts more
 replaced_tells A None stack rest values scope ds acts more none h = none refl
 replaced_tells A (Some items) stack rest values scope ds acts more none h = h
 
@@ -220,7 +220,7 @@ define_tells A stack values scope ds acts allows h =
 pub step_tells : (A : Type 0) (stack : List Item) (rest : List LocatedToken) (values : List Value) (scope : Scope)
     (ds : List Definition) (acts : List Action) → Allows A stack rest scope →
     Tells A stack values scope.number scope.current.parameters ds acts →
-    After A (item_step stack rest values scope ds) acts (on_item stack (next_token rest) values scope)
+    After A (stack_step stack (state stack rest values scope ds)) acts (on_item stack (next_token rest) values scope)
 step_tells A [] rest values scope ds acts allows h = refl
 step_tells A (Exactly m ∷ stack) rest values scope ds acts allows h =
     matched_tells A (is_punctuator m (next_token rest)) stack rest values scope ds acts h
@@ -295,6 +295,6 @@ pub stepped_tells : (A : Type 0) (s : State) (acts : List Action) →
     (is_fault (next_token s.rest) ≡ false → Allows A s.stack s.rest s.scope) → StateTells A s acts →
     StateTells A (stepped s) (acts ++ emitted s)
 stepped_tells A s acts allows h =
-    guarded_tells A s (is_fault (next_token s.rest)) (item_step s.stack s.rest s.values s.scope s.functions) acts
+    guarded_tells A s (is_fault (next_token s.rest)) (stack_step s.stack s) acts
     (on_item s.stack (next_token s.rest) s.values s.scope) h
     (λ e. step_tells A s.stack s.rest s.values s.scope s.functions acts (allows e) h)

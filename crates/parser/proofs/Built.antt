@@ -10,7 +10,7 @@ use Rattle.tokens.specs.declared.located_tokens.Token.TheVariants as token
 use Rattle.grammar.specs.declared.actions.Action.{Action}
 use Rattle.grammar.specs.Actions.{function_actions}
 use Rattle.grammar.specs.Compiled.{enough_steps}
-use Rattle.grammar.specs.Derivation.{Definition, State, Value, constant_matched, constant_value, definition_of, is_end, last_body, matched, name_matched, name_of_token, next_token, replaced, derived, initial_state, state, item_step, stepped}
+use Rattle.grammar.specs.Derivation.{Definition, State, Value, constant_matched, constant_value, definition_of, is_end, last_body, matched, name_matched, name_of_token, next_token, replaced, derived, initial_state, state, stack_step, stepped}
 use Rattle.grammar.specs.Faults.{definitions_actions}
 use Rattle.grammar.specs.Grammar.{AConstant, AName, AKeyword, AnEnd, Close, Define, Exactly, Item, Make, Part, Production, Role, is_fault}
 use Rattle.grammar.specs.Need.{built, built_in, built_of, ends_by, has_ahead, is_behind_brace}
@@ -118,18 +118,18 @@ at_stop count place (x ∷ y ∷ ys) cut h = none (ends_by count y) (has_ahead 2
 
 -- Functions in a run.
 
-none_of : (count : ℕ) (stack : List Item) (rest : List LocatedToken) (values : List Value) (scope : Scope) →
-    is_behind_brace count rest ≡ false → built_of count stack rest values scope ≡ []
-none_of count [] rest values scope h = refl
-none_of count (Make Define ∷ stack) rest values scope h = rw h refl
-none_of count (Make rule ∷ stack) rest values scope h = refl
-none_of count (Exactly m ∷ stack) rest values scope h = refl
-none_of count (AKeyword w ∷ stack) rest values scope h = refl
-none_of count (AName role ∷ stack) rest values scope h = refl
-none_of count (AConstant ∷ stack) rest values scope h = refl
-none_of count (AnEnd ∷ stack) rest values scope h = refl
-none_of count (Part symbol ∷ stack) rest values scope h = refl
-none_of count (Close ∷ stack) rest values scope h = refl
+none_of : (count : ℕ) (s : State) → is_behind_brace count s.rest ≡ false → (stack : List Item) →
+    built_of count stack s ≡ []
+none_of count s h [] = refl
+none_of count s h (Make Define ∷ stack) = rw h refl
+none_of count s h (Make rule ∷ stack) = refl
+none_of count s h (Exactly m ∷ stack) = refl
+none_of count s h (AKeyword w ∷ stack) = refl
+none_of count s h (AName role ∷ stack) = refl
+none_of count s h (AConstant ∷ stack) = refl
+none_of count s h (AnEnd ∷ stack) = refl
+none_of count s h (Part symbol ∷ stack) = refl
+none_of count s h (Close ∷ stack) = refl
 
 -- the tokens left after a step
 pub record IsStepped (count : ℕ) (s : State) : Type 0 where
@@ -155,7 +155,7 @@ none_in : (count n place : ℕ) (s : State) → IsCut place s.rest → is_behind
 none_in count zero place s cut h = refl
 none_in count (suc n) place s cut h =
     let t : IsStepped count s = steps_on count place s cut in
-    rw (none_of count s.stack s.rest s.values s.scope h, none_in count n t.position (stepped s) t.cut (t.later h)) refl
+    rw (none_of count s h s.stack, none_in count n t.position (stepped s) t.cut (t.later h)) refl
 
 -- What a step of the derivation defines.
 
@@ -163,31 +163,32 @@ none_in count (suc n) place s cut h =
 pub record Defines (count : ℕ) (s : State) : Type 0 where
   pub more : List Definition
   pub functions : (stepped s).functions ≡ s.functions ++ more
-  pub built : (built_of count s.stack s.rest s.values s.scope ≡ definitions_actions more)
-      ⊎ ((built_of count s.stack s.rest s.values s.scope ≡ []) × (is_behind_brace count s.rest ≡ false))
+  pub built : (built_of count s.stack s ≡ definitions_actions more)
+      ⊎ ((built_of count s.stack s ≡ []) × (is_behind_brace count s.rest ≡ false))
 
 abbrev Keeps : List Definition → Option State → Type 0
 Keeps functions None = Unit {0}
 Keeps functions (Some t) = t.functions ≡ functions ++ []
 
 matched_keeps : (fits : Bool) (stack : List Item) (rest : List LocatedToken) (values : List Value) (scope : Scope)
-    (functions : List Definition) → Keeps functions (matched fits stack rest values scope functions)
+    (functions : List Definition) → Keeps functions (matched fits (state stack rest values scope functions))
 matched_keeps true stack rest values scope functions = sym (append-nil functions)
 matched_keeps false stack rest values scope functions = tt
 
 name_keeps : (role : Role) (name : Option (List ℕ)) (stack : List Item) (rest : List LocatedToken) (values : List Value)
     (scope : Scope) (functions : List Definition) →
-    Keeps functions (name_matched role name stack rest values scope functions)
+    Keeps functions (name_matched role name (state stack rest values scope functions))
 name_keeps role (Some name) stack rest values scope functions = sym (append-nil functions)
 name_keeps role None stack rest values scope functions = tt
 
 constant_keeps : (value : Option ℕ) (stack : List Item) (rest : List LocatedToken) (values : List Value) (scope : Scope)
-    (functions : List Definition) → Keeps functions (constant_matched value stack rest values scope functions)
+    (functions : List Definition) → Keeps functions (constant_matched value (state stack rest values scope functions))
 constant_keeps (Some value) stack rest values scope functions = sym (append-nil functions)
 constant_keeps None stack rest values scope functions = tt
 
 replaced_keeps : (items : Production) (stack : List Item) (rest : List LocatedToken) (values : List Value)
-    (scope : Scope) (functions : List Definition) → Keeps functions (replaced items stack rest values scope functions)
+    (scope : Scope) (functions : List Definition) →
+    Keeps functions (replaced items (state stack rest values scope functions))
 replaced_keeps (Some items) stack rest values scope functions = sym (append-nil functions)
 replaced_keeps None stack rest values scope functions = tt
 
@@ -198,8 +199,8 @@ kept false None s h = sym (append-nil s.functions)
 kept false (Some t) s h = h
 
 -- no function ends
-plain : (count : ℕ) (s : State) → built_of count s.stack s.rest s.values s.scope ≡ [] →
-    Keeps s.functions (item_step s.stack s.rest s.values s.scope s.functions) → Defines count s
+plain : (count : ℕ) (s : State) → built_of count s.stack s ≡ [] → Keeps s.functions (stack_step s.stack s) →
+    Defines count s
 plain count s none keeps =
     record { more = []; functions = kept (is_fault (next_token s.rest)) _ s keeps; built = inl none }
 
@@ -283,8 +284,8 @@ front_step count n place s cut further =
         definitions_actions (derived n (stepped s)).functions ≡
         (definitions_actions s.functions ++ definitions_actions more) ++
         (built_in count n (stepped s) ++ further.more) →
-        (built_of count s.stack s.rest s.values s.scope ≡ definitions_actions more) ⊎
-        ((built_of count s.stack s.rest s.values s.scope ≡ []) × (is_behind_brace count s.rest ≡ false)) →
+        (built_of count s.stack s ≡ definitions_actions more) ⊎
+        ((built_of count s.stack s ≡ []) × (is_behind_brace count s.rest ≡ false)) →
         IsFront count (suc n) s
     by more told (inl same) = record {
       more = further.more;
@@ -300,7 +301,7 @@ front_step count n place s cut further =
     by more told (inr none) =
         let t : IsStepped count s = steps_on count place s cut in
         let later : built_in count n (stepped s) ≡ [] = none_in count n t.position (stepped s) t.cut (t.later none.1) in
-        let nothing : built_of count s.stack s.rest s.values s.scope ++ built_in count n (stepped s) ≡ [] =
+        let nothing : built_of count s.stack s ++ built_in count n (stepped s) ≡ [] =
         rw (none.0, later) refl in
         record {
           more = definitions_actions more ++ further.more;
@@ -331,10 +332,10 @@ built_in-add count (suc m) n s =
     let same : suc m + n ≡ suc (m + n) = omega arith in
     ap (λ (k : ℕ). built_in count k s) same
     ∙
-    ap (λ (xs : List Action). built_of count s.stack s.rest s.values s.scope ++ xs) (built_in-add count m n (stepped s))
+    ap (λ (xs : List Action). built_of count s.stack s ++ xs) (built_in-add count m n (stepped s))
     ∙
     sym
-    (append_assoc (built_of count s.stack s.rest s.values s.scope) (built_in count m (stepped s))
+    (append_assoc (built_of count s.stack s) (built_in count m (stepped s))
     (built_in count n (derived m (stepped s))))
 
 -- the functions defined by then are those built, and others after them

@@ -19,7 +19,7 @@ use Rattle.grammar.specs.Grammar.{AKeyword, Exactly, Item, Make, Part, SemanticA
 use Rattle.grammar.specs.Laws.Parsing.{Passes}
 use Rattle.grammar.specs.NameLimits.{most_levels}
 use Rattle.grammar.specs.Profile.{Profile}
-use Rattle.grammar.specs.Scope.{Scope}
+use Rattle.grammar.specs.Scope.{Scope, no_names}
 use Rattle.grammar.proofs.Firsts.{too_deep, too_deep_word}
 use Rattle.grammar.proofs.Runs.{then}
 use Rattle.grammar.proofs.Steps.{make, punctuator, part, close, word}
@@ -53,7 +53,7 @@ word_is w (token.Fault lexical_error) is = absurd (cc)
 abbrev pub IsFree : ℕ → Symbol → LocatedToken → Type 0
 IsFree depth symbol located_token =
     (stack : List Item) (rest : List LocatedToken) → levels stack ≡ depth →
-    level_faults symbol stack (located_token ∷ rest) ≡ []
+    level_faults symbol (state stack (located_token ∷ rest) [] no_names []) ≡ []
 
 -- while a level is left there is no fault
 pub within : (opened : Bool) (n : ℕ) (rest : List LocatedToken) → n < 64 →
@@ -210,7 +210,7 @@ pub record MakesOnly (rule : SemanticAction) (taken left : List Value) : Type 0 
   pub defines : (values : List Value) (scope : Scope) → functions_defined rule values scope ≡ []
   pub clean : (profile : Profile) (stack : List Item) (rest : List LocatedToken) (values : List Value) (scope : Scope)
       (functions : List Definition) →
-      item_faults profile (Make rule ∷ stack) rest values scope functions ≡ []
+      item_faults profile (Make rule) (state stack rest values scope functions) ≡ []
 
 pub make_leads : (located_token : LocatedToken) (depth : ℕ) (rule : SemanticAction) (taken left : List Value)
     (known : Scope) (rest : List LocatedToken) → is_fault located_token.token ≡ false → MakesOnly rule taken left →

@@ -15,13 +15,17 @@ use Rattle.grammar.specs.Need.{built, need}
 use Rattle.grammar.specs.Pools.{FunctionNames, Pools, pools_of}
 use Rattle.grammar.specs.Profile.{Profile}
 use Rattle.grammar.specs.Resolved.{IsResolved}
-use Rattle.grammar.specs.Scope.{number_of_name}
+use Rattle.grammar.specs.Scope.{Scope, no_names, number_of_name}
 use Rattle.grammar.specs.Tree.{File}
 
 -- by some profile the builder represents no action
 pub record IsNew (before : Representation) : Type 0 where
   pub profile : Profile
   pub stands : before profile []
+
+-- the builder is new, and no names are known
+abbrev pub AreNew : Representation → Scope → Type 0
+AreNew before scope = IsNew before × (scope ≡ no_names)
 
 -- The names are those of a resolved file, and a builder that represented no action represents the file's actions, which
 -- leave nothing open, whether the device's bytes are known or not. If they are, the file is what they compile to.

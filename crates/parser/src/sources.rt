@@ -4,12 +4,11 @@ ghost use Rattle.std.specs.Prelude.{◌≡◌, ◌∷◌, IfErr, IfOk, OnOk};
 ghost use Rattle.tokens.specs.Feed.{MayRead};
 ghost use Rattle.tokens.specs.declared.located_tokens.Keyword.TheVariants as keyword;
 ghost use Rattle.grammar.specs.Grammar.{Head, Part};
-ghost use Rattle.grammar.specs.Scope.{no_names};
 ghost use Rattle.parser.specs.Advancing.{Anywhere, IsNextKeyword};
 ghost use Rattle.parser.specs.Parsers.{IsBetween, MayProceed, Proceeds};
 ghost use Rattle.parser.specs.ScopedCursors.{pools_in, scope_of};
 ghost use Rattle.parser.specs.Segment.{CountsRefusal};
-ghost use Rattle.parser.specs.ParsedFiles.{IsFile, IsNew, ParseIsRefused, TakesEnough};
+ghost use Rattle.parser.specs.ParsedFiles.{AreNew, IsFile, IsNew, ParseIsRefused, TakesEnough};
 ghost use Rattle.parser.specs.Progress.{HasMore, IsComplete, Lacks, ReadsParts, ReadsSource, at_source};
 
 use crate::function_headers::external_declaration;
@@ -63,8 +62,7 @@ pub fn parse_into<F: Feed, B: Build>(
     build: &mut B,
     scope: &mut Scope,
 ) -> Result<(), ParseFault>
-    requires new { IsNew (B.stands build.old) }
-    requires nothing { scope.old ≡ no_names }
+    requires new { AreNew (B.stands build.old) scope.old }
     requires ready { MayRead (F.device feed.old) }
     ensures file { OnOk result (IsFile (B.stands build.old) (B.stands build.new) (F.device feed.old).to_come
         (pools_in scope.new)) }

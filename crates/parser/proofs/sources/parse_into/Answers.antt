@@ -24,7 +24,7 @@ returns-in_err-cursor-clause-taken g c =
 pub returns-in_err-read-clause-refused : goal.returns-in_err-read-clause-refused
 returns-in_err-read-clause-refused g c =
     let nothing : scope_at c.new-parser.result.position ≡ no_names =
-    rw (c.new-parser.ensures.place, c.requires.nothing) refl in
+    rw (c.new-parser.ensures.place, c.requires.new.1) refl in
     let tells : tokens_at c.new-parser.result.position ≡ option_map tokens (g.F.Feed.device c.args.feed.now).to_come =
     rw c.new-parser.ensures.place c.in_ok-cursor.ensures.opens.tokens in
     let opened : c.new-parser.result.position.to_come ≡
@@ -44,7 +44,7 @@ returns-in_err-read-clause-refused g c =
 pub returns-in_err-read-clause-taken : goal.returns-in_err-read-clause-taken
 returns-in_err-read-clause-taken g c =
     let nothing : scope_at c.new-parser.result.position ≡ no_names =
-    rw (c.new-parser.ensures.place, c.requires.nothing) refl in
+    rw (c.new-parser.ensures.place, c.requires.new.1) refl in
     let tells : tokens_at c.new-parser.result.position ≡ option_map tokens (g.F.Feed.device c.args.feed.now).to_come =
     rw c.new-parser.ensures.place c.in_ok-cursor.ensures.opens.tokens in
     let opened : c.new-parser.result.position.to_come ≡
@@ -60,7 +60,7 @@ returns-in_err-read-clause-taken g c =
 pub returns-in_err-checked-clause-refused : goal.returns-in_err-checked-clause-refused
 returns-in_err-checked-clause-refused g c =
     let nothing : scope_at c.new-parser.result.position ≡ no_names =
-    rw (c.new-parser.ensures.place, c.requires.nothing) refl in
+    rw (c.new-parser.ensures.place, c.requires.new.1) refl in
     let tells : tokens_at c.new-parser.result.position ≡ option_map tokens (g.F.Feed.device c.args.feed.now).to_come =
     rw c.new-parser.ensures.place c.in_ok-cursor.ensures.opens.tokens in
     let whole : IsWhole (g.B.Build.stands c.args.build.now) (g.B.Build.stands c.source-read.new.self.builder.now)
@@ -78,7 +78,7 @@ returns-in_err-checked-clause-refused g c =
 pub returns-in_err-checked-clause-taken : goal.returns-in_err-checked-clause-taken
 returns-in_err-checked-clause-taken g c =
     let nothing : scope_at c.new-parser.result.position ≡ no_names =
-    rw (c.new-parser.ensures.place, c.requires.nothing) refl in
+    rw (c.new-parser.ensures.place, c.requires.new.1) refl in
     let tells : tokens_at c.new-parser.result.position ≡ option_map tokens (g.F.Feed.device c.args.feed.now).to_come =
     rw c.new-parser.ensures.place c.in_ok-cursor.ensures.opens.tokens in
     let opened : c.new-parser.result.position.to_come ≡
@@ -98,7 +98,7 @@ returns-in_err-checked-clause-taken g c =
 pub returns-clause-file : goal.returns-clause-file
 returns-clause-file g c =
     let nothing : scope_at c.new-parser.result.position ≡ no_names =
-    rw (c.new-parser.ensures.place, c.requires.nothing) refl in
+    rw (c.new-parser.ensures.place, c.requires.new.1) refl in
     let tells : tokens_at c.new-parser.result.position ≡ option_map tokens (g.F.Feed.device c.args.feed.now).to_come =
     rw c.new-parser.ensures.place c.in_ok-cursor.ensures.opens.tokens in
     let whole : IsWhole (g.B.Build.stands c.args.build.now) (g.B.Build.stands c.source-read.new.self.builder.now)
@@ -107,13 +107,13 @@ returns-clause-file g c =
     { reads = c.in_ok-read.ensures.reads.0; nothing = nothing; tells = tells; ends = c.in_ok-read.ensures.reads.2 }
     in
     file_left g.B.Build.stands _ _ c.source-read.new.self.builder.now _ _ (search rules)
-    (whole_file _ _ _ _ _ _ c.requires.new whole c.in_ok-checked.ensures.complete (search rules)
+    (whole_file _ _ _ _ _ _ c.requires.new.0 whole c.in_ok-checked.ensures.complete (search rules)
     c.in_ok-read.ensures.reads.1)
 
 pub returns-clause-taken : goal.returns-clause-taken
 returns-clause-taken g c =
     let nothing : scope_at c.new-parser.result.position ≡ no_names =
-    rw (c.new-parser.ensures.place, c.requires.nothing) refl in
+    rw (c.new-parser.ensures.place, c.requires.new.1) refl in
     let tells : tokens_at c.new-parser.result.position ≡ option_map tokens (g.F.Feed.device c.args.feed.now).to_come =
     rw c.new-parser.ensures.place c.in_ok-cursor.ensures.opens.tokens in
     let opened : c.new-parser.result.position.to_come ≡
