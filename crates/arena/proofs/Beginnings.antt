@@ -4,13 +4,13 @@ use Rattle.std.specs.List.{range_with_len}
 use Rattle.std.proofs.lemmas.List.{map_push}
 use Rattle.std.proofs.lemmas.List.FromFn.{map-range_with_len_more}
 use Rattle.arena.specs.Random.{random_word}
-use Rattle.arena.specs.Start.{standing, quadrant, drawn_place, drawn_robot}
+use Rattle.arena.specs.Start.{robot_at_rest, quadrant, drawn_place, drawn_robot}
 use Rattle.arena.specs.Arena.{Robot, robot_of}
 
 -- the robot of a number, by the words that it draws
 pub robot_is : (seed number i first : ℕ) → first ≡ random_word seed number 0 →
     robot_of
-    (standing (drawn_place ((i + first % 4) % 4 % 2) (random_word seed number (1 + 2 * i)))
+    (robot_at_rest (drawn_place ((i + first % 4) % 4 % 2) (random_word seed number (1 + 2 * i)))
     (drawn_place ((i + first % 4) % 4 / 2) (random_word seed number (1 + 2 * i + 1))))
     ≡ robot_of (drawn_robot seed number i)
 unfolding drawn_robot quadrant

@@ -8,7 +8,7 @@ use Rattle.std.proofs.lemmas.Bool.Decides.{Decides-int_eq, nat_tests, leb_tells}
 use Rattle.arith.specs.Table.{sines}
 use Rattle.arith.specs.Circle.{sine_at, cosine_at}
 use Rattle.arith.specs.Degree.{apart}
-use Rattle.arith.specs.Bearing.{reach_of, bearing_of}
+use Rattle.arith.specs.Bearing.{projection_of, bearing_of}
 use Rattle.arith.specs.Furthest.{IsBearing}
 use Rattle.arith.proofs.Below.{passes_below, passes_at}
 use Rattle.arith.proofs.BearingLemmas.{bearing_of-IsBearing}
@@ -53,8 +53,8 @@ lies_between px py qx qy side =
     (int_eq (pos d *ℤ x) (pos a *ℤ px +ℤ pos b *ℤ qx) && int_eq (pos d *ℤ y) (pos a *ℤ py +ℤ pos b *ℤ qy))
 
 is_forward : (dx dy px py qx qy : ℤ) (side : ℕ) → lies_between px py qx qy side ≡ true →
-    pos 0 ≤ℤ (dx *ℤ px +ℤ dy *ℤ py) → pos 0 ≤ℤ (dx *ℤ qx +ℤ dy *ℤ qy) → pos 0 ≤ℤ reach_of dx dy side
-unfolding lies_between reach_of
+    pos 0 ≤ℤ (dx *ℤ px +ℤ dy *ℤ py) → pos 0 ≤ℤ (dx *ℤ qx +ℤ dy *ℤ qy) → pos 0 ≤ℤ projection_of dx dy side
+unfolding lies_between projection_of
 is_forward dx dy px py qx qy side h on_p on_q =
     let x = cosine_at side in
     let y = sine_at side in
@@ -108,7 +108,7 @@ unfolding width is_halfway lies_between cosine_at sine_at sines
 all_halfway = refl
 
 leads_before : (dx dy : ℤ) (b : ℕ) → IsBearing dx dy b → pos 0 ≤ℤ (dx *ℤ before_x b +ℤ dy *ℤ before_y b)
-unfolding before_x before_y reach_of
+unfolding before_x before_y projection_of
 leads_before dx dy b is =
     let other = (b + 359) % 360 in
     let most = is.greatest other (omega arith) in
@@ -116,7 +116,7 @@ leads_before dx dy b is =
     (omega (arith, ints, most))
 
 leads_after : (dx dy : ℤ) (b : ℕ) → IsBearing dx dy b → pos 0 ≤ℤ (dx *ℤ after_x b +ℤ dy *ℤ after_y b)
-unfolding after_x after_y reach_of
+unfolding after_x after_y projection_of
 leads_after dx dy b is =
     let other = (b + 1) % 360 in
     let most = is.greatest other (omega arith) in
@@ -125,12 +125,12 @@ leads_after dx dy b is =
 
 -- at a number of degrees, perhaps past the round, a point reaches forward
 abbrev ReachesAt : ℤ → ℤ → ℕ → Type 0
-ReachesAt dx dy n = pos 0 ≤ℤ reach_of dx dy (n % 360)
+ReachesAt dx dy n = pos 0 ≤ℤ projection_of dx dy (n % 360)
 
 -- so it does halfway between two such numbers
 halfway : (dx dy : ℤ) (h n : ℕ) → is_halfway h (n % 360) ≡ true → ReachesAt dx dy n → ReachesAt dx dy (n + (h + h)) →
     ReachesAt dx dy (n + h)
-unfolding is_halfway reach_of
+unfolding is_halfway projection_of
 halfway dx dy h n test first last =
     let a = n % 360 in
     let far : (a + (h + h)) % 360 ≡ (n + (h + h)) % 360 = omega arith in
@@ -186,7 +186,7 @@ around dx dy b t is near =
 
 -- up to 89 degrees to either side of its bearing
 to_sides : (dx dy : ℤ) (b s : ℕ) → IsBearing dx dy b → s < 90 →
-    (pos 0 ≤ℤ reach_of dx dy ((b + s) % 360)) × (pos 0 ≤ℤ reach_of dx dy ((b + 360 - s) % 360))
+    (pos 0 ≤ℤ projection_of dx dy ((b + s) % 360)) × (pos 0 ≤ℤ projection_of dx dy ((b + 360 - s) % 360))
 to_sides dx dy b s is near =
     let after : (b + 271 + (89 + s)) % 360 ≡ (b + s) % 360 = omega arith in
     let before : (b + 271 + (89 - s)) % 360 ≡ (b + 360 - s) % 360 = omega arith in
@@ -200,7 +200,7 @@ outside a b h = elim (leb_tells a b) [
 ]
 
 pub beside_left : (dx dy : ℤ) (degree spread side : ℕ) → degree < 360 → spread ≤ 10 →
-    side ≡ (degree + (89 - spread)) % 360 → reach_of dx dy side <ℤ pos 0 →
+    side ≡ (degree + (89 - spread)) % 360 → projection_of dx dy side <ℤ pos 0 →
     nat_le (apart (bearing_of dx dy) degree) spread ≡ false
 unfolding apart
 beside_left dx dy degree spread side round small e backwards =
@@ -215,7 +215,7 @@ beside_left dx dy degree spread side round small e backwards =
     omega (arith, ints, here, backwards))
 
 pub beside_right : (dx dy : ℤ) (degree spread side : ℕ) → degree < 360 → spread ≤ 10 →
-    side ≡ (degree + (271 + spread)) % 360 → reach_of dx dy side <ℤ pos 0 →
+    side ≡ (degree + (271 + spread)) % 360 → projection_of dx dy side <ℤ pos 0 →
     nat_le (apart (bearing_of dx dy) degree) spread ≡ false
 unfolding apart
 beside_right dx dy degree spread side round small e backwards =
@@ -233,8 +233,8 @@ beside_right dx dy degree spread side round small e backwards =
 nowhere : (x y : ℤ) → pos 0 *ℤ x +ℤ pos 0 *ℤ y ≡ pos 0
 nowhere x y = omega (arith, ints)
 
-pub elsewhere : (dx dy : ℤ) (side : ℕ) → reach_of dx dy side <ℤ pos 0 → dx ≡ pos 0 → dy ≡ pos 0 → ⊥
-unfolding reach_of
+pub elsewhere : (dx dy : ℤ) (side : ℕ) → projection_of dx dy side <ℤ pos 0 → dx ≡ pos 0 → dy ≡ pos 0 → ⊥
+unfolding projection_of
 elsewhere dx dy side backwards p q =
     let at_origin = rw (p, q) at backwards in
     let none = nowhere (cosine_at side) (sine_at side) in
@@ -255,8 +255,8 @@ negates a (pos zero) = omega (arith, ints)
 negates a (pos (suc n)) = omega (arith, ints)
 negates a (negsuc n) = omega (arith, ints)
 
-opposite : (dx dy : ℤ) (n : ℕ) → n < 360 → reach_of dx dy ((n + 180) % 360) ≡ neg_ℤ (reach_of dx dy n)
-unfolding is_opposite reach_of
+opposite : (dx dy : ℤ) (n : ℕ) → n < 360 → projection_of dx dy ((n + 180) % 360) ≡ neg_ℤ (projection_of dx dy n)
+unfolding is_opposite projection_of
 opposite dx dy n round =
     let test = passes_at is_opposite 360 all_opposite n round in
     let parts = and_parts (int_eq (sine_at ((n + 180) % 360)) (neg_ℤ (sine_at n))) _ test in
@@ -282,11 +282,11 @@ abbrev IsNearlyForward : ℤ → Type 0
 IsNearlyForward z = negsuc 3488507 ≤ℤ z
 
 pub record Steps (dx dy : ℤ) (n : ℕ) : Type 0 where
-  pub up : pos 0 ≤ℤ reach_of dx dy n → IsNearlyForward (reach_of dx dy ((n + 1) % 360))
-  pub down : pos 0 ≤ℤ reach_of dx dy ((n + 1) % 360) → IsNearlyForward (reach_of dx dy n)
+  pub up : pos 0 ≤ℤ projection_of dx dy n → IsNearlyForward (projection_of dx dy ((n + 1) % 360))
+  pub down : pos 0 ≤ℤ projection_of dx dy ((n + 1) % 360) → IsNearlyForward (projection_of dx dy n)
 
 steps : (dx dy : ℤ) (n : ℕ) → n < 360 → unsigned_abs dx ≤ 999 → unsigned_abs dy ≤ 999 → Steps dx dy n
-unfolding is_small_step reach_of
+unfolding is_small_step projection_of
 steps dx dy n round east north =
     let next = (n + 1) % 360 in
     let test = passes_at is_small_step 360 all_small_steps n round in
@@ -302,13 +302,13 @@ steps dx dy n round east north =
     record { up = λ h. omega (arith, ints, h, small_x, small_y); down = λ h. omega (arith, ints, h, small_x, small_y) }
 
 nearly_left : (dx dy : ℤ) (b s side : ℕ) → IsBearing dx dy b → unsigned_abs dx ≤ 999 → unsigned_abs dy ≤ 999 → s ≤ 90 →
-    side ≡ (b + s) % 360 → IsNearlyForward (reach_of dx dy side)
+    side ≡ (b + s) % 360 → IsNearlyForward (projection_of dx dy side)
 nearly_left dx dy b s side is east north near e = by_size (cases_lt s 90)
   where
     round : b < 360
     round = is.on_the_round
 
-    by_size : ((s < 90) ⊎ (90 ≤ s)) → IsNearlyForward (reach_of dx dy side)
+    by_size : ((s < 90) ⊎ (90 ≤ s)) → IsNearlyForward (projection_of dx dy side)
     by_size (inl less) =
         let here = rw (sym e) at (to_sides dx dy b s is less).0 in
         omega (arith, ints, here)
@@ -319,13 +319,13 @@ nearly_left dx dy b s side is east north near e = by_size (cases_lt s 90)
         rw (sym same) ((steps dx dy n (omega arith) east north).up reaches)
 
 nearly_right : (dx dy : ℤ) (b s side : ℕ) → IsBearing dx dy b → unsigned_abs dx ≤ 999 → unsigned_abs dy ≤ 999 → s ≤ 90 →
-    side ≡ (b + 360 - s) % 360 → IsNearlyForward (reach_of dx dy side)
+    side ≡ (b + 360 - s) % 360 → IsNearlyForward (projection_of dx dy side)
 nearly_right dx dy b s side is east north near e = by_size (cases_lt s 90)
   where
     round : b < 360
     round = is.on_the_round
 
-    by_size : ((s < 90) ⊎ (90 ≤ s)) → IsNearlyForward (reach_of dx dy side)
+    by_size : ((s < 90) ⊎ (90 ≤ s)) → IsNearlyForward (projection_of dx dy side)
     by_size (inl less) =
         let here = rw (sym e) at (to_sides dx dy b s is less).1 in
         omega (arith, ints, here)
@@ -338,14 +338,14 @@ nearly_right dx dy b s side is east north near e = by_size (cases_lt s 90)
 not_deep : (z o : ℤ) → z ≡ neg_ℤ o → IsNearlyForward o → pos 3500000 ≤ℤ z → ⊥
 not_deep z o e near deep = omega (arith, ints)
 
-back : (dx dy : ℤ) (n opp : ℕ) → n < 360 → opp ≡ (n + 180) % 360 → reach_of dx dy n ≡ neg_ℤ (reach_of dx dy opp)
+back : (dx dy : ℤ) (n opp : ℕ) → n < 360 → opp ≡ (n + 180) % 360 → projection_of dx dy n ≡ neg_ℤ (projection_of dx dy opp)
 back dx dy n opp round e =
     let there = opposite dx dy n round in
     rw e (omega (arith, ints, there))
 
 pub deep : (dx dy : ℤ) (degree spread left right : ℕ) → unsigned_abs dx ≤ 999 → unsigned_abs dy ≤ 999 → degree < 360 →
     spread ≤ 10 → left ≡ (degree + (89 - spread)) % 360 → right ≡ (degree + (271 + spread)) % 360 →
-    pos 3500000 ≤ℤ reach_of dx dy left → pos 3500000 ≤ℤ reach_of dx dy right →
+    pos 3500000 ≤ℤ projection_of dx dy left → pos 3500000 ≤ℤ projection_of dx dy right →
     nat_le (apart (bearing_of dx dy) degree) spread ≡ true
 unfolding apart
 deep dx dy degree spread left right east north round small l r deep_left deep_right =

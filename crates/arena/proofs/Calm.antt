@@ -7,7 +7,7 @@ use Rattle.std.proofs.lemmas.Bool.Decides.{nat_tests}
 use Rattle.std.proofs.lemmas.List.{get_or_read, get_or-drop, get_or-map, get_or-set_same, get_or-set_other, length-drop, length-map, length-set}
 use Rattle.std.proofs.lemmas.List.Elements.{All-more}
 use Rattle.arena.specs.Field.{FieldRobot, Field, no_robot}
-use Rattle.arena.specs.Collisions.{Mover, mover, is_close, touches}
+use Rattle.arena.specs.Collisions.{Mover, attempted_move, is_close, collision_count}
 use Rattle.arena.specs.Arena.{Motion, motion_of, Robot}
 use Rattle.arena.specs.Ahead.{robot_ahead}
 use Rattle.arena.specs.Apart.{gap, IsNearby, IsAtPlace, AreApartFor}
@@ -136,9 +136,9 @@ not_close a b from_a from_b to_a to_b ax ay bx by_ near_a near_b far = by_axis (
     by_axis (inr wide) = far_on_x a b wide
 
 -- where a robot drives
-goes_to : (r : FieldRobot) (m : Mover) (b : Robot) → m ≡ mover r → b ≡ robot_ahead r →
+goes_to : (r : FieldRobot) (m : Mover) (b : Robot) → m ≡ attempted_move r → b ≡ robot_ahead r →
     (m.to.x ≡ b.motion.x) × (m.to.y ≡ b.motion.y)
-unfolding mover robot_ahead motion_of
+unfolding attempted_move robot_ahead motion_of
 goes_to r m b p q = (
   ap (λ (m : Mover). m.to.x) p ∙ sym (ap (λ (b : Robot). b.motion.x) q),
   ap (λ (m : Mover). m.to.y) p ∙ sym (ap (λ (b : Robot). b.motion.y) q),
@@ -147,20 +147,20 @@ goes_to r m b p q = (
 -- if all are far from each other, none touches another
 pub calm : (f : Field) (robots now : List Robot) → length robots ≡ length f.robots → now ≡ map robot_ahead f.robots →
     ((k : ℕ) → k < length robots → IsNearby (get_or robots k none).motion (get_or now k none).motion) →
-    AreApartFor 1 robots → (i : ℕ) → i < length f.robots → touches (map mover f.robots) i ≡ 0
+    AreApartFor 1 robots → (i : ℕ) → i < length f.robots → collision_count (map attempted_move f.robots) i ≡ 0
 calm f robots now size e nearby far i inside =
-    let count = length-map f.robots mover in
-    untouched (map mover f.robots) i (omega (arith, inside, count))
+    let count = length-map f.robots attempted_move in
+    untouched (map attempted_move f.robots) i (omega (arith, inside, count))
     (λ a b less last.
     let b_in : b < length f.robots = omega (arith, last, count) in
     let a_in : a < length f.robots = omega (arith, less, b_in) in
     let a_goes =
-    goes_to (get_or f.robots a no_robot) (get_or (map mover f.robots) a (mover no_robot)) (get_or now a none)
-    (get_or-map mover f.robots a no_robot (mover no_robot) a_in)
+    goes_to (get_or f.robots a no_robot) (get_or (map attempted_move f.robots) a (attempted_move no_robot)) (get_or now a none)
+    (get_or-map attempted_move f.robots a no_robot (attempted_move no_robot) a_in)
     (ap (λ l. get_or l a none) e ∙ get_or-map robot_ahead f.robots a no_robot none a_in) in
     let b_goes =
-    goes_to (get_or f.robots b no_robot) (get_or (map mover f.robots) b (mover no_robot)) (get_or now b none)
-    (get_or-map mover f.robots b no_robot (mover no_robot) b_in)
+    goes_to (get_or f.robots b no_robot) (get_or (map attempted_move f.robots) b (attempted_move no_robot)) (get_or now b none)
+    (get_or-map attempted_move f.robots b no_robot (attempted_move no_robot) b_in)
     (ap (λ l. get_or l b none) e ∙ get_or-map robot_ahead f.robots b no_robot none b_in) in
     not_close _ _ _ _ _ _ a_goes.0 a_goes.1 b_goes.0 b_goes.1 (nearby a (omega (arith, size, a_in)))
     (nearby b (omega (arith, size, b_in))) (far.gaps a b less (omega (arith, size, b_in)) (omega arith)))

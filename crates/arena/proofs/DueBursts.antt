@@ -8,7 +8,7 @@ use Rattle.std.proofs.lemmas.List.Sums.{sum_by-append}
 use Rattle.std.proofs.lemmas.Simd.{map-map}
 use Rattle.arena.specs.Field.{Shot}
 use Rattle.arena.specs.Shots.{in_air, due_at, bursts}
-use Rattle.arena.specs.Due.{harm, HarmLikeShots}
+use Rattle.arena.specs.Due.{burst_damage, HarmLikeShots}
 use Rattle.arena.specs.Arena.{Missile, shot_of}
 use Rattle.arena.specs.Representing.{HoldsShots}
 use Rattle.arena.specs.Outlook.{Burst, burst_of, burst_by, own_bursts}
@@ -110,17 +110,17 @@ flat_sum g h a (suc n) =
 
 pub harm_like_shots : (updates update n : ℕ) (shots : List Shot) → update ≡ updates + 1 → All (λ s. s.owner < n) shots →
     HarmLikeShots update shots (flat_map (own_bursts update updates shots) (range_with_len 0 n))
-unfolding own_bursts burst_of bursts harm
+unfolding own_bursts burst_of bursts burst_damage
 harm_like_shots updates update n shots e owned x y =
     let own = own_bursts update updates shots in
-    flat_sum (harm x y) own 0 n ∙
-    totals_same (λ k. sum (map (harm x y) (own (0 + k)))) (λ k. sum (bursts update (in_air updates k shots) x y)) n
+    flat_sum (burst_damage x y) own 0 n ∙
+    totals_same (λ k. sum (map (burst_damage x y) (own (0 + k)))) (λ k. sum (bursts update (in_air updates k shots) x y)) n
     (λ k l.
-    let same : 0 + k ≡ k = omega arith in ap (λ (j : ℕ). sum (map (harm x y) (own j))) same ∙
-    ap sum (map-map (harm x y) burst_of (due_at update (in_air updates k shots))))
+    let same : 0 + k ≡ k = omega arith in ap (λ (j : ℕ). sum (map (burst_damage x y) (own j))) same ∙
+    ap sum (map-map (burst_damage x y) burst_of (due_at update (in_air updates k shots))))
     ∙ shares updates update x y n shots e owned
 
 -- a list of the same bursts does the same
 pub same_harm : (update : ℕ) (shots : List Shot) (now due : List Burst) → now ≡ due → HarmLikeShots update shots due →
     HarmLikeShots update shots now
-same_harm update shots now due e h x y = ap (λ bs. sum (map (harm x y) bs)) e ∙ h x y
+same_harm update shots now due e h x y = ap (λ bs. sum (map (burst_damage x y) bs)) e ∙ h x y

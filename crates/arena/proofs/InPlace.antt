@@ -5,13 +5,13 @@ use Rattle.std.proofs.lemmas.Bool.{cases_lt}
 use Rattle.std.proofs.lemmas.List.{get_or-set_same, get_or-set_other, get_or-map, length-map, ext_get_or}
 use Rattle.std.proofs.lemmas.List.FromFn.{get_or-range_with_len, length-range_with_len}
 use Rattle.arena.specs.Field.{FieldRobot, Field, no_robot, robot_at}
-use Rattle.arena.specs.Collisions.{mover, touches}
+use Rattle.arena.specs.Collisions.{attempted_move, collision_count}
 use Rattle.arena.specs.Shots.{bursts}
 use Rattle.arena.specs.Moved.{moved}
 use Rattle.arena.specs.Arena.{Robot, robot_of}
 use Rattle.arena.specs.Ahead.{robot_ahead}
 use Rattle.arena.proofs.Loops.{after_at, after_all}
-use Rattle.arena.proofs.Wear.{ahead_is}
+use Rattle.arena.proofs.RobotUpdates.{ahead_is}
 
 -- what is read past the last robot
 abbrev pub none : Robot
@@ -61,7 +61,7 @@ all_after f now size each =
     ∙ after_all f
 
 -- if nothing bursts and none touches another, each is where it drove on its own
-pub ahead_of_all : (f : Field) → ((i : ℕ) → i < length f.robots → touches (map mover f.robots) i ≡ 0) →
+pub ahead_of_all : (f : Field) → ((i : ℕ) → i < length f.robots → collision_count (map attempted_move f.robots) i ≡ 0) →
     ((x y : ℕ) → sum (bursts (f.updates + 1) f.shots x y) ≡ 0) →
     map robot_ahead f.robots ≡ map robot_of (moved f).robots
 unfolding robot_at

@@ -4,25 +4,25 @@ use Rattle.arith.specs.Table.{sines}
 use Rattle.arith.specs.Degree.{degree_of}
 use Rattle.arith.specs.Circle.{sine_at, cosine_at}
 use Rattle.arith.specs.Root.{root_by_quarters, root_of}
-use Rattle.arith.specs.Bearing.{reach_of, first_greatest, reaches, bearing_of}
-use Rattle.arena.specs.Leg.{clamped, along, way_east, way_north, end_x, end_y, place_x, place_y, leg_anew, steered, approached, sped, grown, is_outside, hits_wall, walled, tried, driven}
+use Rattle.arith.specs.Bearing.{projection_of, first_greatest, projections, bearing_of}
+use Rattle.arena.specs.Leg.{clamped, along, way_east, way_north, end_x, end_y, place_x, place_y, leg_anew, steered, approached, sped, travelled, is_outside, hits_wall, clamped_at_walls, tried, stopped_by_walls}
 use Rattle.arena.specs.Field.{damage_of, is_alive, no_robot, robot_at, metres_x, metres_y}
-use Rattle.arena.specs.Collisions.{candidate, mover, moves, square, is_close, is_no_further, collides, others, touches}
+use Rattle.arena.specs.Collisions.{leg_alone, attempted_move, moves, square, is_close, is_no_further, collides, others, collision_count}
 use Rattle.arena.specs.Shots.{aimed_x, aimed_y, flight, shot, in_air, due_at, ring, bursts}
-use Rattle.arena.specs.Moved.{put_back, leg_after, knocks, moved_robot, moved}
+use Rattle.arena.specs.Moved.{put_back, leg_after, knock_damages, moved_robot, moved}
 use Rattle.arena.specs.Still.{moved_times}
 use Rattle.arena.specs.Scan.{apart, east_to, north_to, in_arc, sees, range_of, nearest, scanned}
 use Rattle.arena.specs.Random.{generator, random_word}
-use Rattle.arena.specs.Start.{standing, quadrant, drawn_place, drawn_robot, start}
+use Rattle.arena.specs.Start.{robot_at_rest, quadrant, drawn_place, drawn_robot, start}
 use Rattle.arena.specs.Placed.{placed}
-use Rattle.arena.specs.Answer.{argument_at, fired, wanting, directed, random_limit, random_number, answer}
-use Rattle.arena.specs.KnownFields.{Scans, Starts, Drives, Knocks, Rings, Missiles}
+use Rattle.arena.specs.Answer.{argument_at, fired, with_wanted, field_with_wanted, random_limit, random_number, answer}
+use Rattle.arena.specs.KnownFields.{KnownScans, KnownStarts, KnownDrives, KnownKnocks, KnownRings, KnownMissiles}
 
-pub scans : Scans
+pub scans : KnownScans
 unfolding answer scanned nearest sees in_arc east_to north_to apart range_of argument_at degree_of clamped robot_at
     others
-    placed standing is_alive damage_of no_robot metres_x metres_y place_x place_y end_x end_y way_east way_north along
-    square root_of root_by_quarters bearing_of first_greatest reaches reach_of cosine_at sine_at sines
+    placed robot_at_rest is_alive damage_of no_robot metres_x metres_y place_x place_y end_x end_y way_east way_north along
+    square root_of root_by_quarters bearing_of first_greatest projections projection_of cosine_at sine_at sines
 scans = record {
   at_the_edge = refl;
   past_the_edge = refl;
@@ -32,8 +32,8 @@ scans = record {
   nearer_of_two = refl;
 }
 
-pub starts : Starts
-unfolding start drawn_robot drawn_place quadrant random_word generator standing answer random_number random_limit
+pub starts : KnownStarts
+unfolding start drawn_robot drawn_place quadrant random_word generator robot_at_rest answer random_number random_limit
     argument_at clamped place_x place_y end_x end_y way_east way_north along cosine_at sine_at sines
 starts = record {
   words = refl;
@@ -46,11 +46,11 @@ starts = record {
   rand_past_most = refl;
 }
 
-pub drives : Drives
-unfolding answer directed wanting argument_at degree_of clamped robot_at placed standing is_alive damage_of no_robot
-    place_x place_y end_x end_y way_east way_north along leg_anew steered approached sped grown is_outside hits_wall
-    walled tried driven candidate mover moves square is_close is_no_further collides others touches due_at ring bursts
-    put_back leg_after knocks moved_robot moved moved_times cosine_at sine_at sines
+pub drives : KnownDrives
+unfolding answer field_with_wanted with_wanted argument_at degree_of clamped robot_at placed robot_at_rest is_alive damage_of no_robot
+    place_x place_y end_x end_y way_east way_north along leg_anew steered approached sped travelled is_outside hits_wall
+    clamped_at_walls tried stopped_by_walls leg_alone attempted_move moves square is_close is_no_further collides others collision_count due_at ring bursts
+    put_back leg_after knock_damages moved_robot moved moved_times cosine_at sine_at sines
 drives = record {
   six_updates = (refl, refl, refl);
   brakes = (refl, refl, refl);
@@ -61,11 +61,11 @@ drives = record {
   stands = (refl, refl, refl);
 }
 
-pub knocks_ : Knocks
-unfolding answer directed wanting argument_at degree_of clamped robot_at placed standing is_alive damage_of no_robot
-    place_x place_y metres_x end_x end_y way_east way_north along leg_anew steered approached sped grown is_outside
-    hits_wall walled tried driven candidate mover moves square is_close is_no_further collides others touches due_at
-    ring bursts put_back leg_after knocks moved_robot moved moved_times cosine_at sine_at sines
+pub knocks_ : KnownKnocks
+unfolding answer field_with_wanted with_wanted argument_at degree_of clamped robot_at placed robot_at_rest is_alive damage_of no_robot
+    place_x place_y metres_x end_x end_y way_east way_north along leg_anew steered approached sped travelled is_outside
+    hits_wall clamped_at_walls tried stopped_by_walls leg_alone attempted_move moves square is_close is_no_further collides others collision_count due_at
+    ring bursts put_back leg_after knock_damages moved_robot moved moved_times cosine_at sine_at sines
 knocks_ = record {
   both_hurt = refl;
   both_back = refl;
@@ -89,12 +89,12 @@ knocks_ = record {
   keeps_its_heading = refl;
 }
 
-pub rings : Rings
-unfolding answer fired shot aimed_x aimed_y flight in_air argument_at degree_of clamped robot_at placed standing
+pub rings : KnownRings
+unfolding answer fired shot aimed_x aimed_y flight in_air argument_at degree_of clamped robot_at placed robot_at_rest
     is_alive
-    damage_of no_robot place_x place_y end_x end_y way_east way_north along leg_anew steered approached sped grown
-    is_outside hits_wall walled tried driven candidate mover moves square is_close is_no_further collides others touches
-    due_at ring bursts put_back leg_after knocks moved_robot moved moved_times cosine_at sine_at sines
+    damage_of no_robot place_x place_y end_x end_y way_east way_north along leg_anew steered approached sped travelled
+    is_outside hits_wall clamped_at_walls tried stopped_by_walls leg_alone attempted_move moves square is_close is_no_further collides others collision_count
+    due_at ring bursts put_back leg_after knock_damages moved_robot moved moved_times cosine_at sine_at sines
 rings = record {
   at_5_metres = refl;
   at_5_metres_aslant = refl;
@@ -106,12 +106,12 @@ rings = record {
   past_40_metres = refl;
 }
 
-pub missiles : Missiles
+pub missiles : KnownMissiles
 unfolding answer scanned nearest sees in_arc east_to north_to apart range_of metres_x metres_y root_of root_by_quarters
-    bearing_of first_greatest reaches reach_of fired shot aimed_x aimed_y flight in_air argument_at degree_of clamped
-    robot_at placed standing is_alive damage_of no_robot place_x place_y end_x end_y way_east way_north along leg_anew
-    steered approached sped grown is_outside hits_wall walled tried driven candidate mover moves square is_close
-    is_no_further collides others touches due_at ring bursts put_back leg_after knocks moved_robot moved moved_times
+    bearing_of first_greatest projections projection_of fired shot aimed_x aimed_y flight in_air argument_at degree_of clamped
+    robot_at placed robot_at_rest is_alive damage_of no_robot place_x place_y end_x end_y way_east way_north along leg_anew
+    steered approached sped travelled is_outside hits_wall clamped_at_walls tried stopped_by_walls leg_alone attempted_move moves square is_close
+    is_no_further collides others collision_count due_at ring bursts put_back leg_after knock_damages moved_robot moved moved_times
     cosine_at sine_at sines
 missiles = record {
   first = refl;

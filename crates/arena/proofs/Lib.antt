@@ -1,9 +1,9 @@
 pub mod KnownFields
 pub mod Sums
-pub mod Tracks
+pub mod MotionLaws
 pub mod Touches
 pub mod Calm
-pub mod Wear
+pub mod RobotUpdates
 pub mod Loops
 pub mod Represents
 pub mod Still

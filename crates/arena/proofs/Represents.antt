@@ -7,8 +7,8 @@ use Rattle.arena.specs.Leg.{place_x, place_y}
 use Rattle.arena.specs.Field.{Shot, FieldRobot, Field, damage_of, is_alive, no_robot, robot_at}
 use Rattle.arena.specs.Shots.{aimed_x, aimed_y, flight, shot, in_air}
 use Rattle.arena.specs.Moved.{moved}
-use Rattle.arena.specs.Answer.{fired, wanting, directed}
-use Rattle.arena.specs.Arena.{Robot, Missile, Arena, robot_of, shot_of, lives}
+use Rattle.arena.specs.Answer.{fired, with_wanted, field_with_wanted}
+use Rattle.arena.specs.Arena.{Robot, Missile, Arena, robot_of, shot_of, is_live}
 use Rattle.arena.specs.Representing.{HoldsShots, RepresentsField}
 
 -- a list that was lent and written in place
@@ -36,8 +36,8 @@ pub manned : (g : Arena) (f : Field) → RepresentsField g f → length g.robots
 manned g f s = ap length s.robots ∙ length-map f.robots robot_of
 
 -- who lives is one of the robots
-pub inside_if_lives : (g : Arena) (i : ℕ) → lives g i ≡ true → i < length g.robots
-unfolding lives robot_of damage_of no_robot
+pub inside_if_lives : (g : Arena) (i : ℕ) → is_live g i ≡ true → i < length g.robots
+unfolding is_live robot_of damage_of no_robot
 inside_if_lives g i h = by_place (cases_lt i (length g.robots))
   where
     by_place : ((i < length g.robots) ⊎ (length g.robots ≤ i)) → i < length g.robots
@@ -48,23 +48,23 @@ inside_if_lives g i h = by_place (cases_lt i (length g.robots))
         absurd (omega (arith, ltb-true 100 100 dead))
 
 -- the same robots live as they did
-pub same_live : (g h : Arena) (i : ℕ) → h.robots ≡ g.robots → lives h i ≡ lives g i
-unfolding lives
+pub same_live : (g h : Arena) (i : ℕ) → h.robots ≡ g.robots → is_live h i ≡ is_live g i
+unfolding is_live
 same_live g h i e = ap (λ (rs : List Robot). nat_lt (get_or rs i (robot_of no_robot)).damage 100) e
 
 -- a robot of the same damage in its place lives as it did
 pub lives_as : (g : Arena) (i : ℕ) (b : Robot) → i < length g.robots →
     b.damage ≡ (get_or g.robots i (robot_of no_robot)).damage →
-    lives (record g { robots = set g.robots i b }) i ≡ lives g i
-unfolding lives
+    is_live (record g { robots = set g.robots i b }) i ≡ is_live g i
+unfolding is_live
 lives_as g i b inside e =
     ap (λ (c : Robot). nat_lt c.damage 100) (get_or-set_same g.robots i b (robot_of no_robot) inside) ∙
     ap (λ (d : ℕ). nat_lt d 100) e
 
 -- who lives is alive in the field
-pub alive_if_lives : (g : Arena) (f : Field) (i : ℕ) → RepresentsField g f → lives g i ≡ true →
+pub alive_if_lives : (g : Arena) (f : Field) (i : ℕ) → RepresentsField g f → is_live g i ≡ true →
     is_alive (robot_at f i) ≡ true
-unfolding lives is_alive robot_of
+unfolding is_live is_alive robot_of
 alive_if_lives g f i s h = sym (ap (λ (b : Robot). nat_lt b.damage 100) (body_at g f i s)) ∙ h
 
 -- the living, counted on the robots of an arena
@@ -134,13 +134,13 @@ keeps_fire f i degree range full = rw full (refl, refl)
 
 -- a robot that wants another way
 pub directs : (g : Arena) (f : Field) (i degree speed : ℕ) (b : Robot) → RepresentsField g f →
-    b ≡ robot_of (record (robot_at f i) { leg = wanting (robot_at f i).leg degree speed }) →
-    RepresentsField (record g { robots = set g.robots i b }) (directed f i degree speed)
-unfolding directed
+    b ≡ robot_of (record (robot_at f i) { leg = with_wanted (robot_at f i).leg degree speed }) →
+    RepresentsField (record g { robots = set g.robots i b }) (field_with_wanted f i degree speed)
+unfolding field_with_wanted
 directs g f i degree speed b s e = record {
   updates = s.updates;
   robots = ap (λ l. set l i b) s.robots ∙ ap (λ x. set (map robot_of f.robots) i x) e ∙
-      sym (map-set robot_of f.robots i (record (robot_at f i) { leg = wanting (robot_at f i).leg degree speed }));
+      sym (map-set robot_of f.robots i (record (robot_at f i) { leg = with_wanted (robot_at f i).leg degree speed }));
   missiles = s.missiles;
   random = s.random;
 }

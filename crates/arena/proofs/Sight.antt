@@ -9,7 +9,7 @@ use Rattle.arith.specs.Bearing.{bearing_of}
 use Rattle.arena.specs.Field.{FieldRobot, is_alive, metres_x, metres_y}
 use Rattle.arena.specs.Collisions.{square}
 use Rattle.arena.specs.Scan.{east_to, north_to, in_arc, sees}
-use Rattle.arena.specs.Nearer.{leads_into, square_of, square_to}
+use Rattle.arena.specs.Nearer.{arc_contains, square_of, square_to}
 
 either : (b : Bool) → (b || true) ≡ true
 either true = refl
@@ -21,13 +21,13 @@ neither false = refl
 
 -- a way that leads nowhere lies in every arc, and for the others the bearing decides
 pub leads_nowhere : (east north : ℤ) (degree resolution : ℕ) → east ≡ pos 0 → north ≡ pos 0 →
-    leads_into east north degree resolution ≡ true
-unfolding leads_into
+    arc_contains east north degree resolution ≡ true
+unfolding arc_contains
 leads_nowhere east north degree resolution x y = rw ((Decides-int_eq _ _).1 x, (Decides-int_eq _ _).1 y) refl
 
 pub leads_somewhere : (east north : ℤ) (degree resolution : ℕ) → (east ≡ pos 0 → north ≡ pos 0 → ⊥) →
-    leads_into east north degree resolution ≡ nat_le (apart (bearing_of east north) degree) resolution
-unfolding leads_into
+    arc_contains east north degree resolution ≡ nat_le (apart (bearing_of east north) degree) resolution
+unfolding arc_contains
 leads_somewhere east north degree resolution elsewhere =
     by_place (int_eq east (pos 0)) (int_eq north (pos 0)) refl refl
   where
@@ -41,8 +41,8 @@ leads_somewhere east north degree resolution elsewhere =
 
 -- so one that lies deep in an arc leads into it
 pub leads_deep : (east north : ℤ) (degree resolution : ℕ) →
-    nat_le (apart (bearing_of east north) degree) resolution ≡ true → leads_into east north degree resolution ≡ true
-unfolding leads_into
+    nat_le (apart (bearing_of east north) degree) resolution ≡ true → arc_contains east north degree resolution ≡ true
+unfolding arc_contains
 leads_deep east north degree resolution deep =
     rw deep (either (int_eq east (pos 0) && int_eq north (pos 0)))
 
@@ -54,8 +54,8 @@ same_place a b =
     (Decides-int_eq (pos b -ℤ pos a) (pos 0)))
 
 sees_by_way : (a b : FieldRobot) (degree resolution : ℕ) →
-    sees a degree resolution b ≡ (is_alive b && leads_into (east_to a b) (north_to a b) degree resolution)
-unfolding sees in_arc east_to north_to leads_into
+    sees a degree resolution b ≡ (is_alive b && arc_contains (east_to a b) (north_to a b) degree resolution)
+unfolding sees in_arc east_to north_to arc_contains
 sees_by_way a b degree resolution =
     rw (same_place (metres_x a) (metres_x b), same_place (metres_y a) (metres_y b)) refl
 
@@ -64,11 +64,11 @@ pub dead_unseen : (a : FieldRobot) (degree resolution : ℕ) (b : FieldRobot) �
 dead_unseen a degree resolution b dead = sees_by_way a b degree resolution ∙ rw dead refl
 
 pub beside_unseen : (a : FieldRobot) (degree resolution : ℕ) (b : FieldRobot) →
-    leads_into (east_to a b) (north_to a b) degree resolution ≡ false → sees a degree resolution b ≡ false
+    arc_contains (east_to a b) (north_to a b) degree resolution ≡ false → sees a degree resolution b ≡ false
 beside_unseen a degree resolution b beside = sees_by_way a b degree resolution ∙ rw beside (neither (is_alive b))
 
 pub seen_leads : (a b : FieldRobot) (degree resolution : ℕ) → sees a degree resolution b ≡ true →
-    leads_into (east_to a b) (north_to a b) degree resolution ≡ true
+    arc_contains (east_to a b) (north_to a b) degree resolution ≡ true
 seen_leads a b degree resolution seen = second (is_alive b) _ (sym (sees_by_way a b degree resolution) ∙ seen)
   where
     second : (p q : Bool) → (p && q) ≡ true → q ≡ true
@@ -84,7 +84,7 @@ square_by_way a b = rw (way_length (metres_x a) (metres_x b), way_length (metres
 
 pub seen_so_far : (a : FieldRobot) (degree resolution : ℕ) (b : FieldRobot) (so_far : ℕ) → is_alive b ≡ true →
     cond (sees a degree resolution b) (min so_far (square_to a b)) so_far ≡
-    cond (leads_into (east_to a b) (north_to a b) degree resolution)
+    cond (arc_contains (east_to a b) (north_to a b) degree resolution)
     (min so_far (square_of (east_to a b) (north_to a b))) so_far
 seen_so_far a degree resolution b so_far live =
     rw (sees_by_way a b degree resolution, live, square_by_way a b) refl

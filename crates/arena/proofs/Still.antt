@@ -5,9 +5,9 @@ use Rattle.std.proofs.lemmas.Bool.{eq-eqb, ltb-true}
 use Rattle.std.proofs.lemmas.List.{map_more, get_or-map, length-map, take_all}
 use Rattle.std.proofs.lemmas.List.Elements.{All-get_or, All-take, All-drop}
 use Rattle.std.proofs.lemmas.List.FromFn.{map-range_with_len_more}
-use Rattle.arena.specs.Leg.{Leg, place_x, place_y, tried, driven, walled, hits_wall}
+use Rattle.arena.specs.Leg.{Leg, place_x, place_y, tried, stopped_by_walls, clamped_at_walls, hits_wall}
 use Rattle.arena.specs.Field.{Shot, FieldRobot, Field, damage_of, is_alive, no_robot, robot_at}
-use Rattle.arena.specs.Collisions.{Mover, candidate, mover, moves, is_close, is_no_further, collides, touches}
+use Rattle.arena.specs.Collisions.{Mover, leg_alone, attempted_move, moves, is_close, is_no_further, collides, collision_count}
 use Rattle.arena.specs.Shots.{bursts}
 use Rattle.arena.specs.Moved.{moved_robot, moved}
 use Rattle.arena.specs.Arena.{Arena, robot_of}
@@ -17,8 +17,8 @@ use Rattle.arena.specs.Still.{Stays, IsStill, moved_times}
 use Rattle.arena.proofs.Loops.{after_at, after_all}
 use Rattle.arena.proofs.SlotLaws.{none_hurt, holds_still}
 use Rattle.arena.proofs.Touches.{touches_none}
-use Rattle.arena.proofs.Tracks.{StandsFree, rests_is}
-use Rattle.arena.proofs.Wear.{ahead_is}
+use Rattle.arena.proofs.MotionLaws.{StandsFree, rests_is}
+use Rattle.arena.proofs.RobotUpdates.{ahead_is}
 use Rattle.arena.proofs.Represents.{updates}
 
 -- a live robot that stays is at rest
@@ -29,15 +29,15 @@ live_rests robot (inl dead) live =
     absurd (omega (arith, ltb-true 100 100 none))
 live_rests robot (inr rests) live = rests_is robot.leg rests
 
-driven_is : (leg : Leg) → StandsFree leg → driven leg ≡ leg
-unfolding driven walled
-driven_is leg r = ap walled r.stands ∙ rw r.free refl
+driven_is : (leg : Leg) → StandsFree leg → stopped_by_walls leg ≡ leg
+unfolding stopped_by_walls clamped_at_walls
+driven_is leg r = ap clamped_at_walls r.stands ∙ rw r.free refl
 
-candidate_is : (robot : FieldRobot) → Stays (robot_of robot) → candidate robot ≡ robot.leg
-unfolding candidate
+candidate_is : (robot : FieldRobot) → Stays (robot_of robot) → leg_alone robot ≡ robot.leg
+unfolding leg_alone
 candidate_is robot stays = by_life (is_alive robot) refl
   where
-    by_life : (live : Bool) → is_alive robot ≡ live → cond live (driven robot.leg) robot.leg ≡ robot.leg
+    by_life : (live : Bool) → is_alive robot ≡ live → cond live (stopped_by_walls robot.leg) robot.leg ≡ robot.leg
     by_life true e = driven_is robot.leg (live_rests robot stays e)
     by_life false e = refl
 
@@ -45,13 +45,13 @@ candidate_is robot stays = by_life (is_alive robot) refl
 same_is : (n m : ℕ) → n ≡ m → not (n == m) ≡ false
 same_is n m e = rw (eq-eqb n m e) refl
 
-moves_not : (robot : FieldRobot) → Stays (robot_of robot) → moves (mover robot) ≡ false
-unfolding moves mover
+moves_not : (robot : FieldRobot) → Stays (robot_of robot) → moves (attempted_move robot) ≡ false
+unfolding moves attempted_move
 moves_not robot stays =
     let still = candidate_is robot stays in
     rw (
-      same_is (place_x (candidate robot)) (place_x robot.leg) (ap place_x still),
-      same_is (place_y (candidate robot)) (place_y robot.leg) (ap place_y still),
+      same_is (place_x (leg_alone robot)) (place_x robot.leg) (ap place_x still),
+      same_is (place_y (leg_alone robot)) (place_y robot.leg) (ap place_y still),
     ) refl
 
 -- and it touches none that doesn't move either
@@ -66,11 +66,11 @@ unfolding collides
 collides_not a b p q = rw (p, q) (blocked a.live b.live (is_close a b) (is_no_further a b))
 
 touches_still : (movers : List Mover) (i : ℕ) → i < length movers → All (λ m. moves m ≡ false) movers →
-    touches movers i ≡ 0
+    collision_count movers i ≡ 0
 touches_still movers i inside still =
     let Still : Mover → Type 0 = λ m. moves m ≡ false in
-    let m = get_or movers i (mover no_robot) in
-    let here = All-get_or Still movers i (mover no_robot) inside still in
+    let m = get_or movers i (attempted_move no_robot) in
+    let here = All-get_or Still movers i (attempted_move no_robot) inside still in
     touches_none movers i
     (λ k d l. collides_not m (get_or (take i movers) k d) here (All-take Still i movers still k d l))
     (λ k d l. collides_not m (get_or (drop (i + 1) movers) k d) here (All-drop Still (i + 1) movers still k d l))
@@ -80,7 +80,7 @@ ahead_stays : (robot : FieldRobot) → Stays (robot_of robot) → robot_ahead ro
 unfolding robot_ahead robot_of damage_of
 ahead_stays robot stays =
     let free : (is_alive robot && hits_wall (tried robot.leg)) ≡ false = by_life (is_alive robot) refl in
-    let same : min (min (sum robot.hurts) 100 + 0) 100 ≡ min (sum robot.hurts) 100 = omega arith in
+    let same : min (min (sum robot.damages) 100 + 0) 100 ≡ min (sum robot.damages) 100 = omega arith in
     rw (candidate_is robot stays, free, same) refl
   where
     by_life : (live : Bool) → is_alive robot ≡ live → (live && hits_wall (tried robot.leg)) ≡ false
@@ -99,10 +99,10 @@ robot_stays robots i inside all =
     (all i (robot_of no_robot) (omega (arith, length-map robots robot_of)))
 
 movers_still : (robots : List FieldRobot) → All Stays (map robot_of robots) →
-    All (λ m. moves m ≡ false) (map mover robots)
+    All (λ m. moves m ≡ false) (map attempted_move robots)
 movers_still robots all k d l =
-    let inside : k < length robots = omega (arith, length-map robots mover) in
-    rw (get_or-map mover robots k no_robot d inside)
+    let inside : k < length robots = omega (arith, length-map robots attempted_move) in
+    rw (get_or-map attempted_move robots k no_robot d inside)
     (moves_not (get_or robots k no_robot) (robot_stays robots k inside all))
 
 each_stays : (f : Field) (i : ℕ) → i < length f.robots → All Stays (map robot_of f.robots) →
@@ -110,7 +110,7 @@ each_stays : (f : Field) (i : ℕ) → i < length f.robots → All Stays (map ro
 unfolding robot_at
 each_stays f i inside all none =
     let untouched =
-    touches_still (map mover f.robots) i (omega (arith, length-map f.robots mover)) (movers_still f.robots all) in
+    touches_still (map attempted_move f.robots) i (omega (arith, length-map f.robots attempted_move)) (movers_still f.robots all) in
     rw untouched
     (stays_as_is (get_or f.robots i no_robot) (f.updates + 1) f.shots (robot_stays f.robots i inside all) none)
 

@@ -6,7 +6,7 @@ use Rattle.std.proofs.lemmas.Bool.{cases_lt}
 use Rattle.std.proofs.lemmas.Bool.Decides.{nat_tests}
 use Rattle.arena.specs.Rules.{last_place}
 use Rattle.arena.specs.Leg.{clamped, along, is_outside}
-use Rattle.arena.specs.Sums.{slack, sum_from, last_sum, IsInField, place_of, is_beyond, place_near}
+use Rattle.arena.specs.Sums.{rounding_start, sum_from, last_sum, IsInField, place_of, is_beyond, clamped_place_of}
 
 -- a way goes as the heading does
 Goes : ℤ → ℤ → Type 0
@@ -25,7 +25,7 @@ Leads (pos a) z = z ≡ pos (a / 100000)
 Leads (negsuc a) z = z ≤ℤ negsuc 0
 
 leads_by : (o : ℕ) (part way s : ℤ) → Goes part way → s ≡ sum_from o part way → Leads s (along o way)
-unfolding Goes Leads sum_from slack along
+unfolding Goes Leads sum_from rounding_start along
 leads_by o (pos n) (pos w) (pos a) g e = omega (arith, ints)
 leads_by o (pos n) (pos w) (negsuc a) g e = omega (arith, ints)
 leads_by o (pos n) (negsuc w) (pos a) g e = omega (arith, ints)
@@ -49,8 +49,8 @@ beyond_is (pos a) z l = by_wall (cases_lt last_sum a)
 beyond_is (negsuc a) (pos n) l = absurd (omega (arith, ints, l))
 beyond_is (negsuc a) (negsuc n) l = refl
 
-pub near_is : (s z : ℤ) → Leads s z → place_near s ≡ clamped last_place z
-unfolding Leads place_near clamped
+pub near_is : (s z : ℤ) → Leads s z → clamped_place_of s ≡ clamped last_place z
+unfolding Leads clamped_place_of clamped
 near_is (pos a) z l = rw l (omega (arith))
 near_is (negsuc a) (pos n) l = absurd (omega (arith, ints, l))
 near_is (negsuc a) (negsuc n) l = refl
@@ -73,22 +73,22 @@ free_is_field (negsuc a) h = cc
 
 -- the sum of a place
 pub at_place : (x : ℕ) (part : ℤ) → place_of (sum_from x part (pos 0)) ≡ x
-unfolding sum_from slack
+unfolding sum_from rounding_start
 at_place x (pos n) = omega (arith, ints)
 at_place x (negsuc n) = omega (arith, ints)
 
 -- after an update a sum leads at most ten metres further
 pub near : (s step : ℤ) → IsInField s → unsigned_abs step ≤ 10000000 →
-    abs_diff (place_of s) (place_near (s +ℤ step)) ≤ 100
-unfolding place_near clamped
+    abs_diff (place_of s) (clamped_place_of (s +ℤ step)) ≤ 100
+unfolding clamped_place_of clamped
 near s step field most = by_sign (s +ℤ step) refl
   where
-    by_sign : (to : ℤ) → to ≡ s +ℤ step → abs_diff (place_of s) (place_near to) ≤ 100
+    by_sign : (to : ℤ) → to ≡ s +ℤ step → abs_diff (place_of s) (clamped_place_of to) ≤ 100
     by_sign (pos n) e = omega (arith, ints, field.0, field.1, most, e)
     by_sign (negsuc n) e = omega (arith, ints, field.0, field.1, most, e)
 
-near_free : (s : ℤ) → IsInField s → place_near s ≡ place_of s
-unfolding place_near clamped
+near_free : (s : ℤ) → IsInField s → clamped_place_of s ≡ place_of s
+unfolding clamped_place_of clamped
 near_free (pos n) field = omega (arith, ints, field.1)
 near_free (negsuc n) field = absurd (omega (arith, ints, field.0))
 

@@ -26,27 +26,27 @@ fired field i degree range =
     else (pos 0, field)
 
 -- it sets what it wants
-unfoldable pub wanting : Leg → ℕ → ℕ → Leg
-wanting leg degree speed = record leg { wanted_heading = degree; wanted_speed = speed }
+unfoldable pub with_wanted : Leg → ℕ → ℕ → Leg
+with_wanted leg degree speed = record leg { wanted_heading = degree; wanted_speed = speed }
 
-unfoldable pub directed : Field → ℕ → ℕ → ℕ → Field
-directed field i degree speed =
+unfoldable pub field_with_wanted : Field → ℕ → ℕ → ℕ → Field
+field_with_wanted field i degree speed =
     let robot = robot_at field i in
-    record field { robots = slice_set field.robots i (record robot { leg = wanting robot.leg degree speed }) }
+    record field { robots = slice_set field.robots i (record robot { leg = with_wanted robot.leg degree speed }) }
 
 -- a random number is below its limit, which is 1 at least
 unfoldable pub random_limit : ℤ → ℕ
 random_limit n = max 1 (clamped most_random_limit n)
 
 unfoldable pub random_number : Field → ℤ → ℕ
-random_number field n = random_word field.seed field.number field.drawn % random_limit n
+random_number field n = random_word field.seed field.match_number field.drawn % random_limit n
 
 -- the reply, and the field afterwards
 unfoldable pub answer : Field → ℕ → Intrinsic → List ℤ → ℤ × Field
 answer field i Scan a =
     (pos (scanned field i (degree_of (argument_at a 0)) (clamped most_resolution (argument_at a 1))), field)
 answer field i Cannon a = fired field i (degree_of (argument_at a 0)) (clamped most_range (argument_at a 1))
-answer field i Drive a = (pos 1, directed field i (degree_of (argument_at a 0)) (clamped most_speed (argument_at a 1)))
+answer field i Drive a = (pos 1, field_with_wanted field i (degree_of (argument_at a 0)) (clamped most_speed (argument_at a 1)))
 answer field i Damage a = (pos (damage_of (robot_at field i)), field)
 answer field i Speed a = (pos (robot_at field i).leg.speed, field)
 answer field i LocX a = (pos (metres_x (robot_at field i)), field)

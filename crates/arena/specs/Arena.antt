@@ -64,5 +64,5 @@ pub record Arena : Type 0 where
   pub random : Lcg
 
 -- a robot lives; past the last one none does
-unfoldable pub lives : Arena → ℕ → Bool
-lives g i = nat_lt (slice_index_or g.robots i (robot_of no_robot)).damage deadly
+unfoldable pub is_live : Arena → ℕ → Bool
+is_live g i = nat_lt (slice_index_or g.robots i (robot_of no_robot)).damage deadly

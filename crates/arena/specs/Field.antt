@@ -12,12 +12,12 @@ pub record Shot : Type 0 where
 
 pub record FieldRobot : Type 0 where
   pub leg : Leg
-  pub hurts : List ℕ
+  pub damages : List ℕ
 
 -- the seed and the match's number choose the generator, of which so many words were drawn
 pub record Field : Type 0 where
   pub seed : ℕ
-  pub number : ℕ
+  pub match_number : ℕ
   pub drawn : ℕ
   pub updates : ℕ
   pub robots : List FieldRobot
@@ -25,7 +25,7 @@ pub record Field : Type 0 where
 
 -- the damage is in percent, and no more than makes a robot dead
 unfoldable pub damage_of : FieldRobot → ℕ
-damage_of robot = min (sum robot.hurts) deadly
+damage_of robot = min (sum robot.damages) deadly
 
 unfoldable pub is_alive : FieldRobot → Bool
 is_alive robot = nat_lt (damage_of robot) deadly
@@ -42,14 +42,14 @@ no_robot = record {
     wanted_heading = 0;
     wanted_speed = 0;
   };
-  hurts = deadly ∷ [];
+  damages = deadly ∷ [];
 }
 
 unfoldable pub robot_at : Field → ℕ → FieldRobot
 robot_at field i = slice_index_or field.robots i no_robot
 
-unfoldable pub is_live : Field → ℕ → Bool
-is_live field i = is_alive (robot_at field i)
+unfoldable pub is_live_at : Field → ℕ → Bool
+is_live_at field i = is_alive (robot_at field i)
 
 unfoldable pub live_count : Field → ℕ
 live_count field = count_by is_alive field.robots

@@ -34,7 +34,7 @@ two x y other_x other_y = placed 1 1 ((pos x, pos y) ∷ (pos other_x, pos other
 abbrev pub two_ahead : Field
 two_ahead = placed 1 1 ((pos 5000, pos 5000) ∷ (pos 5700, pos 5000) ∷ (pos 5300, pos 5000) ∷ [])
 
-pub record Scans : Type 0 where
+pub record KnownScans : Type 0 where
   pub at_the_edge : reply (two 5000 5000 6000 4910) 0 Scan (pos 365) (pos 10) ≡ pos 100
   pub past_the_edge : reply (two 5000 5000 6000 5290) 0 Scan (pos 365) (pos 10) ≡ pos 0
   pub resolution_below_0 : reply (two 5000 5000 6000 4910) 0 Scan (pos 355) (neg_ℤ (pos 3)) ≡ pos 100
@@ -46,7 +46,7 @@ pub record Scans : Type 0 where
 abbrev pub match_54 : Field
 match_54 = start 42 54 2
 
-pub record Starts : Type 0 where
+pub record KnownStarts : Type 0 where
   pub words : map (random_word 42 54) (0 ∷ 1 ∷ 2 ∷ 3 ∷ 4 ∷ 5 ∷ [])
       ≡ 0xa15c02b7 ∷ 0x7b47f409 ∷ 0xba1d3330 ∷ 0x83d2f293 ∷ 0xbfa4784b ∷ 0xcbed606e ∷ []
   pub quadrants : map (quadrant 42 54) (0 ∷ 1 ∷ []) ≡ 3 ∷ 0 ∷ []
@@ -70,7 +70,7 @@ IsAt field x y speed =
     let leg = (robot_at field 0).leg in
     (place_x leg ≡ x) × (place_y leg ≡ y) × (leg.speed ≡ speed)
 
-pub record Drives : Type 0 where
+pub record KnownDrives : Type 0 where
   pub six_updates : IsAt east 5210 5000 60
   pub brakes : IsAt (moved_times 1 north) 5260 5000 50
   pub turns : IsAt (moved_times 2 north) 5260 5040 40
@@ -112,7 +112,7 @@ both_stand = moved_times 1 (two 5000 5000 5004 5000)
 abbrev pub turns_into : Field
 turns_into = moved_times 1 (asked (two 5000 5000 5000 5015) 0 Drive (pos 90) (pos 100))
 
-pub record Knocks : Type 0 where
+pub record KnownKnocks : Type 0 where
   pub both_hurt : damages pushed ≡ 2 ∷ 2 ∷ []
   pub both_back : places pushed ≡ (5000, 5000) ∷ (5015, 5000) ∷ []
   pub both_stop : speeds pushed ≡ 0 ∷ 0 ∷ []
@@ -138,7 +138,7 @@ pub record Knocks : Type 0 where
 abbrev pub burst_near : ℕ → ℕ → List ℕ
 burst_near x y = damages (moved_times 2 (asked (two 1000 1000 x y) 0 Cannon (pos 0) (pos 100)))
 
-pub record Rings : Type 0 where
+pub record KnownRings : Type 0 where
   pub at_5_metres : burst_near 2050 1000 ≡ 0 ∷ 10 ∷ []
   pub at_5_metres_aslant : burst_near 2030 1040 ≡ 0 ∷ 10 ∷ []
   pub past_5_metres : burst_near 2051 1000 ≡ 0 ∷ 5 ∷ []
@@ -172,7 +172,7 @@ weak = fires 150 0 (fires 0 0 (fires 0 0 (fires 0 0 (fires 0 0 (two 1000 1000 25
 abbrev pub dead : Field
 dead = moved_times 1 (asked weak 0 Cannon (pos 0) (pos 0))
 
-pub record Missiles : Type 0 where
+pub record KnownMissiles : Type 0 where
   pub first : reply (two 1000 1000 9000 9000) 0 Cannon (pos 0) (pos 500) ≡ pos 1
   pub second : reply one_fired 0 Cannon (pos 0) (pos 500) ≡ pos 1
   pub third : third_after 0 ≡ pos 0

@@ -64,8 +64,8 @@ unfoldable pub sped : Leg → Leg
 sped leg = record leg { speed = approached leg.speed leg.wanted_speed }
 
 -- the distance grows by the speed
-unfoldable pub grown : Leg → Leg
-grown leg = record leg { distance = leg.distance + leg.speed }
+unfoldable pub travelled : Leg → Leg
+travelled leg = record leg { distance = leg.distance + leg.speed }
 
 -- a leg leads out of the field
 unfoldable pub is_outside : ℤ → Bool
@@ -75,8 +75,8 @@ unfoldable pub hits_wall : Leg → Bool
 hits_wall leg = is_outside (end_x leg) || is_outside (end_y leg)
 
 -- such a robot stops at the wall: each axis of the end is clamped, and a new leg begins there, at rest
-unfoldable pub walled : Leg → Leg
-walled leg =
+unfoldable pub clamped_at_walls : Leg → Leg
+clamped_at_walls leg =
     if hits_wall leg then record leg {
       origin_x = clamped last_place (end_x leg);
       origin_y = clamped last_place (end_y leg);
@@ -88,7 +88,7 @@ walled leg =
 
 -- the leg that a robot tries to drive in an update, and where it leads without other robots
 unfoldable pub tried : Leg → Leg
-tried leg = grown (sped (steered leg))
+tried leg = travelled (sped (steered leg))
 
-unfoldable pub driven : Leg → Leg
-driven leg = walled (tried leg)
+unfoldable pub stopped_by_walls : Leg → Leg
+stopped_by_walls leg = clamped_at_walls (tried leg)

@@ -4,8 +4,8 @@ use Rattle.std.specs.List.{range_with_len}
 pub use Rattle.arena.specs.declared.bursts.Burst.{Burst}
 use Rattle.arena.specs.Rules.{deadly, knock_damage, wall_damage}
 use Rattle.arena.specs.Leg.{Leg, place_x, place_y, tried, hits_wall}
-use Rattle.arena.specs.Field.{Shot, Field, damage_of, robot_at, is_live}
-use Rattle.arena.specs.Collisions.{mover, collides, square, touches}
+use Rattle.arena.specs.Field.{Shot, Field, damage_of, robot_at, is_live_at}
+use Rattle.arena.specs.Collisions.{attempted_move, collides, square, collision_count}
 use Rattle.arena.specs.Shots.{ring, in_air, due_at}
 use Rattle.arena.specs.Moved.{leg_after, moved}
 use Rattle.arena.specs.Arena.{Missile, shot_of}
@@ -29,20 +29,20 @@ due field =
 
 -- a wall stops a robot
 unfoldable pub meets_wall : Field → ℕ → Bool
-meets_wall field i = is_live field i && hits_wall (tried (robot_at field i).leg)
+meets_wall field i = is_live_at field i && hits_wall (tried (robot_at field i).leg)
 
 -- two robots collide, and both are hurt
-unfoldable pub meets : Field → ℕ → ℕ → Bool
-meets field a b = not (a == b) && collides (mover (robot_at field a)) (mover (robot_at field b))
+unfoldable pub collides_with : Field → ℕ → ℕ → Bool
+collides_with field a b = not (a == b) && collides (attempted_move (robot_at field a)) (attempted_move (robot_at field b))
 
 -- the leg that a live robot is on after the update
 unfoldable pub next_leg : Field → ℕ → Leg
-next_leg field i = leg_after (robot_at field i).leg (touches (map mover field.robots) i)
+next_leg field i = leg_after (robot_at field i).leg (collision_count (map attempted_move field.robots) i)
 
 -- what a burst takes from a robot, at the place where it then is
 unfoldable pub taken_by : Field → ℕ → Burst → ℕ
 taken_by field i burst =
-    if is_live field i then
+    if is_live_at field i then
     ring (square (place_x (next_leg field i)) (place_y (next_leg field i)) burst.at.x burst.at.y)
     else 0
 
@@ -50,7 +50,7 @@ taken_by field i burst =
 unfoldable pub damage_taken : Field → ℕ → ℕ
 damage_taken field i =
     (if meets_wall field i then wall_damage else 0)
-    + knock_damage * count_by (meets field i) (range_with_len 0 (length field.robots))
+    + knock_damage * count_by (collides_with field i) (range_with_len 0 (length field.robots))
     + sum (map (taken_by field i) (due field))
 
 -- that is what the update makes of each robot's damage

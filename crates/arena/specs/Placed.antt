@@ -3,7 +3,7 @@ use Rattle.std.specs.Prelude.{ℕ, List, [], map, ℤ, pos, ◌≤ℤ◌}
 use Rattle.arena.specs.Rules.{last_place}
 use Rattle.arena.specs.Leg.{clamped}
 use Rattle.arena.specs.Field.{Field}
-use Rattle.arena.specs.Start.{standing}
+use Rattle.arena.specs.Start.{robot_at_rest}
 
 -- a place inside the field
 abbrev pub IsPlace : ℤ × ℤ → Type 0
@@ -14,9 +14,9 @@ IsPlace place =
 unfoldable pub placed : ℕ → ℕ → List (ℤ × ℤ) → Field
 placed seed number places = record {
   seed = seed;
-  number = number;
+  match_number = number;
   drawn = 0;
   updates = 0;
-  robots = map (λ place. standing (clamped last_place place.0) (clamped last_place place.1)) places;
+  robots = map (λ place. robot_at_rest (clamped last_place place.0) (clamped last_place place.1)) places;
   shots = [];
 }

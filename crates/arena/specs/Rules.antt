@@ -7,14 +7,14 @@ abbrev pub last_place : ℕ
 last_place = 9999
 
 -- the first place of the low and of the high half of an axis in which robots start, and how many places each has
-abbrev pub low_half : ℕ
-low_half = 1000
+abbrev pub first_low_start : ℕ
+first_low_start = 1000
 
-abbrev pub high_half : ℕ
-high_half = 6000
+abbrev pub first_high_start : ℕ
+first_high_start = 6000
 
-abbrev pub half_places : ℕ
-half_places = 3000
+abbrev pub start_places : ℕ
+start_places = 3000
 
 -- the greatest speed, the greatest at which a robot turns, and by how much the speed changes in an update
 abbrev pub most_speed : ℕ

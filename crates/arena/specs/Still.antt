@@ -7,21 +7,21 @@ use Rattle.arena.specs.Arena.{Motion, Robot, Missile}
 use Rattle.arena.specs.Moved.{moved}
 
 -- a robot at rest inside the field: it has no speed, and wants none and no other heading
-pub record Rests (track : Motion) : Type 0 where
-  pub stands : track.speed ≡ 0
-  pub wants_none : track.wanted_speed ≡ 0
-  pub heads : track.wanted_heading ≡ track.heading
-  pub inside : IsInField track.east × IsInField track.north
+pub record IsAtRest (motion : Motion) : Type 0 where
+  pub stands : motion.speed ≡ 0
+  pub wants_none : motion.wanted_speed ≡ 0
+  pub heads : motion.wanted_heading ≡ motion.heading
+  pub inside : IsInField motion.east × IsInField motion.north
 
 -- a robot that turns in an update, and keeps the speed that it has
-pub record OnlyTurns (track : Motion) : Type 0 where
-  pub turns : track.wanted_heading ≡ track.heading → ⊥
-  pub slow : track.speed ≤ turning_speed
-  pub keeps : track.speed ≡ track.wanted_speed
+pub record OnlyTurns (motion : Motion) : Type 0 where
+  pub turns : motion.wanted_heading ≡ motion.heading → ⊥
+  pub slow : motion.speed ≤ turning_speed
+  pub keeps : motion.speed ≡ motion.wanted_speed
 
 -- an update without bursts leaves a robot as it is: it is dead, or at rest
 abbrev pub Stays : Robot → Type 0
-Stays robot = (robot.damage ≡ deadly) ⊎ Rests robot.motion
+Stays robot = (robot.damage ≡ deadly) ⊎ IsAtRest robot.motion
 
 -- all robots stay, and no missile is in the air
 pub record IsStill (robots : List Robot) (slots : List (List Missile)) : Type 0 where

@@ -5,13 +5,13 @@ use Rattle.arena.specs.Rules.{last_place}
 use Rattle.arena.specs.Leg.{Leg, clamped, way_east, way_north}
 
 -- what is left of a tenth is dropped: so a sum that falls starts at the end of its tenth
-unfoldable pub slack : ℤ → ℤ
-slack (pos n) = pos 0
-slack (negsuc n) = pos 99999
+unfoldable pub rounding_start : ℤ → ℤ
+rounding_start (pos n) = pos 0
+rounding_start (negsuc n) = pos 99999
 
 -- from an origin, for a heading of which so much lies on the axis, after a way
 unfoldable pub sum_from : ℕ → ℤ → ℤ → ℤ
-sum_from origin part way = pos (100000 * origin) +ℤ slack part +ℤ way
+sum_from origin part way = pos (100000 * origin) +ℤ rounding_start part +ℤ way
 
 unfoldable pub sum_east : Leg → ℤ
 sum_east leg = sum_from leg.origin_x (cosine_at leg.heading) (way_east leg)
@@ -41,5 +41,5 @@ place_of sum = unsigned_abs sum / 100000
 unfoldable pub is_beyond : ℤ → Bool
 is_beyond sum = int_lt sum (pos 0) || int_lt (pos last_sum) sum
 
-unfoldable pub place_near : ℤ → ℕ
-place_near sum = clamped last_sum sum / 100000
+unfoldable pub clamped_place_of : ℤ → ℕ
+clamped_place_of sum = clamped last_sum sum / 100000

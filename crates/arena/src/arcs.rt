@@ -2,8 +2,8 @@
 
 ghost use Rattle.std.specs.Prelude.{◌≡◌, ◌+◌, ◌-◌, ◌%◌, ◌<◌, ◌≤◌, true, false, unsigned_abs};
 ghost use Rattle.arith.specs.Circle.{sine_at, cosine_at};
-ghost use Rattle.arith.specs.Bearing.{reach_of};
-ghost use Rattle.arena.specs.Nearer.{leads_into};
+ghost use Rattle.arith.specs.Bearing.{projection_of};
+ghost use Rattle.arena.specs.Nearer.{arc_contains};
 ghost use Rattle.arena.specs.declared.arcs.TheConstants.{SIDE};
 ghost use Rattle.arena.specs.declared.rules.TheConstants.{MOST_RESOLUTION};
 
@@ -44,8 +44,8 @@ impl Direction {
     }
 
     /// Returns how far a way reaches in this direction, scaled by 100,000.
-    fn reach(&self, way: &Way) -> i32
-        ensures { result ≡ reach_of way.now.east way.now.north self.now.degree }
+    fn projection(&self, way: &Way) -> i32
+        ensures { result ≡ projection_of way.now.east way.now.north self.now.degree }
     {
         way.east * self.cosine + way.north * self.sine
     }
@@ -67,7 +67,7 @@ pub struct Arc {
 
 impl Arc {
     /// Makes the arc around a degree, with this resolution in degrees.
-    pub fn around(degree: u16, resolution: u16) -> Arc
+    pub fn new(degree: u16, resolution: u16) -> Arc
         requires degree { degree < 360 }
         requires resolution { resolution ≤ MOST_RESOLUTION }
         ensures degree { result.degree ≡ degree }
@@ -82,25 +82,25 @@ impl Arc {
     }
 
     /// Reports whether a way leads beside the arc: it reaches backwards in one of the two directions.
-    pub fn is_passed_by(&self, way: &Way) -> bool
+    pub fn surely_excludes(&self, way: &Way) -> bool
         ensures { result ≡ true
-            → leads_into way.now.east way.now.north self.now.degree self.now.resolution ≡ false }
+            → arc_contains way.now.east way.now.north self.now.degree self.now.resolution ≡ false }
     {
-        self.left.reach(way) < 0 || self.right.reach(way) < 0
+        self.left.projection(way) < 0 || self.right.projection(way) < 0
     }
 
     /// Reports whether a way leads into the arc, or nowhere. A rough test decides on those that lead deep into it.
-    pub fn is_led_into_by(&self, way: &Way) -> bool
-        ensures { result ≡ leads_into way.now.east way.now.north self.now.degree self.now.resolution }
+    pub fn contains(&self, way: &Way) -> bool
+        ensures { result ≡ arc_contains way.now.east way.now.north self.now.degree self.now.resolution }
     {
         self.is_deep(way) || lies_within(*way, self.degree, self.resolution)
     }
 
     /// Reports whether a way leads deep into the arc: it reaches forward by 35 metres in both directions, or more.
     fn is_deep(&self, way: &Way) -> bool
-        ensures { result ≡ true → leads_into way.now.east way.now.north self.now.degree self.now.resolution ≡ true }
+        ensures { result ≡ true → arc_contains way.now.east way.now.north self.now.degree self.now.resolution ≡ true }
     {
-        self.left.reach(way) >= DEEP && self.right.reach(way) >= DEEP
+        self.left.projection(way) >= DEEP && self.right.projection(way) >= DEEP
     }
 }
 
@@ -110,7 +110,7 @@ impl Arc {
 fn lies_within(way: Way, degree: u16, resolution: u16) -> bool
     requires degree { degree < 360 }
     requires resolution { resolution ≤ MOST_RESOLUTION }
-    ensures { result ≡ leads_into way.east way.north degree resolution }
+    ensures { result ≡ arc_contains way.east way.north degree resolution }
 {
     way.is_none() || bears_within(way.east, way.north, degree, resolution)
 }

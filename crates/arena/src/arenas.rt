@@ -4,13 +4,13 @@ ghost use Rattle.std.specs.Prelude.{◌≡◌, ℕ, ◌+◌, ◌<◌, ◌≤◌,
 ghost use Rattle.grammar.specs.declared.resolved_names.Intrinsic.TheVariants.{Scan, Cannon, Drive, Rand};
 ghost use Rattle.arena.specs.Rules.{last_place};
 ghost use Rattle.arena.specs.Leg.{clamped, place_x, place_y};
-ghost use Rattle.arena.specs.Field.{Field, no_robot, damage_of, robot_at, is_live, live_count};
+ghost use Rattle.arena.specs.Field.{Field, no_robot, damage_of, robot_at, is_live_at, live_count};
 ghost use Rattle.arena.specs.Moved.{moved};
 ghost use Rattle.arena.specs.Still.{IsStill, Stays, moved_times};
 ghost use Rattle.arena.specs.Start.{start};
 ghost use Rattle.arena.specs.Placed.{placed, IsPlace};
 ghost use Rattle.arena.specs.Answer.{answer};
-ghost use Rattle.arena.specs.Arena.{most_updates, Robot, robot_of, lives};
+ghost use Rattle.arena.specs.Arena.{most_updates, Robot, robot_of, is_live};
 ghost use Rattle.arena.specs.Representing.{RepresentsField, Answers};
 
 use crate::missile::Missile;
@@ -100,13 +100,13 @@ impl Arena {
     /// Answers a live robot that calls an intrinsic function with two arguments, of which those that the function has
     /// no use for are 0. docs/field.md has each function's reply.
     pub fn ask(&mut self, robot: usize, intrinsic: Intrinsic, arguments: [i32; 2]) -> i32
-        requires { lives self.old robot ≡ true }
+        requires { is_live self.old robot ≡ true }
         ensures reply { (f : Field) → RepresentsField self.old f → result ≡ (answer f robot intrinsic arguments).0 }
         ensures stands { (f : Field) → RepresentsField self.old f
             → RepresentsField self.new (answer f robot intrinsic arguments).1 }
         ensures updates { self.new.updates ≡ self.old.updates }
         ensures manned { length self.new.robots ≡ length self.old.robots }
-        ensures alive { lives self.new robot ≡ true }
+        ensures alive { is_live self.new robot ≡ true }
     {
         let first = arguments[0];
         let second = arguments[1];
@@ -130,7 +130,7 @@ impl Arena {
     /// Returns the range in metres of the nearest live robot in an arc, or 0. The arc lies around a degree, as many
     /// degrees to either side as the resolution, which is brought into 0 to 10. The robot that scans must live.
     pub fn scan(&self, robot: usize, degree: i32, resolution: i32) -> i32
-        requires { lives self.now robot ≡ true }
+        requires { is_live self.now robot ≡ true }
         ensures { (f : Field) → RepresentsField self.now f
             → result ≡ (answer f robot Scan (degree ∷ resolution ∷ [])).0 }
     {
@@ -146,7 +146,7 @@ impl Arena {
     /// Has a live robot fire a missile to a degree, as far as a range in metres, which is brought into 0 to 700. Replies
     /// 1, or 0 if two missiles of its own are in the air.
     pub fn cannon(&mut self, robot: usize, degree: i32, range: i32) -> i32
-        requires { lives self.old robot ≡ true }
+        requires { is_live self.old robot ≡ true }
         ensures { Answers self.old self.new robot Cannon (degree ∷ range ∷ []) result }
     {
         if !self.missiles.may_fire(robot) {
@@ -163,7 +163,7 @@ impl Arena {
     /// Sets which degree a live robot wants to head for, and at which speed in percent, which is brought into 0 to 100.
     /// Replies 1.
     pub fn drive(&mut self, robot: usize, degree: i32, speed: i32) -> i32
-        requires { lives self.old robot ≡ true }
+        requires { is_live self.old robot ≡ true }
         ensures { Answers self.old self.new robot Drive (degree ∷ speed ∷ []) result }
     {
         let speed = clamped_argument(speed, MOST_SPEED) as u8;
@@ -181,7 +181,7 @@ impl Arena {
             → RepresentsField self.new (answer f robot Rand (limit ∷ [])).1 }
         ensures updates { self.new.updates ≡ self.old.updates }
         ensures manned { length self.new.robots ≡ length self.old.robots }
-        ensures alive { (robot : ℕ) → lives self.new robot ≡ lives self.old robot }
+        ensures alive { (robot : ℕ) → is_live self.new robot ≡ is_live self.old robot }
     {
         draw_number(&mut self.random, limit)
     }
@@ -205,13 +205,13 @@ impl Arena {
             self.updates_apart,
         );
         self.missiles.land(update);
-        self.is_still = is_still(self.robots.as_slice(), &self.missiles);
+        self.is_still = only_counts(self.robots.as_slice(), &self.missiles);
         self.updates = update;
     }
 
     /// Reports whether the field is known to be still: then updates only count, as long as no robot drives or shoots.
     #[inline(always)]
-    pub fn is_still(&self) -> bool
+    pub fn updates_only_count(&self) -> bool
         ensures { result ≡ true → IsStill self.now.robots self.now.slots }
     {
         self.is_still
@@ -231,8 +231,8 @@ impl Arena {
     /// Reports whether a robot lives.
     pub fn alive(&self, robot: usize) -> bool
         requires { robot < length self.now.robots }
-        ensures lives { result ≡ lives self.now robot }
-        ensures stands { (f : Field) → RepresentsField self.now f → result ≡ is_live f robot }
+        ensures lives { result ≡ is_live self.now robot }
+        ensures stands { (f : Field) → RepresentsField self.now f → result ≡ is_live_at f robot }
     {
         self.robot(robot).is_alive()
     }
@@ -346,7 +346,7 @@ fn two_are_live(robots: &[Robot]) -> bool
 
 /// Reports whether an update changes nothing but the number of updates: each robot is dead or at rest, and no missile
 /// is in the air.
-fn is_still(robots: &[Robot], missiles: &Missiles) -> bool
+fn only_counts(robots: &[Robot], missiles: &Missiles) -> bool
     ensures { result ≡ true → IsStill robots.now missiles.now }
 {
     if missiles.may_burst() {

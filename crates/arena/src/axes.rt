@@ -2,26 +2,26 @@
 
 ghost use Rattle.std.specs.Prelude.{◌≡◌, ◌≤◌, ◌/◌, pos, ◌*ℤ◌, unsigned_abs, ◌||◌};
 ghost use Rattle.arena.specs.Rules.{last_place};
-ghost use Rattle.arena.specs.Sums.{sum_from, is_beyond, place_of, place_near, IsInField};
+ghost use Rattle.arena.specs.Sums.{sum_from, is_beyond, place_of, clamped_place_of, IsInField};
 
 use crate::rules::{LAST_METRE, LAST_PLACE, MOST_SPEED};
 
 /// How many of them a tenth of a metre has: a way is in the same units.
-pub const SCALE: i32 = 100_000;
+pub const SUM_UNITS: i32 = 100_000;
 
 /// The greatest sum of a place of the field.
-pub const LAST_SUM: i32 = (LAST_PLACE as i32 + 1) * SCALE - 1;
+pub const LAST_SUM: i32 = (LAST_PLACE as i32 + 1) * SUM_UNITS - 1;
 
 /// Returns the sum at the origin of a leg, by the part of the heading that lies on the axis: a sum that falls starts at
 /// the end of its tenth.
-#[tactic(auto, unfolding(crate::specs::Sums::sum_from, crate::specs::Sums::slack))]
+#[tactic(auto, unfolding(crate::specs::Sums::sum_from, crate::specs::Sums::rounding_start))]
 pub fn sum_at(origin: u16, part: i32) -> i32
     requires { origin ≤ last_place }
     ensures value { result ≡ sum_from origin part (pos 0) }
     ensures field { IsInField result }
 {
-    let slack = if part < 0 { SCALE - 1 } else { 0 };
-    i32::from(origin) * SCALE + slack
+    let slack = if part < 0 { SUM_UNITS - 1 } else { 0 };
+    i32::from(origin) * SUM_UNITS + slack
 }
 
 /// Returns how much a sum grows in an update at this speed.
@@ -40,7 +40,7 @@ pub fn place_of(sum: i32) -> u16
     ensures value { result ≡ place_of sum }
     ensures most { result ≤ last_place }
 {
-    (sum as u32 / SCALE as u32) as u16
+    (sum as u32 / SUM_UNITS as u32) as u16
 }
 
 /// Returns the place to which a sum in the field leads, in whole metres rounded down.
@@ -49,7 +49,7 @@ pub fn metres_of(sum: i32) -> u16
     ensures value { result ≡ place_of sum / 10 }
     ensures most { result ≤ LAST_METRE }
 {
-    (sum as u32 / (10 * SCALE as u32)) as u16
+    (sum as u32 / (10 * SUM_UNITS as u32)) as u16
 }
 
 /// Reports whether a sum leads beyond a wall.
@@ -68,9 +68,9 @@ pub fn leads_beyond(east: i32, north: i32) -> bool
 }
 
 /// Returns the place of the field that is nearest to where a sum leads, in tenths of a metre.
-#[tactic(auto, unfolding(crate::specs::Sums::place_near, crate::specs::Leg::clamped))]
-pub fn place_near(sum: i32) -> u16
-    ensures value { result ≡ place_near sum }
+#[tactic(auto, unfolding(crate::specs::Sums::clamped_place_of, crate::specs::Leg::clamped))]
+pub fn clamped_place_of(sum: i32) -> u16
+    ensures value { result ≡ clamped_place_of sum }
     ensures most { result ≤ last_place }
 {
     place_of(sum.clamp(0, LAST_SUM))

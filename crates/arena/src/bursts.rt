@@ -4,12 +4,12 @@ ghost use Rattle.std.specs.Prelude.{◌≡◌, ◌<◌, ◌≤◌, true, false, 
 ghost use Rattle.std.specs.Int.{abs_diff};
 ghost use Rattle.arena.specs.Rules.{last_place};
 ghost use Rattle.arena.specs.Shots.{ring};
-ghost use Rattle.arena.specs.Due.{harm};
+ghost use Rattle.arena.specs.Due.{burst_damage};
 
 use crate::points::Point;
 use crate::rules::{
     INNER_RING, LAST_RING, LAST_RING_DAMAGE, MIDDLE_RING, MIDDLE_RING_DAMAGE, MOST_BURSTS,
-    MOST_HARM, MOST_HARM_OF_ALL, MOST_ROBOTS,
+    MOST_BURST_DAMAGE, MOST_UPDATE_DAMAGE, MOST_ROBOTS,
 };
 
 /// The squared radius of each ring.
@@ -62,18 +62,18 @@ impl Burst {
     }
 
     /// Returns the damage in percent that it does at a place.
-    #[tactic(auto, unfolding(crate::specs::Due::harm))]
+    #[tactic(auto, unfolding(crate::specs::Due::burst_damage))]
     pub(crate) fn harm(&self, place: Point) -> u8
-        ensures value { result ≡ harm place.x place.y self.now }
-        ensures most { result ≤ MOST_HARM }
+        ensures value { result ≡ burst_damage place.x place.y self.now }
+        ensures most { result ≤ MOST_BURST_DAMAGE }
     {
         ring(place.square_to(self.at))
     }
 
     /// Reports whether it is so far from a place that it does no damage there.
-    #[tactic(auto, using(crate::proofs::Squares::far_harm), unfolding(crate::specs::Due::harm))]
+    #[tactic(auto, using(crate::proofs::Squares::far_harm), unfolding(crate::specs::Due::burst_damage))]
     fn misses(&self, place: Point) -> bool
-        ensures { result ≡ true → harm place.x place.y self.now ≡ 0 }
+        ensures { result ≡ true → burst_damage place.x place.y self.now ≡ 0 }
     {
         is_far(place.x(), self.at.x()) || is_far(place.y(), self.at.y())
     }
@@ -82,8 +82,8 @@ impl Burst {
 /// Returns the damage in percent that some bursts do at a place.
 pub(crate) fn harm_by(bursts: &[Burst], place: Point) -> u8
     requires { length bursts.now ≤ MOST_BURSTS }
-    ensures value { result ≡ sum (map (harm place.x place.y) bursts.now) }
-    ensures most { result ≤ MOST_HARM_OF_ALL }
+    ensures value { result ≡ sum (map (burst_damage place.x place.y) bursts.now) }
+    ensures most { result ≤ MOST_UPDATE_DAMAGE }
 {
     let mut damage = 0;
     for burst in bursts {
@@ -108,10 +108,10 @@ fn is_far(from: u16, to: u16) -> bool
 #[tactic(auto, unfolding(crate::specs::Shots::ring))]
 fn ring(square: u32) -> u8
     ensures value { result ≡ ring square }
-    ensures most { result ≤ MOST_HARM }
+    ensures most { result ≤ MOST_BURST_DAMAGE }
 {
     if square <= INNER_SQUARE {
-        MOST_HARM
+        MOST_BURST_DAMAGE
     } else if square <= MIDDLE_SQUARE {
         MIDDLE_RING_DAMAGE
     } else if square <= LAST_SQUARE {

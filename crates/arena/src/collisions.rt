@@ -1,20 +1,20 @@
 //! Which robots collide in an update.
 
 ghost use Rattle.std.specs.Prelude.{◌≡◌, ℕ, ◌<◌, false, All, count_by, length};
-ghost use Rattle.arena.specs.Collisions.{moves, is_close, is_no_further, collides, touches};
+ghost use Rattle.arena.specs.Collisions.{moves, is_close, is_no_further, collides, collision_count};
 
 use crate::points::Point;
 use crate::rules::NEAR;
 
 /// A robot, live or not before an update: its place then, and its candidate for the place after the update.
 #[derive(Clone, Copy, Default, Drop)]
-pub struct Mover {
+pub struct AttemptedMove {
     pub live: bool,
     pub from: Point,
     pub to: Point,
 }
 
-impl Mover {
+impl AttemptedMove {
     /// Reports whether the robot would leave its place.
     #[tactic(auto, unfolding(crate::specs::Collisions::moves))]
     fn moves(&self) -> bool
@@ -25,7 +25,7 @@ impl Mover {
 
     /// Reports whether the candidates are less than a metre apart on both axes.
     #[tactic(auto, unfolding(crate::specs::Collisions::is_close))]
-    fn is_close(&self, other: &Mover) -> bool
+    fn is_close(&self, other: &AttemptedMove) -> bool
         ensures { result ≡ is_close self.now other.now }
     {
         self.to.x().abs_diff(other.to.x()) < NEAR && self.to.y().abs_diff(other.to.y()) < NEAR
@@ -33,7 +33,7 @@ impl Mover {
 
     /// Reports whether two robots don't come further apart.
     #[tactic(auto, unfolding(crate::specs::Collisions::is_no_further))]
-    fn is_no_further(&self, other: &Mover) -> bool
+    fn is_no_further(&self, other: &AttemptedMove) -> bool
         ensures { result ≡ is_no_further self.now other.now }
     {
         self.to.square_to(other.to) <= self.from.square_to(other.from)
@@ -41,7 +41,7 @@ impl Mover {
 
     /// Reports whether two robots collide.
     #[tactic(auto, unfolding(crate::specs::Collisions::collides))]
-    pub fn collides(&self, other: &Mover) -> bool
+    pub fn collides(&self, other: &AttemptedMove) -> bool
         ensures { result ≡ collides self.now other.now }
     {
         self.live
@@ -53,17 +53,17 @@ impl Mover {
 }
 
 /// Returns how many of some robots a robot collides with.
-fn collision_count(mover: &Mover, others: &[Mover]) -> usize
+fn collision_count(mover: &AttemptedMove, others: &[AttemptedMove]) -> usize
     ensures { result ≡ count_by (collides mover.now) others.now }
 {
     others.iter().filter(|other| mover.collides(other)).count()
 }
 
 /// Returns how many others a robot collides with.
-#[tactic(auto, unfolding(crate::specs::Collisions::touches, crate::specs::Collisions::others))]
-pub fn touched_count(movers: &[Mover], robot: usize) -> usize
+#[tactic(auto, unfolding(crate::specs::Collisions::collision_count, crate::specs::Collisions::others))]
+pub fn robot_collision_count(movers: &[AttemptedMove], robot: usize) -> usize
     requires { robot < length movers.now }
-    ensures value { result ≡ touches movers.now robot }
+    ensures value { result ≡ collision_count movers.now robot }
     ensures most { result < length movers.now }
 {
     let mover = &movers[robot];
@@ -71,7 +71,7 @@ pub fn touched_count(movers: &[Mover], robot: usize) -> usize
 }
 
 /// Reports whether a robot's candidate is close to that of one of the others.
-fn is_close_to_any(mover: &Mover, others: &[Mover]) -> bool
+fn is_close_to_any(mover: &AttemptedMove, others: &[AttemptedMove]) -> bool
     ensures { result ≡ false → All (λ other. is_close mover.now other ≡ false) others.now }
 {
     for other in others {
@@ -83,8 +83,8 @@ fn is_close_to_any(mover: &Mover, others: &[Mover]) -> bool
 }
 
 /// Reports whether the candidates of two robots are close, each pair judged once: if none are, no robots collide.
-pub fn any_are_close(movers: &[Mover]) -> bool
-    ensures { result ≡ false → (i : ℕ) → i < length movers.now → touches movers.now i ≡ 0 }
+pub fn any_are_close(movers: &[AttemptedMove]) -> bool
+    ensures { result ≡ false → (i : ℕ) → i < length movers.now → collision_count movers.now i ≡ 0 }
 {
     for (i, mover) in movers.iter().enumerate() {
         if is_close_to_any(mover, &movers[i + 1..]) {

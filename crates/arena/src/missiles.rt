@@ -93,7 +93,7 @@ impl Missiles {
     }
 
     /// Reports whether no missile bursts up to an update: then nothing is hurt anywhere.
-    pub fn is_quiet(&self, update: u32) -> bool
+    pub fn has_no_burst_by(&self, update: u32) -> bool
         ensures { result ≡ true → (updates : ℕ) (shots : List Shot) (x y : ℕ) → update ≡ updates + 1
             → HoldsShots updates self.now shots → sum (bursts update shots x y) ≡ 0 }
     {

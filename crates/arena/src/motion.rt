@@ -2,16 +2,16 @@
 
 ghost use Rattle.std.specs.Prelude.{◌≡◌, true, ◌<◌, ◌≤◌, ◌/◌, pos, ◌*ℤ◌, unsigned_abs};
 ghost use Rattle.arith.specs.Circle.{sine_at, cosine_at};
-ghost use Rattle.arena.specs.Leg.{Leg, place_x, place_y, approached, leg_anew, steered, sped, grown, walled, hits_wall, tried, driven};
-ghost use Rattle.arena.specs.Sums.{sum_from, place_of, place_near, IsInField};
-ghost use Rattle.arena.specs.Start.{standing};
+ghost use Rattle.arena.specs.Leg.{Leg, place_x, place_y, approached, leg_anew, steered, sped, travelled, clamped_at_walls, hits_wall, tried, stopped_by_walls};
+ghost use Rattle.arena.specs.Sums.{sum_from, place_of, clamped_place_of, IsInField};
+ghost use Rattle.arena.specs.Start.{robot_at_rest};
 ghost use Rattle.arena.specs.Moved.{put_back};
-ghost use Rattle.arena.specs.Answer.{wanting};
+ghost use Rattle.arena.specs.Answer.{with_wanted};
 ghost use Rattle.arena.specs.Arena.{Motion, motion_of, is_steady};
-ghost use Rattle.arena.specs.Still.{Rests, OnlyTurns};
+ghost use Rattle.arena.specs.Still.{IsAtRest, OnlyTurns};
 ghost use Rattle.arena.specs.Apart.{IsNearby, IsAtPlace, gap, sum_gap};
 
-use crate::axes::{leads_beyond, metres_of, place_near, place_of, sum_at, sum_step};
+use crate::axes::{leads_beyond, metres_of, clamped_place_of, place_of, sum_at, sum_step};
 use crate::points::Point;
 use crate::rules::{ACCELERATION, LAST_METRE, MOST_SPEED, TURNING_SPEED};
 use arith::{cosine_at, sine_at};
@@ -49,14 +49,14 @@ impl Model for Motion {
 
 impl Default for Motion {
     fn default() -> Motion {
-        Motion::standing(Point::default())
+        Motion::at_rest(Point::default())
     }
 }
 
 impl Motion {
     /// Makes the motion of a robot at rest at a place.
-    pub fn standing(place: Point) -> Motion
-        ensures { result ≡ motion_of (standing place.x place.y).leg }
+    pub fn at_rest(place: Point) -> Motion
+        ensures { result ≡ motion_of (robot_at_rest place.x place.y).leg }
     {
         let still = Motion {
             east: 0,
@@ -123,8 +123,8 @@ impl Motion {
     }
 
     /// Reports whether the robot stands still and wants nothing else, so that an update leaves its leg as it is.
-    pub fn rests(&self) -> bool
-        ensures { result ≡ true → Rests self.now }
+    pub fn is_at_rest(&self) -> bool
+        ensures { result ≡ true → IsAtRest self.now }
     {
         self.speed == 0 && self.wanted_speed == 0 && self.wanted_heading == self.heading
     }
@@ -133,7 +133,7 @@ impl Motion {
     pub fn want(&mut self, degree: u16, speed: u8)
         requires degree { degree < 360 }
         requires speed { speed ≤ MOST_SPEED }
-        ensures leg { (leg : Leg) → self.old ≡ motion_of leg → self.new ≡ motion_of (wanting leg degree speed) }
+        ensures leg { (leg : Leg) → self.old ≡ motion_of leg → self.new ≡ motion_of (with_wanted leg degree speed) }
         ensures place { IsAtPlace self.old self.new }
     {
         self.wanted_heading = degree;
@@ -272,22 +272,22 @@ impl Motion {
     #[inline(never)]
     fn stop_near(&mut self, east: i32, north: i32)
         ensures leg { (leg : Leg) → self.old ≡ motion_of leg → self.new ≡ motion_of (record leg {
-          origin_x = place_near east;
-          origin_y = place_near north;
+          origin_x = clamped_place_of east;
+          origin_y = clamped_place_of north;
           distance = 0;
           speed = 0;
           wanted_speed = 0;
         }) }
-        ensures place { (self.new.x ≡ place_near east) × (self.new.y ≡ place_near north) }
+        ensures place { (self.new.x ≡ clamped_place_of east) × (self.new.y ≡ clamped_place_of north) }
     {
-        *self = self.stopped_at(Point::new(place_near(east), place_near(north)));
+        *self = self.stopped_at(Point::new(clamped_place_of(east), clamped_place_of(north)));
     }
 
     /// Drives on for an update at the present speed, up to a wall, and reports whether one stopped it.
     #[inline(always)]
     fn drive_straight(&mut self) -> bool
-        ensures motion { (leg : Leg) → self.old ≡ motion_of leg → self.new ≡ motion_of (walled (grown leg)) }
-        ensures walled { (leg : Leg) → self.old ≡ motion_of leg → result ≡ hits_wall (grown leg) }
+        ensures motion { (leg : Leg) → self.old ≡ motion_of leg → self.new ≡ motion_of (clamped_at_walls (travelled leg)) }
+        ensures walled { (leg : Leg) → self.old ≡ motion_of leg → result ≡ hits_wall (travelled leg) }
         ensures nearby { IsNearby self.old self.new }
     {
         let east = self.east + self.step_east;
@@ -303,10 +303,10 @@ impl Motion {
 
     /// Moves on for an update, as far as walls let it: turns, changes the speed and drives on. Reports whether a wall
     /// stopped it.
-    #[tactic(auto, unfolding(crate::specs::Leg::driven, crate::specs::Leg::tried))]
+    #[tactic(auto, unfolding(crate::specs::Leg::stopped_by_walls, crate::specs::Leg::tried))]
     #[inline(always)]
     pub fn move_within_walls(&mut self) -> bool
-        ensures motion { (leg : Leg) → self.old ≡ motion_of leg → self.new ≡ motion_of (driven leg) }
+        ensures motion { (leg : Leg) → self.old ≡ motion_of leg → self.new ≡ motion_of (stopped_by_walls leg) }
         ensures walled { (leg : Leg) → self.old ≡ motion_of leg → result ≡ hits_wall (tried leg) }
         ensures nearby { IsNearby self.old self.new }
     {

@@ -3,18 +3,18 @@
 ghost use Rattle.std.specs.Prelude.{◌≡◌, ◌<◌, ◌≤◌, true, List, map, length};
 ghost use Rattle.arena.specs.Leg.{place_x, place_y};
 ghost use Rattle.arena.specs.Field.{FieldRobot, Field, robot_at};
-ghost use Rattle.arena.specs.Collisions.{mover, touches};
-ghost use Rattle.arena.specs.Arena.{robot_of, lives};
+ghost use Rattle.arena.specs.Collisions.{attempted_move, collision_count};
+ghost use Rattle.arena.specs.Arena.{robot_of, is_live};
 ghost use Rattle.arena.specs.Representing.{RepresentsField};
-ghost use Rattle.arena.specs.Outlook.{due, meets_wall, meets, next_leg, taken_by};
+ghost use Rattle.arena.specs.Outlook.{due, meets_wall, collides_with, next_leg, taken_by};
 
 use crate::arenas::Arena;
 use crate::bursts::Burst;
-use crate::collisions::{Mover, touched_count};
+use crate::collisions::{AttemptedMove, robot_collision_count};
 use crate::points::Point;
 use crate::robots::Robot;
-use crate::rules::{MOST_BURSTS, MOST_HARM, MOST_ROBOTS, MOST_SPEED};
-use crate::updates::move_all_as_movers;
+use crate::rules::{MOST_BURSTS, MOST_BURST_DAMAGE, MOST_ROBOTS, MOST_SPEED};
+use crate::updates::move_all_with_attempts;
 use arrayvec::ArrayVec;
 
 impl Arena {
@@ -65,16 +65,16 @@ impl Arena {
     pub fn meets(&self, a: usize, b: usize) -> bool
         requires a { a < length self.now.robots }
         requires b { b < length self.now.robots }
-        ensures { (f : Field) → RepresentsField self.now f → result ≡ meets f a b }
+        ensures { (f : Field) → RepresentsField self.now f → result ≡ collides_with f a b }
     {
-        a != b && self.robot(a).mover().collides(&self.robot(b).mover())
+        a != b && self.robot(a).attempted_move().collides(&self.robot(b).attempted_move())
     }
 
     /// Returns what a burst takes from a robot in the next update, in percent, at the place where the robot then is: 0,
     /// 3, 5 or 10. It takes nothing from a dead robot.
     pub fn taken_by(&self, robot: usize, burst: &Burst) -> u8
         requires { robot < length self.now.robots }
-        ensures most { result ≤ MOST_HARM }
+        ensures most { result ≤ MOST_BURST_DAMAGE }
         ensures stands { (f : Field) → RepresentsField self.now f → result ≡ taken_by f robot burst.now }
     {
         if !self.alive(robot) {
@@ -86,25 +86,25 @@ impl Arena {
     /// Returns where a live robot is after the next update.
     fn next_place(&self, robot: usize) -> Point
         requires inside { robot < length self.now.robots }
-        requires live { lives self.now robot ≡ true }
+        requires live { is_live self.now robot ≡ true }
         ensures x { (f : Field) → RepresentsField self.now f → result.x ≡ place_x (next_leg f robot) }
         ensures y { (f : Field) → RepresentsField self.now f → result.y ≡ place_y (next_leg f robot) }
     {
         let movers = movers(self.robots());
         let mut ahead = *self.robot(robot);
         let seen = ahead.move_ahead_as_mover();
-        let motion = ahead.motion_after(&seen, touched_count(movers.as_slice(), robot));
+        let motion = ahead.motion_after(&seen, robot_collision_count(movers.as_slice(), robot));
         motion.place()
     }
 }
 
 /// Returns what collisions of the next update have to know of some robots: copies of them move on.
-fn movers(robots: &[Robot]) -> ArrayVec<Mover, MOST_ROBOTS>
+fn movers(robots: &[Robot]) -> ArrayVec<AttemptedMove, MOST_ROBOTS>
     requires { length robots.now ≤ MOST_ROBOTS }
-    ensures movers { (rs : List FieldRobot) → robots.now ≡ map robot_of rs → result.items ≡ map mover rs }
+    ensures movers { (rs : List FieldRobot) → robots.now ≡ map robot_of rs → result.items ≡ map attempted_move rs }
     ensures count { length result.items ≡ length robots.now }
 {
     let mut copies: ArrayVec<Robot, MOST_ROBOTS> = ArrayVec::new();
     let _ = copies.try_extend_from_slice(robots);
-    move_all_as_movers(copies.as_mut_slice())
+    move_all_with_attempts(copies.as_mut_slice())
 }

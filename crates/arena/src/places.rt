@@ -4,7 +4,7 @@ ghost use Rattle.std.specs.Prelude.{◌≡◌, ◌≤◌};
 ghost use Rattle.arena.specs.Rules.{last_place};
 ghost use Rattle.arena.specs.Leg.{clamped, along};
 
-use crate::axes::SCALE;
+use crate::axes::SUM_UNITS;
 use crate::rules::LAST_PLACE;
 
 /// Returns the coordinate to which a way leads from an origin, in tenths of a metre, perhaps beyond a wall. The way is
@@ -13,7 +13,7 @@ use crate::rules::LAST_PLACE;
 pub(crate) fn along(origin: u16, way: i32) -> i32
     ensures { result ≡ along origin way }
 {
-    i32::from(origin) + way / SCALE
+    i32::from(origin) + way / SUM_UNITS
 }
 
 /// Returns the place of the field that is nearest to a coordinate.

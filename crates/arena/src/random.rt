@@ -29,7 +29,7 @@ pub(crate) fn draw_word(random: &mut Pcg32) -> u32
 
 /// Draws a random number from 0 on and below a limit, which is first brought into 1 to 32,767.
 pub(crate) fn draw_number(random: &mut Pcg32, limit: i32) -> i32
-    ensures value { (field : Field) → random.old ≡ generator field.seed field.number field.drawn
+    ensures value { (field : Field) → random.old ≡ generator field.seed field.match_number field.drawn
         → result ≡ pos (random_number field limit) }
     ensures next { (seed number drawn : ℕ) → random.old ≡ generator seed number drawn
         → random.new ≡ generator seed number (drawn + 1) }

@@ -3,20 +3,20 @@
 ghost use Rattle.std.specs.Prelude.{◌≡◌, ◌+◌, ◌*◌, ◌/◌, ◌<◌, ◌≤◌, ◌&&◌, true, min, nat_lt};
 ghost use Rattle.arena.specs.Leg.{tried, hits_wall};
 ghost use Rattle.arena.specs.Field.{FieldRobot, is_alive, metres_x, metres_y};
-ghost use Rattle.arena.specs.Collisions.{mover};
-ghost use Rattle.arena.specs.Start.{standing};
-ghost use Rattle.arena.specs.Answer.{wanting};
+ghost use Rattle.arena.specs.Collisions.{attempted_move};
+ghost use Rattle.arena.specs.Start.{robot_at_rest};
+ghost use Rattle.arena.specs.Answer.{with_wanted};
 ghost use Rattle.arena.specs.Arena.{motion_of, robot_of};
 ghost use Rattle.arena.specs.Moved.{leg_after};
 ghost use Rattle.arena.specs.Ahead.{robot_ahead};
 ghost use Rattle.arena.specs.Apart.{IsNearby, IsAtPlace, gap, sum_gap};
 ghost use Rattle.arena.specs.Still.{Stays};
 
-use crate::collisions::Mover;
+use crate::collisions::AttemptedMove;
 use crate::motion::Motion;
 use crate::points::Point;
 use crate::rules::{
-    DEADLY, KNOCK_DAMAGE, LAST_METRE, MOST_HARM_OF_ALL, MOST_ROBOTS, MOST_SPEED, WALL_DAMAGE,
+    DEADLY, KNOCK_DAMAGE, LAST_METRE, MOST_UPDATE_DAMAGE, MOST_ROBOTS, MOST_SPEED, WALL_DAMAGE,
 };
 use std::marker::Model;
 
@@ -43,18 +43,18 @@ impl Model for Robot {
 
 impl Default for Robot {
     fn default() -> Robot {
-        Robot::standing(Point::default())
+        Robot::at_rest(Point::default())
     }
 }
 
 impl Robot {
     /// Makes a robot at rest at a place, unhurt.
-    #[tactic(auto, unfolding(crate::specs::Arena::robot_of, crate::specs::Field::damage_of, crate::specs::Start::standing))]
-    pub fn standing(place: Point) -> Robot
-        ensures { result ≡ robot_of (standing place.x place.y) }
+    #[tactic(auto, unfolding(crate::specs::Arena::robot_of, crate::specs::Field::damage_of, crate::specs::Start::robot_at_rest))]
+    pub fn at_rest(place: Point) -> Robot
+        ensures { result ≡ robot_of (robot_at_rest place.x place.y) }
     {
         Robot {
-            motion: Motion::standing(place),
+            motion: Motion::at_rest(place),
             damage: 0,
         }
     }
@@ -70,7 +70,7 @@ impl Robot {
     pub fn stays(&self) -> bool
         ensures { result ≡ true → Stays self.now }
     {
-        !self.is_alive() || self.motion.rests()
+        !self.is_alive() || self.motion.is_at_rest()
     }
 
     /// Returns the damage so far, in percent.
@@ -121,7 +121,7 @@ impl Robot {
         requires degree { degree < 360 }
         requires speed { speed ≤ MOST_SPEED }
         ensures robot { (robot : FieldRobot) → self.old ≡ robot_of robot
-            → self.new ≡ robot_of (record robot { leg = wanting robot.leg degree speed }) }
+            → self.new ≡ robot_of (record robot { leg = with_wanted robot.leg degree speed }) }
         ensures place { IsAtPlace self.old.motion self.new.motion }
         ensures damage { self.new.damage ≡ self.old.damage }
     {
@@ -143,15 +143,15 @@ impl Robot {
     }
 
     /// Moves on for an update, as far as walls let it, and returns what collisions have to know; a dead robot stays.
-    #[tactic(auto, unfolding(crate::specs::Ahead::robot_ahead, crate::specs::Collisions::mover, crate::specs::Arena::robot_of, crate::specs::Arena::motion_of, crate::specs::Field::is_alive))]
-    pub fn move_ahead_as_mover(&mut self) -> Mover
+    #[tactic(auto, unfolding(crate::specs::Ahead::robot_ahead, crate::specs::Collisions::attempted_move, crate::specs::Arena::robot_of, crate::specs::Arena::motion_of, crate::specs::Field::is_alive))]
+    pub fn move_ahead_as_mover(&mut self) -> AttemptedMove
         ensures ahead { (robot : FieldRobot) → self.old ≡ robot_of robot → self.new ≡ robot_ahead robot }
-        ensures mover { (robot : FieldRobot) → self.old ≡ robot_of robot → result ≡ mover robot }
+        ensures mover { (robot : FieldRobot) → self.old ≡ robot_of robot → result ≡ attempted_move robot }
     {
         let live = self.is_alive();
         let from = self.place();
         self.move_ahead();
-        Mover {
+        AttemptedMove {
             live,
             from,
             to: self.place(),
@@ -159,8 +159,8 @@ impl Robot {
     }
 
     /// Returns what collisions of the next update have to know.
-    pub fn mover(&self) -> Mover
-        ensures { (robot : FieldRobot) → self.now ≡ robot_of robot → result ≡ mover robot }
+    pub fn attempted_move(&self) -> AttemptedMove
+        ensures { (robot : FieldRobot) → self.now ≡ robot_of robot → result ≡ attempted_move robot }
     {
         let mut ahead = *self;
         ahead.move_ahead_as_mover()
@@ -186,15 +186,15 @@ impl Robot {
 
     /// Takes the damage in percent of bursts.
     pub fn take_damage(&mut self, bursts: u8)
-        requires { bursts ≤ MOST_HARM_OF_ALL }
+        requires { bursts ≤ MOST_UPDATE_DAMAGE }
         ensures { self.new ≡ record self.old { damage = min (self.old.damage + bursts) DEADLY } }
     {
         self.damage = damage_after(self.damage, 0, bursts);
     }
 
     /// Returns the motion of a live robot that has moved on, given how many others it collides with.
-    pub fn motion_after(&self, seen: &Mover, touched: usize) -> Motion
-        ensures { (robot : FieldRobot) → self.now ≡ robot_ahead robot → seen.now ≡ mover robot
+    pub fn motion_after(&self, seen: &AttemptedMove, touched: usize) -> Motion
+        ensures { (robot : FieldRobot) → self.now ≡ robot_ahead robot → seen.now ≡ attempted_move robot
             → is_alive robot ≡ true → result ≡ motion_of (leg_after robot.leg touched) }
     {
         if touched > 0 {
@@ -223,7 +223,7 @@ impl Robot {
 pub fn damage_after(damage: u8, touched: usize, bursts: u8) -> u8
     requires damage { damage ≤ DEADLY }
     requires touched { touched ≤ MOST_ROBOTS }
-    requires bursts { bursts ≤ MOST_HARM_OF_ALL }
+    requires bursts { bursts ≤ MOST_UPDATE_DAMAGE }
     ensures value { result ≡ min (damage + KNOCK_DAMAGE * touched + bursts) DEADLY }
     ensures most { result ≤ DEADLY }
 {

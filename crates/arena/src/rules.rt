@@ -11,13 +11,13 @@ pub const LAST_PLACE: u16 = 9999;
 pub const LAST_METRE: u16 = LAST_PLACE / 10;
 
 /// The first place of the low half of an axis in which robots start.
-pub const LOW_HALF: u32 = 1000;
+pub const FIRST_LOW_START: u32 = 1000;
 
 /// The first place of the high half of an axis in which robots start.
-pub const HIGH_HALF: u32 = 6000;
+pub const FIRST_HIGH_START: u32 = 6000;
 
 /// How many places of each half robots start at.
-pub const HALF_PLACES: u32 = 3000;
+pub const START_PLACES: u32 = 3000;
 
 /// The greatest speed.
 pub const MOST_SPEED: u16 = 100;
@@ -65,7 +65,7 @@ pub const MIDDLE_RING: u16 = 200;
 pub const LAST_RING: u16 = 400;
 
 /// What a burst takes in the inner ring, and the most that a burst takes.
-pub const MOST_HARM: u8 = 10;
+pub const MOST_BURST_DAMAGE: u8 = 10;
 
 /// What a burst takes in the middle ring.
 pub const MIDDLE_RING_DAMAGE: u8 = 5;
@@ -74,7 +74,7 @@ pub const MIDDLE_RING_DAMAGE: u8 = 5;
 pub const LAST_RING_DAMAGE: u8 = 3;
 
 /// The most that the bursts of an update take.
-pub const MOST_HARM_OF_ALL: u8 = MOST_BURSTS as u8 * MOST_HARM;
+pub const MOST_UPDATE_DAMAGE: u8 = MOST_BURSTS as u8 * MOST_BURST_DAMAGE;
 
 /// The greatest limit of a random number.
 pub const MOST_RANDOM_LIMIT: i32 = 32767;

@@ -5,7 +5,7 @@ ghost use Rattle.arith.specs.Root.{root_of};
 ghost use Rattle.arena.specs.Field.{FieldRobot, Field, robot_at};
 ghost use Rattle.arena.specs.Collisions.{others};
 ghost use Rattle.arena.specs.Scan.{sees, scanned};
-ghost use Rattle.arena.specs.Nearer.{IsAtMetres, IsLeast, IsSquare, leads_into, range_at, square_of, square_to};
+ghost use Rattle.arena.specs.Nearer.{IsAtMetres, IsLeast, IsSquare, arc_contains, range_at, square_of, square_to};
 ghost use Rattle.arena.specs.Arena.{robot_of};
 
 use crate::arcs::Arc;
@@ -38,7 +38,7 @@ fn nearest(robots: &[Robot], robot: usize, degree: u16, resolution: u16) -> u32
     ensures square { IsSquare result }
 {
     let from = MetrePoint::of_robot(&robots[robot]);
-    let arc = Arc::around(degree, resolution);
+    let arc = Arc::new(degree, resolution);
     let mut nearest = OUT_OF_SIGHT;
     for (i, other) in robots.iter().enumerate() {
         if i != robot {
@@ -62,7 +62,7 @@ fn nearer(from: &MetrePoint, arc: &Arc, other: &Robot, so_far: u32) -> u32
         return so_far;
     }
     let way = from.way_to(other);
-    if arc.is_passed_by(&way) {
+    if arc.surely_excludes(&way) {
         return so_far;
     }
     shorter(&way, arc, so_far)
@@ -72,17 +72,17 @@ fn nearer(from: &MetrePoint, arc: &Arc, other: &Robot, so_far: u32) -> u32
 /// Whether one leads into the arc that isn't shorter need not be known.
 fn shorter(way: &Way, arc: &Arc, so_far: u32) -> u32
     requires so_far { IsSquare so_far }
-    ensures value { result ≡ (if leads_into way.now.east way.now.north arc.now.degree arc.now.resolution
+    ensures value { result ≡ (if arc_contains way.now.east way.now.north arc.now.degree arc.now.resolution
         then min so_far (square_of way.now.east way.now.north) else so_far) }
     ensures square { IsSquare result }
-    ensures seen { leads_into way.now.east way.now.north arc.now.degree arc.now.resolution ≡ true
+    ensures seen { arc_contains way.now.east way.now.north arc.now.degree arc.now.resolution ≡ true
         → result ≤ MOST_SQUARE }
 {
     let square = way.square();
     if so_far <= square {
         return so_far;
     }
-    if arc.is_led_into_by(way) {
+    if arc.contains(way) {
         square
     } else {
         so_far

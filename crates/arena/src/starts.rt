@@ -4,14 +4,14 @@ ghost use Rattle.std.specs.Prelude.{◌≡◌, ℕ, ◌+◌, ◌*◌, ◌/◌, �
 ghost use Rattle.arena.specs.Rules.{last_place};
 ghost use Rattle.arena.specs.Leg.{clamped};
 ghost use Rattle.arena.specs.Random.{generator, random_word};
-ghost use Rattle.arena.specs.Start.{standing, drawn_place, start};
+ghost use Rattle.arena.specs.Start.{robot_at_rest, drawn_place, start};
 ghost use Rattle.arena.specs.Placed.{placed, IsPlace};
 ghost use Rattle.arena.specs.Arena.{robot_of};
 
 use crate::points::Point;
 use crate::random::draw_word;
 use crate::robots::Robot;
-use crate::rules::{HALF_PLACES, HIGH_HALF, LOW_HALF, MOST_ROBOTS};
+use crate::rules::{START_PLACES, FIRST_HIGH_START, FIRST_LOW_START, MOST_ROBOTS};
 use arrayvec::ArrayVec;
 use rand_pcg::Pcg32;
 
@@ -38,14 +38,14 @@ pub(crate) fn drawn_robots(random: &mut Pcg32, n: usize) -> ArrayVec<Robot, MOST
 fn drawn_robot(random: &mut Pcg32, quadrant: u32) -> Robot
     requires { quadrant < 4 }
     ensures robot { (seed number drawn : ℕ) → random.old ≡ generator seed number drawn
-        → result ≡ robot_of (standing (drawn_place (quadrant % 2) (random_word seed number drawn))
+        → result ≡ robot_of (robot_at_rest (drawn_place (quadrant % 2) (random_word seed number drawn))
         (drawn_place (quadrant / 2) (random_word seed number (drawn + 1)))) }
     ensures words { (seed number drawn : ℕ) → random.old ≡ generator seed number drawn
         → random.new ≡ generator seed number (drawn + 2) }
 {
     let x = drawn_place(quadrant % 2, draw_word(random));
     let y = drawn_place(quadrant / 2, draw_word(random));
-    Robot::standing(Point::new(x, y))
+    Robot::at_rest(Point::new(x, y))
 }
 
 /// Returns the place of a word in the low half of an axis, or in the high one.
@@ -54,8 +54,8 @@ fn drawn_place(half: u32, word: u32) -> u16
     ensures value { result ≡ drawn_place half word }
     ensures most { result ≤ last_place }
 {
-    let from = if half == 0 { LOW_HALF } else { HIGH_HALF };
-    (from + word % HALF_PLACES) as u16
+    let from = if half == 0 { FIRST_LOW_START } else { FIRST_HIGH_START };
+    (from + word % START_PLACES) as u16
 }
 
 /// Makes robots at given places, in tenths of a metre.
@@ -69,7 +69,7 @@ pub(crate) fn placed_robots(
     let mut robots = ArrayVec::new();
     for place in places.as_slice() {
         let place = Point::new(coordinate(place.0), coordinate(place.1));
-        robots.push(Robot::standing(place));
+        robots.push(Robot::at_rest(place));
     }
     robots
 }

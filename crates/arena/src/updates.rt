@@ -15,7 +15,7 @@
 
 ghost use Rattle.std.specs.Prelude.{◌≡◌, ℕ, ◌+◌, ◌/◌, ◌<◌, ◌≤◌, List, All, map, length};
 ghost use Rattle.arena.specs.Field.{Shot, FieldRobot, Field};
-ghost use Rattle.arena.specs.Collisions.{mover, touches};
+ghost use Rattle.arena.specs.Collisions.{attempted_move, collision_count};
 ghost use Rattle.arena.specs.Moved.{moved_robot, moved};
 ghost use Rattle.arena.specs.Arena.{robot_of};
 ghost use Rattle.arena.specs.Ahead.{robot_ahead};
@@ -23,25 +23,25 @@ ghost use Rattle.arena.specs.Due.{HarmLikeShots};
 ghost use Rattle.arena.specs.Apart.{robot_in, gap, IsNearby, IsAtPlace, AreApartFor};
 ghost use Rattle.arena.specs.Representing.{HoldsShots};
 
-use crate::axes::{LAST_SUM, SCALE};
+use crate::axes::{LAST_SUM, SUM_UNITS};
 use crate::bursts::{Burst, harm_by};
-use crate::collisions::{Mover, any_are_close, touched_count};
+use crate::collisions::{AttemptedMove, any_are_close, robot_collision_count};
 use crate::missiles::Missiles;
 use crate::robots::{Robot, damage_after};
 use crate::rules::{MOST_BURSTS, MOST_ROBOTS, MOST_SPEED, NEAR};
 use arrayvec::ArrayVec;
 
 /// Robots are close if their sums are less than this from each other on both axes: a metre.
-const CLOSE: u32 = NEAR as u32 * SCALE as u32;
+const CLOSE: u32 = NEAR as u32 * SUM_UNITS as u32;
 
 /// By how much the sums of two robots come nearer to each other in an update, at most: each moves ten metres.
-const APPROACH: u32 = 2 * MOST_SPEED as u32 * SCALE as u32;
+const APPROACH: u32 = 2 * MOST_SPEED as u32 * SUM_UNITS as u32;
 
 /// Moves all robots on, each as far as walls let it, and returns what collisions have to know.
-pub fn move_all_as_movers(robots: &mut [Robot]) -> ArrayVec<Mover, MOST_ROBOTS>
+pub fn move_all_with_attempts(robots: &mut [Robot]) -> ArrayVec<AttemptedMove, MOST_ROBOTS>
     requires { length robots.old ≤ MOST_ROBOTS }
     ensures ahead { (rs : List FieldRobot) → robots.old ≡ map robot_of rs → robots.new ≡ map robot_ahead rs }
-    ensures movers { (rs : List FieldRobot) → robots.old ≡ map robot_of rs → result.items ≡ map mover rs }
+    ensures movers { (rs : List FieldRobot) → robots.old ≡ map robot_of rs → result.items ≡ map attempted_move rs }
     ensures count { length result.items ≡ length robots.old }
 {
     let mut movers = ArrayVec::new();
@@ -53,11 +53,11 @@ pub fn move_all_as_movers(robots: &mut [Robot]) -> ArrayVec<Mover, MOST_ROBOTS>
 
 /// Returns one robot after the update, from where it has moved on, given how many others it collides with and the bursts
 /// of the update.
-fn robot_after(robot: &Robot, seen: &Mover, touched: usize, bursts: &[Burst]) -> Robot
+fn robot_after(robot: &Robot, seen: &AttemptedMove, touched: usize, bursts: &[Burst]) -> Robot
     requires touched { touched ≤ MOST_ROBOTS }
     requires few { length bursts.now ≤ MOST_BURSTS }
     ensures { (r : FieldRobot) (update : ℕ) (shots : List Shot) → HarmLikeShots update shots bursts.now
-        → robot.now ≡ robot_ahead r → seen.now ≡ mover r → result ≡ robot_of (moved_robot update shots touched r) }
+        → robot.now ≡ robot_ahead r → seen.now ≡ attempted_move r → result ≡ robot_of (moved_robot update shots touched r) }
 {
     if !seen.live {
         return *robot;
@@ -68,16 +68,16 @@ fn robot_after(robot: &Robot, seen: &Mover, touched: usize, bursts: &[Burst]) ->
 }
 
 /// Puts robots back that collide, and hurts those and the ones near a burst.
-fn put_back_and_hurt(robots: &mut [Robot], movers: &[Mover], missiles: &Missiles, update: u32)
+fn put_back_and_hurt(robots: &mut [Robot], movers: &[AttemptedMove], missiles: &Missiles, update: u32)
     requires most { length robots.old ≤ MOST_ROBOTS }
     requires count { length movers.now ≡ length robots.old }
     ensures { (f : Field) → update ≡ f.updates + 1 → robots.old ≡ map robot_ahead f.robots
-        → movers.now ≡ map mover f.robots → HoldsShots f.updates missiles.now f.shots
+        → movers.now ≡ map attempted_move f.robots → HoldsShots f.updates missiles.now f.shots
         → robots.new ≡ map robot_of (moved f).robots }
 {
     let bursts = missiles.bursts(update);
     for i in 0..robots.len() {
-        let touched = touched_count(movers, i);
+        let touched = robot_collision_count(movers, i);
         robots[i] = robot_after(&robots[i], &movers[i], touched, bursts.as_slice());
     }
 }
@@ -90,8 +90,8 @@ fn move_close_robots(robots: &mut [Robot], missiles: &Missiles, update: u32)
     ensures { (f : Field) → update ≡ f.updates + 1 → robots.old ≡ map robot_of f.robots
         → HoldsShots f.updates missiles.now f.shots → robots.new ≡ map robot_of (moved f).robots }
 {
-    let movers = move_all_as_movers(robots);
-    if missiles.is_quiet(update) && !any_are_close(movers.as_slice()) {
+    let movers = move_all_with_attempts(robots);
+    if missiles.has_no_burst_by(update) && !any_are_close(movers.as_slice()) {
         return;
     }
     put_back_and_hurt(robots, movers.as_slice(), missiles, update);
@@ -113,7 +113,7 @@ fn move_all(robots: &mut [Robot])
 fn hurt_near_bursts(robots: &mut [Robot], missiles: &Missiles, update: u32)
     ensures robots { (f : Field) → update ≡ f.updates + 1 → robots.old ≡ map robot_ahead f.robots
         → HoldsShots f.updates missiles.now f.shots
-        → ((i : ℕ) → i < length f.robots → touches (map mover f.robots) i ≡ 0)
+        → ((i : ℕ) → i < length f.robots → collision_count (map attempted_move f.robots) i ≡ 0)
         → robots.new ≡ map robot_of (moved f).robots }
     ensures places { (k : ℕ) → k < length robots.old
         → IsAtPlace (robot_in robots.old k).motion (robot_in robots.new k).motion }
@@ -162,7 +162,7 @@ fn move_apart_robots(robots: &mut [Robot], missiles: &Missiles, update: u32, apa
         → HoldsShots f.updates missiles.now f.shots → robots.new ≡ map robot_of (moved f).robots }
 {
     move_all(robots);
-    if !missiles.is_quiet(update) {
+    if !missiles.has_no_burst_by(update) {
         hurt_near_bursts(robots, missiles, update);
     }
     apart - 1

@@ -1,13 +1,13 @@
 //! Fields that show the rules.
 
-ghost use Rattle.arena.specs.KnownFields.{Scans, Starts, Drives, Knocks, Rings, Missiles};
+ghost use Rattle.arena.specs.KnownFields.{KnownScans, KnownStarts, KnownDrives, KnownKnocks, KnownRings, KnownMissiles};
 
 /// Proves that the definitions give these values in known fields.
 pub fn known_fields()
-    ensures scans { Scans }
-    ensures starts { Starts }
-    ensures drives { Drives }
-    ensures knocks { Knocks }
-    ensures rings { Rings }
-    ensures missiles { Missiles }
+    ensures scans { KnownScans }
+    ensures starts { KnownStarts }
+    ensures drives { KnownDrives }
+    ensures knocks { KnownKnocks }
+    ensures rings { KnownRings }
+    ensures missiles { KnownMissiles }
 {}

@@ -4,7 +4,7 @@ use Rattle.std.proofs.lemmas.Int.{ints, by_lt_z}
 use Rattle.std.proofs.lemmas.Bool.{cases_lt}
 use Rattle.std.proofs.lemmas.Bool.Decides.{nat_tests}
 use Rattle.arith.specs.Degree.{apart}
-use Rattle.arith.specs.Bearing.{reach_of, bearing_of}
+use Rattle.arith.specs.Bearing.{projection_of, bearing_of}
 use Rattle.arith.specs.Furthest.{IsBearing, leads}
 use Rattle.arith.proofs.BearingLemmas.{bearing_of-IsBearing}
 use Rattle.arith.proofs.Turning.{gain, gains, some_turn, rises, falls, gains_back}
@@ -18,15 +18,15 @@ nearer : (t : Bool) (x y : ℤ) → x <ℤ y → cond t (int_le y x) (int_lt y x
 nearer true x y h = grind (arith, ints)
 nearer false x y h = grind (arith, ints)
 
-leads_farther : (dx dy : ℤ) (degree other : ℕ) → reach_of dx dy other <ℤ reach_of dx dy degree →
+leads_farther : (dx dy : ℤ) (degree other : ℕ) → projection_of dx dy other <ℤ projection_of dx dy degree →
     leads dx dy degree other ≡ true
 unfolding leads
-leads_farther dx dy degree other h = farther (nat_lt degree other) (reach_of dx dy degree) (reach_of dx dy other) h
+leads_farther dx dy degree other h = farther (nat_lt degree other) (projection_of dx dy degree) (projection_of dx dy other) h
 
-trails_nearer : (dx dy : ℤ) (degree other : ℕ) → reach_of dx dy degree <ℤ reach_of dx dy other →
+trails_nearer : (dx dy : ℤ) (degree other : ℕ) → projection_of dx dy degree <ℤ projection_of dx dy other →
     leads dx dy degree other ≡ false
 unfolding leads
-trails_nearer dx dy degree other h = nearer (nat_lt degree other) (reach_of dx dy degree) (reach_of dx dy other) h
+trails_nearer dx dy degree other h = nearer (nat_lt degree other) (projection_of dx dy degree) (projection_of dx dy other) h
 
 strictly : (a b : ℕ) → a ≤ b → b ≢ a → a < b
 strictly a b h differs = by_order (cases_lt a b)
@@ -41,7 +41,7 @@ unfolding leads
 bearing_leads dx dy b other is round differs = by_order (nat_lt b other) refl
   where
     by_order : (t : Bool) → nat_lt b other ≡ t →
-        cond t (int_le (reach_of dx dy other) (reach_of dx dy b)) (int_lt (reach_of dx dy other) (reach_of dx dy b)) ≡
+        cond t (int_le (projection_of dx dy other) (projection_of dx dy b)) (int_lt (projection_of dx dy other) (projection_of dx dy b)) ≡
         true
     by_order true e = let most = is.greatest other round in grind (arith, ints)
     by_order false e =
@@ -55,7 +55,7 @@ unfolding leads
 bearing_trails_none dx dy b degree is round differs = by_order (nat_lt degree b) refl
   where
     by_order : (t : Bool) → nat_lt degree b ≡ t →
-        cond t (int_le (reach_of dx dy b) (reach_of dx dy degree)) (int_lt (reach_of dx dy b) (reach_of dx dy degree)) ≡
+        cond t (int_le (projection_of dx dy b) (projection_of dx dy degree)) (int_lt (projection_of dx dy b) (projection_of dx dy degree)) ≡
         false
     by_order true e =
         let below : degree < b = grind (arith, nat_tests) in
@@ -79,7 +79,7 @@ gain_from dx dy b is =
 
 -- this many degrees after the bearing, or before it, the next one leads or trails
 after_trails : (dx dy : ℤ) (b s from to : ℕ) → (dx ≡ pos 0 → dy ≡ pos 0 → ⊥) → IsBearing dx dy b → 1 ≤ s → s ≤ 178 →
-    from ≡ (b + s) % 360 → to ≡ (b + s + 1) % 360 → reach_of dx dy to <ℤ reach_of dx dy from
+    from ≡ (b + s) % 360 → to ≡ (b + s + 1) % 360 → projection_of dx dy to <ℤ projection_of dx dy from
 after_trails dx dy b s from to some is low high p q =
     let round = is.on_the_round in
     let less =
@@ -89,7 +89,7 @@ after_trails dx dy b s from to some is low high p q =
     omega (arith, ints)
 
 before_trails : (dx dy : ℤ) (b s from to : ℕ) → (dx ≡ pos 0 → dy ≡ pos 0 → ⊥) → IsBearing dx dy b → 1 ≤ s → s ≤ 178 →
-    from ≡ (b + 359 - s) % 360 → to ≡ (b + 360 - s) % 360 → reach_of dx dy from <ℤ reach_of dx dy to
+    from ≡ (b + 359 - s) % 360 → to ≡ (b + 360 - s) % 360 → projection_of dx dy from <ℤ projection_of dx dy to
 before_trails dx dy b s from to some is low high p q =
     let round = is.on_the_round in
     let more =
@@ -184,13 +184,13 @@ opposite_trails dx dy b there before after some is p q r =
     round : b < 360
     round = is.on_the_round
 
-    into : reach_of dx dy before ≡ reach_of dx dy there +ℤ gain dx dy (b + 359)
+    into : projection_of dx dy before ≡ projection_of dx dy there +ℤ gain dx dy (b + 359)
     into =
         let step = gains dx dy (b + 359 + 180) before there (omega arith) (omega arith) in
         let back = gains_back dx dy (b + 359) in
         omega (arith, ints)
 
-    out : gain dx dy (b + 359) ≤ℤ pos 0 → reach_of dx dy there <ℤ reach_of dx dy after
+    out : gain dx dy (b + 359) ≤ℤ pos 0 → projection_of dx dy there <ℤ projection_of dx dy after
     out none =
         let step = gains dx dy (b + 359 + 1 + 180) there after (omega arith) (omega arith) in
         let back = gains_back dx dy (b + 359 + 1) in

@@ -15,7 +15,7 @@ use Rattle.std.proofs.lemmas.Bool.Decides.{Decides-int_eq, nat_tests}
 use Rattle.std.proofs.lemmas.List.FromFn.{length-map-range_with_len, get_or-map-range_with_len}
 use Rattle.arith.specs.Table.{sines}
 use Rattle.arith.specs.Circle.{sine_at, cosine_at}
-use Rattle.arith.specs.Bearing.{reach_of, first_greatest, reaches, bearing_of}
+use Rattle.arith.specs.Bearing.{projection_of, first_greatest, projections, bearing_of}
 use Rattle.arith.specs.Furthest.{IsBearing, IsGreatest}
 
 -- a reach fits 32 bits, and so do its two parts
@@ -138,38 +138,38 @@ first_greatest-map f n best is =
     (λ k l. let below : k < n = omega (arith, is.within) in rw (at k below) (is.least k l))
 
 -- the bearing is the first of the greatest reaches, and `bearing_of` names it
-pub bearing_is_first : (dx dy : ℤ) (degree : ℕ) → IsFirstGreatest (reach_of dx dy) 360 degree → IsBearing dx dy degree
+pub bearing_is_first : (dx dy : ℤ) (degree : ℕ) → IsFirstGreatest (projection_of dx dy) 360 degree → IsBearing dx dy degree
 bearing_is_first dx dy degree is = record { on_the_round = is.within; greatest = is.greatest; least = is.least }
 
-pub bearing_of_is_first : (dx dy : ℤ) (degree : ℕ) → IsFirstGreatest (reach_of dx dy) 360 degree →
+pub bearing_of_is_first : (dx dy : ℤ) (degree : ℕ) → IsFirstGreatest (projection_of dx dy) 360 degree →
     degree ≡ bearing_of dx dy
-unfolding bearing_of reaches
-bearing_of_is_first dx dy degree is = sym (first_greatest-map (reach_of dx dy) 360 degree is)
+unfolding bearing_of projections
+bearing_of_is_first dx dy degree is = sym (first_greatest-map (projection_of dx dy) 360 degree is)
 
 pub bearing_of-IsBearing : (dx dy : ℤ) → IsBearing dx dy (bearing_of dx dy)
 bearing_of-IsBearing dx dy =
-    let b = first_of_greatest (reach_of dx dy) 359 in
+    let b = first_of_greatest (projection_of dx dy) 359 in
     subst (λ d. IsBearing dx dy d) (bearing_of_is_first dx dy b.0 b.1) (bearing_is_first dx dy b.0 b.1)
 
 -- the reaches along the axes
-reach_east : (dx dy : ℤ) → reach_of dx dy 0 ≡ dx *ℤ pos 100000
-unfolding reach_of cosine_at sine_at sines
+reach_east : (dx dy : ℤ) → projection_of dx dy 0 ≡ dx *ℤ pos 100000
+unfolding projection_of cosine_at sine_at sines
 reach_east dx dy = omega (arith, ints)
 
-reach_north : (dx dy : ℤ) → reach_of dx dy 90 ≡ dy *ℤ pos 100000
-unfolding reach_of cosine_at sine_at sines
+reach_north : (dx dy : ℤ) → projection_of dx dy 90 ≡ dy *ℤ pos 100000
+unfolding projection_of cosine_at sine_at sines
 reach_north dx dy = omega (arith, ints)
 
-reach_west : (dx dy : ℤ) → reach_of dx dy 180 ≡ dx *ℤ negsuc 99999
-unfolding reach_of cosine_at sine_at sines
+reach_west : (dx dy : ℤ) → projection_of dx dy 180 ≡ dx *ℤ negsuc 99999
+unfolding projection_of cosine_at sine_at sines
 reach_west dx dy = omega (arith, ints)
 
-reach_south : (dx dy : ℤ) → reach_of dx dy 270 ≡ dy *ℤ negsuc 99999
-unfolding reach_of cosine_at sine_at sines
+reach_south : (dx dy : ℤ) → projection_of dx dy 270 ≡ dy *ℤ negsuc 99999
+unfolding projection_of cosine_at sine_at sines
 reach_south dx dy = omega (arith, ints)
 
 -- one of the four is positive, and the bearing's is no less
-pub bearing_reach : (dx dy : ℤ) → (dx ≡ pos 0 → dy ≡ pos 0 → ⊥) → pos 0 <ℤ reach_of dx dy (bearing_of dx dy)
+pub bearing_reach : (dx dy : ℤ) → (dx ≡ pos 0 → dy ≡ pos 0 → ⊥) → pos 0 <ℤ projection_of dx dy (bearing_of dx dy)
 bearing_reach dx dy apart =
     let top = (bearing_of-IsBearing dx dy).greatest in
     let east = rw reach_east at (top 0 (omega arith)) in
@@ -185,22 +185,22 @@ bearing_reach dx dy apart =
 -- each of eight lanes holds the greatest of its reaches in the first n chunks
 pub record IsMostSoFar (dx dy : ℤ) (lanes : List ℤ) (n : ℕ) : Type 0 where
   pub size : length lanes ≡ 8
-  pub bound : (chunk lane : ℕ) → chunk < n → lane < 8 → reach_of dx dy (8 * chunk + lane) ≤ℤ get_or lanes lane (pos 0)
+  pub bound : (chunk lane : ℕ) → chunk < n → lane < 8 → projection_of dx dy (8 * chunk + lane) ≤ℤ get_or lanes lane (pos 0)
   pub reached : (lane : ℕ) → lane < 8 →
-      (chunk : ℕ) × (chunk < n) × (reach_of dx dy (8 * chunk + lane) ≡ get_or lanes lane (pos 0))
+      (chunk : ℕ) × (chunk < n) × (projection_of dx dy (8 * chunk + lane) ≡ get_or lanes lane (pos 0))
 
 lane_at : (dx dy : ℤ) (chunk lane degree : ℕ) (xs : List ℤ) (d : ℤ) →
-    xs ≡ map (reach_of dx dy) (range_with_len (8 * chunk) 8) → lane < 8 → 8 * chunk + lane ≡ degree →
-    get_or xs lane d ≡ reach_of dx dy degree
+    xs ≡ map (projection_of dx dy) (range_with_len (8 * chunk) 8) → lane < 8 → 8 * chunk + lane ≡ degree →
+    get_or xs lane d ≡ projection_of dx dy degree
 lane_at dx dy chunk lane degree xs d e l at =
-    rw e (get_or-map-range_with_len (reach_of dx dy) (8 * chunk) 8 lane degree d l at)
+    rw e (get_or-map-range_with_len (projection_of dx dy) (8 * chunk) 8 lane degree d l at)
 
 chunk_lane : (dx dy : ℤ) (chunk lane : ℕ) (xs : List ℤ) (d : ℤ) →
-    xs ≡ map (reach_of dx dy) (range_with_len (8 * chunk) 8) → lane < 8 →
-    get_or xs lane d ≡ reach_of dx dy (8 * chunk + lane)
+    xs ≡ map (projection_of dx dy) (range_with_len (8 * chunk) 8) → lane < 8 →
+    get_or xs lane d ≡ projection_of dx dy (8 * chunk + lane)
 chunk_lane dx dy chunk lane xs d e l = lane_at dx dy chunk lane (8 * chunk + lane) xs d e l refl
 
-pub most_at_first : (dx dy : ℤ) (xs : List ℤ) → xs ≡ map (reach_of dx dy) (range_with_len (8 * 0) 8) →
+pub most_at_first : (dx dy : ℤ) (xs : List ℤ) → xs ≡ map (projection_of dx dy) (range_with_len (8 * 0) 8) →
     IsMostSoFar dx dy xs 1
 most_at_first dx dy xs e = record {
   size = ap length e;
@@ -209,8 +209,8 @@ most_at_first dx dy xs e = record {
 }
   where
     at_first : (lane : ℕ) → lane < 8 → (chunk : ℕ) → chunk ≡ 0 →
-        reach_of dx dy (8 * chunk + lane) ≤ℤ get_or xs lane (pos 0)
-    at_first lane l chunk c = rw (c, chunk_lane dx dy 0 lane xs (pos 0) e l) (≤ℤ_refl (reach_of dx dy (8 * 0 + lane)))
+        projection_of dx dy (8 * chunk + lane) ≤ℤ get_or xs lane (pos 0)
+    at_first lane l chunk c = rw (c, chunk_lane dx dy 0 lane xs (pos 0) e l) (≤ℤ_refl (projection_of dx dy (8 * 0 + lane)))
 
 through : (a b c : ℤ) → a ≤ℤ b → b ≤ℤ c → a ≤ℤ c
 through a b c p q = omega (arith, ints)
@@ -227,7 +227,7 @@ max_is_either a b = by_lt_z b a (λ h. inl (grind (arith, ints))) (λ h. inr (gr
 
 -- one chunk more
 pub most_of_more : (dx dy : ℤ) (lanes xs : List ℤ) (n : ℕ) → IsMostSoFar dx dy lanes n →
-    xs ≡ map (reach_of dx dy) (range_with_len (8 * n) 8) → IsMostSoFar dx dy (zip2 int_max lanes xs) (n + 1)
+    xs ≡ map (projection_of dx dy) (range_with_len (8 * n) 8) → IsMostSoFar dx dy (zip2 int_max lanes xs) (n + 1)
 most_of_more dx dy lanes xs n so_far e =
     let eight : length xs ≡ 8 = ap length e in
     let same : length lanes ≡ length xs = so_far.size ∙ sym eight in
@@ -238,11 +238,11 @@ most_of_more dx dy lanes xs n so_far e =
     record {
       size = length-zip2 int_max lanes xs same ∙ so_far.size;
       bound = λ chunk lane h l.
-          below_more (λ k. reach_of dx dy (8 * k + lane) ≤ℤ get_or (zip2 int_max lanes xs) lane (pos 0)) n
+          below_more (λ k. projection_of dx dy (8 * k + lane) ≤ℤ get_or (zip2 int_max lanes xs) lane (pos 0)) n
           (λ k below. rw (at lane l)
           (through _ _ _ (so_far.bound k lane below l)
           (max_bounds_left (get_or lanes lane (pos 0)) (get_or xs lane (pos 0)))))
-          (rw (at lane l, new lane l) (max_bounds_right (get_or lanes lane (pos 0)) (reach_of dx dy (8 * n + lane))))
+          (rw (at lane l, new lane l) (max_bounds_right (get_or lanes lane (pos 0)) (projection_of dx dy (8 * n + lane))))
           chunk h;
       reached =
           λ lane l. either lane (at lane l) (new lane l) (so_far.reached lane l)
@@ -251,37 +251,37 @@ most_of_more dx dy lanes xs n so_far e =
   where
     either : (lane : ℕ) →
         get_or (zip2 int_max lanes xs) lane (pos 0) ≡ int_max (get_or lanes lane (pos 0)) (get_or xs lane (pos 0)) →
-        get_or xs lane (pos 0) ≡ reach_of dx dy (8 * n + lane) →
-        ((chunk : ℕ) × (chunk < n) × (reach_of dx dy (8 * chunk + lane) ≡ get_or lanes lane (pos 0))) →
+        get_or xs lane (pos 0) ≡ projection_of dx dy (8 * n + lane) →
+        ((chunk : ℕ) × (chunk < n) × (projection_of dx dy (8 * chunk + lane) ≡ get_or lanes lane (pos 0))) →
         (int_max (get_or lanes lane (pos 0)) (get_or xs lane (pos 0)) ≡ get_or lanes lane (pos 0)) ⊎
         (int_max (get_or lanes lane (pos 0)) (get_or xs lane (pos 0)) ≡ get_or xs lane (pos 0)) →
         (chunk : ℕ) × (chunk < n + 1) ×
-        (reach_of dx dy (8 * chunk + lane) ≡ get_or (zip2 int_max lanes xs) lane (pos 0))
+        (projection_of dx dy (8 * chunk + lane) ≡ get_or (zip2 int_max lanes xs) lane (pos 0))
     either lane at new (chunk, below, old) (inl m) = (chunk, omega arith, old ∙ sym m ∙ sym at)
     either lane at new (chunk, below, old) (inr m) = (n, omega arith, sym new ∙ sym m ∙ sym at)
 
 -- a degree of the round among the reaches
-reach_at : (dx dy : ℤ) (degree : ℕ) (d : ℤ) → degree < 360 → get_or (reaches dx dy) degree d ≡ reach_of dx dy degree
-unfolding reaches
-reach_at dx dy degree d l = get_or-map-range_with_len (reach_of dx dy) 0 360 degree degree d l (omega arith)
+reach_at : (dx dy : ℤ) (degree : ℕ) (d : ℤ) → degree < 360 → get_or (projections dx dy) degree d ≡ projection_of dx dy degree
+unfolding projections
+reach_at dx dy degree d l = get_or-map-range_with_len (projection_of dx dy) 0 360 degree degree d l (omega arith)
 
 -- after all chunks the greatest lane is the greatest reach
 pub most_of_all : (dx dy : ℤ) (lanes : List ℤ) (n : ℕ) (most : ℤ) → n ≡ 45 → IsMostSoFar dx dy lanes n →
-    IsGreatest lanes most → IsGreatest (reaches dx dy) most
-unfolding reaches
+    IsGreatest lanes most → IsGreatest (projections dx dy) most
+unfolding projections
 most_of_all dx dy lanes n most whole so_far is = record {
   reached = found is.reached;
   bound = λ k d l. rw (reach_at dx dy k d l) (below k l);
 }
   where
-    below : (k : ℕ) → k < 360 → reach_of dx dy k ≤ℤ most
+    below : (k : ℕ) → k < 360 → projection_of dx dy k ≤ℤ most
     below k l =
         let parts : 8 * (k / 8) + k % 8 ≡ k = omega arith in
         let lane = so_far.bound (k / 8) (k % 8) (omega arith) (omega arith) in
         let top = is.bound (k % 8) (pos 0) (omega (arith, so_far.size)) in
         through _ _ _ (rw parts at lane) top
 
-    found : Contains lanes most → Contains (reaches dx dy) most
+    found : Contains lanes most → Contains (projections dx dy) most
     found (lane, l, e) =
         let r = so_far.reached lane (omega (arith, so_far.size)) in
         let within : 8 * r.0 + lane < 360 = omega (arith, so_far.size, r.1) in (
@@ -323,16 +323,16 @@ none_passes p xs e k d l =
     past n false q h = let all = q refl in omega arith
 
 -- the first lane of the first chunk that reaches furthest
-pub first_of_chunk : (dx dy most : ℤ) (chunk lane : ℕ) → chunk < 45 → IsGreatest (reaches dx dy) most →
-    ((degree : ℕ) → degree < 8 * chunk → reach_of dx dy degree <ℤ most) →
-    Some lane ≡ position (int_eq most) (map (reach_of dx dy) (range_with_len (8 * chunk) 8)) →
-    IsFirstGreatest (reach_of dx dy) 360 (8 * chunk + lane)
-unfolding reaches
+pub first_of_chunk : (dx dy most : ℤ) (chunk lane : ℕ) → chunk < 45 → IsGreatest (projections dx dy) most →
+    ((degree : ℕ) → degree < 8 * chunk → projection_of dx dy degree <ℤ most) →
+    Some lane ≡ position (int_eq most) (map (projection_of dx dy) (range_with_len (8 * chunk) 8)) →
+    IsFirstGreatest (projection_of dx dy) 360 (8 * chunk + lane)
+unfolding projections
 first_of_chunk dx dy most chunk lane h is before e =
-    let xs = map (reach_of dx dy) (range_with_len (8 * chunk) 8) in
+    let xs = map (projection_of dx dy) (range_with_len (8 * chunk) 8) in
     let found = position-Some (int_eq most) xs lane (pos 0) (sym e) in
     let within : 8 * chunk + lane < 360 = omega (arith, found.0) in
-    let top : most ≡ reach_of dx dy (8 * chunk + lane) =
+    let top : most ≡ projection_of dx dy (8 * chunk + lane) =
     (Decides-int_eq most (get_or xs lane (pos 0))).0 found.1 ∙ chunk_lane dx dy chunk lane xs (pos 0) refl found.0 in
     let bound = λ (k : ℕ) (l : k < 360). rw (reach_at dx dy k (pos 0) l) at (is.bound k (pos 0) l) in
     record {
@@ -343,36 +343,36 @@ first_of_chunk dx dy most chunk lane h is before e =
   where
     lower : lane < 8 →
         ((j : ℕ) → j < lane →
-        int_eq most (get_or (map (reach_of dx dy) (range_with_len (8 * chunk) 8)) j (pos 0)) ≡ false) →
-        ((k : ℕ) → k < 360 → reach_of dx dy k ≤ℤ most) → (k : ℕ) → k < 360 → k < 8 * chunk + lane →
-        reach_of dx dy k <ℤ most
+        int_eq most (get_or (map (projection_of dx dy) (range_with_len (8 * chunk) 8)) j (pos 0)) ≡ false) →
+        ((k : ℕ) → k < 360 → projection_of dx dy k ≤ℤ most) → (k : ℕ) → k < 360 → k < 8 * chunk + lane →
+        projection_of dx dy k <ℤ most
     lower small fails bound k round l =
         by_lt k (8 * chunk) (λ below. before k below) (λ after.
-        let xs = map (reach_of dx dy) (range_with_len (8 * chunk) 8) in
+        let xs = map (projection_of dx dy) (range_with_len (8 * chunk) 8) in
         let here = lane_at dx dy chunk (k - 8 * chunk) k xs (pos 0) refl (omega arith) (omega arith) in
-        not_at most (reach_of dx dy k) (rw here at (fails (k - 8 * chunk) (omega arith))) (bound k round))
+        not_at most (projection_of dx dy k) (rw here at (fails (k - 8 * chunk) (omega arith))) (bound k round))
 
-pub none_in_chunk : (dx dy most : ℤ) (chunk : ℕ) → chunk < 45 → IsGreatest (reaches dx dy) most →
-    ((degree : ℕ) → degree < 8 * chunk → reach_of dx dy degree <ℤ most) →
-    None ≡ position (int_eq most) (map (reach_of dx dy) (range_with_len (8 * chunk) 8)) → (degree : ℕ) →
-    degree < 8 * (chunk + 1) → reach_of dx dy degree <ℤ most
-unfolding reaches
+pub none_in_chunk : (dx dy most : ℤ) (chunk : ℕ) → chunk < 45 → IsGreatest (projections dx dy) most →
+    ((degree : ℕ) → degree < 8 * chunk → projection_of dx dy degree <ℤ most) →
+    None ≡ position (int_eq most) (map (projection_of dx dy) (range_with_len (8 * chunk) 8)) → (degree : ℕ) →
+    degree < 8 * (chunk + 1) → projection_of dx dy degree <ℤ most
+unfolding projections
 none_in_chunk dx dy most chunk h is before e degree l =
     by_lt degree (8 * chunk) (λ below. before degree below) (λ after.
-    let xs = map (reach_of dx dy) (range_with_len (8 * chunk) 8) in
+    let xs = map (projection_of dx dy) (range_with_len (8 * chunk) 8) in
     let here = lane_at dx dy chunk (degree - 8 * chunk) degree xs (pos 0) refl (omega arith) (omega arith) in
     let fails = none_passes (int_eq most) xs e (degree - 8 * chunk) (pos 0) (omega arith) in
     let bound = rw (reach_at dx dy degree (pos 0) (omega arith)) at (is.bound degree (pos 0) (omega arith)) in
-    not_at most (reach_of dx dy degree) (rw here at fails) bound)
+    not_at most (projection_of dx dy degree) (rw here at fails) bound)
 
 -- some degree reaches furthest
-pub some_reaches : (dx dy most : ℤ) → IsGreatest (reaches dx dy) most →
-    ((degree : ℕ) → degree < 360 → reach_of dx dy degree <ℤ most) → ⊥
-unfolding reaches
+pub some_reaches : (dx dy most : ℤ) → IsGreatest (projections dx dy) most →
+    ((degree : ℕ) → degree < 360 → projection_of dx dy degree <ℤ most) → ⊥
+unfolding projections
 some_reaches dx dy most is below = never is.reached
   where
-    never : Contains (reaches dx dy) most → ⊥
+    never : Contains (projections dx dy) most → ⊥
     never (k, l, e) =
         let less = below k l in
-        let same : reach_of dx dy k ≡ most = sym (reach_at dx dy k most l) ∙ e in
+        let same : projection_of dx dy k ≡ most = sym (reach_at dx dy k most l) ∙ e in
         absurd (omega (arith, ints))

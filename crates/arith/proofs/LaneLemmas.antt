@@ -12,7 +12,7 @@ use Rattle.std.proofs.lemmas.List.FromFn.{get_or-map-range_with_len}
 use Rattle.std.proofs.lemmas.Simd.{bitmask_splat, trailing_mask_l, leading_from_mask_l, tops_compared}
 use Rattle.std.proofs.lemmas.Int.{fold-int_max_bounds, fold-int_max_reached, ints, to_z-of_z, int_wrap_fits, wrapping_add-bits, wrapping_mul-bits}
 use Rattle.arith.specs.Circle.{sine_at, cosine_at}
-use Rattle.arith.specs.Bearing.{reach_of}
+use Rattle.arith.specs.Bearing.{projection_of}
 use Rattle.arith.specs.Furthest.{IsGreatest}
 use Rattle.arith.proofs.CircleLemmas.{round_sine, sine_fits, sine_bound}
 use Rattle.arith.proofs.BearingLemmas.{part_fits, reach_fits}
@@ -55,8 +55,8 @@ reach_lanes : (dx dy : ℤ) → unsigned_abs dx ≤ 999 → unsigned_abs dy ≤ 
     map (to_z w32)
     (zip2 plus (zip2 times (replicate n (of_z w32 dx)) (map (of_z w32) (map round_sine (range_with_len ahead n))))
     (zip2 times (replicate n (of_z w32 dy)) (map (of_z w32) (map round_sine (range_with_len first n))))) ≡
-    map (reach_of dx dy) (range_with_len first n)
-unfolding reach_of cosine_at
+    map (projection_of dx dy) (range_with_len first n)
+unfolding projection_of cosine_at
 reach_lanes dx dy near_x near_y fit_x fit_y zero first ahead e h = refl
 reach_lanes dx dy near_x near_y fit_x fit_y (suc n) first ahead e h =
     let c = round_sine ahead in
@@ -78,7 +78,7 @@ pub chunk_reaches_are : (dx dy : ℤ) → unsigned_abs dx ≤ 999 → unsigned_a
     cosines ≡ map round_sine (range_with_len (first + 90) 8) → sines ≡ map round_sine (range_with_len first 8) →
     map (to_z w32)
     (zip2 plus (zip2 times (replicate 8 (of_z w32 dx)) (map (of_z w32) cosines))
-    (zip2 times (replicate 8 (of_z w32 dy)) (map (of_z w32) sines))) ≡ map (reach_of dx dy) (range_with_len first 8)
+    (zip2 times (replicate 8 (of_z w32 dy)) (map (of_z w32) sines))) ≡ map (projection_of dx dy) (range_with_len first 8)
 chunk_reaches_are dx dy near_x near_y fit_x fit_y first h cosines sines c s =
     ap
     (λ xs. map (to_z w32)
@@ -165,12 +165,12 @@ first_lane p xs size h =
 
 -- the reaches of a chunk fit
 pub reaches_fit : (dx dy : ℤ) → unsigned_abs dx ≤ 999 → unsigned_abs dy ≤ 999 → (first : ℕ) → first + 8 ≤ 360 →
-    (xs : List ℤ) → xs ≡ map (reach_of dx dy) (range_with_len first 8) → All (FitsSigned w32) xs × (length xs ≡ 8)
-unfolding reach_of cosine_at
+    (xs : List ℤ) → xs ≡ map (projection_of dx dy) (range_with_len first 8) → All (FitsSigned w32) xs × (length xs ≡ 8)
+unfolding projection_of cosine_at
 reaches_fit dx dy near_x near_y first h xs e =
     let size : length xs ≡ 8 = ap length e in (
-      rw e (All-from_get_or (FitsSigned w32) (map (reach_of dx dy) (range_with_len first 8)) (pos 0) (λ k l.
-          rw (get_or-map-range_with_len (reach_of dx dy) first 8 k (first + k) (pos 0) (omega (arith, l)) refl)
+      rw e (All-from_get_or (FitsSigned w32) (map (projection_of dx dy) (range_with_len first 8)) (pos 0) (λ k l.
+          rw (get_or-map-range_with_len (projection_of dx dy) first 8 k (first + k) (pos 0) (omega (arith, l)) refl)
           (reach_fits dx dy (cosine_at (first + k)) (sine_at (first + k)) near_x
           (sine_bound ((first + k + 90) % 360) (omega arith)) near_y (sine_bound (first + k) (omega (arith, l)))))),
       size,

@@ -6,7 +6,7 @@ use Rattle.std.proofs.lemmas.Int.{ints, by_lt_z}
 use Rattle.std.proofs.lemmas.Bool.Decides.{Decides-int_eq}
 use Rattle.arith.specs.Table.{sines}
 use Rattle.arith.specs.Circle.{sine_at, cosine_at}
-use Rattle.arith.specs.Bearing.{reach_of}
+use Rattle.arith.specs.Bearing.{projection_of}
 use Rattle.arith.proofs.Below.{passes_below, passes_at}
 use Rattle.arith.proofs.Products.{distributes, distributes_less, commutes, swap, negated, scaled}
 
@@ -209,8 +209,8 @@ pub gain : ℤ → ℤ → ℕ → ℤ
 gain dx dy n = dx *ℤ edge_x n +ℤ dy *ℤ edge_y n
 
 pub gains : (dx dy : ℤ) (n from to : ℕ) → from ≡ n % 360 → to ≡ (n + 1) % 360 →
-    reach_of dx dy to ≡ reach_of dx dy from +ℤ gain dx dy n
-unfolding gain edge_x edge_y reach_of cosine_at
+    projection_of dx dy to ≡ projection_of dx dy from +ℤ gain dx dy n
+unfolding gain edge_x edge_y projection_of cosine_at
 gains dx dy n from to p q =
     let here : sine_at ((from + 90) % 360) ≡ sine_at ((n + 90) % 360) = ap sine_at (omega arith) in
     let next : sine_at ((to + 90) % 360) ≡ sine_at ((n + 91) % 360) = ap sine_at (omega arith) in

@@ -6,8 +6,8 @@ use Rattle.std.specs.List.{range_with_len, position_or_len}
 use Rattle.arith.specs.Circle.{sine_at, cosine_at}
 
 -- how far the point (dx, dy) reaches in the direction of a degree, scaled by 100,000
-unfoldable pub reach_of : ℤ → ℤ → ℕ → ℤ
-reach_of dx dy degree = dx *ℤ cosine_at degree +ℤ dy *ℤ sine_at degree
+unfoldable pub projection_of : ℤ → ℤ → ℕ → ℤ
+projection_of dx dy degree = dx *ℤ cosine_at degree +ℤ dy *ℤ sine_at degree
 
 -- the first index of the greatest of some numbers
 unfoldable pub first_greatest : List ℤ → ℕ
@@ -15,9 +15,9 @@ first_greatest [] = 0
 first_greatest (x ∷ xs) = position_or_len (int_eq (fold int_max x xs)) (x ∷ xs)
 
 -- the reaches at 0 to 359 degrees
-unfoldable pub reaches : ℤ → ℤ → List ℤ
-reaches dx dy = map (reach_of dx dy) (range_with_len 0 360)
+unfoldable pub projections : ℤ → ℤ → List ℤ
+projections dx dy = map (projection_of dx dy) (range_with_len 0 360)
 
 -- the bearing as a number, for definitions to name: the first degree of the greatest reach
 unfoldable pub bearing_of : ℤ → ℤ → ℕ
-bearing_of dx dy = first_greatest (reaches dx dy)
+bearing_of dx dy = first_greatest (projections dx dy)

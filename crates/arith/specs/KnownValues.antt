@@ -9,7 +9,7 @@ use Rattle.arith.specs.Circle.{sine_of}
 use Rattle.arith.specs.Tangent.{tangent_of}
 use Rattle.arith.specs.Arctangent.{bound_of, arctangent_of}
 use Rattle.arith.specs.Root.{root_of}
-use Rattle.arith.specs.Bearing.{reach_of, bearing_of}
+use Rattle.arith.specs.Bearing.{projection_of, bearing_of}
 
 -- the negative number of this size, and the least number of 32 bits
 abbrev pub minus : ℕ → ℤ
@@ -73,12 +73,12 @@ pub record RootValues : Type 0 where
   pub root_least : root_of least ≡ pos 46340
 
 pub record BearingValues : Type 0 where
-  pub reach_354 : reach_of (pos 100) (minus 9) 354 ≡ pos 10039277
-  pub reach_355 : reach_of (pos 100) (minus 9) 355 ≡ pos 10040344
-  pub reach_356 : reach_of (pos 100) (minus 9) 356 ≡ pos 10038384
-  pub reach_15 : reach_of (pos 100) (pos 29) 15 ≡ pos 10409878
-  pub reach_16 : reach_of (pos 100) (pos 29) 16 ≡ pos 10411956
-  pub reach_17 : reach_of (pos 100) (pos 29) 17 ≡ pos 10410873
+  pub reach_354 : projection_of (pos 100) (minus 9) 354 ≡ pos 10039277
+  pub reach_355 : projection_of (pos 100) (minus 9) 355 ≡ pos 10040344
+  pub reach_356 : projection_of (pos 100) (minus 9) 356 ≡ pos 10038384
+  pub reach_15 : projection_of (pos 100) (pos 29) 15 ≡ pos 10409878
+  pub reach_16 : projection_of (pos 100) (pos 29) 16 ≡ pos 10411956
+  pub reach_17 : projection_of (pos 100) (pos 29) 17 ≡ pos 10410873
   pub bearing_355 : bearing_of (pos 100) (minus 9) ≡ 355
   pub bearing_16 : bearing_of (pos 100) (pos 29) ≡ 16
   pub bearing_of_no_difference : bearing_of (pos 0) (pos 0) ≡ 0

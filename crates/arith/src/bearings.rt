@@ -4,7 +4,7 @@ ghost use Rattle.std.specs.Prelude.{◌≡◌, ◌<◌, ◌≤◌, ◌*◌, nat_
 ghost use Rattle.std.specs.List.{position, range_with_len};
 ghost use Rattle.std.specs.Ordering.{int_eq};
 ghost use Rattle.arith.specs.Degree.{apart};
-ghost use Rattle.arith.specs.Bearing.{reach_of, reaches, bearing_of};
+ghost use Rattle.arith.specs.Bearing.{projection_of, projections, bearing_of};
 ghost use Rattle.arith.specs.Furthest.{IsBearing, leads, IsGreatest};
 
 use crate::circle::{cosine_at, sine_at};
@@ -25,9 +25,9 @@ pub fn bearing(dx: i32, dy: i32) -> u16
     ensures furthest { IsBearing dx dy result }
     ensures value { result ≡ bearing_of dx dy }
 {
-    let furthest = furthest_reach(dx, dy);
+    let furthest = greatest_projection(dx, dy);
     for chunk in 0..CHUNKS {
-        if let Some(lane) = lane_of_reach(dx, dy, chunk, furthest) {
+        if let Some(lane) = lane_of_projection(dx, dy, chunk, furthest) {
             return LANES * chunk + lane;
         }
     }
@@ -59,8 +59,8 @@ fn leads(dx: i32, dy: i32, degree: u16, other: u16) -> bool
     requires other { other < 360 }
     ensures { result ≡ leads dx dy degree other }
 {
-    let here = reach(dx, dy, degree);
-    let there = reach(dx, dy, other);
+    let here = projection(dx, dy, degree);
+    let there = projection(dx, dy, other);
     if degree < other {
         there <= here
     } else {
@@ -69,36 +69,36 @@ fn leads(dx: i32, dy: i32, degree: u16, other: u16) -> bool
 }
 
 /// Returns how far a point reaches in the direction of a degree, scaled by 100,000.
-#[tactic(auto, using(crate::proofs::BearingLemmas::reach_steps), unfolding(crate::specs::Bearing::reach_of))]
-fn reach(dx: i32, dy: i32, degree: u16) -> i32
+#[tactic(auto, using(crate::proofs::BearingLemmas::reach_steps), unfolding(crate::specs::Bearing::projection_of))]
+fn projection(dx: i32, dy: i32, degree: u16) -> i32
     requires dx_in_field { unsigned_abs dx ≤ MOST_DIFFERENCE }
     requires dy_in_field { unsigned_abs dy ≤ MOST_DIFFERENCE }
     requires degree { degree < 360 }
-    ensures { result ≡ reach_of dx dy degree }
+    ensures { result ≡ projection_of dx dy degree }
 {
     dx * cosine_at(degree) + dy * sine_at(degree)
 }
 
 /// Returns the greatest reach of a point over the round, scaled by 100,000.
-fn furthest_reach(dx: i32, dy: i32) -> i32
+fn greatest_projection(dx: i32, dy: i32) -> i32
     requires dx_in_field { unsigned_abs dx ≤ MOST_DIFFERENCE }
     requires dy_in_field { unsigned_abs dy ≤ MOST_DIFFERENCE }
-    ensures { IsGreatest (reaches dx dy) result }
+    ensures { IsGreatest (projections dx dy) result }
 {
-    let mut most = chunk_reaches(dx, dy, 0);
+    let mut most = chunk_projections(dx, dy, 0);
     for chunk in 1..CHUNKS {
-        most = most.simd_max(chunk_reaches(dx, dy, chunk));
+        most = most.simd_max(chunk_projections(dx, dy, chunk));
     }
     greatest(most.to_array())
 }
 
 /// Returns how far a point reaches in the direction of each degree of a chunk, scaled by 100,000.
 #[inline(always)]
-fn chunk_reaches(dx: i32, dy: i32, chunk: u16) -> i32x8
+fn chunk_projections(dx: i32, dy: i32, chunk: u16) -> i32x8
     requires dx_in_field { unsigned_abs dx ≤ MOST_DIFFERENCE }
     requires dy_in_field { unsigned_abs dy ≤ MOST_DIFFERENCE }
     requires on_the_round { chunk < CHUNKS }
-    ensures { result ≡ map (reach_of dx dy) (range_with_len (LANES * chunk) LANES) }
+    ensures { result ≡ map (projection_of dx dy) (range_with_len (LANES * chunk) LANES) }
 {
     let first = LANES * chunk;
     let cosines = round_entries(first + 90);
@@ -120,13 +120,13 @@ fn greatest(numbers: [i32; 8]) -> i32
 
 /// Returns the first lane of a chunk at whose degree a point reaches this far, if any does.
 #[inline(always)]
-fn lane_of_reach(dx: i32, dy: i32, chunk: u16, reach: i32) -> Option<u16>
+fn lane_of_projection(dx: i32, dy: i32, chunk: u16, reach: i32) -> Option<u16>
     requires dx_in_field { unsigned_abs dx ≤ MOST_DIFFERENCE }
     requires dy_in_field { unsigned_abs dy ≤ MOST_DIFFERENCE }
     requires on_the_round { chunk < CHUNKS }
-    ensures { result ≡ position (int_eq reach) (map (reach_of dx dy) (range_with_len (LANES * chunk) LANES)) }
+    ensures { result ≡ position (int_eq reach) (map (projection_of dx dy) (range_with_len (LANES * chunk) LANES)) }
 {
-    let equal = chunk_reaches(dx, dy, chunk)
+    let equal = chunk_projections(dx, dy, chunk)
         .simd_eq(i32x8::splat(reach))
         .to_bitmask();
     if equal == 0 {

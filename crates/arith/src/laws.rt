@@ -6,7 +6,7 @@ ghost use Rattle.std.specs.List.Sorted.{IsStrictlyIncreasing};
 ghost use Rattle.arith.specs.Table.{tangents};
 ghost use Rattle.arith.specs.Degree.{degree_of, IsDegreeOf};
 ghost use Rattle.arith.specs.Circle.{IsNearlyOnCircle};
-ghost use Rattle.arith.specs.Bearing.{reach_of, bearing_of};
+ghost use Rattle.arith.specs.Bearing.{projection_of, bearing_of};
 ghost use Rattle.arith.specs.KnownValues.{KnownOperators, OperatorValues, DegreeValues, RootValues, BearingValues};
 
 /// Proves that the degree of a number is 0 to 359 and differs from the number by whole rounds.
@@ -29,7 +29,7 @@ pub fn tangents_rise()
 /// Proves that a point other than the origin reaches forward in the direction of its bearing.
 pub fn bearing_points_forward(dx: i32, dy: i32)
     requires { dx ≡ pos 0 → dy ≡ pos 0 → ⊥ }
-    ensures { pos 0 <ℤ reach_of dx dy (bearing_of dx dy) }
+    ensures { pos 0 <ℤ projection_of dx dy (bearing_of dx dy) }
 {}
 
 /// Proves that the definitions give these known values.

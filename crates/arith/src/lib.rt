@@ -5,7 +5,7 @@
 //! states the rules in words. The definitions are in `specs/`, one subject a file, for other crates to cite:
 //! `value_of` (Op), `degree_of` and `apart` (Degree), `sines` and `tangents` (Table), `sine_at`, `cosine_at`,
 //! `sine_of` and `cosine_of` (Circle), `tangent_of` (Tangent), `arctangent_of` (Arctangent), `IsRoot`
-//! and `root_of` (Root), `reach_of` and `bearing_of` (Bearing), `IsBearing` (Furthest).
+//! and `root_of` (Root), `projection_of` and `bearing_of` (Bearing), `IsBearing` (Furthest).
 #![tactic(auto)]
 
 mod bearings;

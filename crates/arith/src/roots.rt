@@ -25,10 +25,10 @@ fn whole_root(square: u32) -> u32
         return 0;
     }
     let mut guess = guess_above(square);
-    let mut next = step(square, guess);
+    let mut next = newton_step(square, guess);
     while next < guess {
         guess = next;
-        next = step(square, guess);
+        next = newton_step(square, guess);
     }
     guess
 }
@@ -46,7 +46,7 @@ fn guess_above(square: u32) -> u32
 
 /// Returns the mean of a guess and of how often it goes into the square: it isn't below the root, and it isn't below
 /// the guess only if the guess isn't above the root.
-fn step(square: u32, guess: u32) -> u32
+fn newton_step(square: u32, guess: u32) -> u32
     requires most { square ≤ 2 ^ 31 }
     requires some { 0 < guess }
     requires bound { guess ≤ 2 ^ 16 }

@@ -8,25 +8,25 @@ use Rattle.arena.specs.Arena.{Arena}
 use Rattle.arena.specs.Representing.{RepresentsField}
 use Rattle.code.specs.declared.want.Want.TheVariants.{Quiet}
 use Rattle.engine.specs.Executables.{Executable}
-use Rattle.battles.specs.Battle.{Behaviour, Stage, robot_turn, turn, behaviour_at}
+use Rattle.battles.specs.Battle.{Behaviour, BattleState, robot_turn, turn, behaviour_at}
 use Rattle.battles.specs.Carrying.{Runner, AreRobotsOf, EachIsAheadOf, HasReached, IsAheadOf, IsRobotOf}
-use Rattle.battles.specs.Intervals.{AreTurnNumbers, HasCome, HasRunAlone, IsLike, OthersArePast, alone, RunsAlone, turns_left, is_left, rounds}
+use Rattle.battles.specs.Intervals.{AreTurnNumbers, HasCome, HasRunAlone, IsLike, OthersArePast, alone, RunsAlone, turns_left, is_turn_left, cycles_without_updates}
 use Rattle.battles.proofs.Alike.{stands_like, stages_refl, like_same, stages_trans}
 use Rattle.battles.proofs.Commuting.{TurnsAlone}
 use Rattle.battles.proofs.TurnNumbers.{rest_all, rest_none, left_not, turn_numbers_one, turn_numbers_set, next_taken}
 use Rattle.battles.proofs.Stages.{robot_at, robots_length, stands_at, stands_set}
 
 -- a robot has run alone for so many cycles
-unfoldable pub ran : List Behaviour → ℕ → Stage → ℕ → Stage
+unfoldable pub ran : List Behaviour → ℕ → BattleState → ℕ → BattleState
 ran robots i s n =
     let run = alone (behaviour_at robots i) i s.field (get_or s.traces i []) n in
     record { field = run.0; traces = set s.traces i run.1 }
 
-ran_none : (robots : List Behaviour) (i : ℕ) (s : Stage) → ran robots i s 0 ≡ s
+ran_none : (robots : List Behaviour) (i : ℕ) (s : BattleState) → ran robots i s 0 ≡ s
 unfolding ran alone
 ran_none robots i s = ap (λ traces. record s { traces = traces }) (set-get_or s.traces i [])
 
-ran_more : (robots : List Behaviour) (i : ℕ) (s : Stage) (n : ℕ) → i < length s.traces
+ran_more : (robots : List Behaviour) (i : ℕ) (s : BattleState) (n : ℕ) → i < length s.traces
     → turn robots i (ran robots i s n) ≡ ran robots i s (suc n)
 unfolding ran alone turn
 ran_more robots i s n inside =
@@ -34,7 +34,7 @@ ran_more robots i s n inside =
     let run = alone robot i s.field (get_or s.traces i []) n in
     rw (get_or-set_same s.traces i run.1 [] inside, set-set s.traces i run.1 (robot_turn robot i run.0 run.1).1) refl
 
-ran_alone : (robots : List Behaviour) (i : ℕ) (s : Stage) (n k : ℕ) → i < length s.traces
+ran_alone : (robots : List Behaviour) (i : ℕ) (s : BattleState) (n k : ℕ) → i < length s.traces
     → RunsAlone (behaviour_at robots i) i s.field (get_or s.traces i []) n → k < n →
     TurnsAlone robots i (ran robots i s k)
 unfolding ran TurnsAlone
@@ -64,13 +64,13 @@ first_left next i end n are small within past j low =
     ]
 
 -- Its turns are no longer left: each was one that it does alone, or none of the others' was left.
-pub run_taken : (robots : List Behaviour) (next : List ℕ) (i end n : ℕ) (s : Stage) → AreTurnNumbers next → i < 4 →
+pub run_taken : (robots : List Behaviour) (next : List ℕ) (i end n : ℕ) (s : BattleState) → AreTurnNumbers next → i < 4 →
     i < length s.traces
     → get_or next i 0 + 4 * n < end + 4
     → RunsAlone (behaviour_at robots i) i s.field (get_or s.traces i []) n ⊎ OthersArePast end i next
     →
-    IsLike (turns_left robots (is_left (set next i (get_or next i 0 + 4 * n))) 0 end (ran robots i s n))
-    (turns_left robots (is_left next) 0 end s)
+    IsLike (turns_left robots (is_turn_left (set next i (get_or next i 0 + 4 * n))) 0 end (ran robots i s n))
+    (turns_left robots (is_turn_left next) 0 end s)
 run_taken robots next i end zero s are small inside within ready =
     let same : get_or next i 0 + 4 * 0 ≡ get_or next i 0 = omega arith in
     rw (ran_none robots i s, same, set-get_or next i 0) (stages_refl _)
@@ -94,8 +94,8 @@ run_taken robots next i end (suc n) s are small inside within ready =
     let later : set before i (get_or before i 0 + 4) ≡ set next i (d + 4 * suc n) =
     ap (λ k. set before i (k + 4)) turn_number ∙ set-set next i (d + 4 * n) (d + 4 * n + 4) ∙
     ap (set next i) (omega arith) in
-    let last : IsLike (turns_left robots (is_left (set next i (d + 4 * suc n))) 0 end (ran robots i s (suc n)))
-    (turns_left robots (is_left before) 0 end (ran robots i s n)) =
+    let last : IsLike (turns_left robots (is_turn_left (set next i (d + 4 * suc n))) 0 end (ran robots i s (suc n)))
+    (turns_left robots (is_turn_left before) 0 end (ran robots i s n)) =
     rw (later, ran_more robots i s n inside) at
     (next_taken robots before i end (ran robots i s n) (turn_numbers_set next i n are small) small
     (omega (arith, turn_number)) turns) in
@@ -123,7 +123,7 @@ traces_length (runner ∷ runners) (exe ∷ exes) (trace ∷ traces) stands =
 traces_length _ _ _ stands = absurd stands
 
 pub come_alone : (robots : List Behaviour) (exes : List Executable) (next : List ℕ) (w n i : ℕ) (runners : List Runner)
-    (arena grown : Arena) (opened : Stage)
+    (arena grown : Arena) (opened : BattleState)
     (exe : Executable) (none after : Runner) (free : Type 0)
     → AreRobotsOf exes robots → AreTurnNumbers next → i < 4 → i < length exes → get_or next i 0 + 4 * n < 4 * w + 4
     → (free → OthersArePast (4 * w) i next) → HasCome robots exes next w runners arena opened →
@@ -156,7 +156,7 @@ come_alone robots exes next w n i runners arena grown opened exe none after free
     }
 
 pub come_on : (robots : List Behaviour) (exes : List Executable) (next : List ℕ) (w n i : ℕ) (runners : List Runner)
-    (arena grown : Arena) (opened : Stage)
+    (arena grown : Arena) (opened : BattleState)
     (exe : Executable) (none after : Runner) (free : Type 0)
     → AreRobotsOf exes robots → AreTurnNumbers next → i < 4 → i < length exes →
     get_or next i 0 + 4 * (1 + n) < 4 * w + 4
@@ -229,7 +229,7 @@ left_less end [] i n four small within some = absurd (omega arith)
 
 -- the interval begins
 pub opens : (robots : List Behaviour) (exes : List Executable) (next : List ℕ) (w : ℕ) (runners : List Runner)
-    (arena : Arena) (s : Stage)
+    (arena : Arena) (s : BattleState)
     → AreRobotsOf exes robots → AreTurnNumbers next → length exes ≤ 4
     → ((i : ℕ) → i < length exes → i < 4 → get_or next i 0 ≡ i) →
     ((i : ℕ) → length exes ≤ i → i < 4 → 4 * w ≤ get_or next i 0)
@@ -247,16 +247,16 @@ opens robots exes next w runners arena s are turn_numbers most first past reache
 
 -- and ends
 pub closes : (robots : List Behaviour) (exes : List Executable) (next : List ℕ) (w : ℕ) (runners : List Runner)
-    (arena : Arena) (s : Stage)
+    (arena : Arena) (s : BattleState)
     → ((i : ℕ) → i < 4 → 4 * w ≤ get_or next i 0)
-    → HasCome robots exes next w runners arena s → HasReached runners exes arena (rounds robots w s)
+    → HasCome robots exes next w runners arena s → HasReached runners exes arena (cycles_without_updates robots w s)
 closes robots exes next w runners arena s past come =
-    let done : turns_left robots (is_left next) 0 (4 * w) come.stage ≡ come.stage =
-    rest_none robots (is_left next) 0 (4 * w) come.stage
+    let done : turns_left robots (is_turn_left next) 0 (4 * w) come.stage ≡ come.stage =
+    rest_none robots (is_turn_left next) 0 (4 * w) come.stage
     (λ t from to. left_not next t (omega (arith, past (t % 4) (omega arith), to))) in
-    let like : IsLike come.stage (rounds robots w s) = rw done at come.ends in
+    let like : IsLike come.stage (cycles_without_updates robots w s) = rw done at come.ends in
     record {
-      field = stands_like arena come.stage.field (rounds robots w s).field like.field come.reached.field;
+      field = stands_like arena come.stage.field (cycles_without_updates robots w s).field like.field come.reached.field;
       traces = rw like.traces come.reached.traces;
     }
 

@@ -7,8 +7,8 @@ use Rattle.std.proofs.lemmas.List.Elements.{All-append, filter-append}
 use Rattle.grammar.specs.declared.resolved_names.Intrinsic.{Intrinsic}
 use Rattle.grammar.specs.declared.resolved_names.Intrinsic.TheVariants.{Cannon}
 use Rattle.arith.specs.Degree.{degree_of}
-use Rattle.arena.specs.Answer.{answer, argument_at, fired, directed, random_number}
-use Rattle.arena.specs.Field.{Field, Shot, is_live, robot_at}
+use Rattle.arena.specs.Answer.{answer, argument_at, fired, field_with_wanted, random_number}
+use Rattle.arena.specs.Field.{Field, Shot, is_live_at, robot_at}
 use Rattle.arena.specs.Arena.{Arena}
 use Rattle.arena.specs.Leg.{clamped}
 use Rattle.arena.specs.Scan.{scanned}
@@ -16,7 +16,7 @@ use Rattle.arena.specs.Shots.{in_air, shot}
 use Rattle.arena.specs.Representing.{RepresentsField}
 use Rattle.code.specs.declared.want.Want.{Want}
 use Rattle.code.specs.declared.want.Want.TheVariants.{Ask}
-use Rattle.battles.specs.Battle.{Behaviour, Stage, granted, robot_turn, behaviour_at, turn}
+use Rattle.battles.specs.Battle.{Behaviour, BattleState, after_want, robot_turn, behaviour_at, turn}
 use Rattle.battles.specs.Intervals.{SameShots, AreAlike, IsLike, turns_left}
 
 shots_refl : (updates : ℕ) (shots : List Shot) → SameShots updates shots shots
@@ -98,7 +98,7 @@ answer_like : (f : Field) (shots : List Shot) (i : ℕ) (intrinsic : Intrinsic) 
     SameShots f.updates f.shots shots
     → ((answer (record f { shots = shots }) i intrinsic a).0 ≡ (answer f i intrinsic a).0)
     × AreAlike (answer f i intrinsic a).1 (answer (record f { shots = shots }) i intrinsic a).1
-unfolding answer directed robot_at scanned random_number
+unfolding answer field_with_wanted robot_at scanned random_number
 answer_like f shots i Cannon a same =
     let degree = degree_of (argument_at a 0) in
     let range = clamped 700 (argument_at a 1) in
@@ -115,9 +115,9 @@ answer_like f shots i _ a same = (refl, record { shots = shots; is = refl; same 
 
 granted_like : (want : Want) (f : Field) (shots : List Shot) (i : ℕ) (trace : List ℤ) →
     SameShots f.updates f.shots shots
-    → ((granted want i (record f { shots = shots }) trace).1 ≡ (granted want i f trace).1)
-    × AreAlike (granted want i f trace).0 (granted want i (record f { shots = shots }) trace).0
-unfolding granted
+    → ((after_want want i (record f { shots = shots }) trace).1 ≡ (after_want want i f trace).1)
+    × AreAlike (after_want want i f trace).0 (after_want want i (record f { shots = shots }) trace).0
+unfolding after_want
 granted_like (Ask intrinsic a) f shots i trace same =
     let like = answer_like f shots i intrinsic a same in
     (ap (λ reply. trace ++ reply ∷ []) like.0, like.1)
@@ -127,26 +127,26 @@ step_like : (robot : Behaviour) (f : Field) (shots : List Shot) (i : ℕ) (trace
     SameShots f.updates f.shots shots
     → ((robot_turn robot i (record f { shots = shots }) trace).1 ≡ (robot_turn robot i f trace).1)
     × AreAlike (robot_turn robot i f trace).0 (robot_turn robot i (record f { shots = shots }) trace).0
-unfolding robot_turn is_live robot_at
-step_like robot f shots i trace same = elim (cases_Bool (is_live f i)) [
+unfolding robot_turn is_live_at robot_at
+step_like robot f shots i trace same = elim (cases_Bool (is_live_at f i)) [
   | inl live ↦ rw live (granted_like (robot trace) f shots i trace same)
   | inr dead ↦ rw dead (refl, record { shots = shots; is = refl; same = same })
 ]
 
 -- the same of whole stages
-pub stages_refl : (s : Stage) → IsLike s s
+pub stages_refl : (s : BattleState) → IsLike s s
 stages_refl s = record { field = like_refl s.field; traces = refl }
 
-pub like_same : (s t : Stage) → s ≡ t → IsLike s t
+pub like_same : (s t : BattleState) → s ≡ t → IsLike s t
 like_same s t same = rw same (stages_refl t)
 
-pub stages_trans : (s t u : Stage) → IsLike s t → IsLike t u → IsLike s u
+pub stages_trans : (s t u : BattleState) → IsLike s t → IsLike t u → IsLike s u
 stages_trans s t u first second = record {
   field = like_trans s.field t.field u.field first.field second.field;
   traces = second.traces ∙ first.traces;
 }
 
-turn_like : (robots : List Behaviour) (i : ℕ) (s t : Stage) → IsLike s t → IsLike (turn robots i s) (turn robots i t)
+turn_like : (robots : List Behaviour) (i : ℕ) (s t : BattleState) → IsLike s t → IsLike (turn robots i s) (turn robots i t)
 unfolding turn
 turn_like robots i s t like =
     let stepped = step_like (behaviour_at robots i) s.field like.field.shots i (get_or s.traces i []) like.field.same in
@@ -155,7 +155,7 @@ turn_like robots i s t like =
       traces = ap (set s.traces i) stepped.0;
     })
 
-pub rest_like : (robots : List Behaviour) (left : ℕ → Bool) (t n : ℕ) (s u : Stage) → IsLike s u
+pub rest_like : (robots : List Behaviour) (left : ℕ → Bool) (t n : ℕ) (s u : BattleState) → IsLike s u
     → IsLike (turns_left robots left t n s) (turns_left robots left t n u)
 unfolding turns_left
 rest_like robots left t zero s u like = like

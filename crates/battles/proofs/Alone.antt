@@ -2,7 +2,7 @@
 use Rattle.std.proofs.Common.{◌≡◌, ℕ, ◌+◌, ◌-◌, ◌<◌, ◌≤◌, zero, suc, true, false, ℤ, pos, List, [], ◌∷◌, ◌++◌, replicate, append_assoc, ◌⊎◌, inl, inr, refl, sym, ap, ◌∙◌, arith, add-one}
 use Rattle.std.proofs.lemmas.Bool.{cases_lt, false≢true}
 use Rattle.std.proofs.lemmas.List.{replicate_more, append-nil}
-use Rattle.arena.specs.Field.{Field, is_live}
+use Rattle.arena.specs.Field.{Field, is_live_at}
 use Rattle.arena.specs.Arena.{Arena}
 use Rattle.arena.specs.Representing.{RepresentsField}
 use Rattle.code.specs.declared.want.Want.{Want}
@@ -16,7 +16,7 @@ use Rattle.engine.specs.declared.engines.Engine.{Engine}
 use Rattle.engine.specs.Executables.{Executable}
 use Rattle.engine.specs.Engines.{EngineIsReached}
 use Rattle.battles.specs.Carrying.{Runner, IsRobotOf, IsAheadOf}
-use Rattle.battles.specs.Battle.{Behaviour, granted, robot_turn}
+use Rattle.battles.specs.Battle.{Behaviour, after_want, robot_turn}
 use Rattle.battles.specs.Intervals.{IsAlone, StepsAlone, RunsAlone, HasRunAlone, alone}
 use Rattle.battles.proofs.Commuting.{step_lives}
 use Rattle.battles.proofs.Running.{Coasts, at_end, at_less, at_more, quiet_less}
@@ -42,7 +42,7 @@ alone_plus r i f trace n (suc k) =
 
 -- the robot stays as alive as it is
 pub alone_lives : (r : Behaviour) (i : ℕ) (f : Field) (trace : List ℤ) (n : ℕ) →
-    is_live (alone r i f trace n).0 i ≡ is_live f i
+    is_live_at (alone r i f trace n).0 i ≡ is_live_at f i
 unfolding alone
 alone_lives r i f trace zero = refl
 alone_lives r i f trace (suc n) =
@@ -66,12 +66,12 @@ runs_plus r i f trace n (suc k) runs more =
     rw next (runs_next r i f trace (n + k) (runs_plus r i f trace n k runs (λ j low. more j (omega arith))) last)
 
 -- a live robot has quiet cycles
-quiet_step : (r : Behaviour) (i : ℕ) (f : Field) (trace : List ℤ) → is_live f i ≡ true → r trace ≡ Quiet
+quiet_step : (r : Behaviour) (i : ℕ) (f : Field) (trace : List ℤ) → is_live_at f i ≡ true → r trace ≡ Quiet
     → robot_turn r i f trace ≡ (f, trace ++ pos 0 ∷ [])
-unfolding robot_turn granted
+unfolding robot_turn after_want
 quiet_step r i f trace live quiet = rw (live, quiet) refl
 
-pub quiet_alone : (r : Behaviour) (i : ℕ) (f : Field) (trace : List ℤ) (n : ℕ) → is_live f i ≡ true
+pub quiet_alone : (r : Behaviour) (i : ℕ) (f : Field) (trace : List ℤ) (n : ℕ) → is_live_at f i ≡ true
     → ((k : ℕ) → k < n → r (trace ++ replicate k (pos 0)) ≡ Quiet) →
     alone r i f trace n ≡ (f, trace ++ replicate n (pos 0))
 unfolding alone
@@ -87,7 +87,7 @@ quiet_alone r i f trace (suc n) live quiet =
 quiet_is_alone : (want : Want) → want ≡ Quiet → IsAlone want
 quiet_is_alone want quiet = rw quiet tt
 
-pub quiet_runs : (r : Behaviour) (i : ℕ) (f : Field) (trace : List ℤ) (n : ℕ) → is_live f i ≡ true
+pub quiet_runs : (r : Behaviour) (i : ℕ) (f : Field) (trace : List ℤ) (n : ℕ) → is_live_at f i ≡ true
     → ((k : ℕ) → k < n → r (trace ++ replicate k (pos 0)) ≡ Quiet) → RunsAlone r i f trace n
 quiet_runs r i f trace n live quiet k within is =
     quiet_is_alone (r (alone r i f trace k).1)
@@ -95,12 +95,12 @@ quiet_runs r i f trace n live quiet k within is =
     quiet k within)
 
 -- a dead robot does nothing
-pub dead_step : (r : Behaviour) (i : ℕ) (f : Field) (trace : List ℤ) → is_live f i ≡ false →
+pub dead_step : (r : Behaviour) (i : ℕ) (f : Field) (trace : List ℤ) → is_live_at f i ≡ false →
     robot_turn r i f trace ≡ (f, trace)
 unfolding robot_turn
 dead_step r i f trace dead = rw dead refl
 
-dead_alone : (r : Behaviour) (i : ℕ) (f : Field) (trace : List ℤ) (n : ℕ) → is_live f i ≡ false →
+dead_alone : (r : Behaviour) (i : ℕ) (f : Field) (trace : List ℤ) (n : ℕ) → is_live_at f i ≡ false →
     alone r i f trace n ≡ (f, trace)
 unfolding alone
 dead_alone r i f trace zero dead = refl
@@ -109,11 +109,11 @@ dead_alone r i f trace (suc n) dead =
 
 pub dead_runs : (free : Type 0) (r : Behaviour) (i : ℕ) (f : Field) (trace : List ℤ) (n : ℕ) (exe : Executable)
     (runner : Runner) (arena : Arena)
-    → is_live f i ≡ false → RepresentsField arena f → IsAheadOf runner exe trace →
+    → is_live_at f i ≡ false → RepresentsField arena f → IsAheadOf runner exe trace →
     HasRunAlone free r i f trace n exe runner arena
-dead_runs free r i f trace n exe runner arena dead ground at = record {
+dead_runs free r i f trace n exe runner arena dead field at = record {
   steps = inl (λ k within live. absurd (false≢true (sym dead ∙ sym (alone_lives r i f trace k) ∙ live)));
-  stands = rw (dead_alone r i f trace n dead) ground;
+  stands = rw (dead_alone r i f trace n dead) field;
   at = rw (dead_alone r i f trace n dead) at;
 }
 
@@ -129,7 +129,7 @@ pub to_begin : (free : Type 0) (r : Behaviour) (i : ℕ) (f : Field) (trace : Li
     (runner : Runner) (arena : Arena)
     → RepresentsField arena f → IsAheadOf runner exe trace →
     RunsTo free r i f trace runner.ahead most exe runner.machine arena
-to_begin free r i f trace most exe runner arena ground at =
+to_begin free r i f trace most exe runner arena field at =
     let all : runner.ahead - 0 ≡ runner.ahead = omega arith in
     record {
       run = 0;
@@ -137,7 +137,7 @@ to_begin free r i f trace most exe runner arena ground at =
       below = omega arith;
       ran = record {
         steps = inl (λ k within. absurd (omega arith));
-        stands = rw (alone_none r i f trace) ground;
+        stands = rw (alone_none r i f trace) field;
         at = rw (alone_none r i f trace, all) at;
       };
     }
@@ -163,7 +163,7 @@ to_coast free r i f trace cycle most n exe machine after arena on to =
 -- the robot follows its machine up to a cycle
 pub to_cycle : (free : Type 0) (r : Behaviour) (i : ℕ) (f : Field) (trace : List ℤ) (cycle most end : ℕ)
     (exe : Executable) (machine : Engine) (arena : Arena)
-    → IsRobotOf exe r → is_live f i ≡ true → (to : RunsTo free r i f trace cycle most exe machine arena) →
+    → IsRobotOf exe r → is_live_at f i ≡ true → (to : RunsTo free r i f trace cycle most exe machine arena) →
     to.run ≤ end → end ≤ cycle
     → HasRunAlone free r i f trace end exe (record { machine = machine; ahead = cycle - end }) arena
 to_cycle free r i f trace cycle most end exe machine arena is live to from within =
@@ -171,7 +171,7 @@ to_cycle free r i f trace cycle most end exe machine arena is live to from withi
     let k = end - n in
     let field = (alone r i f trace n).0 in
     let replies = (alone r i f trace n).1 in
-    let lives : is_live field i ≡ true = alone_lives r i f trace n ∙ live in
+    let lives : is_live_at field i ≡ true = alone_lives r i f trace n ∙ live in
     let quiet = quiet_less r replies k (cycle - n) (omega arith) (to.ran.at.quiet r is) in
     let sum : n + k ≡ end = omega arith in
     let less : cycle - n - k ≡ cycle - end = omega arith in
@@ -190,7 +190,7 @@ to_cycle free r i f trace cycle most end exe machine arena is live to from withi
 -- up to where the machine is
 pub to_stop : (free : Type 0) (r : Behaviour) (i : ℕ) (f : Field) (trace : List ℤ) (cycle most : ℕ) (exe : Executable)
     (machine : Engine) (arena : Arena)
-    → IsRobotOf exe r → is_live f i ≡ true → RunsTo free r i f trace cycle most exe machine arena
+    → IsRobotOf exe r → is_live_at f i ≡ true → RunsTo free r i f trace cycle most exe machine arena
     → HasRunAlone free r i f trace cycle exe (record { machine = machine; ahead = 0 }) arena
 to_stop free r i f trace cycle most exe machine arena is live to =
     let none : cycle - cycle ≡ 0 = omega arith in
@@ -204,7 +204,7 @@ pub to_next : (free : Type 0) (r : Behaviour) (i : ℕ) (f : Field) (trace : Lis
     → RepresentsField arena (robot_turn r i (alone r i f trace cycle).0 (alone r i f trace cycle).1).0
     → EngineIsReached machine exe (robot_turn r i (alone r i f trace cycle).0 (alone r i f trace cycle).1).1
     → RunsTo free r i f trace (cycle + 1) most exe machine arena
-to_next free r i f trace cycle most exe machine arena below runs steps ground stands = record {
+to_next free r i f trace cycle most exe machine arena below runs steps field stands = record {
   run = cycle + 1;
   within = omega arith;
   below = omega arith;
@@ -216,7 +216,7 @@ to_next free r i f trace cycle most exe machine arena below runs steps ground st
       ]
       | inr drawn ↦ inr drawn
     ];
-    stands = rw (alone_next r i f trace cycle) ground;
+    stands = rw (alone_next r i f trace cycle) field;
     at = rw (alone_next r i f trace cycle) (at_end machine (cycle + 1 - (cycle + 1)) exe _ (omega arith) stands);
   };
 }

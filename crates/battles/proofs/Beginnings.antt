@@ -13,7 +13,7 @@ use Rattle.code.specs.Generation.{Program, code_of}
 use Rattle.engine.specs.Executables.{Executable}
 use Rattle.code.specs.Meaning.{want}
 use Rattle.engine.specs.Engines.{EngineFits}
-use Rattle.battles.specs.Battle.{Behaviour, Outcome, opening, damages_of, stage_after, last_cycle, battle}
+use Rattle.battles.specs.Battle.{Behaviour, Outcome, first_state, damages_of, state_after, last_cycle, battle}
 use Rattle.battles.specs.Carrying.{Runner, AreRobotsOf, IsAheadOf, EachFits, EachIsAheadOf, HasReached}
 use Rattle.code.specs.Codes.{AreProgramsOf}
 use Rattle.battles.specs.Pairing.{paired, robots_of}
@@ -104,16 +104,16 @@ pub opening_reached : (runners : List Runner) (exes : List Executable) (arena : 
     (n seed number : ℕ)
     → AreRobotsOf exes robots → n ≡ length exes → RepresentsField arena (start seed number n)
     → EachIsAheadOf runners exes (replicate (length exes) [])
-    → HasReached runners exes arena (opening (length robots) seed number)
-unfolding opening
+    → HasReached runners exes arena (first_state (length robots) seed number)
+unfolding first_state
 opening_reached runners exes arena robots n seed number are e begun stands =
     let all : length robots ≡ n = robots_length exes robots are ∙ sym e in
     record { field = rw all begun; traces = rw (all, e) stands }
 
 -- a battle's outcome is made of its last cycle and the damages after it
 pub battle_is : (robots : List Behaviour) (seed number limit cycles : ℕ) (damages : List ℕ)
-    → cycles ≡ last_cycle robots (opening (length robots) seed number) limit
-    → damages ≡ damages_of (length robots) (stage_after robots (opening (length robots) seed number) cycles).field
+    → cycles ≡ last_cycle robots (first_state (length robots) seed number) limit
+    → damages ≡ damages_of (length robots) (state_after robots (first_state (length robots) seed number) cycles).field
     →
     (let outcome : Outcome = record { cycles = cycles; damages = damages } in outcome) ≡
     battle robots seed number limit
@@ -121,11 +121,11 @@ unfolding battle
 battle_is robots seed number limit cycles damages last are =
     let same : damages ≡
     damages_of (length robots)
-    (stage_after robots (opening (length robots) seed number)
-    (last_cycle robots (opening (length robots) seed number) limit)).field =
+    (state_after robots (first_state (length robots) seed number)
+    (last_cycle robots (first_state (length robots) seed number) limit)).field =
     rw last at are in
     ap (λ n. let outcome : Outcome = record { cycles = n; damages = damages } in outcome) last
     ∙
     ap
     (λ ds. let outcome : Outcome = record
-    { cycles = last_cycle robots (opening (length robots) seed number) limit; damages = ds } in outcome) same
+    { cycles = last_cycle robots (first_state (length robots) seed number) limit; damages = ds } in outcome) same

@@ -7,16 +7,16 @@ use Rattle.std.proofs.lemmas.List.{append-nil, get_or-set_other, take-map, drop-
 use Rattle.std.proofs.lemmas.List.Elements.{All-append}
 use Rattle.grammar.specs.declared.resolved_names.Intrinsic.{Intrinsic}
 use Rattle.grammar.specs.declared.resolved_names.Intrinsic.TheVariants.{Scan, Cannon, Drive, Damage, Speed, LocX, LocY, Rand}
-use Rattle.arena.specs.Answer.{answer, argument_at, fired, directed, random_number, wanting}
+use Rattle.arena.specs.Answer.{answer, argument_at, fired, field_with_wanted, random_number, with_wanted}
 use Rattle.arena.specs.Collisions.{others}
-use Rattle.arena.specs.Field.{Field, Shot, FieldRobot as Body, no_robot, robot_at, is_live, is_alive, damage_of, metres_x, metres_y}
+use Rattle.arena.specs.Field.{Field, Shot, FieldRobot as Body, no_robot, robot_at, is_live_at, is_alive, damage_of, metres_x, metres_y}
 use Rattle.arena.specs.Leg.{clamped, way_east, way_north, end_x, end_y, place_x, place_y}
 use Rattle.arith.specs.Degree.{degree_of}
 use Rattle.arena.specs.Shots.{in_air, shot}
 use Rattle.arena.specs.Scan.{east_to, north_to, in_arc, sees, range_of, nearest, scanned}
 use Rattle.code.specs.declared.want.Want.{Want}
 use Rattle.code.specs.declared.want.Want.TheVariants.{Ask}
-use Rattle.battles.specs.Battle.{Behaviour, Stage, granted, robot_turn, behaviour_at, turn}
+use Rattle.battles.specs.Battle.{Behaviour, BattleState, after_want, robot_turn, behaviour_at, turn}
 use Rattle.battles.specs.Intervals.{IsAlone, StepsAlone, SameShots, AreAlike, IsLike, draws_random}
 use Rattle.battles.proofs.Alike.{like_refl, air_append, all_front, all_back, pushed, fires}
 
@@ -30,7 +30,7 @@ robots_of_fired f i degree range = elim (cases_Bool (nat_lt (length (in_air f.up
 -- an answer leaves the other robots as they are
 others_stay : (f : Field) (i j : ℕ) (intrinsic : Intrinsic) (a : List ℤ) → i ≢ j
     → robot_at (answer f j intrinsic a).1 i ≡ robot_at f i
-unfolding answer robot_at directed
+unfolding answer robot_at field_with_wanted
 others_stay f i j Cannon a distinct = ap (λ l. get_or l i no_robot) (robots_of_fired f j _ _)
 others_stay f i j Drive a distinct = get_or-set_other f.robots j i _ no_robot distinct
 others_stay f i j _ a distinct = refl
@@ -78,7 +78,7 @@ ranges_same seen range l i j x none sight distance =
 -- so a scan doesn't depend on what was answered to others
 scans_same : (f : Field) (i j : ℕ) (intrinsic : Intrinsic) (a : List ℤ) (degree resolution : ℕ) → i ≢ j
     → scanned (answer f j intrinsic a).1 i degree resolution ≡ scanned f i degree resolution
-unfolding answer robot_at directed wanting scanned sees range_of is_alive damage_of in_arc east_to north_to metres_x
+unfolding answer robot_at field_with_wanted with_wanted scanned sees range_of is_alive damage_of in_arc east_to north_to metres_x
     metres_y place_x place_y end_x end_y way_east way_north
 scans_same f i j Cannon a degree resolution distinct =
     rw (robots_of_fired f j (degree_of (argument_at a 0)) (clamped 700 (argument_at a 1))) refl
@@ -140,11 +140,11 @@ fired_field : (f : Field) (i degree range : ℕ) →
 fired_field f i degree range = fires f f.shots i degree range refl
 
 pushed_same : (f : Field) (i j degree range towards speed : ℕ) → i ≢ j
-    → pushed (directed f j towards speed) i degree range ≡ pushed f i degree range
-unfolding pushed directed robot_at
+    → pushed (field_with_wanted f j towards speed) i degree range ≡ pushed f i degree range
+unfolding pushed field_with_wanted robot_at
 pushed_same f i j degree range towards speed distinct =
     rw
-    (get_or-set_other f.robots j i (record (robot_at f j) { leg = wanting (robot_at f j).leg towards speed })
+    (get_or-set_other f.robots j i (record (robot_at f j) { leg = with_wanted (robot_at f j).leg towards speed })
     no_robot distinct) refl
 
 fired_reply : (f : Field) (i degree range : ℕ)
@@ -159,7 +159,7 @@ fired_reply f i degree range = elim (cases_Bool (nat_lt (length (in_air f.update
 reply_same : (intrinsic other : Intrinsic) (a b : List ℤ) (i j : ℕ) (f : Field) →
     (draws_random intrinsic ≡ true → draws_random other ≡ false) → i ≢ j
     → (answer (answer f j other b).1 i intrinsic a).0 ≡ (answer f i intrinsic a).0
-unfolding answer draws_random directed random_number
+unfolding answer draws_random field_with_wanted random_number
 reply_same Scan other a b i j f either distinct =
     ap pos (scans_same f i j other b (degree_of (argument_at a 0)) (clamped 10 (argument_at a 1)) distinct)
 reply_same Damage other a b i j f either distinct = ap (λ r. pos (damage_of r)) (others_stay f i j other b distinct)
@@ -179,7 +179,7 @@ reply_same Cannon Cannon a b i j f either distinct =
     (clamped 700 (argument_at a 1))
     (own_air f f.shots i j towards far distinct)))
 reply_same Cannon Drive a b i j f either distinct =
-    fired_reply (directed f j (degree_of (argument_at b 0)) (clamped 100 (argument_at b 1))) i _ _ ∙
+    fired_reply (field_with_wanted f j (degree_of (argument_at b 0)) (clamped 100 (argument_at b 1))) i _ _ ∙
     sym (fired_reply f i _ _)
 reply_same Cannon Rand a b i j f either distinct =
     fired_reply (record f { drawn = f.drawn + 1 }) i _ _ ∙ sym (fired_reply f i _ _)
@@ -195,11 +195,11 @@ set_swap (z ∷ l) (suc i) (suc j) x y distinct =
     ap (λ rest. z ∷ rest) (set_swap l i j x y (λ same. distinct (ap suc same)))
 
 driven_twice : (f : Field) (i j degree speed towards fast : ℕ) → i ≢ j
-    → directed (directed f i degree speed) j towards fast ≡ directed (directed f j towards fast) i degree speed
-unfolding directed robot_at
+    → field_with_wanted (field_with_wanted f i degree speed) j towards fast ≡ field_with_wanted (field_with_wanted f j towards fast) i degree speed
+unfolding field_with_wanted robot_at
 driven_twice f i j degree speed towards fast distinct =
-    let mine = record (robot_at f i) { leg = wanting (robot_at f i).leg degree speed } in
-    let theirs = record (robot_at f j) { leg = wanting (robot_at f j).leg towards fast } in
+    let mine = record (robot_at f i) { leg = with_wanted (robot_at f i).leg degree speed } in
+    let theirs = record (robot_at f j) { leg = with_wanted (robot_at f j).leg towards fast } in
     let back : j ≢ i = λ same. distinct (sym same) in
     rw (get_or-set_other f.robots i j mine no_robot back, get_or-set_other f.robots j i theirs no_robot distinct)
     (ap (λ robots. record f { robots = robots }) (set_swap f.robots i j mine theirs distinct))
@@ -208,7 +208,7 @@ driven_twice f i j degree speed towards fast distinct =
 fields_alike : (intrinsic other : Intrinsic) (a b : List ℤ) (i j : ℕ) (f : Field) → draws_random intrinsic ≡ false →
     i ≢ j
     → AreAlike (answer (answer f i intrinsic a).1 j other b).1 (answer (answer f j other b).1 i intrinsic a).1
-unfolding answer draws_random directed robot_at pushed
+unfolding answer draws_random field_with_wanted robot_at pushed
 fields_alike Rand other a b i j f is distinct = absurd (true≢false is)
 fields_alike Cannon Cannon a b i j f is distinct =
     let degree = degree_of (argument_at a 0) in
@@ -233,7 +233,7 @@ fields_alike Cannon Drive a b i j f is distinct =
     let speed = clamped 100 (argument_at b 1) in
     rw (
       fired_field f i degree range,
-      fired_field (directed f j towards speed) i degree range,
+      fired_field (field_with_wanted f j towards speed) i degree range,
       pushed_same f i j degree range towards speed distinct,
     )
     (like_refl _)
@@ -250,7 +250,7 @@ fields_alike Drive Cannon a b i j f is distinct =
     let back : j ≢ i = λ same. distinct (sym same) in
     rw (
       fired_field f j towards far,
-      fired_field (directed f i degree speed) j towards far,
+      fired_field (field_with_wanted f i degree speed) j towards far,
       pushed_same f j i towards far degree speed back,
     )
     (like_refl _)
@@ -267,18 +267,18 @@ fields_alike _ other a b i j f is distinct = like_refl _
 -- The same of what a robot wants.
 wants_alike : (want other : Want) (i j : ℕ) (f : Field) (trace others : List ℤ) → IsAlone want → i ≢ j
     →
-    AreAlike (granted other j (granted want i f trace).0 others).0
-    (granted want i (granted other j f others).0 trace).0
-unfolding granted
+    AreAlike (after_want other j (after_want want i f trace).0 others).0
+    (after_want want i (after_want other j f others).0 trace).0
+unfolding after_want
 wants_alike (Ask intrinsic a) (Ask asked b) i j f trace others is distinct =
     fields_alike intrinsic asked a b i j f is distinct
 wants_alike (Ask intrinsic a) _ i j f trace others is distinct = like_refl _
 wants_alike _ other i j f trace others is distinct = like_refl _
 
 trace_same : (want other : Want) (i j : ℕ) (f : Field) (trace others : List ℤ) → IsAlone want → i ≢ j
-    → ((granted want i (granted other j f others).0 trace).1 ≡ (granted want i f trace).1)
-    × ((granted other j (granted want i f trace).0 others).1 ≡ (granted other j f others).1)
-unfolding granted
+    → ((after_want want i (after_want other j f others).0 trace).1 ≡ (after_want want i f trace).1)
+    × ((after_want other j (after_want want i f trace).0 others).1 ≡ (after_want other j f others).1)
+unfolding after_want
 trace_same (Ask intrinsic a) (Ask asked b) i j f trace others is distinct = (
   ap (λ reply. trace ++ reply ∷ [])
       (reply_same intrinsic asked a b i j f (λ draws_random. absurd (true≢false (sym draws_random ∙ is))) distinct),
@@ -289,30 +289,30 @@ trace_same (Ask intrinsic a) _ i j f trace others is distinct = (refl, refl)
 trace_same _ other i j f trace others is distinct = (refl, refl)
 
 granted_stays : (want : Want) (i j : ℕ) (f : Field) (trace : List ℤ) → i ≢ j
-    → robot_at (granted want j f trace).0 i ≡ robot_at f i
-unfolding granted
+    → robot_at (after_want want j f trace).0 i ≡ robot_at f i
+unfolding after_want
 granted_stays (Ask intrinsic a) i j f trace distinct = others_stay f i j intrinsic a distinct
 granted_stays _ i j f trace distinct = refl
 
 step_stays : (robot : Behaviour) (i j : ℕ) (f : Field) (trace : List ℤ) → i ≢ j
     → robot_at (robot_turn robot j f trace).0 i ≡ robot_at f i
 unfolding robot_turn
-step_stays robot i j f trace distinct = elim (cases_Bool (is_live f j)) [
+step_stays robot i j f trace distinct = elim (cases_Bool (is_live_at f j)) [
   | inl live ↦ rw live (granted_stays (robot trace) i j f trace distinct)
   | inr dead ↦ rw dead refl
 ]
 
 live_same : (robot : Behaviour) (i j : ℕ) (f : Field) (trace : List ℤ) → i ≢ j
-    → is_live (robot_turn robot j f trace).0 i ≡ is_live f i
-unfolding is_live
+    → is_live_at (robot_turn robot j f trace).0 i ≡ is_live_at f i
+unfolding is_live_at
 live_same robot i j f trace distinct = ap is_alive (step_stays robot i j f trace distinct)
 
-step_live : (robot : Behaviour) (i : ℕ) (f : Field) (trace : List ℤ) → is_live f i ≡ true
-    → robot_turn robot i f trace ≡ granted (robot trace) i f trace
+step_live : (robot : Behaviour) (i : ℕ) (f : Field) (trace : List ℤ) → is_live_at f i ≡ true
+    → robot_turn robot i f trace ≡ after_want (robot trace) i f trace
 unfolding robot_turn
 step_live robot i f trace live = rw live refl
 
-step_dead : (robot : Behaviour) (i : ℕ) (f : Field) (trace : List ℤ) → is_live f i ≡ false →
+step_dead : (robot : Behaviour) (i : ℕ) (f : Field) (trace : List ℤ) → is_live_at f i ≡ false →
     robot_turn robot i f trace ≡ (f, trace)
 unfolding robot_turn
 step_dead robot i f trace dead = rw dead refl
@@ -325,27 +325,27 @@ keeps_hurts (y ∷ l) zero x none same = same
 keeps_hurts (y ∷ l) (suc i) x none same = keeps_hurts l i x none same
 
 answer_lives : (intrinsic : Intrinsic) (a : List ℤ) (i : ℕ) (f : Field) →
-    is_live (answer f i intrinsic a).1 i ≡ is_live f i
-unfolding answer directed is_live is_alive damage_of robot_at
+    is_live_at (answer f i intrinsic a).1 i ≡ is_live_at f i
+unfolding answer field_with_wanted is_live_at is_alive damage_of robot_at
 answer_lives Cannon a i f = ap (λ robots. is_alive (get_or robots i no_robot)) (robots_of_fired f i _ _)
 answer_lives Drive a i f =
     ap (λ hurts. nat_lt (min (sum hurts) 100) 100)
     (keeps_hurts f.robots i
     (record (robot_at f i)
-    { leg = wanting (robot_at f i).leg (degree_of (argument_at a 0)) (clamped 100 (argument_at a 1)) }) no_robot refl)
+    { leg = with_wanted (robot_at f i).leg (degree_of (argument_at a 0)) (clamped 100 (argument_at a 1)) }) no_robot refl)
 answer_lives _ a i f = refl
 
-granted_lives : (want : Want) (i : ℕ) (f : Field) (trace : List ℤ) → is_live (granted want i f trace).0 i ≡ is_live f i
-unfolding granted
+granted_lives : (want : Want) (i : ℕ) (f : Field) (trace : List ℤ) → is_live_at (after_want want i f trace).0 i ≡ is_live_at f i
+unfolding after_want
 granted_lives (Ask intrinsic a) i f trace = answer_lives intrinsic a i f
 granted_lives _ i f trace = refl
 
 pub step_lives : (robot : Behaviour) (i : ℕ) (f : Field) (trace : List ℤ) →
-    is_live (robot_turn robot i f trace).0 i ≡ is_live f i
-step_lives robot i f trace = elim (cases_Bool (is_live f i)) [
-  | inl live ↦ ap (λ (stepped : Field × List ℤ). is_live stepped.0 i) (step_live robot i f trace live) ∙
+    is_live_at (robot_turn robot i f trace).0 i ≡ is_live_at f i
+step_lives robot i f trace = elim (cases_Bool (is_live_at f i)) [
+  | inl live ↦ ap (λ (stepped : Field × List ℤ). is_live_at stepped.0 i) (step_live robot i f trace live) ∙
       granted_lives (robot trace) i f trace
-  | inr dead ↦ ap (λ (stepped : Field × List ℤ). is_live stepped.0 i) (step_dead robot i f trace dead)
+  | inr dead ↦ ap (λ (stepped : Field × List ℤ). is_live_at stepped.0 i) (step_dead robot i f trace dead)
 ]
 
 -- The same of two robots: the first one's step is one that it does alone.
@@ -360,16 +360,16 @@ steps_alike robot other i j f trace others steps distinct =
     let back : j ≢ i = λ same. distinct (sym same) in
     let mine = live_same robot j i f trace back in
     let theirs = live_same other i j f others distinct in
-    elim (cases_Bool (is_live f i)) [
-      | inl live ↦ elim (cases_Bool (is_live f j)) [
+    elim (cases_Bool (is_live_at f i)) [
+      | inl live ↦ elim (cases_Bool (is_live_at f j)) [
         | inl moves ↦
             let same = trace_same (robot trace) (other others) i j f trace others (steps live) distinct in
             rw (
               step_live robot i f trace live,
               step_live other j f others moves,
-              step_live robot i (granted (other others) j f others).0 trace
+              step_live robot i (after_want (other others) j f others).0 trace
                   (rw (step_live other j f others moves) at theirs ∙ live),
-              step_live other j (granted (robot trace) i f trace).0 others
+              step_live other j (after_want (robot trace) i f trace).0 others
                   (rw (step_live robot i f trace live) at mine ∙ moves),
             ) (wants_alike (robot trace) (other others) i j f trace others (steps live) distinct, same.0, same.1)
         | inr rests ↦
@@ -386,10 +386,10 @@ steps_alike robot other i j f trace others steps distinct =
     ]
 
 -- The same of whole stages: the next turn of a robot is one that it does alone.
-unfoldable pub TurnsAlone : List Behaviour → ℕ → Stage → Type 0
+unfoldable pub TurnsAlone : List Behaviour → ℕ → BattleState → Type 0
 TurnsAlone robots i s = StepsAlone (behaviour_at robots i) i s.field (get_or s.traces i [])
 
-pub alone_stays : (robots : List Behaviour) (i j : ℕ) (s : Stage) → TurnsAlone robots i s → i ≢ j →
+pub alone_stays : (robots : List Behaviour) (i j : ℕ) (s : BattleState) → TurnsAlone robots i s → i ≢ j →
     TurnsAlone robots i (turn robots j s)
 unfolding turn TurnsAlone
 alone_stays robots i j s alone distinct = λ live.
@@ -397,7 +397,7 @@ alone_stays robots i j s alone distinct = λ live.
     rw (get_or-set_other s.traces j i (robot_turn other j s.field (get_or s.traces j [])).1 [] distinct)
     (alone (sym (live_same other i j s.field (get_or s.traces j []) distinct) ∙ live))
 
-pub commutes : (robots : List Behaviour) (i j : ℕ) (s : Stage) → TurnsAlone robots i s → i ≢ j
+pub commutes : (robots : List Behaviour) (i j : ℕ) (s : BattleState) → TurnsAlone robots i s → i ≢ j
     → IsLike (turn robots j (turn robots i s)) (turn robots i (turn robots j s))
 unfolding turn TurnsAlone
 commutes robots i j s alone distinct =

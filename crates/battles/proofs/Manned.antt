@@ -7,19 +7,19 @@ use Rattle.arena.specs.Arena.{Arena}
 use Rattle.engine.specs.declared.engines.Engine.{Engine}
 use Rattle.engine.specs.Executables.{Executable}
 use Rattle.battles.specs.Carrying.{Runner}
-use Rattle.battles.specs.IntervalKeeping.{AreManned, CanPlay, HavePlaces, KeepsPlayable}
+use Rattle.battles.specs.IntervalKeeping.{HaveMachines, CanPlay, HaveFieldRobots, KeepsPlayable}
 use Rattle.battles.specs.Intervals.{WaitsToDraw}
 use Rattle.battles.proofs.Stages.{fits_at, fits_length, fits_set}
 
-pub have_places : (exes : List Executable) (runners : List Runner) (arena : Arena) → AreManned exes runners arena →
-    HavePlaces runners arena
+pub have_places : (exes : List Executable) (runners : List Runner) (arena : Arena) → HaveMachines exes runners arena →
+    HaveFieldRobots runners arena
 have_places exes runners arena manned =
     let same = fits_length runners exes manned.fits in
     record { few = omega (arith, same, manned.few); robots = manned.robots ∙ sym same }
 
 pub can_run : (exes : List Executable) (runners : List Runner) (arena : Arena) (i : ℕ) (exe : Executable)
     (none : Runner)
-    → AreManned exes runners arena → i < length exes → slice_get exes i ≡ Some exe →
+    → HaveMachines exes runners arena → i < length exes → slice_get exes i ≡ Some exe →
     CanPlay i exe (get_or runners i none).machine arena
 can_run exes runners arena i exe none manned inside here = record {
   turn_number = omega (arith, manned.few, inside);
@@ -49,8 +49,8 @@ can_run_on i exe one other before after can kept = record {
 -- after a robot's turns all are manned still
 pub manned_set : (exes : List Executable) (runners : List Runner) (before after : Arena) (i : ℕ) (exe : Executable)
     (runner : Runner)
-    → AreManned exes runners before → slice_get exes i ≡ Some exe → KeepsPlayable exe runner.machine before after →
-    AreManned exes (set runners i runner) after
+    → HaveMachines exes runners before → slice_get exes i ≡ Some exe → KeepsPlayable exe runner.machine before after →
+    HaveMachines exes (set runners i runner) after
 manned_set exes runners before after i exe runner manned here kept = record {
   few = manned.few;
   fits = fits_set runners exes i runner exe manned.fits here kept.fits;

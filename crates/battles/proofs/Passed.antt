@@ -4,14 +4,14 @@ use Rattle.std.specs.Prelude.{slice_get, nat_lt, if◌then◌else◌}
 use Rattle.std.proofs.lemmas.List.{get_or-set_same, get_or-set_other}
 use Rattle.std.proofs.lemmas.Bool.{cases_eq, cases_lt}
 use Rattle.std.proofs.lemmas.Bool.Decides.{nat_tests}
-use Rattle.arena.specs.Field.{Field, is_live}
+use Rattle.arena.specs.Field.{Field, is_live_at}
 use Rattle.arena.specs.Arena.{Arena}
 use Rattle.arena.specs.Representing.{RepresentsField}
 use Rattle.engine.specs.Executables.{Executable}
 use Rattle.engine.specs.Engines.{EngineFits}
-use Rattle.battles.specs.Battle.{Behaviour, Stage}
+use Rattle.battles.specs.Battle.{Behaviour, BattleState}
 use Rattle.battles.specs.Carrying.{Runner, AreRobotsOf, EachFits, EachIsAheadOf, HasReached, IsAheadOf, IsRobotOf}
-use Rattle.battles.specs.Intervals.{AreTurnNumbers, HasCome, HasRunAlone, rounds}
+use Rattle.battles.specs.Intervals.{AreTurnNumbers, HasCome, HasRunAlone, cycles_without_updates}
 use Rattle.battles.proofs.Ahead.{Runs, come_alone, opens, closes}
 use Rattle.battles.proofs.Alone.{quiet_alone, quiet_runs}
 use Rattle.battles.proofs.Running.{at_less, quiet_less}
@@ -21,19 +21,19 @@ use Rattle.battles.proofs.TurnNumbers.{turn_numbers_set}
 -- a live robot goes on
 pub goes_ahead : (runner : Runner) (exe : Executable) (r : Behaviour) (i : ℕ) (f : Field) (trace : List ℤ) (n : ℕ)
     (arena : Arena)
-    → n ≤ runner.ahead → is_live f i ≡ true → IsRobotOf exe r → RepresentsField arena f → IsAheadOf runner exe trace
+    → n ≤ runner.ahead → is_live_at f i ≡ true → IsRobotOf exe r → RepresentsField arena f → IsAheadOf runner exe trace
     → HasRunAlone ⊥ r i f trace n exe (record { machine = runner.machine; ahead = runner.ahead - n }) arena
-goes_ahead runner exe r i f trace n arena within live is ground at =
+goes_ahead runner exe r i f trace n arena within live is field at =
     let quiet = quiet_less r trace n runner.ahead within (at.quiet r is) in
     record {
       steps = inl (quiet_runs r i f trace n live quiet);
-      stands = rw (quiet_alone r i f trace n live quiet) ground;
+      stands = rw (quiet_alone r i f trace n live quiet) field;
       at = rw (quiet_alone r i f trace n live quiet) (at_less runner n exe trace within at);
     }
 
 -- So many robots have passed the interval; the others are at its begin.
 pub record HavePassed (robots : List Behaviour) (exes : List Executable) (k w : ℕ) (runners : List Runner)
-    (arena : Arena) (opened : Stage) : Type 0 where
+    (arena : Arena) (opened : BattleState) : Type 0 where
   pub next : List ℕ
   pub turn_numbers : AreTurnNumbers next
   pub done : (i : ℕ) → i < k → 4 * w ≤ get_or next i 0
@@ -78,7 +78,7 @@ turn_numbers_are n w = record {
 }
 
 pub none_passed : (robots : List Behaviour) (exes : List Executable) (w : ℕ) (runners : List Runner) (arena : Arena)
-    (s : Stage)
+    (s : BattleState)
     → AreRobotsOf exes robots → length exes ≤ 4 → HasReached runners exes arena s →
     HavePassed robots exes 0 w runners arena s
 none_passed robots exes w runners arena s are few reached =
@@ -98,7 +98,7 @@ none_passed robots exes w runners arena s are few reached =
     }
 
 pub one_passes : (robots : List Behaviour) (exes : List Executable) (k w : ℕ) (runners : List Runner) (arena : Arena)
-    (s : Stage)
+    (s : BattleState)
     (exe : Executable) (none after : Runner)
     → AreRobotsOf exes robots → length exes ≤ 4 → k < length exes → slice_get exes k ≡ Some exe
     → HavePassed robots exes k w runners arena s → Runs ⊥ k exe w (get_or runners k none) after arena arena
@@ -131,8 +131,8 @@ one_passes robots exes k w runners arena s exe none after are few inside here pa
     }
 
 pub all_passed : (robots : List Behaviour) (exes : List Executable) (w : ℕ) (runners : List Runner) (arena : Arena)
-    (s : Stage)
-    → HavePassed robots exes (length exes) w runners arena s → HasReached runners exes arena (rounds robots w s)
+    (s : BattleState)
+    → HavePassed robots exes (length exes) w runners arena s → HasReached runners exes arena (cycles_without_updates robots w s)
 all_passed robots exes w runners arena s passed =
     closes robots exes passed.next w runners arena s (λ i small. elim (cases_lt i (length exes)) [
       | inl inside ↦ passed.done i inside

@@ -4,8 +4,8 @@ use Rattle.std.specs.Prelude.{nat_lt, if◌then◌else◌}
 use Rattle.std.specs.List.{count_by}
 use Rattle.std.proofs.lemmas.Bool.{cases_lt}
 use Rattle.std.proofs.lemmas.List.{append-nil, get_or-set_same, get_or-set_other, length-set, replicate_more, replicate-append-replicate}
-use Rattle.arena.specs.Field.{Field, is_live, is_alive, live_count}
-use Rattle.arena.specs.Arena.{Robot, Arena, robot_of, lives}
+use Rattle.arena.specs.Field.{Field, is_live_at, is_alive, live_count}
+use Rattle.arena.specs.Arena.{Robot, Arena, robot_of, is_live}
 use Rattle.arena.specs.Moved.{moved}
 use Rattle.arena.specs.Still.{IsStill, moved_times}
 use Rattle.arena.specs.Representing.{RepresentsField}
@@ -13,23 +13,23 @@ use Rattle.arena.proofs.Represents.{body_at, living}
 use Rattle.arena.proofs.Still.{only_rests}
 use Rattle.code.specs.declared.want.Want.TheVariants.{Quiet}
 use Rattle.engine.specs.Executables.{Executable}
-use Rattle.battles.specs.Battle.{Behaviour, Stage, granted, robot_turn, behaviour_at, turn, turns}
+use Rattle.battles.specs.Battle.{Behaviour, BattleState, after_want, robot_turn, behaviour_at, turn, turns}
 use Rattle.battles.specs.Carrying.{Runner, AreRobotsOf, EachIsAheadOf, HasReached, IsQuiet}
-use Rattle.battles.specs.Intervals.{AreAhead, rounds, period, periods}
+use Rattle.battles.specs.Intervals.{AreAhead, cycles_without_updates, period, periods}
 use Rattle.battles.proofs.Passed.{code_at, runners_length}
 use Rattle.battles.proofs.Running.{quiet_less}
 use Rattle.battles.proofs.Stages.{robot_at, robots_length, stands_at}
 
 -- Who lives, and how many, an arena says of each field that it represents.
-live_is : (g : Arena) (f : Field) (i : ℕ) → RepresentsField g f → is_live f i ≡ lives g i
-unfolding is_live is_alive robot_of lives
-live_is g f i ground = ap (λ (b : Robot). nat_lt b.damage 100) (sym (body_at g f i ground))
+live_is : (g : Arena) (f : Field) (i : ℕ) → RepresentsField g f → is_live_at f i ≡ is_live g i
+unfolding is_live_at is_alive robot_of is_live
+live_is g f i field = ap (λ (b : Robot). nat_lt b.damage 100) (sym (body_at g f i field))
 
 count_is : (g : Arena) (f : Field) → RepresentsField g f →
     live_count f ≡ count_by (λ (b : Robot). nat_lt b.damage 100) g.robots
 unfolding live_count
-count_is g f ground =
-    sym (ap (count_by (λ (b : Robot). nat_lt b.damage 100)) ground.robots ∙ living f.robots)
+count_is g f field =
+    sym (ap (count_by (λ (b : Robot). nat_lt b.damage 100)) field.robots ∙ living f.robots)
 
 -- what a quiet cycle makes of the traces of the first n robots
 waited : (ℕ → Bool) → ℕ → List (List ℤ) → List (List ℤ)
@@ -102,64 +102,64 @@ waits_plus live n k (suc j) traces =
 -- each live robot is quiet for so many cycles
 abbrev AreQuiet : Arena → List Behaviour → List (List ℤ) → ℕ → Type 0
 AreQuiet g robots traces k =
-    (i : ℕ) → i < length robots → lives g i ≡ true → IsQuiet (behaviour_at robots i) (get_or traces i []) k
+    (i : ℕ) → i < length robots → is_live g i ≡ true → IsQuiet (behaviour_at robots i) (get_or traces i []) k
 
 -- So the field stays as it is in these.
-step_waits : (r : Behaviour) (i : ℕ) (f : Field) (trace : List ℤ) (live : Bool) → is_live f i ≡ live
+step_waits : (r : Behaviour) (i : ℕ) (f : Field) (trace : List ℤ) (live : Bool) → is_live_at f i ≡ live
     → (live ≡ true → r trace ≡ Quiet) → robot_turn r i f trace ≡ (f, if live then trace ++ pos 0 ∷ [] else trace)
-unfolding robot_turn granted
+unfolding robot_turn after_want
 step_waits r i f trace true is quiet = rw (is, quiet refl) refl
 step_waits r i f trace false is quiet = rw is refl
 
-turn_waits : (g : Arena) (robots : List Behaviour) (i : ℕ) (s : Stage) → RepresentsField g s.field
-    → (lives g i ≡ true → behaviour_at robots i (get_or s.traces i []) ≡ Quiet)
+turn_waits : (g : Arena) (robots : List Behaviour) (i : ℕ) (s : BattleState) → RepresentsField g s.field
+    → (is_live g i ≡ true → behaviour_at robots i (get_or s.traces i []) ≡ Quiet)
     → turn robots i s ≡ record {
       field = s.field;
-      traces = set s.traces i (if lives g i then get_or s.traces i [] ++ pos 0 ∷ [] else get_or s.traces i []);
+      traces = set s.traces i (if is_live g i then get_or s.traces i [] ++ pos 0 ∷ [] else get_or s.traces i []);
     }
 unfolding turn
-turn_waits g robots i s ground quiet =
+turn_waits g robots i s field quiet =
     ap (λ (after : Field × List ℤ). record { field = after.0; traces = set s.traces i after.1 })
-    (step_waits (behaviour_at robots i) i s.field (get_or s.traces i []) (lives g i) (live_is g s.field i ground) quiet)
+    (step_waits (behaviour_at robots i) i s.field (get_or s.traces i []) (is_live g i) (live_is g s.field i field) quiet)
 
-turns_wait : (g : Arena) (robots : List Behaviour) (n : ℕ) (s : Stage) → RepresentsField g s.field
-    → ((i : ℕ) → i < n → lives g i ≡ true → behaviour_at robots i (get_or s.traces i []) ≡ Quiet)
-    → turns robots n s ≡ record { field = s.field; traces = waited (lives g) n s.traces }
+turns_wait : (g : Arena) (robots : List Behaviour) (n : ℕ) (s : BattleState) → RepresentsField g s.field
+    → ((i : ℕ) → i < n → is_live g i ≡ true → behaviour_at robots i (get_or s.traces i []) ≡ Quiet)
+    → turns robots n s ≡ record { field = s.field; traces = waited (is_live g) n s.traces }
 unfolding turns waited
-turns_wait g robots zero s ground quiet = refl
-turns_wait g robots (suc n) s ground quiet =
-    ap (turn robots n) (turns_wait g robots n s ground (λ i low. quiet i (omega arith)))
-    ∙ turn_waits g robots n (record { field = s.field; traces = waited (lives g) n s.traces }) ground
-    (λ live. ap (behaviour_at robots n) (waited_later (lives g) n s.traces n (omega arith)) ∙
+turns_wait g robots zero s field quiet = refl
+turns_wait g robots (suc n) s field quiet =
+    ap (turn robots n) (turns_wait g robots n s field (λ i low. quiet i (omega arith)))
+    ∙ turn_waits g robots n (record { field = s.field; traces = waited (is_live g) n s.traces }) field
+    (λ live. ap (behaviour_at robots n) (waited_later (is_live g) n s.traces n (omega arith)) ∙
     quiet n (omega arith) live)
 
-rounds_wait : (g : Arena) (robots : List Behaviour) (k : ℕ) (s : Stage) → RepresentsField g s.field →
+rounds_wait : (g : Arena) (robots : List Behaviour) (k : ℕ) (s : BattleState) → RepresentsField g s.field →
     length robots ≤ length s.traces
     → AreQuiet g robots s.traces k
-    → rounds robots k s ≡ record { field = s.field; traces = waits (lives g) (length robots) k s.traces }
-unfolding rounds waits
-rounds_wait g robots zero s ground all quiet = refl
-rounds_wait g robots (suc k) s ground all quiet =
-    let traces = waits (lives g) (length robots) k s.traces in
+    → cycles_without_updates robots k s ≡ record { field = s.field; traces = waits (is_live g) (length robots) k s.traces }
+unfolding cycles_without_updates waits
+rounds_wait g robots zero s field all quiet = refl
+rounds_wait g robots (suc k) s field all quiet =
+    let traces = waits (is_live g) (length robots) k s.traces in
     ap (turns robots (length robots))
-    (rounds_wait g robots k s ground all (λ i low live j less. quiet i low live j (omega arith)))
-    ∙ turns_wait g robots (length robots) (record { field = s.field; traces = traces }) ground
+    (rounds_wait g robots k s field all (λ i low live j less. quiet i low live j (omega arith)))
+    ∙ turns_wait g robots (length robots) (record { field = s.field; traces = traces }) field
     (λ i low live.
-    ap (behaviour_at robots i) (waits_at (lives g) (length robots) k s.traces i low (omega arith) live)
+    ap (behaviour_at robots i) (waits_at (is_live g) (length robots) k s.traces i low (omega arith) live)
     ∙ quiet i low live k (omega arith))
 
 -- If the field is still the intervals follow one another in the same way.
 quiet_on : (g : Arena) (robots : List Behaviour) (k j : ℕ) (traces : List (List ℤ)) → length robots ≤ length traces
-    → AreQuiet g robots traces (k + j) → AreQuiet g robots (waits (lives g) (length robots) k traces) j
+    → AreQuiet g robots traces (k + j) → AreQuiet g robots (waits (is_live g) (length robots) k traces) j
 quiet_on g robots k j traces all quiet i low live m less =
     ap (λ trace. behaviour_at robots i (trace ++ replicate m (pos 0)))
-    (waits_at (lives g) (length robots) k traces i low (omega arith) live)
+    (waits_at (is_live g) (length robots) k traces i low (omega arith) live)
     ∙ ap (behaviour_at robots i) (
     append_assoc (get_or traces i []) (replicate k (pos 0)) (replicate m (pos 0))
     ∙ ap (λ zeros. get_or traces i [] ++ zeros) (replicate-append-replicate k m (pos 0)))
     ∙ quiet i low live (k + m) (omega arith)
 
-updated_stage : Stage → Stage
+updated_stage : BattleState → BattleState
 updated_stage s = record { field = moved s.field; traces = s.traces }
 
 quiet_within : (g : Arena) (robots : List Behaviour) (traces : List (List ℤ)) (k n : ℕ) → k ≤ n →
@@ -168,19 +168,19 @@ quiet_within : (g : Arena) (robots : List Behaviour) (traces : List (List ℤ)) 
 quiet_within g robots traces k n less quiet i low live =
     quiet_less (behaviour_at robots i) (get_or traces i []) k n less (quiet i low live)
 
-segments_wait : (g : Arena) (robots : List Behaviour) (k : ℕ) (s : Stage) → RepresentsField g s.field →
+segments_wait : (g : Arena) (robots : List Behaviour) (k : ℕ) (s : BattleState) → RepresentsField g s.field →
     IsStill g.robots g.slots
     → length robots ≤ length s.traces → AreQuiet g robots s.traces (15 * k)
     →
     periods robots k s ≡
-    record { field = moved_times k s.field; traces = waits (lives g) (length robots) (15 * k) s.traces }
-unfolding periods period moved_times lives updated_stage waits
-segments_wait g robots zero s ground still all quiet = refl
-segments_wait g robots (suc k) s ground still all quiet =
-    let traces = waits (lives g) (length robots) (15 * k) s.traces in
+    record { field = moved_times k s.field; traces = waits (is_live g) (length robots) (15 * k) s.traces }
+unfolding periods period moved_times is_live updated_stage waits
+segments_wait g robots zero s field still all quiet = refl
+segments_wait g robots (suc k) s field still all quiet =
+    let traces = waits (is_live g) (length robots) (15 * k) s.traces in
     let grown = record g { updates = g.updates + k } in
     let before =
-    segments_wait g robots k s ground still all
+    segments_wait g robots k s field still all
     (quiet_within g robots s.traces (15 * k) (15 * suc k) (omega arith) quiet) in
     let more : AreQuiet g robots s.traces (15 * k + 15) =
     quiet_within g robots s.traces (15 * k + 15) (15 * suc k) (omega arith) quiet in
@@ -188,12 +188,12 @@ segments_wait g robots (suc k) s ground still all quiet =
     ap (period robots) before
     ∙
     ap updated_stage (rounds_wait grown robots 15 (record { field = moved_times k s.field; traces = traces })
-    (only_rests g s.field k ground still)
-    (omega (arith, all, waits_length (lives g) (length robots) (15 * k) s.traces))
+    (only_rests g s.field k field still)
+    (omega (arith, all, waits_length (is_live g) (length robots) (15 * k) s.traces))
     (quiet_on g robots (15 * k) 15 s.traces all more))
     ∙ ap (λ (ts : List (List ℤ)). updated_stage (record { field = moved_times k s.field; traces = ts }))
-    (waits_plus (lives g) (length robots) (15 * k) 15 s.traces ∙
-    ap (λ m. waits (lives g) (length robots) m s.traces) sum)
+    (waits_plus (is_live g) (length robots) (15 * k) 15 s.traces ∙
+    ap (λ m. waits (is_live g) (length robots) m s.traces) sum)
 
 -- The machines are ahead by cycles in which the robots are quiet.
 traces_length : (runners : List Runner) (exes : List Executable) (traces : List (List ℤ)) →
@@ -204,7 +204,7 @@ traces_length (runner ∷ runners) (exe ∷ exes) (trace ∷ traces) at = ap suc
 traces_length _ _ _ at = absurd at
 
 are_quiet : (exes : List Executable) (robots : List Behaviour) (runners : List Runner) (none : Runner) (g : Arena)
-    (s : Stage) (cycles : ℕ)
+    (s : BattleState) (cycles : ℕ)
     → AreRobotsOf exes robots → HasReached runners exes g s → AreAhead (length runners) cycles g runners
     → AreQuiet g robots s.traces cycles
 unfolding behaviour_at
@@ -225,7 +225,7 @@ ahead_fewer n most cycles arena runners fewer ahead i none inside live =
     let here : most ≤ (get_or runners i none).ahead = ahead i none inside live in
     omega arith
 
-some_quiet : (exes : List Executable) (robots : List Behaviour) (runners : List Runner) (g : Arena) (s : Stage)
+some_quiet : (exes : List Executable) (robots : List Behaviour) (runners : List Runner) (g : Arena) (s : BattleState)
     (cycles : ℕ)
     → AreRobotsOf exes robots → HasReached runners exes g s → AreAhead (length runners) cycles g runners
     → AreQuiet g robots s.traces cycles
@@ -236,29 +236,29 @@ some_quiet (exe ∷ exes) robots [] g s cycles are reached ahead =
     absurd (omega (arith, runners_length [] (exe ∷ exes) s.traces reached.traces))
 some_quiet [] (robot ∷ robots) [] g s cycles are reached ahead = absurd are
 
-enough : (exes : List Executable) (robots : List Behaviour) (runners : List Runner) (g : Arena) (s : Stage)
+enough : (exes : List Executable) (robots : List Behaviour) (runners : List Runner) (g : Arena) (s : BattleState)
     → AreRobotsOf exes robots → HasReached runners exes g s → length robots ≤ length s.traces
 enough exes robots runners g s are reached =
     omega (arith, robots_length exes robots are, traces_length runners exes s.traces reached.traces)
 
 -- Where the cycles of some periods lead, and as many updates: to where the periods lead.
-pub skips : (exes : List Executable) (robots : List Behaviour) (runners after : List Runner) (g : Arena) (s : Stage)
+pub skips : (exes : List Executable) (robots : List Behaviour) (runners after : List Runner) (g : Arena) (s : BattleState)
     (k : ℕ)
     → AreRobotsOf exes robots → HasReached runners exes g s → IsStill g.robots g.slots
-    → AreAhead (length runners) (15 * k) g runners → HasReached after exes g (rounds robots (15 * k) s)
+    → AreAhead (length runners) (15 * k) g runners → HasReached after exes g (cycles_without_updates robots (15 * k) s)
     → HasReached after exes (record g { updates = g.updates + k }) (periods robots k s)
 skips exes robots runners after g s k are reached still ahead gone =
     let all = enough exes robots runners g s are reached in
     let quiet = some_quiet exes robots runners g s (15 * k) are reached ahead in
     let run = rounds_wait g robots (15 * k) s reached.field all quiet in
-    let traces : EachIsAheadOf after exes (waits (lives g) (length robots) (15 * k) s.traces) = rw run at gone.traces in
+    let traces : EachIsAheadOf after exes (waits (is_live g) (length robots) (15 * k) s.traces) = rw run at gone.traces in
     rw (segments_wait g robots k s reached.field still all quiet) (record {
       field = only_rests g s.field k reached.field still;
       traces = traces;
     })
 
 -- as many robots live
-pub skips_alive : (exes : List Executable) (robots : List Behaviour) (runners : List Runner) (g : Arena) (s : Stage)
+pub skips_alive : (exes : List Executable) (robots : List Behaviour) (runners : List Runner) (g : Arena) (s : BattleState)
     (k n : ℕ)
     → AreRobotsOf exes robots → HasReached runners exes g s → IsStill g.robots g.slots
     → AreAhead (length runners) (15 * k) g runners → n ≤ k → live_count (periods robots n s).field ≡ live_count s.field
@@ -266,12 +266,12 @@ skips_alive exes robots runners g s k n are reached still ahead within =
     let all = enough exes robots runners g s are reached in
     let quiet = some_quiet exes robots runners g s (15 * n) are reached
     (ahead_fewer (length runners) (15 * k) (15 * n) g runners (omega arith) ahead) in
-    ap (λ (t : Stage). live_count t.field) (segments_wait g robots n s reached.field still all quiet)
+    ap (λ (t : BattleState). live_count t.field) (segments_wait g robots n s reached.field still all quiet)
     ∙
     count_is (record g { updates = g.updates + n }) (moved_times n s.field) (only_rests g s.field n reached.field still)
     ∙ sym (count_is g s.field reached.field)
 
 -- no interval is skipped
-pub skips_none : (robots : List Behaviour) (s : Stage) → periods robots 0 s ≡ s
+pub skips_none : (robots : List Behaviour) (s : BattleState) → periods robots 0 s ≡ s
 unfolding periods
 skips_none robots s = refl

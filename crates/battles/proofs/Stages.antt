@@ -7,7 +7,7 @@ use Rattle.arena.specs.Representing.{RepresentsField}
 use Rattle.code.specs.declared.want.Want.TheVariants.{Quiet}
 use Rattle.engine.specs.Executables.{Executable}
 use Rattle.engine.specs.Engines.{EngineFits}
-use Rattle.battles.specs.Battle.{Behaviour, Stage, robot_turn, behaviour_at, turn, turns}
+use Rattle.battles.specs.Battle.{Behaviour, BattleState, robot_turn, behaviour_at, turn, turns}
 use Rattle.battles.specs.Carrying.{Runner, IsRobotOf, AreRobotsOf, IsAheadOf, EachFits, EachIsAheadOf, HasReached}
 
 -- the robot with an index is that of the program there
@@ -82,11 +82,11 @@ stands_set (runner' ∷ runners) (exe' ∷ exes) (trace' ∷ traces) (suc i) run
 stands_set _ _ _ i runner exe trace stands here new = absurd stands
 
 -- none has had its turn yet
-pub turns_none : (robots : List Behaviour) (s : Stage) → turns robots 0 s ≡ s
+pub turns_none : (robots : List Behaviour) (s : BattleState) → turns robots 0 s ≡ s
 unfolding turns
 turns_none robots s = refl
 
-pub turns_more : (robots : List Behaviour) (i : ℕ) (s : Stage) →
+pub turns_more : (robots : List Behaviour) (i : ℕ) (s : BattleState) →
     turns robots (i + 1) s ≡ turn robots i (turns robots i s)
 unfolding turns
 turns_more robots i s = rw add-one refl
@@ -102,7 +102,7 @@ pub record HasStepped (i : ℕ) (exe : Executable) (runner after : Runner) (aren
 
 -- So the stage is that after the robot's turn.
 pub turn_reached : (exes : List Executable) (robots : List Behaviour) (runners : List Runner) (arena grown : Arena)
-    (s : Stage) (i : ℕ)
+    (s : BattleState) (i : ℕ)
     (exe : Executable) (none after : Runner)
     → AreRobotsOf exes robots → HasReached runners exes arena s → slice_get exes i ≡ Some exe
     → HasStepped i exe (get_or runners i none) after arena grown

@@ -4,23 +4,23 @@ use Rattle.std.specs.Prelude.{nat_lt, nat_le, min}
 use Rattle.std.proofs.lemmas.Bool.{cases_Bool, cases_eq, cases_lt, false≢true}
 use Rattle.std.proofs.lemmas.List.{get_or-set_same, get_or-set_other, length-set}
 use Rattle.std.proofs.lemmas.Bool.Decides.{nat_tests}
-use Rattle.battles.specs.Battle.{Behaviour, Stage, turn, turns}
-use Rattle.battles.specs.Intervals.{rounds, turns_left, is_left, AreTurnNumbers, IsLike}
+use Rattle.battles.specs.Battle.{Behaviour, BattleState, turn, turns}
+use Rattle.battles.specs.Intervals.{cycles_without_updates, turns_left, is_turn_left, AreTurnNumbers, IsLike}
 use Rattle.battles.proofs.Alike.{like_same, stages_trans, rest_like}
 use Rattle.battles.proofs.Commuting.{TurnsAlone, alone_stays, commutes}
 
-rest_more : (robots : List Behaviour) (left : ℕ → Bool) (t n : ℕ) (s : Stage) → left t ≡ true
+rest_more : (robots : List Behaviour) (left : ℕ → Bool) (t n : ℕ) (s : BattleState) → left t ≡ true
     → turns_left robots left t (suc n) s ≡ turns_left robots left (t + 1) n (turn robots (t % 4) s)
 unfolding turns_left
 rest_more robots left t n s here = rw here refl
 
-rest_less : (robots : List Behaviour) (left : ℕ → Bool) (t n : ℕ) (s : Stage) → left t ≡ false
+rest_less : (robots : List Behaviour) (left : ℕ → Bool) (t n : ℕ) (s : BattleState) → left t ≡ false
     → turns_left robots left t (suc n) s ≡ turns_left robots left (t + 1) n s
 unfolding turns_left
 rest_less robots left t n s gone = rw gone refl
 
 -- the same turns are left
-rest_same : (robots : List Behaviour) (left other : ℕ → Bool) (t n : ℕ) (s : Stage)
+rest_same : (robots : List Behaviour) (left other : ℕ → Bool) (t n : ℕ) (s : BattleState)
     → ((k : ℕ) → t ≤ k → k < t + n → left k ≡ other k) → turns_left robots left t n s ≡ turns_left robots other t n s
 unfolding turns_left
 rest_same robots left other t zero s same = refl
@@ -29,7 +29,7 @@ rest_same robots left other t (suc n) s same =
     (rest_same robots left other (t + 1) n _ (λ k from to. same k (omega arith) (omega arith)))
 
 -- none is left
-pub rest_none : (robots : List Behaviour) (left : ℕ → Bool) (t n : ℕ) (s : Stage)
+pub rest_none : (robots : List Behaviour) (left : ℕ → Bool) (t n : ℕ) (s : BattleState)
     → ((k : ℕ) → t ≤ k → k < t + n → left k ≡ false) → turns_left robots left t n s ≡ s
 unfolding turns_left
 rest_none robots left t zero s none = refl
@@ -38,7 +38,7 @@ rest_none robots left t (suc n) s none =
     (rest_none robots left (t + 1) n s (λ k from to. none k (omega arith) (omega arith)))
 
 -- A robot's next turn can be taken at once if the robot does it alone, or if no turn is left before it.
-takes : (robots : List Behaviour) (left other : ℕ → Bool) (i d t n : ℕ) (s : Stage) → d % 4 ≡ i → left d ≡ true →
+takes : (robots : List Behaviour) (left other : ℕ → Bool) (i d t n : ℕ) (s : BattleState) → d % 4 ≡ i → left d ≡ true →
     other d ≡ false
     → ((k : ℕ) → k ≢ d → left k ≡ other k) → ((k : ℕ) → k < d → k % 4 ≡ i → left k ≡ false) → t ≤ d → d < t + n
     → TurnsAlone robots i s ⊎ ((k : ℕ) → t ≤ k → k < d → left k ≡ false)
@@ -83,8 +83,8 @@ le_no a b later = grind (arith, nat_tests)
 le_yes : (a b : ℕ) → a ≤ b → nat_le a b ≡ true
 le_yes a b past = grind (arith, nat_tests)
 
-pub left_not : (next : List ℕ) (t : ℕ) → t < get_or next (t % 4) 0 → is_left next t ≡ false
-unfolding is_left
+pub left_not : (next : List ℕ) (t : ℕ) → t < get_or next (t % 4) 0 → is_turn_left next t ≡ false
+unfolding is_turn_left
 left_not next t later = le_no (get_or next (t % 4) 0) t later
 
 le_four : (d k : ℕ) → k % 4 ≡ d % 4 → k ≢ d → nat_le d k ≡ nat_le (d + 4) k
@@ -95,8 +95,8 @@ le_four d k own other = elim (cases_lt k d) [
 
 -- the next turn of a robot has a number that is greater by four
 left_same : (next : List ℕ) (i k : ℕ) → AreTurnNumbers next → i < 4 → k ≢ get_or next i 0
-    → is_left next k ≡ is_left (set next i (get_or next i 0 + 4)) k
-unfolding is_left
+    → is_turn_left next k ≡ is_turn_left (set next i (get_or next i 0 + 4)) k
+unfolding is_turn_left
 left_same next i k are inside other = elim (cases_eq (k % 4) i) [
   | inl mine ↦
       let four = are.four in
@@ -124,13 +124,13 @@ turn_numbers_one next i are inside =
     let once : get_or next i 0 + 4 * 1 ≡ get_or next i 0 + 4 = omega arith in
     rw once at (turn_numbers_set next i 1 are inside)
 
-pub next_taken : (robots : List Behaviour) (next : List ℕ) (i end : ℕ) (s : Stage) → AreTurnNumbers next → i < 4 →
+pub next_taken : (robots : List Behaviour) (next : List ℕ) (i end : ℕ) (s : BattleState) → AreTurnNumbers next → i < 4 →
     get_or next i 0 < end
     → TurnsAlone robots i s ⊎ ((j : ℕ) → j < 4 → get_or next i 0 ≤ get_or next j 0)
     →
-    IsLike (turns_left robots (is_left (set next i (get_or next i 0 + 4))) 0 end (turn robots i s))
-    (turns_left robots (is_left next) 0 end s)
-unfolding is_left
+    IsLike (turns_left robots (is_turn_left (set next i (get_or next i 0 + 4))) 0 end (turn robots i s))
+    (turns_left robots (is_turn_left next) 0 end s)
+unfolding is_turn_left
 next_taken robots next i end s are inside within ready =
     let four = are.four in
     let turn_number = are.own i inside in
@@ -138,7 +138,7 @@ next_taken robots next i end s are inside within ready =
     let gone : get_or (set next i (get_or next i 0 + 4)) (get_or next i 0 % 4) 0 ≡ get_or next i 0 + 4 =
     ap (λ k. get_or (set next i (get_or next i 0 + 4)) k 0) turn_number ∙
     get_or-set_same next i (get_or next i 0 + 4) 0 (omega arith) in
-    takes robots (is_left next) (is_left (set next i (get_or next i 0 + 4))) i (get_or next i 0) 0 end s turn_number
+    takes robots (is_turn_left next) (is_turn_left (set next i (get_or next i 0 + 4))) i (get_or next i 0) 0 end s turn_number
     (le_yes (get_or next (get_or next i 0 % 4) 0) (get_or next i 0) (omega (arith, here)))
     (le_no (get_or (set next i (get_or next i 0 + 4)) (get_or next i 0 % 4) 0) (get_or next i 0) (omega (arith, gone)))
     (λ k other. left_same next i k are inside other)
@@ -156,7 +156,7 @@ next_taken robots next i end s are inside within ready =
 in_row : ℕ → ℕ → Bool
 in_row n t = nat_lt (t % 4) n
 
-row_step : (robots : List Behaviour) (n j t m : ℕ) (s : Stage) → t % 4 ≡ j
+row_step : (robots : List Behaviour) (n j t m : ℕ) (s : BattleState) → t % 4 ≡ j
     →
     turns_left robots (in_row n) t (suc m) (turns robots (min j n) s) ≡
     turns_left robots (in_row n) (t + 1) m (turns robots (min (j + 1) n) s)
@@ -174,7 +174,7 @@ row_step robots n j t m s place = elim (cases_lt j n) [
       ap (λ k. turns_left robots (in_row n) (t + 1) m (turns robots k s)) same
 ]
 
-row : (robots : List Behaviour) (n t m : ℕ) (s : Stage) → t % 4 ≡ 0 → n ≤ 4
+row : (robots : List Behaviour) (n t m : ℕ) (s : BattleState) → t % 4 ≡ 0 → n ≤ 4
     →
     turns_left robots (in_row n) t (suc (suc (suc (suc m)))) s ≡
     turns_left robots (in_row n) (t + 1 + 1 + 1 + 1) m (turns robots n s)
@@ -189,15 +189,15 @@ row robots n t m s begins most =
     ∙ row_step robots n 3 (t + 1 + 1 + 1) m s (omega arith)
     ∙ ap (λ k. turns_left robots (in_row n) (t + 1 + 1 + 1 + 1) m (turns robots k s)) last
 
-rounds_first : (robots : List Behaviour) (w : ℕ) (s : Stage)
-    → rounds robots w (turns robots (length robots) s) ≡ rounds robots (suc w) s
-unfolding rounds
+rounds_first : (robots : List Behaviour) (w : ℕ) (s : BattleState)
+    → cycles_without_updates robots w (turns robots (length robots) s) ≡ cycles_without_updates robots (suc w) s
+unfolding cycles_without_updates
 rounds_first robots zero s = refl
 rounds_first robots (suc w) s = ap (turns robots (length robots)) (rounds_first robots w s)
 
-rows : (robots : List Behaviour) (t w : ℕ) (s : Stage) → t % 4 ≡ 0 → length robots ≤ 4
-    → turns_left robots (in_row (length robots)) t (4 * w) s ≡ rounds robots w s
-unfolding rounds turns_left
+rows : (robots : List Behaviour) (t w : ℕ) (s : BattleState) → t % 4 ≡ 0 → length robots ≤ 4
+    → turns_left robots (in_row (length robots)) t (4 * w) s ≡ cycles_without_updates robots w s
+unfolding cycles_without_updates turns_left
 rows robots t zero s begins most = refl
 rows robots t (suc w) s begins most =
     let more : 4 * suc w ≡ suc (suc (suc (suc (4 * w)))) = omega arith in
@@ -206,13 +206,13 @@ rows robots t (suc w) s begins most =
     ∙ rounds_first robots w s
 
 -- an interval begins
-pub rest_all : (robots : List Behaviour) (next : List ℕ) (n w : ℕ) (s : Stage) → AreTurnNumbers next →
+pub rest_all : (robots : List Behaviour) (next : List ℕ) (n w : ℕ) (s : BattleState) → AreTurnNumbers next →
     n ≡ length robots → n ≤ 4
     → ((i : ℕ) → i < n → get_or next i 0 ≡ i) → ((i : ℕ) → n ≤ i → i < 4 → 4 * w ≤ get_or next i 0)
-    → turns_left robots (is_left next) 0 (4 * w) s ≡ rounds robots w s
-unfolding is_left in_row
+    → turns_left robots (is_turn_left next) 0 (4 * w) s ≡ cycles_without_updates robots w s
+unfolding is_turn_left in_row
 rest_all robots next n w s are all most first past =
-    rest_same robots (is_left next) (in_row n) 0 (4 * w) s (λ t from to. elim (cases_lt (t % 4) n) [
+    rest_same robots (is_turn_left next) (in_row n) 0 (4 * w) s (λ t from to. elim (cases_lt (t % 4) n) [
       | inl inside ↦ le_yes (get_or next (t % 4) 0) t (omega (arith, first (t % 4) inside)) ∙
           sym (grind (arith, nat_tests))
       | inr outside ↦ le_no (get_or next (t % 4) 0) t (omega (arith, past (t % 4) outside (omega arith))) ∙

@@ -11,7 +11,7 @@ use Rattle.engine.specs.declared.engines.Engine.{Engine}
 use Rattle.code.specs.Meaning.{want}
 use Rattle.engine.specs.Executables.{Executable}
 use Rattle.engine.specs.Engines.{EngineIsReached, EngineFits}
-use Rattle.battles.specs.Battle.{Behaviour, Stage}
+use Rattle.battles.specs.Battle.{Behaviour, BattleState}
 
 -- the robot wants what the trees of the program's file want
 pub record IsRobotOf (exe : Executable) (robot : Behaviour) : Type 0 where
@@ -53,6 +53,6 @@ EachIsAheadOf (runner ∷ runners) (exe ∷ exes) (trace ∷ traces) =
     IsAheadOf runner exe trace × EachIsAheadOf runners exes traces
 EachIsAheadOf _ _ _ = ⊥
 
-pub record HasReached (runners : List Runner) (exes : List Executable) (arena : Arena) (stage : Stage) : Type 0 where
+pub record HasReached (runners : List Runner) (exes : List Executable) (arena : Arena) (stage : BattleState) : Type 0 where
   pub field : RepresentsField arena stage.field
   pub traces : EachIsAheadOf runners exes stage.traces

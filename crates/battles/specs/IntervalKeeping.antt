@@ -1,7 +1,7 @@
 -- What playing an interval needs of the machines and the arena, and what it keeps.
 use Rattle.std.specs.Prelude.{◌≡◌, ◌≢◌, ℕ, ◌<◌, ◌≤◌, ◌*◌, List, Bool, true, length, slice_index_or, nat_le}
 use Rattle.arena.specs.Field.{live_count}
-use Rattle.arena.specs.Arena.{Arena, lives}
+use Rattle.arena.specs.Arena.{Arena, is_live}
 use Rattle.arena.specs.declared.rules.TheConstants.{MOST_ROBOTS}
 use Rattle.engine.specs.Executables.{Executable}
 use Rattle.engine.specs.declared.engines.Engine.{Engine}
@@ -10,17 +10,17 @@ use Rattle.engine.specs.declared.questions.Question.{Question}
 use Rattle.engine.specs.Questions.{IsAsked, want_of}
 use Rattle.code.specs.declared.want.Want.TheVariants.{Quiet}
 use Rattle.battles.specs.declared.intervals.TheConstants.{MOST_AHEAD}
-use Rattle.battles.specs.Battle.{Behaviour, Stage, update_cycles}
+use Rattle.battles.specs.Battle.{Behaviour, BattleState, update_cycles}
 use Rattle.battles.specs.Carrying.{Runner, EachFits, HasReached}
 use Rattle.battles.specs.Intervals.{AreTurnNumbers, AreWaiting, WaitsToDraw, periods}
 
 -- a robot of the field for each machine
-pub record HavePlaces (runners : List Runner) (arena : Arena) : Type 0 where
+pub record HaveFieldRobots (runners : List Runner) (arena : Arena) : Type 0 where
   pub few : length runners ≤ MOST_ROBOTS
   pub robots : length arena.robots ≡ length runners
 
 -- each program has a machine that can go on with it, and a robot of the field
-pub record AreManned (exes : List Executable) (runners : List Runner) (arena : Arena) : Type 0 where
+pub record HaveMachines (exes : List Executable) (runners : List Runner) (arena : Arena) : Type 0 where
   pub few : length exes ≤ MOST_ROBOTS
   pub fits : EachFits runners exes
   pub robots : length arena.robots ≡ length exes
@@ -35,7 +35,7 @@ pub record CanPlay (i : ℕ) (exe : Executable) (machine : Engine) (arena : Aren
 pub record MayTakeTurn (i : ℕ) (exe : Executable) (machine : Engine) (arena : Arena)
     (question : Question) : Type 0 where
   pub plays : CanPlay i exe machine arena
-  pub alive : lives arena i ≡ true
+  pub alive : is_live arena i ≡ true
   pub asked : IsAsked exe machine question
   pub some : want_of question ≢ Quiet
 
@@ -60,30 +60,30 @@ pub record RanWithin (limit n : ℕ) (exe : Executable) (runner : Runner) : Type
 -- An interval of w cycles: each robot has the number of its next turn. Those that aren't there have no turn in it.
 pub record IsInterval (exes : List Executable) (next : List ℕ) (w : ℕ) (runners : List Runner)
     (arena : Arena) : Type 0 where
-  pub manned : AreManned exes runners arena
+  pub manned : HaveMachines exes runners arena
   pub turn_numbers : AreTurnNumbers next
   pub past : (i : ℕ) → length exes ≤ i → i < MOST_ROBOTS → MOST_ROBOTS * w ≤ slice_index_or next i 0
 
 -- at its begin each robot has all its turns before it
 pub record BeginsInterval (exes : List Executable) (next : List ℕ) (w : ℕ) (runners : List Runner)
     (arena : Arena) : Type 0 where
-  pub window : IsInterval exes next w runners arena
+  pub interval : IsInterval exes next w runners arena
   pub first : (i : ℕ) → i < length exes → slice_index_or next i 0 ≡ i
 
 -- after that each robot that has turns left in it waits
-pub record IsUnderWay (exes : List Executable) (next : List ℕ) (w : ℕ) (runners : List Runner)
+pub record IsWaitingInterval (exes : List Executable) (next : List ℕ) (w : ℕ) (runners : List Runner)
     (arena : Arena) : Type 0 where
-  pub window : IsInterval exes next w runners arena
+  pub interval : IsInterval exes next w runners arena
   pub waiting : AreWaiting w next exes runners
 
 -- the stage after an update, and whether that decides the battle: at most one robot is alive
-pub record HasUpdated (exes : List Executable) (runners : List Runner) (arena : Arena) (stage : Stage)
+pub record HasUpdated (exes : List Executable) (runners : List Runner) (arena : Arena) (stage : BattleState)
     (decides : Bool) : Type 0 where
   pub reached : HasReached runners exes arena stage
   pub decided : decides ≡ nat_le (live_count stage.field) 1
 
 -- the stage after n periods, in none of which a robot died
-pub record HasRested (robots : List Behaviour) (exes : List Executable) (n : ℕ)
-    (runners : List Runner) (arena : Arena) (stage : Stage) : Type 0 where
+pub record HasPassedPeriods (robots : List Behaviour) (exes : List Executable) (n : ℕ)
+    (runners : List Runner) (arena : Arena) (stage : BattleState) : Type 0 where
   pub reached : HasReached runners exes arena (periods robots n stage)
   pub alive : (k : ℕ) → k ≤ n → live_count (periods robots k stage).field ≡ live_count stage.field

@@ -11,7 +11,7 @@ use Rattle.grammar.specs.KnownSources.{constant, file_of_main, late_read_file, m
 use Rattle.grammar.specs.Profile.{Profile, first_profile, second_profile}
 use Rattle.grammar.specs.Tree.{Variable, Binary, Assign, Call, NoMore, Argument, Body, Done, ExpressionStatement, IfStatement, While, File}
 use Rattle.code.specs.KnownPrograms.{shooting_file}
-use Rattle.battles.specs.Battle.{Outcome, Stage, battle, opening, stage_after, damages_of}
+use Rattle.battles.specs.Battle.{Outcome, BattleState, battle, first_state, state_after, damages_of}
 use Rattle.battles.specs.Pairing.{robots_of}
 
 -- an empty loop
@@ -72,8 +72,8 @@ idling = codes "main(){while(1);}"
 abbrev pub drawing : List ℕ
 drawing = codes "main(){while(1)cannon(0,rand(41));}"
 
-abbrev pub shooting_stage : ℕ → Stage
-shooting_stage n = stage_after (robots_of first_profile (shooting_file ∷ [])) (opening 2 1 1) n
+abbrev pub shooting_stage : ℕ → BattleState
+shooting_stage n = state_after (robots_of first_profile (shooting_file ∷ [])) (first_state 2 1 1) n
 
 pub record KnownBattles : Type 0 where
   pub empty : Fights first_profile (codes "main(){}" ∷ []) (file_of_main [] Done ∷ []) 15 (after 15 (0 ∷ 0 ∷ []))

@@ -14,7 +14,7 @@ mod battles;
 mod intervals;
 mod next_turns;
 mod outcome;
-mod passing;
+mod running_ahead;
 mod programs;
 mod runners;
 mod scheduler;

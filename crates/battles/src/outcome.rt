@@ -1,7 +1,7 @@
 //! How a battle ends.
 
 ghost use Rattle.std.specs.Prelude.{◌≡◌, ◌<◌, ◌≤◌, length, slice_index};
-ghost use Rattle.battles.specs.Battle.{alive};
+ghost use Rattle.battles.specs.Battle.{is_survivor};
 
 use arrayvec::ArrayVec;
 use settings::MOST_FILES;
@@ -46,10 +46,10 @@ impl Outcome {
     }
 
     /// Reports whether a robot is alive: its damage is below 100.
-    #[tactic(auto, unfolding(crate::specs::Battle::alive))]
+    #[tactic(auto, unfolding(crate::specs::Battle::is_survivor))]
     pub fn is_alive(&self, robot: usize) -> bool
         requires { robot < length self.now.damages }
-        ensures { result ≡ alive self.now robot }
+        ensures { result ≡ is_survivor self.now robot }
     {
         self.damages[robot] < 100
     }

@@ -2,14 +2,14 @@
 
 ghost use Rattle.std.specs.Prelude.{◌≡◌, ◌<◌, ◌≤◌, ◌+◌, List, length};
 ghost use Rattle.arena.specs.Arena.{most_updates};
-ghost use Rattle.battles.specs.Battle.{Behaviour, Stage, stage_after, last_cycle};
+ghost use Rattle.battles.specs.Battle.{Behaviour, BattleState, state_after, last_cycle};
 ghost use Rattle.battles.specs.Carrying.{AreRobotsOf, HasReached};
-ghost use Rattle.battles.specs.IntervalKeeping.{AreManned, HasUpdated, MayRunAhead};
+ghost use Rattle.battles.specs.IntervalKeeping.{HaveMachines, HasUpdated, MayRunAhead};
 ghost use Rattle.battles.specs.Intervals.{period};
 
 use crate::battle_executables::Executables;
 use crate::intervals::{MOST_AHEAD, UPDATE_CYCLES, play_interval};
-use crate::passing::{pass_interval, skip_intervals};
+use crate::running_ahead::{advance_if_ahead, skip_intervals};
 use crate::runners::Runner;
 use arena::Arena;
 use settings::MOST_CYCLES;
@@ -21,16 +21,16 @@ fn play_period(
     arena: &mut Arena,
     farthest: u32,
 ) -> bool
-    requires manned { AreManned executables.now runners.old arena.old }
+    requires manned { HaveMachines executables.now runners.old arena.old }
     requires updates { arena.old.updates < most_updates }
     requires ahead { MayRunAhead UPDATE_CYCLES farthest }
-    ensures stage { (robots : List Behaviour) (s : Stage) → AreRobotsOf executables.now robots
+    ensures stage { (robots : List Behaviour) (s : BattleState) → AreRobotsOf executables.now robots
         → HasReached runners.old executables.now arena.old s
         → HasUpdated executables.now runners.new arena.new (period robots s) result }
-    ensures manned { AreManned executables.now runners.new arena.new }
+    ensures manned { HaveMachines executables.now runners.new arena.new }
     ensures updates { arena.new.updates ≡ arena.old.updates + 1 }
 {
-    if !pass_interval(runners, arena, UPDATE_CYCLES) {
+    if !advance_if_ahead(runners, arena, UPDATE_CYCLES) {
         play_interval(runners, executables, arena, UPDATE_CYCLES, farthest);
     }
     arena.update();
@@ -44,13 +44,13 @@ pub(crate) fn play_cycles(
     arena: &mut Arena,
     limit: u32,
 ) -> u32
-    requires manned { AreManned executables.now runners.old arena.old }
+    requires manned { HaveMachines executables.now runners.old arena.old }
     requires updates { arena.old.updates ≡ 0 }
     requires within { limit ≤ MOST_CYCLES }
-    ensures stage { (robots : List Behaviour) (s : Stage) → AreRobotsOf executables.now robots
+    ensures stage { (robots : List Behaviour) (s : BattleState) → AreRobotsOf executables.now robots
         → HasReached runners.old executables.now arena.old s
-        → HasReached runners.new executables.now arena.new (stage_after robots s result) }
-    ensures cycles { (robots : List Behaviour) (s : Stage) → AreRobotsOf executables.now robots
+        → HasReached runners.new executables.now arena.new (state_after robots s result) }
+    ensures cycles { (robots : List Behaviour) (s : BattleState) → AreRobotsOf executables.now robots
         → HasReached runners.old executables.now arena.old s → result ≡ last_cycle robots s limit }
     ensures manned { length arena.new.robots ≡ length executables.now }
 {

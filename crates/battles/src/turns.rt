@@ -2,8 +2,8 @@
 
 ghost use Rattle.std.specs.Prelude.{◌≡◌, true, ℤ, List, length};
 ghost use Rattle.arena.specs.Answer.{answer};
-ghost use Rattle.arena.specs.Field.{Field, is_live};
-ghost use Rattle.arena.specs.Arena.{lives};
+ghost use Rattle.arena.specs.Field.{Field, is_live_at};
+ghost use Rattle.arena.specs.Arena.{is_live};
 ghost use Rattle.arena.specs.Representing.{RepresentsField};
 ghost use Rattle.engine.specs.Engines.{EngineIsReached};
 ghost use Rattle.engine.specs.Questions.{want_of};
@@ -27,12 +27,12 @@ pub(crate) fn take_turn(
 )
     requires { MayTakeTurn robot exe.now machine.old arena.old question }
     ensures field { (r : Behaviour) (f : Field) (trace : List ℤ) → r trace ≡ want_of question
-        → is_live f robot ≡ true → RepresentsField arena.old f → RepresentsField arena.new (robot_turn r robot f trace).0 }
+        → is_live_at f robot ≡ true → RepresentsField arena.old f → RepresentsField arena.new (robot_turn r robot f trace).0 }
     ensures trace { (r : Behaviour) (f : Field) (trace : List ℤ) → r trace ≡ want_of question
-        → is_live f robot ≡ true → RepresentsField arena.old f → EngineIsReached machine.old exe.now trace
+        → is_live_at f robot ≡ true → RepresentsField arena.old f → EngineIsReached machine.old exe.now trace
         → EngineIsReached machine.new exe.now (robot_turn r robot f trace).1 }
     ensures keeps { KeepsPlayable exe.now machine.new arena.old arena.new }
-    ensures alive { lives arena.new robot ≡ true }
+    ensures alive { is_live arena.new robot ≡ true }
 {
     match question {
         Question::Draw(_, limit) => machine.reply(exe, question, arena.draw(limit)),
@@ -63,12 +63,12 @@ pub(crate) fn take_turn(
 #[cold]
 #[inline(never)]
 fn ask_plainly(arena: &mut Arena, robot: usize, intrinsic: Intrinsic, words: [i32; 2]) -> i32
-    requires { lives arena.old robot ≡ true }
+    requires { is_live arena.old robot ≡ true }
     ensures reply { (f : Field) → RepresentsField arena.old f → result ≡ (answer f robot intrinsic words).0 }
     ensures stands { (f : Field) → RepresentsField arena.old f → RepresentsField arena.new (answer f robot intrinsic words).1 }
     ensures updates { arena.new.updates ≡ arena.old.updates }
     ensures manned { length arena.new.robots ≡ length arena.old.robots }
-    ensures alive { lives arena.new robot ≡ true }
+    ensures alive { is_live arena.new robot ≡ true }
 {
     arena.ask(robot, intrinsic, words)
 }

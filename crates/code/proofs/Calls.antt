@@ -17,11 +17,11 @@ use Rattle.code.specs.declared.instr.Instr.TheVariants.{Fcall, Const, Retsub}
 use Rattle.code.specs.declared.instr.Instr.TheVariants as instr
 use Rattle.code.specs.declared.want.Want.{Want}
 use Rattle.code.specs.declared.want.Want.TheVariants.{Quiet}
-use Rattle.code.specs.Generation.{Program, PlacedCode, ◌⨾◌, only, body_code, counts_of, function_code, last_return_code}
+use Rattle.code.specs.Generation.{Program, CodeAt, ◌⨾◌, only, body_code, counts_of, function_code, last_return_code}
 use Rattle.code.specs.declared.frame.Frame.{Frame}
 use Rattle.code.specs.Machine.{instr_at, address_at, counts_at, parameters_at, variables_at, variables_of}
-use Rattle.code.specs.Meaning.{Vars, Evaluated, Gives, Flow, Through, Returns, Again, and_then, tick, closed, returned, called, first_locals}
-use Rattle.grammar.specs.Resolved.{IsCallable, InBody, InFile}
+use Rattle.code.specs.Meaning.{Vars, EvaluationResult, Gives, Completion, Through, Returns, BodyMeaning, and_then, tick, end_of_function, returned, called, first_locals}
+use Rattle.grammar.specs.Resolved.{IsCallable, InBody, FitsFile}
 use Rattle.code.proofs.Follows.{HasSizes, Follows, chain, follows_from, wants}
 use Rattle.code.proofs.Instructions.{run, IsDepth, opened, entered, back_with, on_const, on_frame, on_ask, on_call, on_retsub, length-words}
 use Rattle.code.proofs.Lists.{words_of, pushed}
@@ -35,10 +35,10 @@ pub record Holds (code : Program) (file : File) : Type 0 where
       counts_at code k ≡ counts_of (names_of_function (function_at file k))
   pub known : (k : ℕ) → k < length file.functions → k < length code.functions
   pub resolved : (k : ℕ) → k < length file.functions →
-      InFile (length file.externals) (length file.functions) (function_at file k)
+      FitsFile (length file.externals) (length file.functions) (function_at file k)
 
 -- bodies follow their meaning along fewer than n replies
-abbrev pub Follows_sooner : Program → File → ℕ → Again → Type 0
+abbrev pub Follows_sooner : Program → File → ℕ → BodyMeaning → Type 0
 Follows_sooner code file n again =
     (l : ℕ) (b : Body) → InBody (length file.externals) l (length file.functions) b →
     (below : List ℤ) (f : Frame) (fs : List Frame) (at : ℕ) (vars : Vars) (depth frames : ℕ) (trace : List ℤ) →
@@ -121,12 +121,12 @@ first_sizes f arguments =
 module _ (code : Program) (e l n : ℕ) {A : Type 0} where
   -- the end of a function's run
   pub closed_law : (v : ℕ) (below : List ℤ) (f g : Frame) (fs : List Frame) (at : ℕ) (depth frames : ℕ)
-      (go : ℤ → Vars → List ℤ → Evaluated A) (k : A → Vars → List ℤ → Option Want) → f.base ≡ length below →
+      (go : ℤ → Vars → List ℤ → EvaluationResult A) (k : A → Vars → List ℤ → Option Want) → f.base ≡ length below →
       IsDepth v below [] depth → frames ≡ length (f ∷ g ∷ fs) → StandsAt code at (Const (pos 0) ∷ Retsub ∷ []) →
       ((x : ℤ) (vars : Vars) (rest : List ℤ) → HasSizes e v vars → length rest ≤ n →
       Follows e l n (go x vars rest) (wants code (back_with f below (g ∷ fs) vars.externals x) rest) k) →
-      (flow : Flow) (vars : Vars) (rest : List ℤ) → HasSizes e v vars → length rest ≤ n →
-      Follows e l n (closed code.profile depth frames flow vars rest go) (flown code at below f (g ∷ fs) flow vars rest)
+      (flow : Completion) (vars : Vars) (rest : List ℤ) → HasSizes e v vars → length rest ≤ n →
+      Follows e l n (end_of_function code.profile depth frames flow vars rest go) (flown code at below f (g ∷ fs) flow vars rest)
       k
   closed_law v below f g fs at depth frames go k base deep count s next (Returns x) vars rest sizes short =
       next x vars rest sizes short
@@ -138,7 +138,7 @@ module _ (code : Program) (e l n : ℕ) {A : Type 0} where
       base count
       (λ r2 h2. next (pos 0) vars r2 sizes (omega (arith, short, h1, h2))))
 
-module _ (code : Program) (file : File) (l n : ℕ) (again : Again) (holds : Holds code file)
+module _ (code : Program) (file : File) (l n : ℕ) (again : BodyMeaning) (holds : Holds code file)
     (sooner : Follows_sooner code file n again) where
   abbrev e : ℕ
   e = length file.externals
@@ -173,7 +173,7 @@ module _ (code : Program) (file : File) (l n : ℕ) (again : Again) (holds : Hol
       let k = gone_on code (at + 1) below (g ∷ fs) temps in
       let go = λ (rest : List ℤ).
       and_then (again f.body first (depth + v) (frames + 1) rest) (λ flow after rest.
-      closed code.profile (depth + v) (frames + 1) flow after rest (returned vars))
+      end_of_function code.profile (depth + v) (frames + 1) flow after rest (returned vars))
       in
       let whole = wants code (run at below (opened below depth ∷ g ∷ fs) vars (temps ++ xs)) rest in
       let base_is : depth ≡ length base = sym (length-words e l below vars temps depth sizes deep) in
@@ -206,7 +206,7 @@ module _ (code : Program) (file : File) (l n : ℕ) (again : Again) (holds : Hol
       chain e l e v n (again f.body first (depth + v) (frames + 1) r1)
       (wants code (run start base (frame ∷ g ∷ fs) first []) r1)
       (flown code (start + length (body_code code.profile f.body start)) base frame (g ∷ fs))
-      (λ flow after rest. closed code.profile (depth + v) (frames + 1) flow after rest (returned vars)) k
+      (λ flow after rest. end_of_function code.profile (depth + v) (frames + 1) flow after rest (returned vars)) k
       (sooner v f.body known.body base frame (g ∷ fs) start first (depth + v) (frames + 1) r1 base_is tied
       (omega (arith, h1, short)) sb.first)
       (closed_law code e l n v base frame g fs (start + length (body_code code.profile f.body start)) (depth + v)
@@ -238,7 +238,7 @@ module _ (code : Program) (file : File) (l n : ℕ) (again : Again) (holds : Hol
       (body r1 h1)))
 
   -- the whole call: a frame, the arguments, and the call
-  pub call_law : (f : Callee) → IsCallable (length file.functions) f → (b : PlacedCode) (ev : Evaluation (List ℤ)) →
+  pub call_law : (f : Callee) → IsCallable (length file.functions) f → (b : CodeAt) (ev : Evaluation (List ℤ)) →
       EvaluatesAll code e l n b ev →
       Evaluates code e l n (only (instr.Frame ∷ []) ⨾ b ⨾ only (Fcall f ∷ []))
       (λ vars depth frames trace. tick (nat_lt frames code.profile.frames) Quiet trace

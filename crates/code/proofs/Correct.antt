@@ -18,7 +18,7 @@ use Rattle.code.specs.declared.want.Want.TheVariants.{Quiet, Restart}
 use Rattle.code.specs.declared.counts.FunctionCounts.{FunctionCounts}
 use Rattle.code.specs.Generation.{Program, counts_of, expr_code, args_code, body_code, function_code, functions_code, last_return_code, address_in, code_of}
 use Rattle.code.specs.Machine.{Machine, instr_at, address_at, counts_at, first_frame, started_machine, want_next, reached, is_ready, want_code}
-use Rattle.code.specs.Meaning.{Vars, Evaluated, Gives, Awaits, Flow, Through, Returns, Again, and_then, tick, closed, wanted, zeros, value, values, effect, effect_within, want_within, want}
+use Rattle.code.specs.Meaning.{Vars, EvaluationResult, Gives, Awaits, Completion, Through, Returns, BodyMeaning, and_then, tick, end_of_function, wanted, zeros, value, values, effect, effect_within, want_within, want}
 use Rattle.grammar.specs.Resolved.{IsAmong, IsResolved, InExpr, InArgs, InBody}
 use Rattle.code.proofs.Follows.{Follows, follows_longer, chain, shown, wants}
 use Rattle.code.proofs.Instructions.{run, IsDepth, on_const, on_retsub_of_main}
@@ -27,7 +27,7 @@ use Rattle.code.proofs.Expressions.{const_law, fetch_law, binary_law, assign_law
 use Rattle.code.proofs.Calls.{Holds, Follows_sooner, call_law}
 use Rattle.code.proofs.Statements.{done_law, alone_law, when_law, choose_law, while_law, return_law}
 
-module _ (code : Program) (file : File) (n : ℕ) (again : Again) (holds : Holds code file)
+module _ (code : Program) (file : File) (n : ℕ) (again : BodyMeaning) (holds : Holds code file)
     (sooner : Follows_sooner code file n again) (l : ℕ) where
   abbrev e : ℕ
   e = length file.externals
@@ -196,20 +196,20 @@ module _ (p : Profile) (file : File) where
       ap make (sym (append-nil (zeros (length main.variables))))
 
   -- what an evaluation of main wants
-  read_off : (e l n : ℕ) (o : Evaluated ℤ) (w : Option Want) → Follows e l n o w (λ x vars rest. Some Restart) →
+  read_off : (e l n : ℕ) (o : EvaluationResult ℤ) (w : Option Want) → Follows e l n o w (λ x vars rest. Some Restart) →
       w ≡ Some (wanted o)
   read_off e l n (Gives x vars rest) w f = f.same
   read_off e l n (Awaits event) w f = f
 
   -- main does not end
-  main_law : (n : ℕ) (o : Evaluated Flow) (w : Option Want) (at : ℕ) →
+  main_law : (n : ℕ) (o : EvaluationResult Completion) (w : Option Want) (at : ℕ) →
       StandsAt (code_of p file) at (Const (pos 0) ∷ Retsub ∷ []) →
       Follows (length file.externals) (length main.variables) n o w (flown (code_of p file) at [] first_frame []) →
       w ≡
       Some
       (wanted
       (and_then o
-      (λ flow vars rest. closed p (length main.variables) 1 flow vars rest (λ x vars rest. Awaits Restart))))
+      (λ flow vars rest. end_of_function p (length main.variables) 1 flow vars rest (λ x vars rest. Awaits Restart))))
   main_law n o w at s f =
       let code = code_of p file in
       let e = length file.externals in
@@ -217,13 +217,13 @@ module _ (p : Profile) (file : File) where
       let k = λ (x : ℤ) (vars : Vars) (rest : List ℤ). Some Restart in
       let deep : IsDepth l [] [] l = record { is = omega arith } in
       let end =
-      λ (flow : Flow) (vars : Vars) (rest : List ℤ). closed {A = ℤ} p l 1 flow vars rest
+      λ (flow : Completion) (vars : Vars) (rest : List ℤ). end_of_function {A = ℤ} p l 1 flow vars rest
       (λ x vars rest. Awaits Restart) in
       read_off e l n (and_then o end) w
       (chain e l e l n o w (flown code at [] first_frame []) end k f
       (λ flow vars rest sizes short.
       elim flow as
-      (λ (flow : Flow). Follows e l n (end flow vars rest) (flown code at [] first_frame [] flow vars rest) k) [
+      (λ (flow : Completion). Follows e l n (end flow vars rest) (flown code at [] first_frame [] flow vars rest) k) [
         | Through ↦
             on_const code e l n [] (first_frame ∷ []) at k l vars [] l (pos 0) rest
             (λ rest. tick (nat_lt 1 1) Quiet rest (λ reply rest. Awaits Restart)) s.0 sizes deep

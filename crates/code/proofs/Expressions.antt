@@ -8,10 +8,10 @@ use Rattle.arith.specs.declared.operators.Op.{Op}
 use Rattle.arith.specs.declared.operators.Op.TheVariants as op
 use Rattle.grammar.specs.declared.operators.StoreOp.{StoreOp}
 use Rattle.code.specs.declared.instr.Instr.TheVariants.{Fetch, Store, Const, Binop, Chop, Truth, Branch}
-use Rattle.code.specs.Generation.{Program, PlacedCode, ◌⨾◌, only, either, both_code, short_code, binary_code, no_code}
+use Rattle.code.specs.Generation.{Program, CodeAt, ◌⨾◌, only, either, both_code, short_code, binary_code, no_code}
 use Rattle.code.specs.declared.frame.Frame.{Frame}
 use Rattle.code.specs.Machine.{instr_at}
-use Rattle.code.specs.Meaning.{Vars, Gives, and_then, push, pass, full, short, binary, value_of_variable, assigned}
+use Rattle.code.specs.Meaning.{Vars, Gives, and_then, push, quiet_cycle, full, short, binary, value_of_variable, assigned}
 use Rattle.grammar.specs.Resolved.{IsVariable}
 use Rattle.arith.specs.Op.{value_of}
 use Rattle.code.specs.Values.{stored}
@@ -51,7 +51,7 @@ module _ (code : Program) (e l n : ℕ) where
       (λ rest shorter. arrives code e l n below fs (at + 1) (at + 1) vars (temps ++ x ∷ []) rest t.sizes
       (omega (arith, shorter, t.short)) refl)
 
-  pub full_law : (o : Op) (a b : PlacedCode) (ev_a ev_b : Evaluation ℤ) → Evaluates code e l n a ev_a →
+  pub full_law : (o : Op) (a b : CodeAt) (ev_a ev_b : Evaluation ℤ) → Evaluates code e l n a ev_a →
       Evaluates code e l n b ev_b →
       Evaluates code e l n (both_code o a b)
       (λ vars depth frames trace. full o depth (ev_a vars depth frames trace)
@@ -68,12 +68,12 @@ module _ (code : Program) (e l n : ℕ) where
       chain e l e l n (ev_a vars depth frames trace) (wants code (run at below fs vars temps) trace)
       (gone_on code at1 below fs temps)
       (λ x vars rest. and_then (ev_b vars (depth + 1) frames rest)
-      (λ y vars rest. pass rest (λ rest. Gives (value_of o x y) vars rest))) k
+      (λ y vars rest. quiet_cycle rest (λ rest. Gives (value_of o x y) vars rest))) k
       (A below fs at vars temps depth frames trace t sa.first)
       (λ x vars rest sizes short.
       chain e l e l n (ev_b vars (depth + 1) frames rest) (wants code (run at1 below fs vars (temps ++ x ∷ [])) rest)
       (gone_on code at2 below fs (temps ++ x ∷ []))
-      (λ y vars rest. pass rest (λ rest. Gives (value_of o x y) vars rest)) k
+      (λ y vars rest. quiet_cycle rest (λ rest. Gives (value_of o x y) vars rest)) k
       (B below fs at1 vars (temps ++ x ∷ []) (depth + 1) frames rest
       (tied_behind below fs temps depth frames vars rest x t.deep t.count t.inside sizes short) sb.first)
       (λ y vars rest sizes short.
@@ -81,11 +81,11 @@ module _ (code : Program) (e l n : ℕ) where
       (λ last shorter. arrives code e l n below fs (at2 + 1) end vars (temps ++ value_of o x y ∷ []) last sizes
       (omega (arith, shorter, short)) end_is)))
 
-  pub assign_law : (o : StoreOp) (v : Var) (a : PlacedCode) (ev : Evaluation ℤ) → IsVariable e l v →
+  pub assign_law : (o : StoreOp) (v : Var) (a : CodeAt) (ev : Evaluation ℤ) → IsVariable e l v →
       Evaluates code e l n a ev →
       Evaluates code e l n (a ⨾ only (Store v o ∷ []))
       (λ vars depth frames trace. and_then (ev vars depth frames trace)
-      (λ x vars rest. pass rest
+      (λ x vars rest. quiet_cycle rest
       (λ rest. let y = stored o (value_of_variable vars v) x in Gives y (assigned vars v y) rest)))
   assign_law o v a ev known A below fs at vars temps depth frames trace t s =
       let tail = only (Store v o ∷ []) in
@@ -96,7 +96,7 @@ module _ (code : Program) (e l n : ℕ) where
       let k = gone_on code end below fs temps in
       chain e l e l n (ev vars depth frames trace) (wants code (run at below fs vars temps) trace)
       (gone_on code at1 below fs temps)
-      (λ x vars rest. pass rest
+      (λ x vars rest. quiet_cycle rest
       (λ rest. let y = stored o (value_of_variable vars v) x in Gives y (assigned vars v y) rest)) k
       (A below fs at vars temps depth frames trace t sa.first)
       (λ x vars rest sizes short.
@@ -110,7 +110,7 @@ module _ (code : Program) (e l n : ℕ) where
       Evaluates code e l n (only (Fetch v ∷ Const (pos 1) ∷ Store v o ∷ Chop ∷ []))
       (λ vars depth frames trace. push code.profile depth trace
       (λ rest. let x = value_of_variable vars v in push code.profile (depth + 1) rest
-      (λ rest. pass rest (λ rest. pass rest (λ rest. Gives x (assigned vars v (stored o x (pos 1))) rest)))))
+      (λ rest. quiet_cycle rest (λ rest. quiet_cycle rest (λ rest. Gives x (assigned vars v (stored o x (pos 1))) rest)))))
   postfix_law o v known below fs at vars temps depth frames trace t s =
       let x = value_of_variable vars v in
       let y = stored o x (pos 1) in
@@ -118,13 +118,13 @@ module _ (code : Program) (e l n : ℕ) where
       let k = gone_on code end below fs temps in
       let last_of = λ (rest : List ℤ). Gives x (assigned vars v y) rest in
       on_fetch code e l n below fs at k vars temps depth v trace
-      (λ rest. push code.profile (depth + 1) rest (λ rest. pass rest (λ rest. pass rest last_of))) s.0 t.sizes known
+      (λ rest. push code.profile (depth + 1) rest (λ rest. quiet_cycle rest (λ rest. quiet_cycle rest last_of))) s.0 t.sizes known
       t.deep
       (λ r1 h1.
       on_const code e l n below fs (at + 1) k l vars (temps ++ x ∷ []) (depth + 1) (pos 1) r1
-      (λ rest. pass rest (λ rest. pass rest last_of)) s.1.0 t.sizes (deeper x t.deep)
+      (λ rest. quiet_cycle rest (λ rest. quiet_cycle rest last_of)) s.1.0 t.sizes (deeper x t.deep)
       (λ r2 h2.
-      on_store code e l n below fs (at + 1 + 1) k vars (temps ++ x ∷ []) v o (pos 1) r2 (λ rest. pass rest last_of)
+      on_store code e l n below fs (at + 1 + 1) k vars (temps ++ x ∷ []) v o (pos 1) r2 (λ rest. quiet_cycle rest last_of)
       s.1.1.0 t.sizes known
       (λ r3 h3.
       on_chop code e l n below fs (at + 1 + 1 + 1) k (assigned vars v y) (temps ++ x ∷ []) y r3 last_of s.1.1.1.0
@@ -132,7 +132,7 @@ module _ (code : Program) (e l n : ℕ) where
       (assigned_sizes e l vars v y t.sizes) (omega (arith, h1, h2, h3, h4, t.short)) (omega arith)))))
 
   -- the left side decides, or the right side's truth is the value
-  and_law : (a b : PlacedCode) (ev_a ev_b : Evaluation ℤ) → Evaluates code e l n a ev_a → Evaluates code e l n b ev_b →
+  and_law : (a b : CodeAt) (ev_a ev_b : Evaluation ℤ) → Evaluates code e l n a ev_a → Evaluates code e l n b ev_b →
       Evaluates code e l n (short_code op.And a b)
       (λ vars depth frames trace. short code.profile op.And depth (ev_a vars depth frames trace)
       (λ vars depth rest. ev_b vars depth frames rest))
@@ -151,14 +151,14 @@ module _ (code : Program) (e l n : ℕ) where
       let k = gone_on code end below fs temps in
       let right = λ (vars : Vars) (rest : List ℤ).
       and_then (ev_b vars depth frames rest)
-      (λ y vars rest. pass rest
+      (λ y vars rest. quiet_cycle rest
       (λ rest. push code.profile (depth + 1) rest
-      (λ rest. pass rest (λ rest. Gives (truth (holds y)) vars rest))))
+      (λ rest. quiet_cycle rest (λ rest. Gives (truth (holds y)) vars rest))))
       in
       let left = λ (vars : Vars) (rest : List ℤ). push code.profile depth rest (λ rest. Gives (pos 0) vars rest) in
       chain e l e l n (ev_a vars depth frames trace) (wants code (run at below fs vars temps) trace)
       (gone_on code at1 below fs temps)
-      (λ x vars rest. pass rest (λ rest. if holds x then right vars rest else left vars rest)) k
+      (λ x vars rest. quiet_cycle rest (λ rest. if holds x then right vars rest else left vars rest)) k
       (A below fs at vars temps depth frames trace t sa.first)
       (λ x vars rest sizes short.
       on_branch code e l n below fs at1 k vars temps other x rest
@@ -172,17 +172,17 @@ module _ (code : Program) (e l n : ℕ) where
         | true ↦
             chain e l e l n (ev_b vars depth frames r1) (wants code (run (at1 + 1) below fs vars temps) r1)
             (gone_on code at2 below fs temps)
-            (λ y vars rest. pass rest
+            (λ y vars rest. quiet_cycle rest
             (λ rest. push code.profile (depth + 1) rest
-            (λ rest. pass rest (λ rest. Gives (truth (holds y)) vars rest)))) k
+            (λ rest. quiet_cycle rest (λ rest. Gives (truth (holds y)) vars rest)))) k
             (B below fs (at1 + 1) vars temps depth frames r1 tied sb.first)
             (λ y vars r2 sizes short.
             let z = truth (holds y) in
             on_truth code e l n below fs at2 k vars temps y r2
-            (λ rest. push code.profile (depth + 1) rest (λ rest. pass rest (λ rest. Gives z vars rest))) sb.second.0
+            (λ rest. push code.profile (depth + 1) rest (λ rest. quiet_cycle rest (λ rest. Gives z vars rest))) sb.second.0
             (λ r3 h3.
             on_const code e l n below fs (at2 + 1) k l vars (temps ++ z ∷ []) (depth + 1) (pos 0) r3
-            (λ rest. pass rest (λ rest. Gives z vars rest))
+            (λ rest. quiet_cycle rest (λ rest. Gives z vars rest))
             (subst (λ (m : ℕ). instr_at code m ≡ Some (Const (pos 0))) (sym zero_at) se.zero) sizes (deeper z t.deep)
             (λ r4 h4.
             on_branch code e l n below fs (at2 + 1 + 1) k vars (temps ++ z ∷ []) (end_of at1 yes no) (pos 0) r4
@@ -197,7 +197,7 @@ module _ (code : Program) (e l n : ℕ) where
             (omega (arith, h1, h2, short)) end_is)
       ]))
 
-  or_law : (a b : PlacedCode) (ev_a ev_b : Evaluation ℤ) → Evaluates code e l n a ev_a → Evaluates code e l n b ev_b →
+  or_law : (a b : CodeAt) (ev_a ev_b : Evaluation ℤ) → Evaluates code e l n a ev_a → Evaluates code e l n b ev_b →
       Evaluates code e l n (short_code op.Or a b)
       (λ vars depth frames trace. short code.profile op.Or depth (ev_a vars depth frames trace)
       (λ vars depth rest. ev_b vars depth frames rest))
@@ -215,14 +215,14 @@ module _ (code : Program) (e l n : ℕ) where
       let last_is : at2 + 1 ≡ end_of at1 yes no = ends other b (only (Truth ∷ [])) in
       let k = gone_on code end below fs temps in
       let right = λ (vars : Vars) (rest : List ℤ).
-      and_then (ev_b vars depth frames rest) (λ y vars rest. pass rest (λ rest. Gives (truth (holds y)) vars rest))
+      and_then (ev_b vars depth frames rest) (λ y vars rest. quiet_cycle rest (λ rest. Gives (truth (holds y)) vars rest))
       in
       let left =
       λ (vars : Vars) (rest : List ℤ). push code.profile depth rest
-      (λ rest. push code.profile (depth + 1) rest (λ rest. pass rest (λ rest. Gives (pos 1) vars rest))) in
+      (λ rest. push code.profile (depth + 1) rest (λ rest. quiet_cycle rest (λ rest. Gives (pos 1) vars rest))) in
       chain e l e l n (ev_a vars depth frames trace) (wants code (run at below fs vars temps) trace)
       (gone_on code at1 below fs temps)
-      (λ x vars rest. pass rest (λ rest. if holds x then left vars rest else right vars rest)) k
+      (λ x vars rest. quiet_cycle rest (λ rest. if holds x then left vars rest else right vars rest)) k
       (A below fs at vars temps depth frames trace t sa.first)
       (λ x vars rest sizes short.
       on_branch code e l n below fs at1 k vars temps other x rest
@@ -235,11 +235,11 @@ module _ (code : Program) (e l n : ℕ) where
       (wants code (run (if d then at1 + 1 else other) below fs vars temps) r1) k) [
         | true ↦
             on_const code e l n below fs (at1 + 1) k l vars temps depth (pos 1) r1
-            (λ rest. push code.profile (depth + 1) rest (λ rest. pass rest (λ rest. Gives (pos 1) vars rest)))
+            (λ rest. push code.profile (depth + 1) rest (λ rest. quiet_cycle rest (λ rest. Gives (pos 1) vars rest)))
             se.first.0 sizes t.deep
             (λ r2 h2.
             on_const code e l n below fs (at1 + 1 + 1) k l vars (temps ++ pos 1 ∷ []) (depth + 1) (pos 0) r2
-            (λ rest. pass rest (λ rest. Gives (pos 1) vars rest)) se.zero sizes (deeper (pos 1) t.deep)
+            (λ rest. quiet_cycle rest (λ rest. Gives (pos 1) vars rest)) se.zero sizes (deeper (pos 1) t.deep)
             (λ r3 h3.
             on_branch code e l n below fs (at1 + 1 + 1 + 1) k vars (temps ++ pos 1 ∷ []) (end_of at1 yes no) (pos 0) r3
             (λ rest. Gives (pos 1) vars rest) se.jump
@@ -248,7 +248,7 @@ module _ (code : Program) (e l n : ℕ) where
         | false ↦
             chain e l e l n (ev_b vars depth frames r1) (wants code (run other below fs vars temps) r1)
             (gone_on code at2 below fs temps)
-            (λ y vars rest. pass rest (λ rest. Gives (truth (holds y)) vars rest)) k
+            (λ y vars rest. quiet_cycle rest (λ rest. Gives (truth (holds y)) vars rest)) k
             (B below fs other vars temps depth frames r1 tied sb.first)
             (λ y vars r2 sizes short.
             let z = truth (holds y) in
@@ -258,7 +258,7 @@ module _ (code : Program) (e l n : ℕ) where
       ]))
 
   -- an operator of either profile
-  short_law : (o : Op) (a b : PlacedCode) (ev_a ev_b : Evaluation ℤ) → Evaluates code e l n a ev_a →
+  short_law : (o : Op) (a b : CodeAt) (ev_a ev_b : Evaluation ℤ) → Evaluates code e l n a ev_a →
       Evaluates code e l n b ev_b →
       Evaluates code e l n (short_code o a b)
       (λ vars depth frames trace. short code.profile o depth (ev_a vars depth frames trace)
@@ -267,7 +267,7 @@ module _ (code : Program) (e l n : ℕ) where
   short_law op.Or a b ev_a ev_b A B = or_law a b ev_a ev_b A B
   short_law o a b ev_a ev_b A B = full_law o a b ev_a ev_b A B
 
-  pub binary_law : (o : Op) (a b : PlacedCode) (ev_a ev_b : Evaluation ℤ) → Evaluates code e l n a ev_a →
+  pub binary_law : (o : Op) (a b : CodeAt) (ev_a ev_b : Evaluation ℤ) → Evaluates code e l n a ev_a →
       Evaluates code e l n b ev_b →
       Evaluates code e l n (binary_code code.profile o a b)
       (λ vars depth frames trace. binary code.profile o depth (ev_a vars depth frames trace)
@@ -292,7 +292,7 @@ module _ (code : Program) (e l n : ℕ) where
         ∙ ap (λ (a : ℕ). wants code (run a below fs vars (temps ++ [])) trace) (omega arith);
   }
 
-  pub argument_law : (a b : PlacedCode) (ev_a : Evaluation ℤ) (ev_b : Evaluation (List ℤ)) →
+  pub argument_law : (a b : CodeAt) (ev_a : Evaluation ℤ) (ev_b : Evaluation (List ℤ)) →
       Evaluates code e l n a ev_a →
       EvaluatesAll code e l n b ev_b →
       EvaluatesAll code e l n (a ⨾ b)

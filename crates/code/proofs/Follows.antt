@@ -7,7 +7,7 @@ use Rattle.code.specs.declared.want.Want.{Want}
 use Rattle.code.specs.declared.want.Want.TheVariants.{Restart}
 use Rattle.code.specs.Generation.{Program}
 use Rattle.code.specs.Machine.{Machine, instr_at, is_ready, is_fitting, event_of, done_with, machine_after, want_next, reached}
-use Rattle.code.specs.Meaning.{Vars, Evaluated, Gives, Awaits, and_then, tick}
+use Rattle.code.specs.Meaning.{Vars, EvaluationResult, Gives, Awaits, and_then, tick}
 
 -- how many variables there are
 pub record HasSizes (externals locals : ℕ) (vars : Vars) : Type 0 where
@@ -20,18 +20,18 @@ pub record Arrives (e l n : ℕ) (vars : Vars) (rest : List ℤ) (w to : Option 
   pub short : length rest ≤ n
   pub same : w ≡ to
 
-abbrev pub Follows : {A : Type 0} (e l n : ℕ) → Evaluated A → Option Want → (A → Vars → List ℤ → Option Want) → Type 0
+abbrev pub Follows : {A : Type 0} (e l n : ℕ) → EvaluationResult A → Option Want → (A → Vars → List ℤ → Option Want) → Type 0
 Follows e l n (Gives x vars rest) w k = Arrives e l n vars rest w (k x vars rest)
 Follows e l n (Awaits event) w k = w ≡ Some event
 
-pub follows_from : {A : Type 0} (e l n : ℕ) (o : Evaluated A) (v w : Option Want) (k : A → Vars → List ℤ → Option Want)
+pub follows_from : {A : Type 0} (e l n : ℕ) (o : EvaluationResult A) (v w : Option Want) (k : A → Vars → List ℤ → Option Want)
     → v ≡ w → Follows e l n o w k → Follows e l n o v k
 follows_from e l n (Gives x vars rest) v w k same f = record { sizes = f.sizes; short = f.short; same = same ∙ f.same }
 follows_from e l n (Awaits event) v w k same f = same ∙ f
 
 -- an evaluation and what comes after it
-pub chain : {A B : Type 0} (e l e' l' n : ℕ) (o : Evaluated A) (w : Option Want) (k : A → Vars → List ℤ → Option Want)
-    (go : A → Vars → List ℤ → Evaluated B) (k' : B → Vars → List ℤ → Option Want) → Follows e' l' n o w k →
+pub chain : {A B : Type 0} (e l e' l' n : ℕ) (o : EvaluationResult A) (w : Option Want) (k : A → Vars → List ℤ → Option Want)
+    (go : A → Vars → List ℤ → EvaluationResult B) (k' : B → Vars → List ℤ → Option Want) → Follows e' l' n o w k →
     ((x : A) (vars : Vars) (rest : List ℤ) → HasSizes e' l' vars → length rest ≤ n →
     Follows e l n (go x vars rest) (k x vars rest) k') → Follows e l n (and_then o go) w k'
 chain e l e' l' n (Gives x vars rest) w k go k' f next =
@@ -39,7 +39,7 @@ chain e l e' l' n (Gives x vars rest) w k go k' f next =
 chain e l e' l' n (Awaits event) w k go k' f next = f
 
 -- the replies left may be more
-pub follows_longer : {A : Type 0} (e l n : ℕ) (o : Evaluated A) (w : Option Want) (k : A → Vars → List ℤ → Option Want)
+pub follows_longer : {A : Type 0} (e l n : ℕ) (o : EvaluationResult A) (w : Option Want) (k : A → Vars → List ℤ → Option Want)
     → Follows e l n o w k → Follows e l (suc n) o w k
 follows_longer e l n (Gives x vars rest) w k f =
     record { sizes = f.sizes; short = omega (arith, f.short); same = f.same }
@@ -88,7 +88,7 @@ module _ (code : Program) (s : Machine) (i : Instr) (here : instr_at code s.at �
   wants_behind fits reply rest = ap (λ (t : Machine). shown code (reached code t rest)) (after_when true fits reply)
 
   -- One instruction is one cycle of the tree.
-  pub ticks : {A : Type 0} (e l n : ℕ) (fit : Bool) (event : Want) (trace : List ℤ) (go : ℤ → List ℤ → Evaluated A)
+  pub ticks : {A : Type 0} (e l n : ℕ) (fit : Bool) (event : Want) (trace : List ℤ) (go : ℤ → List ℤ → EvaluationResult A)
       (k : A → Vars → List ℤ → Option Want) → is_fitting code s (Some i) ≡ fit → event_of s (Some i) ≡ event →
       ((reply : ℤ) (rest : List ℤ) → suc (length rest) ≡ length trace →
       Follows e l n (go reply rest) (wants code (done_with code reply s (Some i)) rest) k) →
@@ -100,7 +100,7 @@ module _ (code : Program) (s : Machine) (i : Instr) (here : instr_at code s.at �
       (wants code (done_with code reply s (Some i)) rest) k (wants_behind fits reply rest) (next reply rest refl)
 
   -- what doesn't fit wants a restart
-  pub ticks_not : {A : Type 0} (e l n : ℕ) (event : Want) (trace : List ℤ) (go : ℤ → List ℤ → Evaluated A)
+  pub ticks_not : {A : Type 0} (e l n : ℕ) (event : Want) (trace : List ℤ) (go : ℤ → List ℤ → EvaluationResult A)
       (k : A → Vars → List ℤ → Option Want) → is_fitting code s (Some i) ≡ false →
       Follows e l n (tick false event trace go) (wants code s trace) k
   ticks_not e l n event trace go k unfit = wants_restart unfit trace

@@ -19,7 +19,7 @@ use Rattle.code.specs.Generation.{Program}
 use Rattle.code.specs.declared.frame.Frame.{Frame}
 use Rattle.code.specs.Machine.{Machine, instr_at, done_with, has_variable, read_variable, with_value, next_with, nth_word, without, address_at, parameters_at, variables_at, variables_of}
 use Rattle.grammar.specs.Resolved.{IsVariable}
-use Rattle.code.specs.Meaning.{Vars, Evaluated, tick, push, pass, value_of_variable, assigned}
+use Rattle.code.specs.Meaning.{Vars, EvaluationResult, tick, push, quiet_cycle, value_of_variable, assigned}
 use Rattle.arith.specs.Op.{value_of}
 use Rattle.code.specs.Values.{stored, asked_words}
 use Rattle.code.proofs.Follows.{HasSizes, Follows, follows_from, wants, ticks, ticks_not}
@@ -116,17 +116,17 @@ next_run at below fs vars words temps before e =
 module _ (code : Program) (e l n : ℕ) (below : List ℤ) (fs : List Frame) {A : Type 0} (at : ℕ)
     (k : A → Vars → List ℤ → Option Want) where
   -- what comes after a cycle
-  abbrev Next : List ℤ → (List ℤ → Evaluated A) → ℕ → Vars → List ℤ → Type 0
+  abbrev Next : List ℤ → (List ℤ → EvaluationResult A) → ℕ → Vars → List ℤ → Type 0
   Next trace go to vars temps =
       (rest : List ℤ) → suc (length rest) ≡ length trace →
       Follows e l n (go rest) (wants code (run to below fs vars temps) rest) k
 
-  moved : (s t : Machine) (o : Evaluated A) (rest : List ℤ) → s ≡ t → Follows e l n o (wants code t rest) k →
+  moved : (s t : Machine) (o : EvaluationResult A) (rest : List ℤ) → s ≡ t → Follows e l n o (wants code t rest) k →
       Follows e l n o (wants code s rest) k
   moved s t o rest same f =
       follows_from e l n o (wants code s rest) (wants code t rest) k (ap (λ (s : Machine). wants code s rest) same) f
 
-  pub on_const : (m : ℕ) (vars : Vars) (temps : List ℤ) (depth : ℕ) (x : ℤ) (trace : List ℤ) (go : List ℤ → Evaluated A)
+  pub on_const : (m : ℕ) (vars : Vars) (temps : List ℤ) (depth : ℕ) (x : ℤ) (trace : List ℤ) (go : List ℤ → EvaluationResult A)
       → instr_at code at ≡ Some (Const x) → HasSizes e m vars → IsDepth m below temps depth →
       Next trace go (at + 1) vars (temps ++ x ∷ []) →
       Follows e l n (push code.profile depth trace go) (wants code (run at below fs vars temps) trace) k
@@ -139,7 +139,7 @@ module _ (code : Program) (e l n : ℕ) (below : List ℤ) (fs : List Frame) {A 
       (next_run at below fs vars (s.words ++ x ∷ []) (temps ++ x ∷ []) temps (pushed below vars.locals temps (x ∷ [])))
       (next rest shorter))
 
-  pub on_fetch : (vars : Vars) (temps : List ℤ) (depth : ℕ) (v : Var) (trace : List ℤ) (go : List ℤ → Evaluated A) →
+  pub on_fetch : (vars : Vars) (temps : List ℤ) (depth : ℕ) (v : Var) (trace : List ℤ) (go : List ℤ → EvaluationResult A) →
       instr_at code at ≡ Some (Fetch v) → HasSizes e l vars → IsVariable e l v → IsDepth l below temps depth →
       Next trace go (at + 1) vars (temps ++ value_of_variable vars v ∷ []) →
       Follows e l n (push code.profile depth trace go) (wants code (run at below fs vars temps) trace) k
@@ -156,9 +156,9 @@ module _ (code : Program) (e l n : ℕ) (below : List ℤ) (fs : List Frame) {A 
       pushed below vars.locals temps (x ∷ [])))
       (next rest shorter))
 
-  pub on_chop : (vars : Vars) (temps : List ℤ) (x : ℤ) (trace : List ℤ) (go : List ℤ → Evaluated A) →
+  pub on_chop : (vars : Vars) (temps : List ℤ) (x : ℤ) (trace : List ℤ) (go : List ℤ → EvaluationResult A) →
       instr_at code at ≡ Some Chop → Next trace go (at + 1) vars temps →
-      Follows e l n (pass trace go) (wants code (run at below fs vars (temps ++ x ∷ [])) trace) k
+      Follows e l n (quiet_cycle trace go) (wants code (run at below fs vars (temps ++ x ∷ [])) trace) k
   on_chop vars temps x trace go here next =
       let s = run at below fs vars (temps ++ x ∷ []) in
       ticks code s Chop here (one_word below vars.locals temps x) e l n true Quiet trace (λ reply rest. go rest) k refl
@@ -168,9 +168,9 @@ module _ (code : Program) (e l n : ℕ) (below : List ℤ) (fs : List Frame) {A 
       (next_run at below fs vars (without 1 s.words) temps (temps ++ x ∷ []) (taken_one below vars.locals temps x))
       (next rest shorter))
 
-  pub on_binop : (vars : Vars) (temps : List ℤ) (o : Op) (x y : ℤ) (trace : List ℤ) (go : List ℤ → Evaluated A) →
+  pub on_binop : (vars : Vars) (temps : List ℤ) (o : Op) (x y : ℤ) (trace : List ℤ) (go : List ℤ → EvaluationResult A) →
       instr_at code at ≡ Some (Binop o) → Next trace go (at + 1) vars (temps ++ value_of o x y ∷ []) →
-      Follows e l n (pass trace go) (wants code (run at below fs vars ((temps ++ x ∷ []) ++ y ∷ [])) trace) k
+      Follows e l n (quiet_cycle trace go) (wants code (run at below fs vars ((temps ++ x ∷ []) ++ y ∷ [])) trace) k
   on_binop vars temps o x y trace go here next =
       let s = run at below fs vars ((temps ++ x ∷ []) ++ y ∷ []) in
       let z = value_of o x y in
@@ -191,9 +191,9 @@ module _ (code : Program) (e l n : ℕ) (below : List ℤ) (fs : List Frame) {A 
       (next_run at below fs vars (without 2 s.words ++ value_of o (nth_word s.words 2) (nth_word s.words 1) ∷ [])
       (temps ++ z ∷ []) ((temps ++ x ∷ []) ++ y ∷ []) words) (next rest shorter))
 
-  pub on_truth : (vars : Vars) (temps : List ℤ) (x : ℤ) (trace : List ℤ) (go : List ℤ → Evaluated A) →
+  pub on_truth : (vars : Vars) (temps : List ℤ) (x : ℤ) (trace : List ℤ) (go : List ℤ → EvaluationResult A) →
       instr_at code at ≡ Some Truth → Next trace go (at + 1) vars (temps ++ truth (holds x) ∷ []) →
-      Follows e l n (pass trace go) (wants code (run at below fs vars (temps ++ x ∷ [])) trace) k
+      Follows e l n (quiet_cycle trace go) (wants code (run at below fs vars (temps ++ x ∷ [])) trace) k
   on_truth vars temps x trace go here next =
       let s = run at below fs vars (temps ++ x ∷ []) in
       let z = truth (holds x) in
@@ -211,10 +211,10 @@ module _ (code : Program) (e l n : ℕ) (below : List ℤ) (fs : List Frame) {A 
       (temps ++ x ∷ []) words) (next rest shorter))
 
   pub on_store : (vars : Vars) (temps : List ℤ) (v : Var) (o : StoreOp) (x : ℤ) (trace : List ℤ)
-      (go : List ℤ → Evaluated A) → instr_at code at ≡ Some (Store v o) → HasSizes e l vars → IsVariable e l v →
+      (go : List ℤ → EvaluationResult A) → instr_at code at ≡ Some (Store v o) → HasSizes e l vars → IsVariable e l v →
       Next trace go (at + 1) (assigned vars v (stored o (value_of_variable vars v) x))
       (temps ++ stored o (value_of_variable vars v) x ∷ []) →
-      Follows e l n (pass trace go) (wants code (run at below fs vars (temps ++ x ∷ [])) trace) k
+      Follows e l n (quiet_cycle trace go) (wants code (run at below fs vars (temps ++ x ∷ [])) trace) k
   on_store vars temps v o x trace go here sizes known next =
       let s = run at below fs vars (temps ++ x ∷ []) in
       let y = stored o (value_of_variable vars v) x in
@@ -243,9 +243,9 @@ module _ (code : Program) (e l n : ℕ) (below : List ℤ) (fs : List Frame) {A 
       next_run at below fs (assigned vars v y) (without 1 t.words ++ y ∷ []) (temps ++ y ∷ []) (temps ++ x ∷ []) words)
       (next rest shorter))
 
-  pub on_branch : (vars : Vars) (temps : List ℤ) (to : ℕ) (x : ℤ) (trace : List ℤ) (go : List ℤ → Evaluated A) →
+  pub on_branch : (vars : Vars) (temps : List ℤ) (to : ℕ) (x : ℤ) (trace : List ℤ) (go : List ℤ → EvaluationResult A) →
       instr_at code at ≡ Some (Branch to) → Next trace go (if holds x then at + 1 else to) vars temps →
-      Follows e l n (pass trace go) (wants code (run at below fs vars (temps ++ x ∷ [])) trace) k
+      Follows e l n (quiet_cycle trace go) (wants code (run at below fs vars (temps ++ x ∷ [])) trace) k
   on_branch vars temps to x trace go here next =
       let s = run at below fs vars (temps ++ x ∷ []) in
       let registers = λ (y : ℤ). if holds y then at + 1 else to in
@@ -284,16 +284,16 @@ back_with f below fs externals x = record {
 
 module _ (code : Program) (e l n : ℕ) (below : List ℤ) (fs : List Frame) {A : Type 0} (at : ℕ)
     (k : A → Vars → List ℤ → Option Want) where
-  abbrev Reaches : List ℤ → (List ℤ → Evaluated A) → Machine → Type 0
+  abbrev Reaches : List ℤ → (List ℤ → EvaluationResult A) → Machine → Type 0
   Reaches trace go s =
       (rest : List ℤ) → suc (length rest) ≡ length trace → Follows e l n (go rest) (wants code s rest) k
 
-  moves : (s t : Machine) (o : Evaluated A) (rest : List ℤ) → s ≡ t → Follows e l n o (wants code t rest) k →
+  moves : (s t : Machine) (o : EvaluationResult A) (rest : List ℤ) → s ≡ t → Follows e l n o (wants code t rest) k →
       Follows e l n o (wants code s rest) k
   moves s t o rest same f =
       follows_from e l n o (wants code s rest) (wants code t rest) k (ap (λ (s : Machine). wants code s rest) same) f
 
-  pub on_frame : (vars : Vars) (temps : List ℤ) (depth frames : ℕ) (trace : List ℤ) (go : List ℤ → Evaluated A) →
+  pub on_frame : (vars : Vars) (temps : List ℤ) (depth frames : ℕ) (trace : List ℤ) (go : List ℤ → EvaluationResult A) →
       instr_at code at ≡ Some instr.Frame → HasSizes e l vars → IsDepth l below temps depth → frames ≡ length fs →
       Reaches trace go (run (at + 1) below (opened below depth ∷ fs) vars temps) →
       Follows e l n (tick (nat_lt frames code.profile.frames) Quiet trace (λ reply rest. go rest))
@@ -316,7 +316,7 @@ module _ (code : Program) (e l n : ℕ) (below : List ℤ) (fs : List Frame) {A 
       (next rest shorter))
 
   pub on_ask : (vars : Vars) (temps arguments : List ℤ) (depth : ℕ) (i : Intrinsic) (trace : List ℤ)
-      (go : ℤ → List ℤ → Evaluated A) → instr_at code at ≡ Some (Fcall (callee.Intrinsic i)) → HasSizes e l vars →
+      (go : ℤ → List ℤ → EvaluationResult A) → instr_at code at ≡ Some (Fcall (callee.Intrinsic i)) → HasSizes e l vars →
       IsDepth l below temps depth →
       ((reply : ℤ) → Reaches trace (go reply) (run (at + 1) below fs vars (temps ++ reply ∷ []))) →
       Follows e l n (tick (nat_le (depth + 1) code.profile.words) (Ask i (asked_words i arguments)) trace go)
@@ -347,7 +347,7 @@ module _ (code : Program) (e l n : ℕ) (below : List ℤ) (fs : List Frame) {A 
       pushed below vars.locals temps (reply ∷ [])))
       (next reply rest shorter))
 
-  pub on_call : (vars : Vars) (temps arguments : List ℤ) (depth j : ℕ) (trace : List ℤ) (go : List ℤ → Evaluated A) →
+  pub on_call : (vars : Vars) (temps arguments : List ℤ) (depth j : ℕ) (trace : List ℤ) (go : List ℤ → EvaluationResult A) →
       instr_at code at ≡ Some (Fcall (callee.Function j)) → j < length code.functions → HasSizes e l vars →
       IsDepth l below temps depth →
       Reaches trace go
@@ -398,7 +398,7 @@ module _ (code : Program) (e l n : ℕ) (below : List ℤ) (fs : List Frame) {A 
       (next rest shorter))
 
   pub on_retsub : (f : Frame) (vars : Vars) (temps : List ℤ) (frames : ℕ) (x : ℤ) (trace : List ℤ)
-      (go : List ℤ → Evaluated A) → instr_at code at ≡ Some Retsub → f.base ≡ length below → frames ≡ length (f ∷ fs) →
+      (go : List ℤ → EvaluationResult A) → instr_at code at ≡ Some Retsub → f.base ≡ length below → frames ≡ length (f ∷ fs) →
       Reaches trace go (back_with f below fs vars.externals x) →
       Follows e l n (tick (nat_lt 1 frames) Quiet trace (λ reply rest. go rest))
       (wants code (run at below (f ∷ fs) vars (temps ++ x ∷ [])) trace) k
@@ -422,7 +422,7 @@ module _ (code : Program) (e l n : ℕ) (below : List ℤ) (fs : List Frame) {A 
 
   -- main does not return
   pub on_retsub_of_main : (f : Frame) (vars : Vars) (temps : List ℤ) (frames : ℕ) (x : ℤ) (trace : List ℤ)
-      (go : List ℤ → Evaluated A) → instr_at code at ≡ Some Retsub → f.base ≡ length below → frames ≡ length (f ∷ []) →
+      (go : List ℤ → EvaluationResult A) → instr_at code at ≡ Some Retsub → f.base ≡ length below → frames ≡ length (f ∷ []) →
       Follows e l n (tick (nat_lt 1 frames) Quiet trace (λ reply rest. go rest))
       (wants code (run at below (f ∷ []) vars (temps ++ x ∷ [])) trace) k
   on_retsub_of_main f vars temps frames x trace go here base count =

@@ -20,6 +20,6 @@ pub mod Variables
 pub mod Stacks
 pub mod Closing
 pub mod Machines
-pub mod Coasting
-pub mod Turns
+pub mod QuietRuns
+pub mod StepChains
 pub mod KnownPrograms

@@ -23,7 +23,7 @@ use Rattle.code.specs.Functions.{function_at, no_function}
 use Rattle.code.specs.declared.instr.Instr.{Instr}
 use Rattle.code.specs.declared.instr.Instr.TheVariants.{Fetch, Store, Const, Binop, Fcall, Retsub, Branch, Truth, Nop}
 use Rattle.code.specs.declared.instr.Instr.TheVariants as instr
-use Rattle.code.specs.Generation.{PlacedCode, ◌⨾◌, only, no_code, past, either, loop, both_code, short_code, binary_code, expr_code, args_code, body_code, function_code, functions_code, last_return_code, address_in, code_of}
+use Rattle.code.specs.Generation.{CodeAt, ◌⨾◌, only, no_code, past, either, loop, both_code, short_code, binary_code, expr_code, args_code, body_code, function_code, functions_code, last_return_code, address_in, code_of}
 use Rattle.code.specs.Making.{Maker, empty_maker, maker_after, with_code, with_begun_function, with_branch, with_other, with_turn, with_opened, with_closed, without_open, begun_right, ended_right, maker_with, maker_from}
 
 pub maker_from-append : (m : Maker) (xs ys : List Action) → maker_from m (xs ++ ys) ≡ maker_from (maker_from m xs) ys
@@ -38,11 +38,11 @@ with_code-append : (m : Maker) (a b : List Instr) → with_code (with_code m a) 
 with_code-append m a b = ap (coded m) (append_assoc m.code a b)
 
 -- whatever is made so far by the profile, these actions add the piece
-abbrev pub Makes : Profile → List Action → PlacedCode → Type 0
+abbrev pub Makes : Profile → List Action → CodeAt → Type 0
 Makes p acts piece = (m : Maker) → m.profile ≡ p → maker_from m acts ≡ with_code m (piece (length m.code))
 
 -- code, and then what further actions add
-behind : (p : Profile) (m : Maker) → m.profile ≡ p → (front : List Instr) (ys : List Action) (b : PlacedCode) →
+behind : (p : Profile) (m : Maker) → m.profile ≡ p → (front : List Instr) (ys : List Action) (b : CodeAt) →
     Makes p ys b →
     maker_from (with_code m front) ys ≡ with_code m (front ++ b (length m.code + length front))
 behind p m e front ys b second =
@@ -50,14 +50,14 @@ behind p m e front ys b second =
     ∙ with_code-append m front (b (length (m.code ++ front)))
     ∙ ap (λ (at : ℕ). with_code m (front ++ b at)) (length-append m.code front)
 
-pub makes_then : (p : Profile) (xs ys : List Action) (a b : PlacedCode) → Makes p xs a → Makes p ys b →
+pub makes_then : (p : Profile) (xs ys : List Action) (a b : CodeAt) → Makes p xs a → Makes p ys b →
     Makes p (xs ++ ys) (a ⨾ b)
 makes_then p xs ys a b first second m e =
     maker_from-append m xs ys ∙ ap (λ (r : Maker). maker_from r ys) (first m e) ∙
     behind p m e (a (length m.code)) ys b second
 
 -- one action that adds these instructions, and then others
-pub makes_one : (p : Profile) (x : Action) (ys : List Action) (is : List Instr) (b : PlacedCode) →
+pub makes_one : (p : Profile) (x : Action) (ys : List Action) (is : List Instr) (b : CodeAt) →
     ((m : Maker) → maker_with m x ≡ with_code m is) → Makes p ys b → Makes p (x ∷ ys) (only is ⨾ b)
 makes_one p x ys is b first second m e = ap (λ (r : Maker). maker_from r ys) (first m) ∙ behind p m e is ys b second
 
@@ -68,7 +68,7 @@ set_at front back y i k e =
     ap (λ (n : ℕ). slice_set (front ++ y ∷ back) n i) e ∙ set-append_seam front y back i
 
 -- a branch past a piece
-closed_if : (m : Maker) (s : PlacedCode) →
+closed_if : (m : Maker) (s : CodeAt) →
     with_closed (with_code (with_branch m) (s (length (with_branch m).code))) ≡ with_code m (past s (length m.code))
 closed_if m s =
     let at = length m.code in
@@ -83,7 +83,7 @@ closed_if m s =
     ∙ ap (λ (n : ℕ). coded m (slice_set (m.code ++ Branch 0 ∷ inner) at (Branch n))) target
     ∙ ap (coded m) (set_at m.code inner (Branch 0) (Branch (at + 1 + length inner)) at refl)
 
-pub makes_if : (p : Profile) (xs ys : List Action) (s b : PlacedCode) → Makes p xs s → Makes p ys b →
+pub makes_if : (p : Profile) (xs ys : List Action) (s b : CodeAt) → Makes p xs s → Makes p ys b →
     Makes p (IfTest ∷ (xs ++ EndIf ∷ ys)) (past s ⨾ b)
 makes_if p xs ys s b first second m e =
     let m1 = with_branch m in
@@ -101,7 +101,7 @@ between m inner = record {
   opened = (length m.code + 1 + length inner + 1) ∷ m.opened;
 }
 
-begun_else : (m : Maker) (s : PlacedCode) →
+begun_else : (m : Maker) (s : CodeAt) →
     with_other (with_code (with_branch m) (s (length (with_branch m).code))) ≡ between m (s (length m.code + 1))
 begun_else m s =
     let at = length m.code in
@@ -137,7 +137,7 @@ begun_else m s =
     ∙ ap (λ (l : List Instr). last (slice_set l at (Branch other))) (append_assoc m.code (Branch 0 ∷ inner) tail)
     ∙ ap last (set_at m.code (inner ++ tail) (Branch 0) (Branch other) at refl)
 
-closed_else : (m : Maker) (s t : PlacedCode) →
+closed_else : (m : Maker) (s t : CodeAt) →
     with_closed (with_code (between m (s (length m.code + 1))) (t (length (between m (s (length m.code + 1))).code))) ≡
     with_code m (either s t (length m.code))
 closed_else m s t =
@@ -173,7 +173,7 @@ closed_else m s t =
     ∙ ap (coded m) (set_at front second (Branch 0) end (at + 1 + length inner + 1) registers)
     ∙ ap (coded m) whole
 
-pub makes_choice : (p : Profile) (xs ys zs : List Action) (s t b : PlacedCode) → Makes p xs s → Makes p ys t →
+pub makes_choice : (p : Profile) (xs ys zs : List Action) (s t b : CodeAt) → Makes p xs s → Makes p ys t →
     Makes p zs b →
     Makes p (IfTest ∷ (xs ++ ElsePart ∷ (ys ++ EndIf ∷ zs))) (either s t ⨾ b)
 makes_choice p xs ys zs s t b first second third m e =
@@ -188,7 +188,7 @@ makes_choice p xs ys zs s t b first second third m e =
     ∙ behind p m e (either s t (length m.code)) zs b third
 
 -- a loop
-closed_loop : (m : Maker) (front : List Instr) (s : PlacedCode) → let m2 =
+closed_loop : (m : Maker) (front : List Instr) (s : CodeAt) → let m2 =
     with_branch (with_code (with_opened m) front) in without_open
     (with_closed (with_turn (with_code m2 (s (length m2.code)))))
     ≡
@@ -214,7 +214,7 @@ closed_loop m front s =
     ∙ ap (coded m) (set_at test (inner ++ tail) (Branch 0) end (length test) refl)
     ∙ ap (coded m) (append_assoc m.code front (end ∷ (inner ++ tail)))
 
-pub makes_loop : (p : Profile) (xs ys zs : List Action) (c s b : PlacedCode) → Makes p xs c → Makes p ys s →
+pub makes_loop : (p : Profile) (xs ys zs : List Action) (c s b : CodeAt) → Makes p xs c → Makes p ys s →
     Makes p zs b →
     Makes p (BeginWhile ∷ (xs ++ WhileTest ∷ (ys ++ EndWhile ∷ zs))) (loop c s ⨾ b)
 makes_loop p xs ys zs c s b first second third m e =
@@ -245,14 +245,14 @@ module _ (p : Profile) (full : p.short_circuit ≡ false) where
   is_full : (m : Maker) → m.profile ≡ p → m.profile.short_circuit ≡ false
   is_full m e = ap (λ (p : Profile). p.short_circuit) e ∙ full
 
-  makes_middle : (o : Op) (ys : List Action) (b : PlacedCode) → Makes p ys b → Makes p (middle o ++ ys) b
+  makes_middle : (o : Op) (ys : List Action) (b : CodeAt) → Makes p ys b → Makes p (middle o ++ ys) b
   makes_middle o ys b second =
       elim (is_logic o) as (λ v. Makes p ((if v then LogicMiddle o ∷ [] else []) ++ ys) b) [
         | true ↦ (λ m e. ap (λ (r : Maker). maker_from r ys) (between_sides m o false (is_full m e)) ∙ second m e)
         | false ↦ second
       ]
 
-  makes_both : (o : Op) (xs ys : List Action) (a b : PlacedCode) → Makes p xs a → Makes p ys b →
+  makes_both : (o : Op) (xs ys : List Action) (a b : CodeAt) → Makes p xs a → Makes p ys b →
       Makes p (xs ++ (middle o ++ (ys ++ ApplyBinop o ∷ []))) (both_code o a b)
   makes_both o xs ys a b first second =
       let last : Makes p (ApplyBinop o ∷ []) (only (Binop o ∷ [])) = λ m e. applied m o false (is_full m e) in
@@ -265,7 +265,7 @@ module _ (p : Profile) (leaves : p.short_circuit ≡ true) where
   is_short : (m : Maker) → m.profile ≡ p → m.profile.short_circuit ≡ true
   is_short m e = ap (λ (p : Profile). p.short_circuit) e ∙ leaves
 
-  makes_and : (ys : List Action) (b : PlacedCode) → Makes p ys b →
+  makes_and : (ys : List Action) (b : CodeAt) → Makes p ys b →
       Makes p (LogicMiddle op.And ∷ (ys ++ ApplyBinop op.And ∷ []))
       (either (b ⨾ only (Truth ∷ [])) (only (Const (pos 0) ∷ [])))
   makes_and ys b second m e =
@@ -283,7 +283,7 @@ module _ (p : Profile) (leaves : p.short_circuit ≡ true) where
       ∙ ap (λ (r : Maker). with_closed (with_code r (Const (pos 0) ∷ []))) (begun_else m s)
       ∙ closed_else m s t
 
-  makes_or : (ys : List Action) (b : PlacedCode) → Makes p ys b →
+  makes_or : (ys : List Action) (b : CodeAt) → Makes p ys b →
       Makes p (LogicMiddle op.Or ∷ (ys ++ ApplyBinop op.Or ∷ []))
       (either (only (Const (pos 1) ∷ [])) (b ⨾ only (Truth ∷ [])))
   makes_or ys b second m e =
@@ -299,7 +299,7 @@ module _ (p : Profile) (leaves : p.short_circuit ≡ true) where
       ∙ ap with_closed (with_code-append m1 (b (length m1.code)) (Truth ∷ []))
       ∙ closed_else m s t
 
-  makes_plain : (o : Op) (xs ys : List Action) (a b : PlacedCode) →
+  makes_plain : (o : Op) (xs ys : List Action) (a b : CodeAt) →
       ((m : Maker) → ended_right o m ≡ with_code m (Binop o ∷ [])) → Makes p xs a → Makes p ys b →
       Makes p (xs ++ (ys ++ ApplyBinop o ∷ [])) (both_code o a b)
   makes_plain o xs ys a b plain first second =
@@ -307,7 +307,7 @@ module _ (p : Profile) (leaves : p.short_circuit ≡ true) where
       makes_then p xs (ys ++ ApplyBinop o ∷ []) a (b ⨾ only (Binop o ∷ [])) first
       (makes_then p ys (ApplyBinop o ∷ []) b (only (Binop o ∷ [])) second last)
 
-  makes_short : (o : Op) (xs ys : List Action) (a b : PlacedCode) → Makes p xs a → Makes p ys b →
+  makes_short : (o : Op) (xs ys : List Action) (a b : CodeAt) → Makes p xs a → Makes p ys b →
       Makes p (xs ++ (middle o ++ (ys ++ ApplyBinop o ∷ []))) (short_code o a b)
   makes_short op.And xs ys a b first second =
       makes_then p xs (LogicMiddle op.And ∷ (ys ++ ApplyBinop op.And ∷ [])) a
@@ -318,7 +318,7 @@ module _ (p : Profile) (leaves : p.short_circuit ≡ true) where
   makes_short o xs ys a b first second = makes_plain o xs ys a b (λ m. refl) first second
 
 -- an operator of either profile
-makes_binary : (p : Profile) (o : Op) (xs ys : List Action) (a b : PlacedCode) → Makes p xs a → Makes p ys b →
+makes_binary : (p : Profile) (o : Op) (xs ys : List Action) (a b : CodeAt) → Makes p xs a → Makes p ys b →
     Makes p (xs ++ (middle o ++ (ys ++ ApplyBinop o ∷ []))) (binary_code p o a b)
 makes_binary p o xs ys a b first second = by p.short_circuit refl
   where

@@ -5,10 +5,10 @@ use Rattle.code.specs.declared.instr.Instr.{Instr}
 use Rattle.code.specs.declared.instr.Instr.TheVariants.{Const, Branch}
 use Rattle.code.specs.declared.want.Want.{Want}
 use Rattle.code.specs.declared.want.Want.TheVariants.{Restart}
-use Rattle.code.specs.Generation.{Program, PlacedCode, ◌⨾◌, either}
+use Rattle.code.specs.Generation.{Program, CodeAt, ◌⨾◌, either}
 use Rattle.code.specs.declared.frame.Frame.{Frame}
 use Rattle.code.specs.Machine.{instr_at}
-use Rattle.code.specs.Meaning.{Vars, Evaluated, Flow, Through, Returns}
+use Rattle.code.specs.Meaning.{Vars, EvaluationResult, Completion, Through, Returns}
 use Rattle.code.proofs.Follows.{HasSizes, Arrives, Follows, wants}
 use Rattle.code.proofs.Instructions.{run, IsDepth, back_with}
 
@@ -32,36 +32,36 @@ stands_both code at (x ∷ xs) ys s =
     let e : at + 1 + length xs ≡ at + suc (length xs) = omega arith in
     record { first = (s.0, rest.first); second = subst (λ (a : ℕ). StandsAt code a ys) e rest.second }
 
-pub stands : (code : Program) (at : ℕ) (a b : PlacedCode) → StandsAt code at ((a ⨾ b) at) →
+pub stands : (code : Program) (at : ℕ) (a b : CodeAt) → StandsAt code at ((a ⨾ b) at) →
     StandsBoth code at (a at) (b (at + length (a at)))
 stands code at a b s = stands_both code at (a at) (b (at + length (a at))) s
 
 -- where a piece and the one after it end
-pub ends : (at : ℕ) (a b : PlacedCode) → at + length (a at) + length (b (at + length (a at))) ≡ at + length ((a ⨾ b) at)
+pub ends : (at : ℕ) (a b : CodeAt) → at + length (a at) + length (b (at + length (a at))) ≡ at + length ((a ⨾ b) at)
 ends at a b = omega (arith, length-append (a at) (b (at + length (a at))))
 
 -- a choice between two pieces
-pub record StandsEither (code : Program) (at : ℕ) (s t : PlacedCode) (other end : ℕ) : Type 0 where
+pub record StandsEither (code : Program) (at : ℕ) (s t : CodeAt) (other end : ℕ) : Type 0 where
   pub branch : instr_at code at ≡ Some (Branch other)
   pub first : StandsAt code (at + 1) (s (at + 1))
   pub zero : instr_at code (at + 1 + length (s (at + 1))) ≡ Some (Const (pos 0))
   pub jump : instr_at code (at + 1 + length (s (at + 1)) + 1) ≡ Some (Branch end)
   pub second : StandsAt code other (t other)
 
-abbrev pub other_of : ℕ → PlacedCode → ℕ
+abbrev pub other_of : ℕ → CodeAt → ℕ
 other_of at s = at + 1 + length (s (at + 1)) + 1 + 1
 
-abbrev pub end_of : ℕ → PlacedCode → PlacedCode → ℕ
+abbrev pub end_of : ℕ → CodeAt → CodeAt → ℕ
 end_of at s t = other_of at s + length (t (other_of at s))
 
-pub stands_either : (code : Program) (at : ℕ) (s t : PlacedCode) → StandsAt code at (either s t at) →
+pub stands_either : (code : Program) (at : ℕ) (s t : CodeAt) → StandsAt code at (either s t at) →
     StandsEither code at s t (other_of at s) (end_of at s t)
 stands_either code at s t h =
     let both =
     stands_both code (at + 1) (s (at + 1)) (Const (pos 0) ∷ Branch (end_of at s t) ∷ t (other_of at s)) h.1 in
     record { branch = h.0; first = both.first; zero = both.second.0; jump = both.second.1.0; second = both.second.1.1 }
 
-pub ends_either : (at : ℕ) (s t : PlacedCode) → end_of at s t ≡ at + length (either s t at)
+pub ends_either : (at : ℕ) (s t : CodeAt) → end_of at s t ≡ at + length (either s t at)
 ends_either at s t =
     omega (arith, length-append (s (at + 1)) (Const (pos 0) ∷ Branch (end_of at s t) ∷ t (other_of at s)))
 
@@ -76,7 +76,7 @@ pub record Tied (e l n : ℕ) (below : List ℤ) (fs : List Frame) (vars : Vars)
 
 -- how an evaluation goes: at these variables, depth, frames, along these replies
 abbrev pub Evaluation : Type 0 → Type 0
-Evaluation A = Vars → ℕ → ℕ → List ℤ → Evaluated A
+Evaluation A = Vars → ℕ → ℕ → List ℤ → EvaluationResult A
 
 module _ (code : Program) where
   -- the run of a function goes on after a piece, with its values pushed
@@ -87,21 +87,21 @@ module _ (code : Program) where
   gone_on_with at below fs temps xs vars rest = wants code (run at below fs vars (temps ++ xs)) rest
 
   -- after statements: the run goes on, or the function has returned, which main never does
-  abbrev pub flown : ℕ → List ℤ → Frame → List Frame → Flow → Vars → List ℤ → Option Want
+  abbrev pub flown : ℕ → List ℤ → Frame → List Frame → Completion → Vars → List ℤ → Option Want
   flown at below f fs Through vars rest = wants code (run at below (f ∷ fs) vars []) rest
   flown at below f [] (Returns x) vars rest = Some Restart
   flown at below f (g ∷ fs) (Returns x) vars rest = wants code (back_with f below (g ∷ fs) vars.externals x) rest
 
 module _ (code : Program) (e l n : ℕ) where
   -- at any address, the piece follows the evaluation and pushes its value
-  abbrev pub Evaluates : PlacedCode → Evaluation ℤ → Type 0
+  abbrev pub Evaluates : CodeAt → Evaluation ℤ → Type 0
   Evaluates piece ev =
       (below : List ℤ) (fs : List Frame) (at : ℕ) (vars : Vars) (temps : List ℤ) (depth frames : ℕ) (trace : List ℤ) →
       Tied e l n below fs vars temps depth frames trace → StandsAt code at (piece at) →
       Follows e l n (ev vars depth frames trace) (wants code (run at below fs vars temps) trace)
       (gone_on code (at + length (piece at)) below fs temps)
 
-  abbrev pub EvaluatesAll : PlacedCode → Evaluation (List ℤ) → Type 0
+  abbrev pub EvaluatesAll : CodeAt → Evaluation (List ℤ) → Type 0
   EvaluatesAll piece ev =
       (below : List ℤ) (fs : List Frame) (at : ℕ) (vars : Vars) (temps : List ℤ) (depth frames : ℕ) (trace : List ℤ) →
       Tied e l n below fs vars temps depth frames trace → StandsAt code at (piece at) →
@@ -109,7 +109,7 @@ module _ (code : Program) (e l n : ℕ) where
       (gone_on_with code (at + length (piece at)) below fs temps)
 
   -- the same of statements, which leave the stack as it was
-  abbrev pub Effects : PlacedCode → Evaluation Flow → Type 0
+  abbrev pub Effects : CodeAt → Evaluation Completion → Type 0
   Effects piece ev =
       (below : List ℤ) (f : Frame) (fs : List Frame) (at : ℕ) (vars : Vars) (depth frames : ℕ) (trace : List ℤ) →
       f.base ≡ length below → Tied e l n below (f ∷ fs) vars [] depth frames trace → StandsAt code at (piece at) →

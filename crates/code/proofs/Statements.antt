@@ -5,10 +5,10 @@ use Rattle.arith.specs.Op.{holds}
 use Rattle.code.specs.declared.instr.Instr.TheVariants.{Const, Branch, Chop, Retsub}
 use Rattle.code.specs.declared.want.Want.{Want}
 use Rattle.code.specs.declared.want.Want.TheVariants.{Quiet}
-use Rattle.code.specs.Generation.{Program, PlacedCode, ◌⨾◌, only, no_code, past, either, loop}
+use Rattle.code.specs.Generation.{Program, CodeAt, ◌⨾◌, only, no_code, past, either, loop}
 use Rattle.code.specs.declared.frame.Frame.{Frame}
 use Rattle.code.specs.Machine.{instr_at}
-use Rattle.code.specs.Meaning.{Vars, Evaluated, Gives, Flow, Through, Returns, and_then, tick, pass, on_through, and_on, over}
+use Rattle.code.specs.Meaning.{Vars, EvaluationResult, Gives, Completion, Through, Returns, and_then, tick, quiet_cycle, on_through, and_on, end_of_branch_or_iteration}
 use Rattle.code.proofs.Follows.{HasSizes, Follows, chain, wants}
 use Rattle.code.proofs.Instructions.{run, IsDepth, on_const, on_chop, on_branch, on_retsub, on_retsub_of_main}
 use Rattle.code.proofs.Pieces.{StandsAt, stands, ends, other_of, end_of, stands_either, ends_either, Tied, Evaluation, gone_on, flown, Evaluates, Effects}
@@ -21,8 +21,8 @@ module _ (code : Program) (e l n : ℕ) where
   same_return a b below f (g ∷ fs) x vars rest = refl
 
   -- statements and what comes after them
-  flow_chain : (o : Evaluated Flow) (w : Option Want) (at1 at2 : ℕ) (below : List ℤ) (f : Frame) (fs : List Frame)
-      (go : Vars → List ℤ → Evaluated Flow) → Follows e l n o w (flown code at1 below f fs) →
+  flow_chain : (o : EvaluationResult Completion) (w : Option Want) (at1 at2 : ℕ) (below : List ℤ) (f : Frame) (fs : List Frame)
+      (go : Vars → List ℤ → EvaluationResult Completion) → Follows e l n o w (flown code at1 below f fs) →
       ((vars : Vars) (rest : List ℤ) → HasSizes e l vars → length rest ≤ n →
       Follows e l n (go vars rest) (wants code (run at1 below (f ∷ fs) vars []) rest) (flown code at2 below f fs)) →
       Follows e l n (and_on o go) w (flown code at2 below f fs)
@@ -31,14 +31,14 @@ module _ (code : Program) (e l n : ℕ) where
       (flown code at2 below f fs) first
       (λ flow vars rest sizes short.
       elim flow as
-      (λ (flow : Flow). Follows e l n (on_through flow vars rest go) (flown code at1 below f fs flow vars rest)
+      (λ (flow : Completion). Follows e l n (on_through flow vars rest go) (flown code at1 below f fs flow vars rest)
       (flown code at2 below f fs)) [
         | Through ↦ next vars rest sizes short
         | Returns x ↦ record { sizes = sizes; short = short; same = same_return at1 at2 below f fs x vars rest }
       ])
 
   -- the same effect at an address that is given otherwise
-  ends_at : (from to : ℕ) (below : List ℤ) (f : Frame) (fs : List Frame) (o : Evaluated Flow) (w : Option Want) →
+  ends_at : (from to : ℕ) (below : List ℤ) (f : Frame) (fs : List Frame) (o : EvaluationResult Completion) (w : Option Want) →
       from ≡ to → Follows e l n o w (flown code from below f fs) → Follows e l n o w (flown code to below f fs)
   ends_at from to below f fs o w same h = subst (λ (a : ℕ). Follows e l n o w (flown code a below f fs)) same h
 
@@ -61,11 +61,11 @@ module _ (code : Program) (e l n : ℕ) where
     same = ap (λ (a : ℕ). wants code (run a below (f ∷ fs) vars []) trace) (omega arith);
   }
 
-  pub alone_law : (a b : PlacedCode) (ev : Evaluation ℤ) (ef : Evaluation Flow) → Evaluates code e l n a ev →
+  pub alone_law : (a b : CodeAt) (ev : Evaluation ℤ) (ef : Evaluation Completion) → Evaluates code e l n a ev →
       Effects code e l n b ef →
       Effects code e l n (a ⨾ only (Chop ∷ []) ⨾ b)
       (λ vars depth frames trace. and_then (ev vars depth frames trace)
-      (λ x vars rest. pass rest (λ rest. ef vars depth frames rest)))
+      (λ x vars rest. quiet_cycle rest (λ rest. ef vars depth frames rest)))
   alone_law a b ev ef A B below f fs at vars depth frames trace base t s =
       let tail = only (Chop ∷ []) ⨾ b in
       let sa = stands code at a tail s in
@@ -74,7 +74,7 @@ module _ (code : Program) (e l n : ℕ) where
       let end_is : at1 + 1 + length (b (at1 + 1)) ≡ end = omega (arith, ends at a tail) in
       chain e l e l n (ev vars depth frames trace) (wants code (run at below (f ∷ fs) vars []) trace)
       (gone_on code at1 below (f ∷ fs) [])
-      (λ x vars rest. pass rest (λ rest. ef vars depth frames rest)) (flown code end below f fs)
+      (λ x vars rest. quiet_cycle rest (λ rest. ef vars depth frames rest)) (flown code end below f fs)
       (A below (f ∷ fs) at vars [] depth frames trace t sa.first)
       (λ x after rest sizes short.
       on_chop code e l n below (f ∷ fs) at1 (flown code end below f fs) after [] x rest
@@ -85,11 +85,11 @@ module _ (code : Program) (e l n : ℕ) where
       (B below f fs (at1 + 1) after depth frames r1 base
       (tied_on below (f ∷ fs) vars after depth frames trace r1 t sizes (omega (arith, h1, short))) sa.second.1)))
 
-  pub when_law : (c s b : PlacedCode) (ev : Evaluation ℤ) (ef_s ef_b : Evaluation Flow) → Evaluates code e l n c ev →
+  pub when_law : (c s b : CodeAt) (ev : Evaluation ℤ) (ef_s ef_b : Evaluation Completion) → Evaluates code e l n c ev →
       Effects code e l n s ef_s → Effects code e l n b ef_b →
       Effects code e l n (c ⨾ past s ⨾ b)
       (λ vars depth frames trace. and_then (ev vars depth frames trace)
-      (λ x vars rest. pass rest
+      (λ x vars rest. quiet_cycle rest
       (λ rest. if holds x then and_on (ef_s vars depth frames rest) (λ vars rest. ef_b vars depth frames rest)
       else ef_b vars depth frames rest)))
   when_law c s b ev ef_s ef_b C S B below f fs at vars depth frames trace base t st =
@@ -114,7 +114,7 @@ module _ (code : Program) (e l n : ℕ) where
       in
       chain e l e l n (ev vars depth frames trace) (wants code (run at below (f ∷ fs) vars []) trace)
       (gone_on code at1 below (f ∷ fs) [])
-      (λ x vars rest. pass rest
+      (λ x vars rest. quiet_cycle rest
       (λ rest. if holds x then and_on (ef_s vars depth frames rest) (λ vars rest. ef_b vars depth frames rest) else
       ef_b vars depth frames rest)) k
       (C below (f ∷ fs) at vars [] depth frames trace t sc.first)
@@ -138,23 +138,23 @@ module _ (code : Program) (e l n : ℕ) where
 
   -- the end of a first branch, or of a turn: a push of 0, and a branch that is taken
   over_law : (at to : ℕ) (below : List ℤ) (fs : List Frame) (vars : Vars) (depth frames : ℕ) (rest : List ℤ)
-      (go : List ℤ → Evaluated Flow) (k : Flow → Vars → List ℤ → Option Want) → HasSizes e l vars →
+      (go : List ℤ → EvaluationResult Completion) (k : Completion → Vars → List ℤ → Option Want) → HasSizes e l vars →
       IsDepth l below [] depth → instr_at code at ≡ Some (Const (pos 0)) → instr_at code (at + 1) ≡ Some (Branch to) →
       ((r : List ℤ) → length r < length rest → Follows e l n (go r) (wants code (run to below fs vars []) r) k) →
-      Follows e l n (over code.profile depth rest go) (wants code (run at below fs vars []) rest) k
+      Follows e l n (end_of_branch_or_iteration code.profile depth rest go) (wants code (run at below fs vars []) rest) k
   over_law at to below fs vars depth frames rest go k sizes deep zero_at jump next =
-      on_const code e l n below fs at k l vars [] depth (pos 0) rest (λ rest. pass rest go) zero_at sizes deep
+      on_const code e l n below fs at k l vars [] depth (pos 0) rest (λ rest. quiet_cycle rest go) zero_at sizes deep
       (λ r1 h1.
       on_branch code e l n below fs (at + 1) k vars [] to (pos 0) r1 go jump
       (λ r2 h2. next r2 (omega (arith, h1, h2))))
 
-  pub choose_law : (c s t b : PlacedCode) (ev : Evaluation ℤ) (ef_s ef_t ef_b : Evaluation Flow) →
+  pub choose_law : (c s t b : CodeAt) (ev : Evaluation ℤ) (ef_s ef_t ef_b : Evaluation Completion) →
       Evaluates code e l n c ev → Effects code e l n s ef_s → Effects code e l n t ef_t → Effects code e l n b ef_b →
       Effects code e l n (c ⨾ either s t ⨾ b)
       (λ vars depth frames trace. and_then (ev vars depth frames trace)
-      (λ x vars rest. pass rest
+      (λ x vars rest. quiet_cycle rest
       (λ rest. if holds x then and_on (ef_s vars depth frames rest)
-      (λ vars rest. over code.profile depth rest (λ rest. ef_b vars depth frames rest)) else and_on
+      (λ vars rest. end_of_branch_or_iteration code.profile depth rest (λ rest. ef_b vars depth frames rest)) else and_on
       (ef_t vars depth frames rest) (λ vars rest. ef_b vars depth frames rest))))
   choose_law c s t b ev ef_s ef_t ef_b C S T B below f fs at vars depth frames trace base tied st =
       let sc = stands code at c (either s t ⨾ b) st in
@@ -180,13 +180,13 @@ module _ (code : Program) (e l n : ℕ) where
       in
       let first =
       λ (vars : Vars) (rest : List ℤ). and_on (ef_s vars depth frames rest)
-      (λ vars rest. over code.profile depth rest (λ rest. ef_b vars depth frames rest)) in
+      (λ vars rest. end_of_branch_or_iteration code.profile depth rest (λ rest. ef_b vars depth frames rest)) in
       let second =
       λ (vars : Vars) (rest : List ℤ). and_on (ef_t vars depth frames rest) (λ vars rest. ef_b vars depth frames rest)
       in
       chain e l e l n (ev vars depth frames trace) (wants code (run at below (f ∷ fs) vars []) trace)
       (gone_on code at1 below (f ∷ fs) [])
-      (λ x vars rest. pass rest (λ rest. if holds x then first vars rest else second vars rest)) k
+      (λ x vars rest. quiet_cycle rest (λ rest. if holds x then first vars rest else second vars rest)) k
       (C below (f ∷ fs) at vars [] depth frames trace tied sc.first)
       (λ x after rest sizes short.
       on_branch code e l n below (f ∷ fs) at1 k after [] other x rest
@@ -199,7 +199,7 @@ module _ (code : Program) (e l n : ℕ) where
         | true ↦
             flow_chain (ef_s after depth frames r1) (wants code (run (at1 + 1) below (f ∷ fs) after []) r1)
             (at1 + 1 + length (s (at1 + 1))) end below f fs
-            (λ vars rest. over code.profile depth rest (λ rest. ef_b vars depth frames rest))
+            (λ vars rest. end_of_branch_or_iteration code.profile depth rest (λ rest. ef_b vars depth frames rest))
             (S below f fs (at1 + 1) after depth frames r1 base here se.first)
             (λ last r2 sizes short.
             over_law (at1 + 1 + length (s (at1 + 1))) to below (f ∷ fs) last depth frames r2
@@ -213,7 +213,7 @@ module _ (code : Program) (e l n : ℕ) where
       ]))
 
   -- what the piece does along fewer than n replies
-  abbrev pub Effects_sooner : PlacedCode → Evaluation Flow → Type 0
+  abbrev pub Effects_sooner : CodeAt → Evaluation Completion → Type 0
   Effects_sooner piece ev =
       (below : List ℤ) (f : Frame) (fs : List Frame) (at : ℕ) (vars : Vars) (depth frames : ℕ) (trace : List ℤ) →
       f.base ≡ length below → Tied e l n below (f ∷ fs) vars [] depth frames trace → length trace < n →
@@ -221,14 +221,14 @@ module _ (code : Program) (e l n : ℕ) where
       Follows e l n (ev vars depth frames trace) (wants code (run at below (f ∷ fs) vars []) trace)
       (flown code (at + length (piece at)) below f fs)
 
-  pub while_law : (c s b : PlacedCode) (ev : Evaluation ℤ) (ef_s ef_b turn : Evaluation Flow) →
+  pub while_law : (c s b : CodeAt) (ev : Evaluation ℤ) (ef_s ef_b turn : Evaluation Completion) →
       Evaluates code e l n c ev →
       Effects code e l n s ef_s → Effects code e l n b ef_b → Effects_sooner (loop c s ⨾ b) turn →
       Effects code e l n (loop c s ⨾ b)
       (λ vars depth frames trace. and_then (ev vars depth frames trace)
-      (λ x vars rest. pass rest
+      (λ x vars rest. quiet_cycle rest
       (λ rest. if holds x then and_on (ef_s vars depth frames rest)
-      (λ vars rest. over code.profile depth rest (λ rest. turn vars depth frames rest)) else ef_b vars depth
+      (λ vars rest. end_of_branch_or_iteration code.profile depth rest (λ rest. turn vars depth frames rest)) else ef_b vars depth
       frames rest)))
   while_law c s b ev ef_s ef_b turn C S B again below f fs at vars depth frames trace base tied st =
       let back = only (Const (pos 0) ∷ Branch at ∷ []) in
@@ -245,10 +245,10 @@ module _ (code : Program) (e l n : ℕ) where
       let k = flown code end below f fs in
       let first =
       λ (vars : Vars) (rest : List ℤ). and_on (ef_s vars depth frames rest)
-      (λ vars rest. over code.profile depth rest (λ rest. turn vars depth frames rest)) in
+      (λ vars rest. end_of_branch_or_iteration code.profile depth rest (λ rest. turn vars depth frames rest)) in
       chain e l e l n (ev vars depth frames trace) (wants code (run at below (f ∷ fs) vars []) trace)
       (gone_on code at1 below (f ∷ fs) [])
-      (λ x vars rest. pass rest (λ rest. if holds x then first vars rest else ef_b vars depth frames rest)) k
+      (λ x vars rest. quiet_cycle rest (λ rest. if holds x then first vars rest else ef_b vars depth frames rest)) k
       (C below (f ∷ fs) at vars [] depth frames trace tied sc.first)
       (λ x after rest sizes short.
       on_branch code e l n below (f ∷ fs) at1 k after [] to x rest
@@ -260,7 +260,7 @@ module _ (code : Program) (e l n : ℕ) where
       (wants code (run (if d then at1 + 1 else to) below (f ∷ fs) after []) r1) k) [
         | true ↦
             flow_chain (ef_s after depth frames r1) (wants code (run (at1 + 1) below (f ∷ fs) after []) r1) at2 end
-            below f fs (λ vars rest. over code.profile depth rest (λ rest. turn vars depth frames rest))
+            below f fs (λ vars rest. end_of_branch_or_iteration code.profile depth rest (λ rest. turn vars depth frames rest))
             (S below f fs (at1 + 1) after depth frames r1 base here ss.first)
             (λ last r2 sizes short.
             over_law at2 at below (f ∷ fs) last depth frames r2 (λ rest. turn last depth frames rest) k sizes tied.deep
@@ -289,7 +289,7 @@ module _ (code : Program) (e l n : ℕ) where
       (λ rest. Gives (Returns x) vars rest) here base count
       (λ r1 h1. record { sizes = sizes; short = omega (arith, h1, short); same = refl })
 
-  pub return_law : (a b : PlacedCode) (ev : Evaluation ℤ) → Evaluates code e l n a ev →
+  pub return_law : (a b : CodeAt) (ev : Evaluation ℤ) → Evaluates code e l n a ev →
       Effects code e l n (a ⨾ only (Retsub ∷ []) ⨾ b)
       (λ vars depth frames trace. and_then (ev vars depth frames trace)
       (λ x vars rest. tick (nat_lt 1 frames) Quiet rest (λ reply rest. Gives (Returns x) vars rest)))

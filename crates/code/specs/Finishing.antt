@@ -9,7 +9,7 @@ use Rattle.grammar.specs.Scope.{number_of_name}
 use Rattle.grammar.specs.Tree.{File}
 use Rattle.code.specs.Generation.{Program, IsProgramOf}
 use Rattle.code.specs.Making.{Maker}
-use Rattle.code.specs.Told.{MakerRepresents}
+use Rattle.code.specs.Reported.{MakerRepresents}
 
 -- the number is that of the first function named main
 abbrev pub IsMain : Pools → ℕ → Type 0
@@ -17,16 +17,16 @@ IsMain names number = number_of_name main_name (map (λ (f : FunctionNames). f.n
 
 -- the maker was told the actions of a resolved file, the names are that file's, and its main is the function of that
 -- name
-pub record MakerIsTold (maker : Maker) (p : Profile) (names : Pools) (file : File) : Type 0 where
+pub record MakerRepresentsFile (maker : Maker) (p : Profile) (names : Pools) (file : File) : Type 0 where
   pub resolved : IsResolved file
   pub stands : MakerRepresents maker p (actions file)
   pub named : names ≡ pools_of file
   pub main : IsMain names file.main
 
-pub record IsToldSomeFile (maker : Maker) (names : Pools) : Type 0 where
+pub record RepresentsSomeFile (maker : Maker) (names : Pools) : Type 0 where
   pub profile : Profile
   pub file : File
-  pub told : MakerIsTold maker profile names file
+  pub told : MakerRepresentsFile maker profile names file
 
 -- The code is that of a resolved file by its profile, within the profile's limit, and the function of main's number is
 -- named main.

@@ -86,13 +86,13 @@ truth_file =
     (While (constant 1) Done Done))
 
 -- The trees and the instructions want the same after these replies.
-pub record Wants (p : Profile) (file : File) (trace : List ℤ) (event : Want) : Type 0 where
+pub record BothWant (p : Profile) (file : File) (trace : List ℤ) (event : Want) : Type 0 where
   pub source : want p file trace ≡ event
   pub instructions : want_code (code_of p file) trace ≡ event
 
 -- what is wanted in this cycle, counted from 1, if every reply is 0
 abbrev pub InCycle : Profile → File → ℕ → Want → Type 0
-InCycle p file cycle event = Wants p file (zeros (cycle - 1)) event
+InCycle p file cycle event = BothWant p file (zeros (cycle - 1)) event
 
 abbrev pub asks : Intrinsic → ℤ → ℤ → Want
 asks i a b = Ask i (a ∷ b ∷ [])
@@ -118,7 +118,7 @@ either_or_shot o a = says [] (Binary o (constant a) (cannon_of (constant 0) (con
 -- What programs want in single cycles.
 pub record KnownWants : Type 0 where
   pub asked : InCycle first_profile asking_file 6 damage_asked
-  pub returned : Wants first_profile asking_file (zeros 5 ++ pos 7 ∷ zeros 4) Restart
+  pub returned : BothWant first_profile asking_file (zeros 5 ++ pos 7 ∷ zeros 4) Restart
   pub shot_late : InCycle first_profile late_read_file 17 shot
   pub first_shot : InCycle first_profile shooting_file 6 shot
   pub quiet_after : InCycle first_profile shooting_file 7 Quiet

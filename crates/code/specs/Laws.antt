@@ -19,8 +19,8 @@ WantsWhatTreesWant = (p : Profile) (file : File) → IsResolved file
     → (trace : List ℤ) → want_code (code_of p file) trace ≡ want p file trace
 
 -- What a file wants along some replies is the same with any bound on turns and calls that is greater than their number.
-abbrev pub MoreTurnsChangeNothing : Type 0
-MoreTurnsChangeNothing = (p : Profile) (file : File) → IsResolved file
+abbrev pub MoreIterationsChangeNothing : Type 0
+MoreIterationsChangeNothing = (p : Profile) (file : File) → IsResolved file
     → (trace : List ℤ) (n : ℕ) → length trace < n → want_within p file n trace ≡ want p file trace
 
 -- Along all replies the next instruction of a file's code finds on the stack all that it takes.

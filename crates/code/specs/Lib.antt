@@ -5,7 +5,7 @@ pub mod Machine
 pub mod Causes
 pub mod Meaning
 pub mod Making
-pub mod Told
+pub mod Reported
 pub mod Finishing
 pub mod Registers
 pub mod QuietRuns

@@ -31,29 +31,29 @@ assigned vars (External j) x = record { externals = slice_set vars.externals j x
 assigned vars (Local j) x = record { externals = vars.externals; locals = slice_set vars.locals j x }
 
 -- an evaluation is done, with the replies left, or wants an event
-pub data Evaluated (A : Type 0) : Type 0 where
-  Gives : (value : A) (vars : Vars) (rest : List ℤ) → Evaluated A
-  Awaits : (event : Want) → Evaluated A
+pub data EvaluationResult (A : Type 0) : Type 0 where
+  Gives : (value : A) (vars : Vars) (rest : List ℤ) → EvaluationResult A
+  Awaits : (event : Want) → EvaluationResult A
 
 -- an evaluation, and what follows it
-abbrev pub and_then : {A B : Type 0} → Evaluated A → (A → Vars → List ℤ → Evaluated B) → Evaluated B
+abbrev pub and_then : {A B : Type 0} → EvaluationResult A → (A → Vars → List ℤ → EvaluationResult B) → EvaluationResult B
 and_then (Gives x vars rest) go = go x vars rest
 and_then (Awaits event) go = Awaits event
 
 -- One cycle. What doesn't fit wants a restart; a reply that isn't there yet is awaited.
-abbrev pub tick : {A : Type 0} → Bool → Want → List ℤ → (ℤ → List ℤ → Evaluated A) → Evaluated A
+abbrev pub tick : {A : Type 0} → Bool → Want → List ℤ → (ℤ → List ℤ → EvaluationResult A) → EvaluationResult A
 tick false event trace go = Awaits Restart
 tick true event [] go = Awaits event
 tick true event (reply ∷ rest) go = go reply rest
 
 -- how a body ends: it is passed through, or returns a value
-pub data Flow : Type 0 where
-  Through : Flow
-  Returns : (value : ℤ) → Flow
+pub data Completion : Type 0 where
+  Through : Completion
+  Returns : (value : ℤ) → Completion
 
 -- a body's meaning at these variables, this depth and this many frames, along these replies
-abbrev pub Again : Type 0
-Again = Body → Vars → ℕ → ℕ → List ℤ → Evaluated Flow
+abbrev pub BodyMeaning : Type 0
+BodyMeaning = Body → Vars → ℕ → ℕ → List ℤ → EvaluationResult Completion
 
 -- the variables that a function begins with: a parameter is the argument of its number, and all others are 0
 abbrev pub first_locals : Function → List ℤ → List ℤ
@@ -62,54 +62,54 @@ first_locals f arguments =
     (range_with_len 0 (length f.variables))
 
 -- a word is pushed
-abbrev pub push : {A : Type 0} → Profile → ℕ → List ℤ → (List ℤ → Evaluated A) → Evaluated A
+abbrev pub push : {A : Type 0} → Profile → ℕ → List ℤ → (List ℤ → EvaluationResult A) → EvaluationResult A
 push p depth trace go =
     tick (nat_lt depth p.words) Quiet trace (λ reply rest.
     go rest)
 
 -- a cycle that always fits
-abbrev pub pass : {A : Type 0} → List ℤ → (List ℤ → Evaluated A) → Evaluated A
-pass trace go =
+abbrev pub quiet_cycle : {A : Type 0} → List ℤ → (List ℤ → EvaluationResult A) → EvaluationResult A
+quiet_cycle trace go =
     tick true Quiet trace (λ reply rest.
     go rest)
 
 -- an operator after both of its sides
-abbrev pub full : Op → ℕ → Evaluated ℤ → (Vars → ℕ → List ℤ → Evaluated ℤ) → Evaluated ℤ
+abbrev pub full : Op → ℕ → EvaluationResult ℤ → (Vars → ℕ → List ℤ → EvaluationResult ℤ) → EvaluationResult ℤ
 full o depth left right =
     and_then left (λ x vars rest_of_left.
     and_then (right vars (depth + 1) rest_of_left) (λ y vars rest_of_right.
-    pass rest_of_right (λ rest.
+    quiet_cycle rest_of_right (λ rest.
     Gives (value_of o x y) vars rest)))
 
 -- an operator that leaves out its right side if the left one decides
-abbrev pub short : Profile → Op → ℕ → Evaluated ℤ → (Vars → ℕ → List ℤ → Evaluated ℤ) → Evaluated ℤ
+abbrev pub short : Profile → Op → ℕ → EvaluationResult ℤ → (Vars → ℕ → List ℤ → EvaluationResult ℤ) → EvaluationResult ℤ
 short p op.And depth left right =
     and_then left (λ x vars rest_of_left.
-    pass rest_of_left (λ rest_of_test.
+    quiet_cycle rest_of_left (λ rest_of_test.
     if holds x then
     and_then (right vars depth rest_of_test) (λ y vars rest_of_right.
-    pass rest_of_right (λ rest_of_pass.
+    quiet_cycle rest_of_right (λ rest_of_pass.
     push p (depth + 1) rest_of_pass (λ rest_of_push.
-    pass rest_of_push (λ rest.
+    quiet_cycle rest_of_push (λ rest.
     Gives (truth (holds y)) vars rest))))
     else
     push p depth rest_of_test (λ rest.
     Gives (pos 0) vars rest)))
 short p op.Or depth left right =
     and_then left (λ x vars rest_of_left.
-    pass rest_of_left (λ rest_of_test.
+    quiet_cycle rest_of_left (λ rest_of_test.
     if holds x then
     push p depth rest_of_test (λ rest_of_push.
     push p (depth + 1) rest_of_push (λ rest_of_second_push.
-    pass rest_of_second_push (λ rest.
+    quiet_cycle rest_of_second_push (λ rest.
     Gives (pos 1) vars rest)))
     else
     and_then (right vars depth rest_of_test) (λ y vars rest_of_right.
-    pass rest_of_right (λ rest.
+    quiet_cycle rest_of_right (λ rest.
     Gives (truth (holds y)) vars rest))))
 short p o depth left right = full o depth left right
 
-abbrev pub binary : Profile → Op → ℕ → Evaluated ℤ → (Vars → ℕ → List ℤ → Evaluated ℤ) → Evaluated ℤ
+abbrev pub binary : Profile → Op → ℕ → EvaluationResult ℤ → (Vars → ℕ → List ℤ → EvaluationResult ℤ) → EvaluationResult ℤ
 binary p o depth left right =
     if p.short_circuit then
     short p o depth left right
@@ -117,38 +117,38 @@ binary p o depth left right =
     full o depth left right
 
 -- what follows a statement that is passed through
-abbrev pub on_through : Flow → Vars → List ℤ → (Vars → List ℤ → Evaluated Flow) → Evaluated Flow
+abbrev pub on_through : Completion → Vars → List ℤ → (Vars → List ℤ → EvaluationResult Completion) → EvaluationResult Completion
 on_through Through vars rest go = go vars rest
 on_through (Returns x) vars rest go = Gives (Returns x) vars rest
 
-abbrev pub and_on : Evaluated Flow → (Vars → List ℤ → Evaluated Flow) → Evaluated Flow
+abbrev pub and_on : EvaluationResult Completion → (Vars → List ℤ → EvaluationResult Completion) → EvaluationResult Completion
 and_on outcome go =
     and_then outcome (λ flow vars rest.
     on_through flow vars rest go)
 
 -- the end of a first branch, and of each turn: a push of 0, and a cycle that takes it
-abbrev pub over : Profile → ℕ → List ℤ → (List ℤ → Evaluated Flow) → Evaluated Flow
-over p depth trace go =
+abbrev pub end_of_branch_or_iteration : Profile → ℕ → List ℤ → (List ℤ → EvaluationResult Completion) → EvaluationResult Completion
+end_of_branch_or_iteration p depth trace go =
     push p depth trace (λ rest.
-    pass rest go)
+    quiet_cycle rest go)
 
 -- the end of a function's run, with the value that it returned: a body that is passed through returns 0
-abbrev pub closed : {A : Type 0} → Profile → ℕ → ℕ → Flow → Vars → List ℤ → (ℤ → Vars → List ℤ → Evaluated A) →
-    Evaluated A
-closed p depth frames (Returns x) vars rest go = go x vars rest
-closed p depth frames Through vars rest_of_body go =
+abbrev pub end_of_function : {A : Type 0} → Profile → ℕ → ℕ → Completion → Vars → List ℤ → (ℤ → Vars → List ℤ → EvaluationResult A) →
+    EvaluationResult A
+end_of_function p depth frames (Returns x) vars rest go = go x vars rest
+end_of_function p depth frames Through vars rest_of_body go =
     push p depth rest_of_body (λ rest_of_push.
     tick (nat_lt 1 frames) Quiet rest_of_push (λ reply rest.
     go (pos 0) vars rest))
 
 -- the value of a call, with the caller's variables again
-abbrev pub returned : Vars → ℤ → Vars → List ℤ → Evaluated ℤ
+abbrev pub returned : Vars → ℤ → Vars → List ℤ → EvaluationResult ℤ
 returned caller x vars rest = Gives x (record { externals = vars.externals; locals = caller.locals }) rest
 
-module _ (p : Profile) (file : File) (again : Again) where
+module _ (p : Profile) (file : File) (again : BodyMeaning) where
   -- A call after its arguments, at the depth below them. The function's own depth is behind all of its variables, of
   -- which the arguments are the first.
-  abbrev pub called : Callee → List ℤ → Vars → ℕ → ℕ → List ℤ → Evaluated ℤ
+  abbrev pub called : Callee → List ℤ → Vars → ℕ → ℕ → List ℤ → EvaluationResult ℤ
   called (callee.Intrinsic i) arguments vars depth frames trace =
       tick (nat_le (depth + 1) p.words) (Ask i (asked_words i arguments)) trace (λ reply rest.
       Gives reply vars rest)
@@ -157,11 +157,11 @@ module _ (p : Profile) (file : File) (again : Again) where
       let inside : Vars = record { externals = vars.externals; locals = first_locals f arguments } in
       tick (nat_le (depth + length f.variables) p.words) Quiet trace (λ reply rest_of_call.
       and_then (again f.body inside (depth + length f.variables) (frames + 1) rest_of_call) (λ flow after rest.
-      closed p (depth + length f.variables) (frames + 1) flow after rest (returned vars)))
+      end_of_function p (depth + length f.variables) (frames + 1) flow after rest (returned vars)))
 
   abbrev mutual
     -- the value of an expression
-    pub value : Expr → Vars → ℕ → ℕ → List ℤ → Evaluated ℤ
+    pub value : Expr → Vars → ℕ → ℕ → List ℤ → EvaluationResult ℤ
     value (Constant n) vars depth frames trace =
         push p depth trace (λ rest.
         Gives n vars rest)
@@ -173,15 +173,15 @@ module _ (p : Profile) (file : File) (again : Again) where
         value b vars depth frames rest)
     value (Assign o v e) vars depth frames trace =
         and_then (value e vars depth frames trace) (λ x vars rest_of_value.
-        pass rest_of_value (λ rest.
+        quiet_cycle rest_of_value (λ rest.
         let y = stored o (value_of_variable vars v) x in
         Gives y (assigned vars v y) rest))
     value (Postfix o v) vars depth frames trace =
         push p depth trace (λ rest_of_push.
         let x = value_of_variable vars v in
         push p (depth + 1) rest_of_push (λ rest_of_second_push.
-        pass rest_of_second_push (λ rest_of_pass.
-        pass rest_of_pass (λ rest.
+        quiet_cycle rest_of_second_push (λ rest_of_pass.
+        quiet_cycle rest_of_pass (λ rest.
         Gives x (assigned vars v (stored o x (pos 1))) rest))))
     value (Call f arguments) vars depth frames trace =
         tick (nat_lt frames p.frames) Quiet trace (λ reply rest_of_frame.
@@ -190,7 +190,7 @@ module _ (p : Profile) (file : File) (again : Again) where
 
     -- The values of arguments, in order. Each is pushed on those before it, so `depth` is that of the argument, and not
     -- of the function called.
-    pub values : Args → Vars → ℕ → ℕ → List ℤ → Evaluated (List ℤ)
+    pub values : Args → Vars → ℕ → ℕ → List ℤ → EvaluationResult (List ℤ)
     values NoMore vars depth frames trace = Gives [] vars trace
     values (Argument e arguments) vars depth frames trace =
         and_then (value e vars depth frames trace) (λ x vars rest_of_first.
@@ -198,15 +198,15 @@ module _ (p : Profile) (file : File) (again : Again) where
         Gives (x ∷ xs) vars rest))
 
   -- the effect of statements
-  abbrev pub effect : Body → Vars → ℕ → ℕ → List ℤ → Evaluated Flow
+  abbrev pub effect : Body → Vars → ℕ → ℕ → List ℤ → EvaluationResult Completion
   effect Done vars depth frames trace = Gives Through vars trace
   effect (ExpressionStatement e next) vars depth frames trace =
       and_then (value e vars depth frames trace) (λ x vars rest_of_value.
-      pass rest_of_value (λ rest.
+      quiet_cycle rest_of_value (λ rest.
       effect next vars depth frames rest))
   effect (IfStatement c s next) vars depth frames trace =
       and_then (value c vars depth frames trace) (λ x vars rest_of_condition.
-      pass rest_of_condition (λ rest_of_test.
+      quiet_cycle rest_of_condition (λ rest_of_test.
       if holds x then
       and_on (effect s vars depth frames rest_of_test) (λ vars rest.
       effect next vars depth frames rest)
@@ -214,20 +214,20 @@ module _ (p : Profile) (file : File) (again : Again) where
       effect next vars depth frames rest_of_test))
   effect (IfElseStatement c s t next) vars depth frames trace =
       and_then (value c vars depth frames trace) (λ x vars rest_of_condition.
-      pass rest_of_condition (λ rest_of_test.
+      quiet_cycle rest_of_condition (λ rest_of_test.
       if holds x then
       and_on (effect s vars depth frames rest_of_test) (λ vars rest_of_branch.
-      over p depth rest_of_branch (λ rest.
+      end_of_branch_or_iteration p depth rest_of_branch (λ rest.
       effect next vars depth frames rest))
       else
       and_on (effect t vars depth frames rest_of_test) (λ vars rest.
       effect next vars depth frames rest)))
   effect (While c s next) vars depth frames trace =
       and_then (value c vars depth frames trace) (λ x vars rest_of_condition.
-      pass rest_of_condition (λ rest_of_test.
+      quiet_cycle rest_of_condition (λ rest_of_test.
       if holds x then
       and_on (effect s vars depth frames rest_of_test) (λ vars rest_of_turn.
-      over p depth rest_of_turn (λ rest.
+      end_of_branch_or_iteration p depth rest_of_turn (λ rest.
       again (While c s next) vars depth frames rest))
       else
       effect next vars depth frames rest_of_test))
@@ -237,13 +237,13 @@ module _ (p : Profile) (file : File) (again : Again) where
       Gives (Returns x) vars rest))
 
 -- with at most n turns and calls inside one another
-abbrev pub effect_within : Profile → File → ℕ → Again
+abbrev pub effect_within : Profile → File → ℕ → BodyMeaning
 effect_within p file zero body vars depth frames trace = Awaits Restart
 effect_within p file (suc n) body vars depth frames trace =
     effect p file (effect_within p file n) body vars depth frames trace
 
 -- main does not end: when it would return, it wants a restart
-abbrev pub wanted : Evaluated ℤ → Want
+abbrev pub wanted : EvaluationResult ℤ → Want
 wanted (Awaits event) = event
 wanted (Gives x vars rest) = Restart
 
@@ -258,10 +258,10 @@ want_within p file n trace =
     let vars : Vars = record { externals = zeros (length file.externals); locals = zeros depth } in
     wanted (
     and_then (effect_within p file n main.body vars depth 1 trace) (λ flow vars rest_of_main.
-    closed p depth 1 flow vars rest_of_main (λ x vars rest.
+    end_of_function p depth 1 flow vars rest_of_main (λ x vars rest.
     Awaits Restart)))
 
 -- What a file wants along the replies. Each turn and each call uses up a reply, so a greater bound changes nothing
--- (the law `MoreTurnsChangeNothing` in `Laws.antt`).
+-- (the law `MoreIterationsChangeNothing` in `Laws.antt`).
 abbrev pub want : Profile → File → List ℤ → Want
 want p file trace = want_within p file (suc (length trace)) trace

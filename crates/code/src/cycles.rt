@@ -5,7 +5,7 @@ ghost use Rattle.grammar.specs.declared.resolved_names.Intrinsic.{Intrinsic};
 ghost use Rattle.code.specs.Machine.{want_next, want_code};
 ghost use Rattle.code.specs.Causes.{cause_next};
 ghost use Rattle.code.specs.Registers.{machine_of};
-ghost use Rattle.code.specs.ReachedMachines.{IsReached, FitsProgram, HasRunQuiet};
+ghost use Rattle.code.specs.ReachedMachines.{IsReached, IsReachable, HasRunQuiet};
 
 use crate::cause::Cause;
 use crate::instr::Instr;
@@ -26,7 +26,7 @@ impl Storage {
     #[inline(always)]
     #[tactic(auto, using(crate::proofs::Machines::wants_code))]
     pub(crate) fn next_want(&self, program: &Program, registers: Registers) -> Want
-        requires { FitsProgram (machine_of registers self.now) program.now }
+        requires { IsReachable (machine_of registers self.now) program.now }
         ensures code { (trace : List ℤ) → IsReached (machine_of registers self.now) program.now trace
             → result ≡ want_code program.now trace }
     {
@@ -37,7 +37,7 @@ impl Storage {
     /// Reports whether the next instruction asks. A machine at such an instruction needs no run to find it out.
     #[inline(always)]
     pub(crate) fn asks(&self, program: &Program, registers: Registers) -> bool
-        requires { FitsProgram (machine_of registers self.now) program.now }
+        requires { IsReachable (machine_of registers self.now) program.now }
         ensures { result ≡ true → want_next program.now (machine_of registers self.now) ≢ Want.Quiet }
     {
         matches!(
@@ -49,7 +49,7 @@ impl Storage {
     /// Returns what the machine wants if it wants something: a reply or a restart.
     #[inline(always)]
     pub(crate) fn stopped_want(&self, program: &Program, registers: Registers) -> Want
-        requires fits { FitsProgram (machine_of registers self.now) program.now }
+        requires fits { IsReachable (machine_of registers self.now) program.now }
         requires stopped { want_next program.now (machine_of registers self.now) ≢ Want.Quiet }
         ensures { result ≡ want_next program.now (machine_of registers self.now) }
     {
@@ -59,7 +59,7 @@ impl Storage {
 
     /// Returns why the machine wants a restart, if it does.
     pub(crate) fn cause(&self, program: &Program, registers: Registers) -> Option<Cause>
-        requires { FitsProgram (machine_of registers self.now) program.now }
+        requires { IsReachable (machine_of registers self.now) program.now }
         ensures { result ≡ cause_next program.now (machine_of registers self.now) }
     {
         let instr = self.instr_at(program, registers);
@@ -69,12 +69,12 @@ impl Storage {
     /// Takes the reply to what the machine asks.
     #[inline(always)]
     pub(crate) fn reply(&mut self, program: &Program, registers: Registers, reply: i32) -> Registers
-        requires fits { FitsProgram (machine_of registers self.old) program.now }
+        requires fits { IsReachable (machine_of registers self.old) program.now }
         requires asks { (intrinsic : Intrinsic) × (arguments : List ℤ)
             × (want_next program.now (machine_of registers self.old) ≡ Want.Ask intrinsic arguments) }
         ensures stands { (trace : List ℤ) → IsReached (machine_of registers self.old) program.now trace
             → IsReached (machine_of result self.new) program.now (trace ++ reply ∷ []) }
-        ensures fits { FitsProgram (machine_of result self.new) program.now }
+        ensures fits { IsReachable (machine_of result self.new) program.now }
     {
         // For the proof alone: the next instruction is one of the program.
         let _instr = self.instr_at(program, registers);
@@ -84,7 +84,7 @@ impl Storage {
     /// Runs up to `most` cycles that ask nothing: some are left only if the machine then wants a reply or a restart.
     #[inline(always)]
     pub(crate) fn run_quiet(&mut self, program: &Program, from: Registers, most: u32) -> QuietRun
-        requires { FitsProgram (machine_of from self.old) program.now }
+        requires { IsReachable (machine_of from self.old) program.now }
         ensures most { result.left ≤ most }
         ensures coasted { HasRunQuiet program.now (machine_of from self.old) (most - result.left)
             (machine_of result.registers self.new) }
@@ -95,7 +95,7 @@ impl Storage {
         let mut left = most;
         while left > 0 {
             let instr = self.instr_at(program, registers);
-            match self.step(program, room, registers, instr) {
+            match self.run_instr(program, room, registers, instr) {
                 Some(next) => registers = next,
                 None => break,
             }

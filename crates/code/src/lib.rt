@@ -23,7 +23,7 @@ pub use counts::FunctionCounts;
 pub use frame::Frame;
 pub use grammar::{Intrinsic, Profile};
 pub use instr::Instr;
-pub use laws::{always_ready, code_means_trees, length_of_code, more_turns};
+pub use laws::{always_ready, code_means_trees, length_of_code, more_iterations};
 pub use machine::Machine;
 pub use maker::Maker;
 pub use program::Program;

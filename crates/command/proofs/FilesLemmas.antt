@@ -3,7 +3,7 @@ use Rattle.std.proofs.Common.{◌≡◌, ◌<◌, ◌+◌, ℕ, zero, suc, List,
 use Rattle.std.specs.Prelude.{All, slice_get, slice_index_or, slice_set}
 use Rattle.std.proofs.lemmas.List.{map_more, map_push}
 use Rattle.std.proofs.lemmas.List.Elements.{All-push}
-use Rattle.tokens.specs.Feed.{Account, Device, failed_again}
+use Rattle.tokens.specs.Feed.{FailureCount, Device, failed_again}
 use Rattle.series.specs.Failures.{accounts, no_device}
 use Rattle.command.specs.Files.{EachShows, HasFailed, ShowsFailure}
 
@@ -33,9 +33,9 @@ module _ {F : Type 0} (device : F → Device) (fails : List ℕ → Type 0) wher
   shown_at (first ∷ words) (old ∷ olds) [] word (suc place) each here within is = absurd (cc is)
   shown_at (first ∷ words) (old ∷ olds) (new ∷ news) word zero each here within is =
       let same : first ≡ word = cc here in
-      subst fails same (each.0 new (ap (λ (l : List Account). slice_index_or l 0 no_device) is))
+      subst fails same (each.0 new (ap (λ (l : List FailureCount). slice_index_or l 0 no_device) is))
   shown_at (first ∷ words) (old ∷ olds) (new ∷ news) word (suc place) each here within is =
-      shown_at words olds news word place each.1 here (omega (arith, within)) (ap (λ (l : List Account). drop 1 l) is)
+      shown_at words olds news word place each.1 here (omega (arith, within)) (ap (λ (l : List FailureCount). drop 1 l) is)
 
   pub shown : (words : List (List ℕ)) (olds news : List F) (word : List ℕ) → EachShows device fails words olds
       → HasFailed words (accounts device olds) (accounts device news) word → fails word

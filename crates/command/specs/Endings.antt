@@ -1,6 +1,6 @@
 -- How the program ends.
 use Rattle.std.specs.Prelude.{◌≡◌, ◌⊎◌, ℕ, ◌+◌, List, [], ◌∷◌, ◌++◌, codes}
-use Rattle.sinks.specs.Portions.{Takes, TakesFront, Written}
+use Rattle.sinks.specs.Portions.{Takes, TakesPrefix, SinkState}
 use Rattle.std.specs.declared.io.ErrorKind.{ErrorKind}
 use Rattle.std.specs.declared.io.ErrorKind.TheVariants as kind
 use Rattle.command.specs.declared.endings.Ending.{Ending}
@@ -35,18 +35,18 @@ ending_line CannotWrite = codes "crobots: cannot write" ++ 10 ∷ []
 ending_line OutOfMemory = codes "crobots: out of memory" ++ 10 ∷ []
 
 -- a line was put: the sink took it, or it failed once and took a front of it
-abbrev pub PutsLine : Written → Written → List ℕ → Type 0
+abbrev pub PutsLine : SinkState → SinkState → List ℕ → Type 0
 PutsLine before after line =
     (Takes before.portions after.portions line × (after.failures ≡ before.failures))
-    ⊎ (TakesFront before.portions after.portions line × (after.failures ≡ before.failures + 1))
+    ⊎ (TakesPrefix before.portions after.portions line × (after.failures ≡ before.failures + 1))
 
 -- the program ended so: it put the line, and answered the status
-pub record IsEnded (ending : Ending) (result : ℕ) (before after : Written) : Type 0 where
+pub record IsEnded (ending : Ending) (result : ℕ) (before after : SinkState) : Type 0 where
   pub status : result ≡ exit_status ending
   pub line : PutsLine before after (ending_line ending)
 
 -- how often the two sinks failed in a run that ended so: only if writing failed one of them did, once
-abbrev pub FailsAsEnded : Ending → (text faults later_text later_faults : Written) → Type 0
+abbrev pub FailsAsEnded : Ending → (text faults later_text later_faults : SinkState) → Type 0
 FailsAsEnded CannotWrite text faults later_text later_faults =
     ((later_text.failures ≡ text.failures + 1) × (later_faults.failures ≡ faults.failures))
     ⊎ ((later_text.failures ≡ text.failures) × (later_faults.failures ≡ faults.failures + 1))

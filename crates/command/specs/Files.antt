@@ -1,7 +1,7 @@
 -- The files that words name: what is known of them, and what opening and reading them shows.
 use Rattle.std.specs.Prelude.{◌≡◌, ◌<◌, ℕ, List, [], ◌∷◌, Option, Some, None, length, ⊤}
 use Rattle.std.specs.Prelude.{slice_get, slice_index_or, slice_set}
-use Rattle.tokens.specs.Feed.{Account, Device, failed_again}
+use Rattle.tokens.specs.Feed.{FailureCount, Device, failed_again}
 use Rattle.series.specs.Failures.{no_device}
 
 -- What each file holds, if that is known; that it was opened, that it was refused, and that a read of it failed.
@@ -28,7 +28,7 @@ EachShows device fails (word ∷ words) (file ∷ files) =
 EachShows device fails _ _ = ⊥
 
 -- of these devices, one for each word, that of this word has failed once more since
-pub record HasFailed (words : List (List ℕ)) (before after : List Account) (word : List ℕ) : Type 0 where
+pub record HasFailed (words : List (List ℕ)) (before after : List FailureCount) (word : List ℕ) : Type 0 where
   pub place : ℕ
   pub here : slice_get words place ≡ Some word
   pub within : place < length before

@@ -5,12 +5,12 @@ use Rattle.series.specs.declared.run_results.RunFault.{RunFault}
 use Rattle.series.specs.declared.run_results.RunFault.TheVariants as fault
 use Rattle.series.specs.declared.run_results.Status.{Status}
 use Rattle.series.specs.declared.run_results.Status.TheVariants as status
-use Rattle.series.specs.Compiling.{Source}
+use Rattle.series.specs.Compiling.{SourceFile}
 use Rattle.series.specs.Failures.{Failures}
 use Rattle.series.specs.Failures.{FailsAsAnswered as Counts}
 use Rattle.series.specs.Output.{Runs}
 use Rattle.series.specs.Pieces.{Taken, taken_by_sinks}
-use Rattle.sinks.specs.Portions.{Takes, TakesFront, Written}
+use Rattle.sinks.specs.Portions.{Takes, TakesPrefix, SinkState}
 use Rattle.series.specs.SourceContents.{AreSources}
 use Rattle.settings.specs.declared.faults.UseFault.{UseFault}
 use Rattle.settings.specs.Settings.{Settings}
@@ -37,7 +37,7 @@ pub record RunsTo (fails : List ℕ → Type 0) (settings : Settings) (known : L
     (before after : Taken) (failed failed_after : Failures) : Type 0 where
   pub answer : Result Status RunFault
   pub ends : IsEndingOf fails settings.file_words answer ending
-  pub output : (sources : List Source) → AreSources sources settings.file_words known →
+  pub output : (sources : List SourceFile) → AreSources sources settings.file_words known →
       Runs settings sources answer before after
   pub devices : Counts answer failed failed_after
 
@@ -65,12 +65,12 @@ Ends files (Ok settings) ending before after =
 -- The program ends so, puts the line of its ending, whole if the channel of faults never failed, and answers its
 -- status.
 pub record Concludes (files : Files) (asked : Result Settings UseFault) (result : ℕ)
-    (text faults later_text later_faults : Written) : Type 0 where
+    (text faults later_text later_faults : SinkState) : Type 0 where
   pub ending : Ending
   pub between : Taken
   pub ends : Ends files asked ending (taken_by_sinks text faults) between
   pub text_stays : later_text.portions ≡ between.text
-  pub front : TakesFront between.faults later_faults.portions (ending_line ending)
+  pub front : TakesPrefix between.faults later_faults.portions (ending_line ending)
   pub whole : later_faults.failures ≡ faults.failures
       → Takes between.faults later_faults.portions (ending_line ending)
   pub status : result ≡ exit_status ending
@@ -82,6 +82,6 @@ pub record IsStatusOf (asked : Result Settings UseFault) (status : ℕ) : Type 0
   pub only_refused : status ≡ 2 → IsErr asked
 
 -- A status of 0 or 1 says that no write failed on the two channels, and 4 that one did.
-pub record TellsWrites (status : ℕ) (text faults later_text later_faults : Written) : Type 0 where
+pub record TellsWrites (status : ℕ) (text faults later_text later_faults : SinkState) : Type 0 where
   pub whole : status ≤ 1 → (later_text.failures ≡ text.failures) × (later_faults.failures ≡ faults.failures)
   pub cut : status ≡ 4 → (text.failures < later_text.failures) ⊎ (faults.failures < later_faults.failures)

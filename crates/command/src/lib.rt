@@ -8,7 +8,7 @@ mod running;
 
 pub use endings::Ending;
 pub use openers::{Disk, OpenFault, Opener};
-pub use process::program_of;
-pub use running::program_over;
+pub use process::run_process;
+pub use running::run_words;
 pub use sinks::StreamSink;
 pub use tokens::{FileFeed, KnownFeed};

@@ -10,7 +10,7 @@ ghost use Rattle.command.specs.Whole.{Concludes, IsStatusOf, TellsWrites};
 
 use crate::endings::Ending;
 use crate::openers::Disk;
-use crate::running::program_over;
+use crate::running::run_words;
 use series::Sink;
 use std::alloc::AllocError;
 use std::io;
@@ -21,7 +21,7 @@ use std::rt::Files;
 /// exit status.
 ///
 /// Words that are no text are wrong usage. If memory was refused for them, the program says that.
-pub fn program_of<R: Files + AllocGlobal, O: Sink, E: Sink>(
+pub fn run_process<R: Files + AllocGlobal, O: Sink, E: Sink>(
     rt: &R,
     words: io::Result<Vec<String>>,
     out: &mut O,
@@ -42,7 +42,7 @@ pub fn program_of<R: Files + AllocGlobal, O: Sink, E: Sink>(
         Ok(words) => match borrowed(rt, words.as_slice()) {
             Ok(words) => {
                 let words = after_first(words.as_slice());
-                program_over(rt.alloc(), &Disk::new(rt), words, out, err)
+                run_words(rt.alloc(), &Disk::new(rt), words, out, err)
             }
             Err(_) => Ending::OutOfMemory.conclude(err),
         },

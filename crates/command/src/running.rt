@@ -8,7 +8,7 @@ ghost use Rattle.command.specs.Endings.{FailsAsEnded};
 ghost use Rattle.command.specs.Files.{EachShows, HasFailed};
 ghost use Rattle.sinks.specs.Puts.{CanFail};
 ghost use Rattle.command.specs.Whole.{Concludes, Ends, IsNotOpened, IsStatusOf, RunsTo, TellsWrites};
-ghost use Rattle.series.specs.SourceContents.{told_by};
+ghost use Rattle.series.specs.SourceContents.{known_to_come};
 
 use crate::endings::Ending;
 use crate::openers::{OpenFault, Opener};
@@ -20,7 +20,7 @@ use tokens::Feed;
 
 /// Runs the program over files that `disk` opens: `words` are those after its name, `out` takes its texts, and `err`
 /// takes diagnostics and lines of its own. Answers the exit status.
-pub fn program_over<'a, D: Opener, O: Sink, E: Sink>(
+pub fn run_words<'a, D: Opener, O: Sink, E: Sink>(
     alloc: Global,
     disk: &D,
     words: &'a [&'a str],
@@ -71,7 +71,7 @@ fn open_files<'a, D: Opener>(
     disk: &D,
     words: &[&'a str],
 ) -> Result<Vec<D::File>, Ending<'a>>
-    ensures contents { IfOk result (λ feeds. told_by D.File.device feeds.items
+    ensures contents { IfOk result (λ feeds. known_to_come D.File.device feeds.items
         ≡ map (λ word. (D.files disk.now).holds word.now) words.now) }
     ensures never_failed { IfOk result (λ feeds. All (λ feed. (D.File.device feed).account.failures ≡ 0) feeds.items) }
     ensures not_ended { IfOk result (λ feeds. All (λ feed. (D.File.device feed).ended ≡ false) feeds.items) }
@@ -103,7 +103,7 @@ fn run_files<'a, F: Feed, O: Sink, E: Sink>(
     requires ready { AreReady F.device (length settings.now.file_words) feeds.old
         (O.written out.old) (E.written err.old) }
     ensures ran { RunsTo (HasFailed settings.now.file_words (accounts F.device feeds.old) (accounts F.device feeds.new))
-        settings.now (told_by F.device feeds.old) result
+        settings.now (known_to_come F.device feeds.old) result
         (taken_by_sinks (O.written out.old) (E.written err.old)) (taken_by_sinks (O.written out.new) (E.written err.new))
         (failures F.device feeds.old (O.written out.old) (E.written err.old))
         (failures F.device feeds.new (O.written out.new) (E.written err.new)) }

@@ -4,7 +4,7 @@
 ghost use Rattle.std.specs.Prelude.{None, Some, ⊤};
 
 use arguments::read_words;
-use command::{Disk, FileFeed, KnownFeed, OpenFault, Opener, StreamSink, program_of, program_over};
+use command::{Disk, FileFeed, KnownFeed, OpenFault, Opener, StreamSink, run_process, run_words};
 use series::{MemorySink, Sink};
 use settings::{Mode, UseFault};
 use std::alloc::{Allocator, Global};
@@ -46,7 +46,7 @@ fn check<'a, R: Abort + Files + AllocGlobal>(
     let mut out = MemorySink::new(rt.alloc());
     let mut err = MemorySink::new(rt.alloc());
     assert_eq!(rt;
-        program_over(rt.alloc(), &Disk::new(rt), words, &mut out, &mut err),
+        run_words(rt.alloc(), &Disk::new(rt), words, &mut out, &mut err),
         status,
         "{words:?}"
     );
@@ -319,7 +319,7 @@ fn check_full<'a, R: Abort + Files + AllocGlobal>(
     let mut out = MemorySink::new(rt.alloc()).with_room(10);
     let mut err = MemorySink::new(rt.alloc());
     assert_eq!(rt;
-        program_over(rt.alloc(), &Disk::new(rt), words, &mut out, &mut err),
+        run_words(rt.alloc(), &Disk::new(rt), words, &mut out, &mut err),
         4,
         "{words:?}"
     );
@@ -342,7 +342,7 @@ fn own_line_not_written(rt: HostRuntime) -> Result<(), Fail> {
     let mut out = MemorySink::new(rt.alloc());
     let mut err = MemorySink::new(rt.alloc()).with_room(5);
     assert_eq!(rt;
-        program_over(rt.alloc(), &Disk::new(&rt), &["-x"], &mut out, &mut err),
+        run_words(rt.alloc(), &Disk::new(&rt), &["-x"], &mut out, &mut err),
         2
     );
     assert_eq!(rt; taken(&rt, &err)?.as_slice(), b"usage".as_slice());
@@ -451,7 +451,7 @@ fn a_file_whose_first_read_fails_ends_the_run(rt: HostRuntime) -> Result<(), Fai
         let mut out = MemorySink::new(rt.alloc());
         let mut err = MemorySink::new(rt.alloc());
         assert_eq!(rt;
-            program_over(rt.alloc(), &Failing, &words, &mut out, &mut err),
+            run_words(rt.alloc(), &Failing, &words, &mut out, &mut err),
             3
         );
         assert_eq!(rt; taken(&rt, &out)?.as_slice(), text);
@@ -490,7 +490,7 @@ fn readers_of_known_contents(rt: HostRuntime) -> Result<(), Fail> {
     let mut out = MemorySink::new(rt.alloc());
     let mut err = MemorySink::new(rt.alloc());
     assert_eq!(rt;
-        program_over(rt.alloc(), &disk, &["-c", "a.r", "b.r"], &mut out, &mut err),
+        run_words(rt.alloc(), &disk, &["-c", "a.r", "b.r"], &mut out, &mut err),
         0
     );
     let listed = format!(in rt.alloc(); "File a.r\n{EMPTY}File b.r\n{EMPTY}")?;
@@ -508,7 +508,7 @@ fn check_process<R: Abort + Files + AllocGlobal>(
 ) -> Result<(), Fail> {
     let mut out = MemorySink::new(rt.alloc());
     let mut err = MemorySink::new(rt.alloc());
-    assert_eq!(rt; program_of(rt, words, &mut out, &mut err), status);
+    assert_eq!(rt; run_process(rt, words, &mut out, &mut err), status);
     assert_eq!(rt; taken(rt, &out)?.as_slice(), b"".as_slice());
     assert_eq!(rt; taken(rt, &err)?.as_slice(), faults);
     Ok(())
@@ -593,7 +593,7 @@ fn out_of_memory(rt: HostRuntime) -> Result<(), Fail> {
     let broken = NoMemory(&rt);
     let disk = Disk::new(&broken);
     assert_eq!(rt;
-        program_over(broken.alloc(), &disk, &["-c", "a.r"], &mut out, &mut err),
+        run_words(broken.alloc(), &disk, &["-c", "a.r"], &mut out, &mut err),
         5
     );
     assert_eq!(rt; taken(&rt, &out)?.as_slice(), b"".as_slice());

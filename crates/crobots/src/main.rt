@@ -1,7 +1,7 @@
 //! The program: it lists the code of robots or plays matches of them, and names their faults.
 #![tactic(auto)]
 
-use command::{StreamSink, program_of};
+use command::{StreamSink, run_process};
 use std::process::ExitCode;
 use std::{env, io};
 
@@ -9,7 +9,7 @@ use std::{env, io};
 fn main(rt: HostRuntime) -> ExitCode {
     let mut out = StreamSink::new(rt.stdout());
     let mut err = StreamSink::new(rt.stderr());
-    ExitCode::from(program_of(&rt, words(&rt), &mut out, &mut err))
+    ExitCode::from(run_process(&rt, words(&rt), &mut out, &mut err))
 }
 
 /// Returns the words of the process. Words that are no text are an error.

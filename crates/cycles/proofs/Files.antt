@@ -12,10 +12,10 @@ use Rattle.grammar.specs.Tree.{Body, Done, File}
 use Rattle.grammar.specs.Tree as tree
 use Rattle.grammar.specs.Pools.{Pools}
 use Rattle.code.specs.Functions.{function_at, no_function}
-use Rattle.parser.specs.ParsedFiles.{IsFile}
+use Rattle.parser.specs.ParsedFiles.{ParsesToFile}
 use Rattle.trees.specs.TreeMakers.{TreeMaker, TreeMakerRepresents}
 use Rattle.room.proofs.BoundLaws.{trees_are}
-use Rattle.trees.specs.Laws.{Told, told, told_functions, told_numbered, told_trees}
+use Rattle.trees.specs.Laws.{UnnamedFunction, without_names, told_functions, told_numbered, told_trees}
 use Rattle.trees.specs.Trees.{body_tree, function_tree}
 use Rattle.trees.specs.declared.tree.Function.{Function}
 use Rattle.cycles.specs.declared.counted.Counted.{Counted}
@@ -32,8 +32,8 @@ use Rattle.cycles.specs.Told.{told_end}
 use Rattle.cycles.specs.Turns.{turn_of}
 
 -- what is told of functions that there are
-abbrev told_at : File → ℕ → Told
-told_at file k = told k (function_at file k)
+abbrev told_at : File → ℕ → UnnamedFunction
+told_at file k = without_names k (function_at file k)
 
 told_there : (file : File) (ks : List ℕ) → ((k : ℕ) → IsAmong k ks → k < length file.functions) →
     told_functions file.functions ks ≡ map (told_at file) ks
@@ -45,7 +45,7 @@ told_there file (k ∷ ks) there =
 
 -- The statements of functions by number.
 
-abbrev told_body : List Told → ℕ → Body
+abbrev told_body : List UnnamedFunction → ℕ → Body
 told_body [] k = Done
 told_body (t ∷ ts) k = if t.number == k then t.body else told_body ts k
 
@@ -87,7 +87,7 @@ module _ (file : File) (resolved : IsResolved file) (made : List Function)
 
   made_body : (k : ℕ) → first_numbered made k ≡ body_at file k
   made_body k =
-      first_told made k ∙ ap (λ (ts : List Told). told_body ts k) told_are ∙
+      first_told made k ∙ ap (λ (ts : List UnnamedFunction). told_body ts k) told_are ∙
       by (cases_lt k (length file.functions))
     where
       by : (k < length file.functions) ⊎ (length file.functions ≤ k) →
@@ -108,9 +108,9 @@ module _ (file : File) (resolved : IsResolved file) (made : List Function)
 
   as_many : length made ≡ length file.order
   as_many =
-      let one = length-map made (λ (f : Function). told f.number (function_tree f)) in
+      let one = length-map made (λ (f : Function). without_names f.number (function_tree f)) in
       let other = length-map file.order (told_at file) in
-      sym one ∙ ap (λ (ts : List Told). length ts) told_are ∙ other
+      sym one ∙ ap (λ (ts : List UnnamedFunction). length ts) told_are ∙ other
 
   -- what is known of the trees' functions is known of the file's
   pub runs_are : (table : Runs) (u : Counted) (p : Profile) →
@@ -122,11 +122,11 @@ module _ (file : File) (resolved : IsResolved file) (made : List Function)
 
 -- Rows, by what is told of functions.
 
-abbrev rows_told : (ℕ → Run) → List Told → List Run
-rows_told row ts = map (λ (t : Told). row t.number) ts
+abbrev rows_told : (ℕ → Run) → List UnnamedFunction → List Run
+rows_told row ts = map (λ (t : UnnamedFunction). row t.number) ts
 
 module _ (row : ℕ → Loop → Turn) where
-  abbrev turns_told : List Told → List Turn
+  abbrev turns_told : List UnnamedFunction → List Turn
   turns_told [] = []
   turns_told (t ∷ ts) = map (row t.number) (loops_of t.body) ++ turns_told ts
 
@@ -193,13 +193,13 @@ module _ (asked : Counted) (p : Profile) (file : File) (resolved : IsResolved fi
       has_rows spans first second = record { runs = first ∙ runs_rows; turns = second ∙ turns_rows }
 
 -- what is told of a source, by what is told of each file that its trees may be
-pub spans_are : (asked : Counted) (p : Profile) (told : Option (List ℕ)) (before after : TreeMaker) (names : Pools)
+pub spans_are : (asked : Counted) (p : Profile) (without_names : Option (List ℕ)) (before after : TreeMaker) (names : Pools)
     (spans : SourceSpans) → TreeMakerRepresents before p [] →
-    IsFile (λ p acts. TreeMakerRepresents before p acts) (λ p acts. TreeMakerRepresents after p acts) told names →
+    ParsesToFile (λ p acts. TreeMakerRepresents before p acts) (λ p acts. TreeMakerRepresents after p acts) without_names names →
     ((file : File) → IsResolved file → told_functions file.functions file.order ≡ told_trees after.functions →
     HasRows asked p file spans) →
-    AreSpansOf asked p told spans
-spans_are asked p told before after names spans new is rows =
+    AreSpansOf asked p without_names spans
+spans_are asked p without_names before after names spans new is rows =
     let file = is.file in
     record {
       file = file;

@@ -1,7 +1,7 @@
 -- Numbers within spans.
 use Rattle.std.specs.Prelude.{◌≡◌, ℕ, zero, suc, ◌+◌, ◌≤◌, Option, Some, None, IfSome, unwrap_or}
 use Rattle.std.proofs.Common.{arith, refl, subst}
-use Rattle.code.specs.Meaning.{Flow, Through, Returns}
+use Rattle.code.specs.Meaning.{Completion, Through, Returns}
 use Rattle.cycles.specs.declared.spans.Span.{Span}
 use Rattle.cycles.specs.declared.spans.Ends.{Ends}
 use Rattle.cycles.specs.Spans.{IsWithin, MayTake, ◌⊕◌, anything, either, exactly, most_of_any, most_of_both, most_of_either}
@@ -105,29 +105,29 @@ within_all s n h = record { least = omega (arith, h.least); most = most_of_all s
 
 -- The ends of statements.
 
-pub end_after : (s : Span) (ends : Ends) (flow : Flow) (n : ℕ) → MayTake (before s (end_of ends flow)) n →
+pub end_after : (s : Span) (ends : Ends) (flow : Completion) (n : ℕ) → MayTake (before s (end_of ends flow)) n →
     MayTake (end_of (after s ends) flow) n
 end_after s ends Through n h = h
 end_after s ends (Returns x) n h = h
 
-pub end_before : (s : Span) (ends : Ends) (flow : Flow) (n : ℕ) → MayTake (end_of (after s ends) flow) n →
+pub end_before : (s : Span) (ends : Ends) (flow : Completion) (n : ℕ) → MayTake (end_of (after s ends) flow) n →
     MayTake (before s (end_of ends flow)) n
 end_before s ends Through n h = h
 end_before s ends (Returns x) n h = h
 
-pub end_followed : (ends next : Ends) (flow : Flow) (m n : ℕ) → MayTake ends.through m → MayTake (end_of next flow) n →
+pub end_followed : (ends next : Ends) (flow : Completion) (m n : ℕ) → MayTake ends.through m → MayTake (end_of next flow) n →
     MayTake (end_of (followed ends next) flow) (m + n)
 end_followed ends next Through m n first second = behind_takes ends.through next.through m n first second
 end_followed ends next (Returns x) m n first second =
     second_takes ends.returns (behind ends.through next.returns) (m + n)
     (behind_takes ends.through next.returns m n first second)
 
-pub end_of_first : (first second : Ends) (flow : Flow) (n : ℕ) → MayTake (end_of first flow) n →
+pub end_of_first : (first second : Ends) (flow : Completion) (n : ℕ) → MayTake (end_of first flow) n →
     MayTake (end_of (one_branch first second) flow) n
 end_of_first first second Through n h = first_takes first.through second.through n h
 end_of_first first second (Returns x) n h = first_takes first.returns second.returns n h
 
-pub end_of_second : (first second : Ends) (flow : Flow) (n : ℕ) → MayTake (end_of second flow) n →
+pub end_of_second : (first second : Ends) (flow : Completion) (n : ℕ) → MayTake (end_of second flow) n →
     MayTake (end_of (one_branch first second) flow) n
 end_of_second first second Through n h = second_takes first.through second.through n h
 end_of_second first second (Returns x) n h = second_takes first.returns second.returns n h

@@ -2,7 +2,7 @@
 use Rattle.std.specs.Prelude.{◌≡◌, ℤ, List, [], ◌∷◌, length, Option}
 use Rattle.std.proofs.Common.{refl, arith}
 use Rattle.grammar.specs.declared.resolved_names.Callee.TheVariants as callee
-use Rattle.code.specs.Meaning.{Vars, Evaluated, Gives, Awaits, effect_within}
+use Rattle.code.specs.Meaning.{Vars, EvaluationResult, Gives, Awaits, effect_within}
 use Rattle.code.specs.declared.want.Want.TheVariants.{Quiet, Ask, Restart}
 use Rattle.cycles.specs.declared.counted.Counted.{Counted}
 use Rattle.cycles.specs.declared.counted.Counted.TheVariants.{Cycles}
@@ -14,7 +14,7 @@ use Rattle.cycles.proofs.Spending.{Ran}
 use Rattle.cycles.proofs.Ways.{bodies_take, called_takes, value_takes}
 use Rattle.cycles.proofs.TurnLaws.{loop_is_turns, turn_takes}
 
-takes : {A : Type 0} {u : Counted} {run : List ℤ → Evaluated A} {s : Option Span}
+takes : {A : Type 0} {u : Counted} {run : List ℤ → EvaluationResult A} {s : Option Span}
     {x : A} {after : Vars} {trace rest : List ℤ} → Ran u run s x after trace rest → Takes u run s trace rest
 takes r = record { replies = r.replies; took = r.took; within = r.within }
 
@@ -44,13 +44,13 @@ pub loops_are_turns : LoopsAreTurns
 loops_are_turns p file n c s next vars depth frames trace =
     loop_is_turns p file (effect_within p file n) c s next depth frames vars trace
 
-each_counts : {A : Type 0} (o : Evaluated A) → counts Cycles o ≡ 1
+each_counts : {A : Type 0} (o : EvaluationResult A) → counts Cycles o ≡ 1
 each_counts (Gives x vars rest) = refl
 each_counts (Awaits Quiet) = refl
 each_counts (Awaits (Ask i arguments)) = refl
 each_counts (Awaits Restart) = refl
 
-all_count : {A : Type 0} (run : List ℤ → Evaluated A) (replies : List ℤ) → spent Cycles run replies ≡ length replies
+all_count : {A : Type 0} (run : List ℤ → EvaluationResult A) (replies : List ℤ) → spent Cycles run replies ≡ length replies
 all_count run [] = refl
 all_count run (reply ∷ replies) =
     omega (arith, each_counts (run []), all_count (λ (rest : List ℤ). run (reply ∷ rest)) replies)

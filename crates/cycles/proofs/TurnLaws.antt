@@ -4,7 +4,7 @@ use Rattle.std.proofs.Common.{refl}
 use Rattle.arith.specs.Op.{holds}
 use Rattle.grammar.specs.Profile.{Profile}
 use Rattle.grammar.specs.Tree.{Expr, Body, File, While}
-use Rattle.code.specs.Meaning.{Vars, Evaluated, Gives, Awaits, Flow, Through, Returns, Again, and_on, and_then, effect, over, pass, push, tick, value}
+use Rattle.code.specs.Meaning.{Vars, EvaluationResult, Gives, Awaits, Completion, Through, Returns, BodyMeaning, and_on, and_then, effect, end_of_branch_or_iteration, quiet_cycle, push, tick, value}
 use Rattle.code.specs.declared.want.Want.TheVariants.{Quiet}
 use Rattle.cycles.specs.declared.counted.Counted.{Counted}
 use Rattle.cycles.specs.declared.spans.Span.{Span}
@@ -26,7 +26,7 @@ begun u inside Leaves = Some anything
 begun u inside (GivesBack x) = Some anything
 
 -- of the end after the statements
-abbrev turned_span : Counted → Flow → TurnEnd → Option Span
+abbrev turned_span : Counted → Completion → TurnEnd → Option Span
 turned_span u Through Begins = Some (two_cycles u)
 turned_span u Through Leaves = None
 turned_span u Through (GivesBack x) = None
@@ -46,21 +46,21 @@ only_begins u Leaves n h = absurd h
 only_begins u (GivesBack x) n h = absurd h
 
 begins_after : (u : Counted) (p : Profile) (depth : ℕ) (vars : Vars) →
-    Spends u (λ (t : List ℤ). push p depth t (λ rest. pass rest (λ rest. Gives Begins vars rest)))
+    Spends u (λ (t : List ℤ). push p depth t (λ rest. quiet_cycle rest (λ rest. Gives Begins vars rest)))
     (turned_span u Through)
 begins_after u p depth vars =
-    spends_wider u (λ (t : List ℤ). push p depth t (λ rest. pass rest (λ rest. Gives Begins vars rest)))
+    spends_wider u (λ (t : List ℤ). push p depth t (λ rest. quiet_cycle rest (λ rest. Gives Begins vars rest)))
     (λ last. before (two_cycles u) (begins_only last)) (turned_span u Through) (only_begins u)
     (behind_two u (nat_lt depth p.words) true (λ (t : List ℤ). Gives Begins vars t) begins_only
     (spends_given u Begins vars begins_only (within_exactly 0)))
 
-turned_takes : (u : Counted) (p : Profile) (depth : ℕ) (flow : Flow) (vars : Vars) →
+turned_takes : (u : Counted) (p : Profile) (depth : ℕ) (flow : Completion) (vars : Vars) →
     Spends u (λ (t : List ℤ). turned p depth flow vars t) (turned_span u flow)
 turned_takes u p depth Through vars = begins_after u p depth vars
 turned_takes u p depth (Returns x) vars =
     spends_given u (GivesBack x) vars (turned_span u (Returns x)) (within_anything 0)
 
-turned_fits : (u : Counted) (inside : Ends) (flow : Flow) (last : TurnEnd) (m n : ℕ) → MayTake (end_of inside flow) m →
+turned_fits : (u : Counted) (inside : Ends) (flow : Completion) (last : TurnEnd) (m n : ℕ) → MayTake (end_of inside flow) m →
     MayTake (turned_span u flow last) n → MayTake (begun u inside last) (m + n)
 turned_fits u inside Through Begins m n one other = behind_takes inside.through (Some (two_cycles u)) m n one other
 turned_fits u inside Through Leaves m n one other = absurd other
@@ -73,7 +73,7 @@ turned_fits u inside (Returns y) (GivesBack x) m n one other = within_anything (
 abbrev whole_turn : Counted → Span → Ends → TurnEnd → Option Span
 whole_turn u test inside last = before test (begun u inside last)
 
-pub turn_takes : (u : Counted) (p : Profile) (file : File) (again : Again) → BodiesTake u p file again →
+pub turn_takes : (u : Counted) (p : Profile) (file : File) (again : BodyMeaning) → BodiesTake u p file again →
     (fuel : ℕ) (c : Expr) (s : Body) (vars : Vars) (depth frames : ℕ) →
     Spends u (λ (t : List ℤ). turn p file again c s vars depth frames t)
     (whole_turn u (taken u p (run_within u p (body_at file) fuel) c)
@@ -96,21 +96,21 @@ turn_takes u p file again sooner fuel c s vars depth frames =
 
 -- A loop turn by turn.
 
-module _ (p : Profile) (file : File) (again : Again) (c : Expr) (s next : Body) (depth frames : ℕ) where
-  abbrev later : TurnEnd → Vars → List ℤ → Evaluated Flow
+module _ (p : Profile) (file : File) (again : BodyMeaning) (c : Expr) (s next : Body) (depth frames : ℕ) where
+  abbrev later : TurnEnd → Vars → List ℤ → EvaluationResult Completion
   later = after_turn p file again c s next depth frames
 
   -- after the statements
   turned_is : (b : Bool) (vars : Vars) (trace : List ℤ) →
-      tick b Quiet trace (λ reply rest. pass rest (λ rest. again (While c s next) vars depth frames rest)) ≡
-      and_then (tick b Quiet trace (λ reply rest. pass rest (λ rest. Gives Begins vars rest))) later
+      tick b Quiet trace (λ reply rest. quiet_cycle rest (λ rest. again (While c s next) vars depth frames rest)) ≡
+      and_then (tick b Quiet trace (λ reply rest. quiet_cycle rest (λ rest. Gives Begins vars rest))) later
   turned_is false vars trace = refl
   turned_is true vars [] = refl
   turned_is true vars (reply ∷ []) = refl
   turned_is true vars (reply ∷ other ∷ rest) = refl
 
-  body_is : (o : Evaluated Flow) →
-      and_on o (λ vars rest. over p depth rest (λ rest. again (While c s next) vars depth frames rest)) ≡
+  body_is : (o : EvaluationResult Completion) →
+      and_on o (λ vars rest. end_of_branch_or_iteration p depth rest (λ rest. again (While c s next) vars depth frames rest)) ≡
       and_then (and_then o (turned p depth)) later
   body_is (Awaits want) = refl
   body_is (Gives Through vars rest) = turned_is (nat_lt depth p.words) vars rest
@@ -118,7 +118,7 @@ module _ (p : Profile) (file : File) (again : Again) (c : Expr) (s next : Body) 
 
   choice_is : (b : Bool) (vars : Vars) (trace : List ℤ) →
       (if b then and_on (effect p file again s vars depth frames trace)
-      (λ vars rest. over p depth rest (λ rest. again (While c s next) vars depth frames rest)) else
+      (λ vars rest. end_of_branch_or_iteration p depth rest (λ rest. again (While c s next) vars depth frames rest)) else
       effect p file again next vars depth frames trace) ≡
       and_then
       (if b then and_then (effect p file again s vars depth frames trace) (turned p depth) else Gives Leaves vars trace)
@@ -126,15 +126,15 @@ module _ (p : Profile) (file : File) (again : Again) (c : Expr) (s next : Body) 
   choice_is true vars trace = body_is (effect p file again s vars depth frames trace)
   choice_is false vars trace = refl
 
-  test_is : (o : Evaluated ℤ) →
+  test_is : (o : EvaluationResult ℤ) →
       and_then o (λ x vars rest.
-      pass rest (λ rest.
+      quiet_cycle rest (λ rest.
       if holds x then and_on (effect p file again s vars depth frames rest) (λ vars rest.
-      over p depth rest (λ rest. again (While c s next) vars depth frames rest)) else
+      end_of_branch_or_iteration p depth rest (λ rest. again (While c s next) vars depth frames rest)) else
       effect p file again next vars depth frames rest)) ≡
       and_then
       (and_then o (λ x vars rest.
-      pass rest (λ rest.
+      quiet_cycle rest (λ rest.
       if holds x then and_then (effect p file again s vars depth frames rest) (turned p depth) else
       Gives Leaves vars rest))) later
   test_is (Awaits want) = refl

@@ -8,7 +8,7 @@ use Rattle.grammar.specs.declared.resolved_names.Callee.TheVariants as callee
 use Rattle.grammar.specs.Profile.{Profile}
 use Rattle.grammar.specs.Tree.{Expr, Constant, Variable, Binary, Assign, Postfix, Call, Args, NoMore, Argument, Body, Done, ExpressionStatement, IfStatement, IfElseStatement, While, Return, Function, File}
 use Rattle.code.specs.Functions.{function_at}
-use Rattle.code.specs.Meaning.{Vars, Evaluated, Gives, Flow, Through, Returns, Again, and_on, and_then, assigned, binary, called, closed, effect, effect_within, first_locals, full, on_through, over, pass, push, returned, short, tick, value, value_of_variable, values}
+use Rattle.code.specs.Meaning.{Vars, EvaluationResult, Gives, Completion, Through, Returns, BodyMeaning, and_on, and_then, assigned, binary, called, end_of_function, effect, effect_within, first_locals, full, on_through, end_of_branch_or_iteration, quiet_cycle, push, returned, short, tick, value, value_of_variable, values}
 use Rattle.code.specs.Values.{stored, asked_words}
 use Rattle.code.specs.declared.want.Want.TheVariants.{Quiet, Ask, Restart}
 use Rattle.cycles.specs.declared.counted.Counted.{Counted}
@@ -36,12 +36,12 @@ module _ {A : Type 0} (u : Counted) where
       (λ reply. spends_given u x vars (λ x. Some (exactly 0)) (within_exactly 0)))
 
   -- a cycle that asks nothing, and what comes after it
-  pub behind_cycle : (fits : Bool) (go : List ℤ → Evaluated A) (s : A → Option Span) → Spends u go s →
+  pub behind_cycle : (fits : Bool) (go : List ℤ → EvaluationResult A) (s : A → Option Span) → Spends u go s →
       Spends u (λ (t : List ℤ). tick fits Quiet t (λ reply rest. go rest)) (λ x. before (cycle u) (s x))
   behind_cycle fits go s goes = spends_tick u fits Quiet (λ reply rest. go rest) s (λ reply. goes)
 
   -- two cycles
-  pub behind_two : (first second : Bool) (go : List ℤ → Evaluated A) (s : A → Option Span) → Spends u go s →
+  pub behind_two : (first second : Bool) (go : List ℤ → EvaluationResult A) (s : A → Option Span) → Spends u go s →
       Spends u
       (λ (t : List ℤ). tick first Quiet t (λ reply rest. tick second Quiet rest (λ reply rest. go rest)))
       (λ x. before (two_cycles u) (s x))
@@ -64,21 +64,21 @@ module _ {A : Type 0} (u : Counted) where
 
 module _ {A B : Type 0} (u : Counted) where
   -- a value, the cycle that takes it, and what comes after that
-  pub behind_taken : (run : List ℤ → Evaluated A) (go : A → Vars → List ℤ → Evaluated B) (s : Span)
+  pub behind_taken : (run : List ℤ → EvaluationResult A) (go : A → Vars → List ℤ → EvaluationResult B) (s : Span)
       (g : B → Option Span) →
       Spends u run (λ x. Some s) → ((x : A) (vars : Vars) → Spends u (λ (t : List ℤ). go x vars t) g) →
-      Spends u (λ (t : List ℤ). and_then (run t) (λ x vars rest. pass rest (λ rest. go x vars rest)))
+      Spends u (λ (t : List ℤ). and_then (run t) (λ x vars rest. quiet_cycle rest (λ rest. go x vars rest)))
       (λ y. before (s ⊕ cycle u) (g y))
   behind_taken run go s g first second =
-      spends_wider u (λ (t : List ℤ). and_then (run t) (λ x vars rest. pass rest (λ rest. go x vars rest)))
+      spends_wider u (λ (t : List ℤ). and_then (run t) (λ x vars rest. quiet_cycle rest (λ rest. go x vars rest)))
       (λ y. before s (before (cycle u) (g y))) (λ y. before (s ⊕ cycle u) (g y))
       (λ y n h. before_both s (cycle u) (g y) n h)
-      (spends_then u run (λ x vars rest. pass rest (λ rest. go x vars rest)) s (λ y. before (cycle u) (g y)) first
+      (spends_then u run (λ x vars rest. quiet_cycle rest (λ rest. go x vars rest)) s (λ y. before (cycle u) (g y)) first
       (λ x vars. behind_cycle u true (λ (t : List ℤ). go x vars t) g (second x vars)))
 
 -- Operators.
 
-module _ (u : Counted) (p : Profile) (left : List ℤ → Evaluated ℤ) (right : Vars → ℕ → List ℤ → Evaluated ℤ)
+module _ (u : Counted) (p : Profile) (left : List ℤ → EvaluationResult ℤ) (right : Vars → ℕ → List ℤ → EvaluationResult ℤ)
     (s t : Span)
     (first : Spends u left (λ x. Some s))
     (second : (vars : Vars) (depth : ℕ) → Spends u (λ (rest : List ℤ). right vars depth rest) (λ x. Some t)) where
@@ -87,20 +87,20 @@ module _ (u : Counted) (p : Profile) (left : List ℤ → Evaluated ℤ) (right 
   full_takes o depth =
       spends_then u left
       (λ x vars rest. and_then (right vars (depth + 1) rest)
-      (λ y vars rest. pass rest (λ rest. Gives (value_of o x y) vars rest))) s (λ x. Some (t ⊕ cycle u)) first
+      (λ y vars rest. quiet_cycle rest (λ rest. Gives (value_of o x y) vars rest))) s (λ x. Some (t ⊕ cycle u)) first
       (λ x vars. spends_then u (λ (rest : List ℤ). right vars (depth + 1) rest)
-      (λ y vars rest. pass rest (λ rest. Gives (value_of o x y) vars rest)) t (λ x. Some (cycle u))
+      (λ y vars rest. quiet_cycle rest (λ rest. Gives (value_of o x y) vars rest)) t (λ x. Some (cycle u))
       (second vars (depth + 1)) (λ y vars. value_after_cycle u true (value_of o x y) vars))
 
   and_takes : (depth : ℕ) →
       Spends u (λ (trace : List ℤ). short p op.And depth (left trace) right) (λ x. Some (short_span u op.And s t))
   and_takes depth =
       let more : Span = t ⊕ (cycle u ⊕ two_cycles u) in
-      let on : Vars → List ℤ → Evaluated ℤ = λ vars rest. and_then (right vars depth rest)
-      (λ y vars rest. pass rest (λ rest. push p (depth + 1) rest (λ rest. pass rest
+      let on : Vars → List ℤ → EvaluationResult ℤ = λ vars rest. and_then (right vars depth rest)
+      (λ y vars rest. quiet_cycle rest (λ rest. push p (depth + 1) rest (λ rest. quiet_cycle rest
       (λ rest. Gives (truth (holds y)) vars rest)))) in
-      let off : Vars → List ℤ → Evaluated ℤ = λ vars rest. push p depth rest (λ rest. Gives (pos 0) vars rest) in
-      spends_then u left (λ x vars rest. pass rest (λ rest. if holds x then on vars rest else off vars rest)) s
+      let off : Vars → List ℤ → EvaluationResult ℤ = λ vars rest. push p depth rest (λ rest. Gives (pos 0) vars rest) in
+      spends_then u left (λ x vars rest. quiet_cycle rest (λ rest. if holds x then on vars rest else off vars rest)) s
       (λ x. Some (cycle u ⊕ either more (cycle u))) first
       (λ x vars. behind_cycle u true (λ (rest : List ℤ). if holds x then on vars rest else off vars rest)
       (λ x. Some (either more (cycle u)))
@@ -109,10 +109,10 @@ module _ (u : Counted) (p : Profile) (left : List ℤ → Evaluated ℤ) (right 
       (spends_wider u (λ (rest : List ℤ). on vars rest) (λ x. Some more) (λ x. Some (either more (cycle u)))
       (λ x n h. within_first more (cycle u) n h)
       (spends_then u (λ (rest : List ℤ). right vars depth rest)
-      (λ y vars rest. pass rest (λ rest. push p (depth + 1) rest (λ rest. pass rest
+      (λ y vars rest. quiet_cycle rest (λ rest. push p (depth + 1) rest (λ rest. quiet_cycle rest
       (λ rest. Gives (truth (holds y)) vars rest)))) t (λ x. Some (cycle u ⊕ two_cycles u)) (second vars depth)
       (λ y vars. behind_cycle u true
-      (λ (rest : List ℤ). push p (depth + 1) rest (λ rest. pass rest (λ rest. Gives (truth (holds y)) vars rest)))
+      (λ (rest : List ℤ). push p (depth + 1) rest (λ rest. quiet_cycle rest (λ rest. Gives (truth (holds y)) vars rest)))
       (λ x. Some (two_cycles u)) (value_after_two u (nat_lt (depth + 1) p.words) true (truth (holds y)) vars))))
       (spends_wider u (λ (rest : List ℤ). off vars rest) (λ x. Some (cycle u)) (λ x. Some (either more (cycle u)))
       (λ x n h. within_second more (cycle u) n h)
@@ -123,11 +123,11 @@ module _ (u : Counted) (p : Profile) (left : List ℤ → Evaluated ℤ) (right 
   or_takes depth =
       let three : Span = cycle u ⊕ two_cycles u in
       let more : Span = t ⊕ cycle u in
-      let on : Vars → List ℤ → Evaluated ℤ = λ vars rest. push p depth rest (λ rest. push p (depth + 1) rest
-      (λ rest. pass rest (λ rest. Gives (pos 1) vars rest))) in
-      let off : Vars → List ℤ → Evaluated ℤ = λ vars rest. and_then (right vars depth rest)
-      (λ y vars rest. pass rest (λ rest. Gives (truth (holds y)) vars rest)) in
-      spends_then u left (λ x vars rest. pass rest (λ rest. if holds x then on vars rest else off vars rest)) s
+      let on : Vars → List ℤ → EvaluationResult ℤ = λ vars rest. push p depth rest (λ rest. push p (depth + 1) rest
+      (λ rest. quiet_cycle rest (λ rest. Gives (pos 1) vars rest))) in
+      let off : Vars → List ℤ → EvaluationResult ℤ = λ vars rest. and_then (right vars depth rest)
+      (λ y vars rest. quiet_cycle rest (λ rest. Gives (truth (holds y)) vars rest)) in
+      spends_then u left (λ x vars rest. quiet_cycle rest (λ rest. if holds x then on vars rest else off vars rest)) s
       (λ x. Some (cycle u ⊕ either three more)) first
       (λ x vars. behind_cycle u true (λ (rest : List ℤ). if holds x then on vars rest else off vars rest)
       (λ x. Some (either three more))
@@ -136,12 +136,12 @@ module _ (u : Counted) (p : Profile) (left : List ℤ → Evaluated ℤ) (right 
       (spends_wider u (λ (rest : List ℤ). on vars rest) (λ x. Some three) (λ x. Some (either three more))
       (λ x n h. within_first three more n h)
       (behind_cycle u (nat_lt depth p.words)
-      (λ (rest : List ℤ). push p (depth + 1) rest (λ rest. pass rest (λ rest. Gives (pos 1) vars rest)))
+      (λ (rest : List ℤ). push p (depth + 1) rest (λ rest. quiet_cycle rest (λ rest. Gives (pos 1) vars rest)))
       (λ x. Some (two_cycles u)) (value_after_two u (nat_lt (depth + 1) p.words) true (pos 1) vars)))
       (spends_wider u (λ (rest : List ℤ). off vars rest) (λ x. Some more) (λ x. Some (either three more))
       (λ x n h. within_second three more n h)
       (spends_then u (λ (rest : List ℤ). right vars depth rest)
-      (λ y vars rest. pass rest (λ rest. Gives (truth (holds y)) vars rest)) t (λ x. Some (cycle u))
+      (λ y vars rest. quiet_cycle rest (λ rest. Gives (truth (holds y)) vars rest)) t (λ x. Some (cycle u))
       (second vars depth) (λ y vars. value_after_cycle u true (truth (holds y)) vars)))))
 
   short_takes : (o : Op) (depth : ℕ) →
@@ -163,22 +163,22 @@ module _ (u : Counted) (p : Profile) (left : List ℤ → Evaluated ℤ) (right 
 
 -- Statements.
 
-module _ (u : Counted) (ends : Ends) (g h : Flow → Option Span) where
+module _ (u : Counted) (ends : Ends) (g h : Completion → Option Span) where
   -- what is next, if it is reached
-  on_next : Flow → Flow → Option Span
+  on_next : Completion → Completion → Option Span
   on_next Through flow = g flow
   on_next (Returns x) Through = None
   on_next (Returns x) (Returns y) = Some (exactly 0)
 
-  on_goes : (go : Vars → List ℤ → Evaluated Flow) → ((vars : Vars) → Spends u (λ (t : List ℤ). go vars t) g) →
-      (flow : Flow) (vars : Vars) → Spends u (λ (t : List ℤ). on_through flow vars t go) (on_next flow)
+  on_goes : (go : Vars → List ℤ → EvaluationResult Completion) → ((vars : Vars) → Spends u (λ (t : List ℤ). go vars t) g) →
+      (flow : Completion) (vars : Vars) → Spends u (λ (t : List ℤ). on_through flow vars t go) (on_next flow)
   unfolding on_next
   on_goes go second Through vars = second vars
   on_goes go second (Returns x) vars = spends_given u (Returns x) vars (on_next (Returns x)) (within_exactly 0)
 
-  on_fits : ((flow : Flow) (m n : ℕ) → MayTake ends.through m → MayTake (g flow) n → MayTake (h flow) (m + n)) →
+  on_fits : ((flow : Completion) (m n : ℕ) → MayTake ends.through m → MayTake (g flow) n → MayTake (h flow) (m + n)) →
       ((x : ℤ) (n : ℕ) → MayTake ends.returns n → MayTake (h (Returns x)) n) →
-      (flow last : Flow) (m n : ℕ) → MayTake (end_of ends flow) m → MayTake (on_next flow last) n →
+      (flow last : Completion) (m n : ℕ) → MayTake (end_of ends flow) m → MayTake (on_next flow last) n →
       MayTake (h last) (m + n)
   unfolding on_next
   on_fits through returns Through last m n one other = through last m n one other
@@ -186,9 +186,9 @@ module _ (u : Counted) (ends : Ends) (g h : Flow → Option Span) where
   on_fits through returns (Returns x) (Returns y) m n one other = takes_none (h (Returns y)) m n (returns y m one) other
 
   -- what comes after statements that are passed through
-  pub behind_on : (run : List ℤ → Evaluated Flow) (go : Vars → List ℤ → Evaluated Flow) → Spends u run (end_of ends) →
+  pub behind_on : (run : List ℤ → EvaluationResult Completion) (go : Vars → List ℤ → EvaluationResult Completion) → Spends u run (end_of ends) →
       ((vars : Vars) → Spends u (λ (t : List ℤ). go vars t) g) →
-      ((flow : Flow) (m n : ℕ) → MayTake ends.through m → MayTake (g flow) n → MayTake (h flow) (m + n)) →
+      ((flow : Completion) (m n : ℕ) → MayTake ends.through m → MayTake (g flow) n → MayTake (h flow) (m + n)) →
       ((x : ℤ) (n : ℕ) → MayTake ends.returns n → MayTake (h (Returns x)) n) →
       Spends u (λ (t : List ℤ). and_on (run t) go) h
   behind_on run go first second through returns =
@@ -196,7 +196,7 @@ module _ (u : Counted) (ends : Ends) (g h : Flow → Option Span) where
       (on_goes go second) (on_fits through returns)
 
 -- the next statements
-pub next_takes : (u : Counted) (run : List ℤ → Evaluated Flow) (go : Vars → List ℤ → Evaluated Flow)
+pub next_takes : (u : Counted) (run : List ℤ → EvaluationResult Completion) (go : Vars → List ℤ → EvaluationResult Completion)
     (ends next : Ends) → Spends u run (end_of ends) →
     ((vars : Vars) → Spends u (λ (t : List ℤ). go vars t) (end_of next)) →
     Spends u (λ (t : List ℤ). and_on (run t) go) (end_of (followed ends next))
@@ -206,18 +206,18 @@ next_takes u run go ends next first second =
     (λ x n h. first_takes ends.returns (behind ends.through next.returns) n h)
 
 -- a test, and then one branch or the other
-pub test_takes : (u : Counted) (run : List ℤ → Evaluated ℤ) (on off : Vars → List ℤ → Evaluated Flow) (s : Span)
+pub test_takes : (u : Counted) (run : List ℤ → EvaluationResult ℤ) (on off : Vars → List ℤ → EvaluationResult Completion) (s : Span)
     (first second : Ends) → Spends u run (λ x. Some s) →
     ((vars : Vars) → Spends u (λ (t : List ℤ). on vars t) (end_of first)) →
     ((vars : Vars) → Spends u (λ (t : List ℤ). off vars t) (end_of second)) →
     Spends u
     (λ (t : List ℤ). and_then (run t)
-    (λ x vars rest. pass rest (λ rest. if holds x then on vars rest else off vars rest)))
+    (λ x vars rest. quiet_cycle rest (λ rest. if holds x then on vars rest else off vars rest)))
     (end_of (after (s ⊕ cycle u) (one_branch first second)))
 test_takes u run on off s first second tested goes leaves =
     spends_wider u
     (λ (t : List ℤ). and_then (run t)
-    (λ x vars rest. pass rest (λ rest. if holds x then on vars rest else off vars rest)))
+    (λ x vars rest. quiet_cycle rest (λ rest. if holds x then on vars rest else off vars rest)))
     (λ flow. before (s ⊕ cycle u) (end_of (one_branch first second) flow))
     (end_of (after (s ⊕ cycle u) (one_branch first second)))
     (λ flow n h. end_after (s ⊕ cycle u) (one_branch first second) flow n h)
@@ -231,11 +231,11 @@ test_takes u run on off s first second tested goes leaves =
     (λ flow n h. end_of_second first second flow n h) (leaves vars))))
 
 -- the end of a first branch, and of a turn
-pub over_takes : (u : Counted) (p : Profile) (depth : ℕ) (go : List ℤ → Evaluated Flow) (ends : Ends) →
+pub over_takes : (u : Counted) (p : Profile) (depth : ℕ) (go : List ℤ → EvaluationResult Completion) (ends : Ends) →
     Spends u go (end_of ends) →
-    Spends u (λ (t : List ℤ). over p depth t go) (end_of (after (two_cycles u) ends))
+    Spends u (λ (t : List ℤ). end_of_branch_or_iteration p depth t go) (end_of (after (two_cycles u) ends))
 over_takes u p depth go ends goes =
-    spends_wider u (λ (t : List ℤ). over p depth t go) (λ flow. before (two_cycles u) (end_of ends flow))
+    spends_wider u (λ (t : List ℤ). end_of_branch_or_iteration p depth t go) (λ flow. before (two_cycles u) (end_of ends flow))
     (end_of (after (two_cycles u) ends)) (λ flow n h. end_after (two_cycles u) ends flow n h)
     (behind_two u (nat_lt depth p.words) true go (end_of ends) goes)
 
@@ -248,18 +248,18 @@ abbrev whole_loop : Counted → Span → Ends → Ends → Ends
 whole_loop u test inside last = loop_ends (turn_span u test inside) test inside last
 
 -- what is left of it after its test: it begins again, or not
-abbrev on_test : Counted → Span → Ends → Ends → Flow → Option Span
+abbrev on_test : Counted → Span → Ends → Ends → Completion → Option Span
 on_test u test inside last flow =
     one_of (behind inside.through (before (two_cycles u) (end_of (whole_loop u test inside last) flow)))
     (end_of (behind_test inside last) flow)
 
-loop_again : (u : Counted) (test : Span) (inside last : Ends) (flow : Flow) (n : ℕ) →
+loop_again : (u : Counted) (test : Span) (inside last : Ends) (flow : Completion) (n : ℕ) →
     MayTake (before test (on_test u test inside last flow)) n → MayTake (end_of (whole_loop u test inside last) flow) n
 loop_again u test inside last Through n h = again_takes test (two_cycles u) inside.through last.through n h
 loop_again u test inside last (Returns x) n h =
     again_takes test (two_cycles u) inside.through (one_of inside.returns last.returns) n h
 
-again_first : (u : Counted) (test : Span) (inside last : Ends) (flow : Flow) (m n : ℕ) → MayTake inside.through m →
+again_first : (u : Counted) (test : Span) (inside last : Ends) (flow : Completion) (m n : ℕ) → MayTake inside.through m →
     MayTake (before (two_cycles u) (end_of (whole_loop u test inside last) flow)) n →
     MayTake (on_test u test inside last flow) (m + n)
 again_first u test inside last flow m n one other =
@@ -274,7 +274,7 @@ return_first u test inside last x n h =
     (behind inside.through (before (two_cycles u) (end_of (whole_loop u test inside last) (Returns x))))
     (one_of inside.returns last.returns) n (first_takes inside.returns last.returns n h)
 
-next_last : (u : Counted) (test : Span) (inside last : Ends) (flow : Flow) (n : ℕ) → MayTake (end_of last flow) n →
+next_last : (u : Counted) (test : Span) (inside last : Ends) (flow : Completion) (n : ℕ) → MayTake (end_of last flow) n →
     MayTake (on_test u test inside last flow) n
 next_last u test inside last flow n h =
     second_takes (behind inside.through (before (two_cycles u) (end_of (whole_loop u test inside last) flow)))
@@ -282,36 +282,36 @@ next_last u test inside last flow n h =
     (end_of_second (record { through = None; returns = inside.returns }) last flow n h)
 
 -- a loop, by what it is when it begins again
-pub loop_takes : (u : Counted) (p : Profile) (depth : ℕ) (run : List ℤ → Evaluated ℤ)
-    (body next again : Vars → List ℤ → Evaluated Flow) (s : Span) (inside last : Ends) →
+pub loop_takes : (u : Counted) (p : Profile) (depth : ℕ) (run : List ℤ → EvaluationResult ℤ)
+    (body next again : Vars → List ℤ → EvaluationResult Completion) (s : Span) (inside last : Ends) →
     Spends u run (λ x. Some s) →
     ((vars : Vars) → Spends u (λ (t : List ℤ). body vars t) (end_of inside)) →
     ((vars : Vars) → Spends u (λ (t : List ℤ). next vars t) (end_of last)) →
     ((vars : Vars) → Spends u (λ (t : List ℤ). again vars t) (end_of (whole_loop u (s ⊕ cycle u) inside last))) →
     Spends u
     (λ (t : List ℤ). and_then (run t)
-    (λ x vars rest. pass rest
-    (λ rest. if holds x then and_on (body vars rest) (λ vars rest. over p depth rest (λ rest. again vars rest)) else
+    (λ x vars rest. quiet_cycle rest
+    (λ rest. if holds x then and_on (body vars rest) (λ vars rest. end_of_branch_or_iteration p depth rest (λ rest. again vars rest)) else
     next vars rest)))
     (end_of (whole_loop u (s ⊕ cycle u) inside last))
 loop_takes u p depth run body next again s inside last tested goes leaves begins =
     let test : Span = s ⊕ cycle u in
     spends_wider u
     (λ (t : List ℤ). and_then (run t)
-    (λ x vars rest. pass rest
-    (λ rest. if holds x then and_on (body vars rest) (λ vars rest. over p depth rest (λ rest. again vars rest)) else
+    (λ x vars rest. quiet_cycle rest
+    (λ rest. if holds x then and_on (body vars rest) (λ vars rest. end_of_branch_or_iteration p depth rest (λ rest. again vars rest)) else
     next vars rest)))
     (λ flow. before test (on_test u test inside last flow)) (end_of (whole_loop u test inside last))
     (λ flow n h. loop_again u test inside last flow n h)
     (behind_taken u run
-    (λ x vars rest. if holds x then and_on (body vars rest) (λ vars rest. over p depth rest (λ rest. again vars rest))
+    (λ x vars rest. if holds x then and_on (body vars rest) (λ vars rest. end_of_branch_or_iteration p depth rest (λ rest. again vars rest))
     else next vars rest) s (on_test u test inside last) tested
     (λ x vars. spends_either u (holds x)
-    (λ (t : List ℤ). and_on (body vars t) (λ vars rest. over p depth rest (λ rest. again vars rest)))
+    (λ (t : List ℤ). and_on (body vars t) (λ vars rest. end_of_branch_or_iteration p depth rest (λ rest. again vars rest)))
     (λ (t : List ℤ). next vars t) (on_test u test inside last)
     (behind_on u inside (λ flow. before (two_cycles u) (end_of (whole_loop u test inside last) flow))
     (on_test u test inside last) (λ (t : List ℤ). body vars t)
-    (λ vars rest. over p depth rest (λ rest. again vars rest)) (goes vars)
+    (λ vars rest. end_of_branch_or_iteration p depth rest (λ rest. again vars rest)) (goes vars)
     (λ vars. behind_two u (nat_lt depth p.words) true (λ (rest : List ℤ). again vars rest)
     (end_of (whole_loop u test inside last)) (begins vars))
     (λ flow m n one other. again_first u test inside last flow m n one other)
@@ -320,21 +320,21 @@ loop_takes u p depth run body next again s inside last tested goes leaves begins
     (λ flow n h. next_last u test inside last flow n h) (leaves vars))))
 
 -- a return
-return_now : Flow → Option Span
+return_now : Completion → Option Span
 return_now Through = None
 return_now (Returns x) = Some (exactly 0)
 
-return_back : Counted → Flow → Option Span
+return_back : Counted → Completion → Option Span
 return_back u Through = None
 return_back u (Returns x) = Some (cycle u)
 
-return_whole : (u : Counted) (flow : Flow) (n : ℕ) → MayTake (before (cycle u) (return_now flow)) n →
+return_whole : (u : Counted) (flow : Completion) (n : ℕ) → MayTake (before (cycle u) (return_now flow)) n →
     MayTake (return_back u flow) n
 unfolding return_now return_back
 return_whole u Through n h = absurd h
 return_whole u (Returns x) n h = within_all (cycle u) n h
 
-return_known : (u : Counted) (s : Span) (flow : Flow) (n : ℕ) → MayTake (before s (return_back u flow)) n →
+return_known : (u : Counted) (s : Span) (flow : Completion) (n : ℕ) → MayTake (before s (return_back u flow)) n →
     MayTake (end_of (return_ends (s ⊕ cycle u)) flow) n
 unfolding return_back
 return_known u s Through n h = absurd h
@@ -344,7 +344,7 @@ returns_now : (u : Counted) (x : ℤ) (vars : Vars) → Spends u (λ (t : List �
 unfolding return_now
 returns_now u x vars = spends_given u (Returns x) vars return_now (within_exactly 0)
 
-pub return_takes : (u : Counted) (fits : Bool) (run : List ℤ → Evaluated ℤ) (s : Span) → Spends u run (λ x. Some s) →
+pub return_takes : (u : Counted) (fits : Bool) (run : List ℤ → EvaluationResult ℤ) (s : Span) → Spends u run (λ x. Some s) →
     Spends u
     (λ (t : List ℤ). and_then (run t)
     (λ x vars rest. tick fits Quiet rest (λ reply rest. Gives (Returns x) vars rest)))
@@ -363,18 +363,18 @@ return_takes u fits run s tested =
 -- Calls, expressions and statements, by what is known of turns and calls.
 
 -- what statements take, with at most so many calls inside one another
-abbrev pub BodiesTake : Counted → Profile → File → Again → Type 0
+abbrev pub BodiesTake : Counted → Profile → File → BodyMeaning → Type 0
 BodiesTake u p file again = (fuel : ℕ) (b : Body) (vars : Vars) (depth frames : ℕ)
     → Spends u (λ (t : List ℤ). again b vars depth frames t)
     (end_of (ends_of u p (run_within u p (body_at file) fuel) b))
 
 -- the end of a function's run
-abbrev ended : Counted → Flow → Option Span
+abbrev ended : Counted → Completion → Option Span
 ended u Through = Some (two_cycles u)
 ended u (Returns x) = Some (exactly 0)
 
-closed_takes : (u : Counted) (p : Profile) (depth frames : ℕ) (flow : Flow) (inside caller : Vars) →
-    Spends u (λ (t : List ℤ). closed p depth frames flow inside t (returned caller)) (λ x. ended u flow)
+closed_takes : (u : Counted) (p : Profile) (depth frames : ℕ) (flow : Completion) (inside caller : Vars) →
+    Spends u (λ (t : List ℤ). end_of_function p depth frames flow inside t (returned caller)) (λ x. ended u flow)
 closed_takes u p depth frames Through inside caller =
     value_after_two u (nat_lt depth p.words) (nat_lt 1 frames) (pos 0)
     (record { externals = inside.externals; locals = caller.locals })
@@ -382,7 +382,7 @@ closed_takes u p depth frames (Returns x) inside caller =
     spends_given u x (record { externals = inside.externals; locals = caller.locals }) (λ x. Some (exactly 0))
     (within_exactly 0)
 
-closed_fits : (u : Counted) (ends : Ends) (flow : Flow) (m n : ℕ) → MayTake (end_of ends flow) m →
+closed_fits : (u : Counted) (ends : Ends) (flow : Completion) (m n : ℕ) → MayTake (end_of ends flow) m →
     MayTake (ended u flow) n →
     IsWithin (unwrap_or (one_of ends.returns (behind ends.through (Some (two_cycles u)))) anything) (m + n)
 closed_fits u ends Through m n one other =
@@ -394,7 +394,7 @@ closed_fits u ends (Returns x) m n one other =
     anything_takes (one_of ends.returns whole) (m + n)
     (first_takes ends.returns whole (m + n) (takes_none ends.returns m n one other))
 
-module _ (u : Counted) (p : Profile) (file : File) (again : Again) (sooner : BodiesTake u p file again) where
+module _ (u : Counted) (p : Profile) (file : File) (again : BodyMeaning) (sooner : BodiesTake u p file again) where
   -- a function's run, with at most so many calls inside it
   function_takes : (fuel k : ℕ) (arguments : List ℤ) (vars : Vars) (depth frames : ℕ) →
       Spends u (λ (t : List ℤ). called p file again (callee.Function k) arguments vars depth frames t)
@@ -407,10 +407,10 @@ module _ (u : Counted) (p : Profile) (file : File) (again : Again) (sooner : Bod
       let whole : Span = unwrap_or (one_of ends.returns (behind ends.through (Some (two_cycles u)))) anything in
       behind_cycle u (nat_le below p.words)
       (λ (t : List ℤ). and_then (again f.body inside below (frames + 1) t)
-      (λ flow after rest. closed p below (frames + 1) flow after rest (returned vars)))
+      (λ flow after rest. end_of_function p below (frames + 1) flow after rest (returned vars)))
       (λ x. Some whole)
       (spends_both u (λ (t : List ℤ). again f.body inside below (frames + 1) t)
-      (λ flow after rest. closed p below (frames + 1) flow after rest (returned vars))
+      (λ flow after rest. end_of_function p below (frames + 1) flow after rest (returned vars))
       (end_of ends) (λ flow x. ended u flow) (λ x. Some whole)
       (sooner fuel f.body inside below (frames + 1))
       (λ flow after. closed_takes u p below (frames + 1) flow after vars)
@@ -449,7 +449,7 @@ module _ (u : Counted) (p : Profile) (file : File) (again : Again) (sooner : Bod
           (value_takes a vars depth frames) (λ vars depth. value_takes b vars depth frames) o depth
       value_takes (Assign o v e) vars depth frames =
           spends_then u (λ (t : List ℤ). value p file again e vars depth frames t)
-          (λ x vars rest. pass rest (λ rest. Gives (stored o (value_of_variable vars v) x)
+          (λ x vars rest. quiet_cycle rest (λ rest. Gives (stored o (value_of_variable vars v) x)
           (assigned vars v (stored o (value_of_variable vars v) x)) rest))
           (span_of u p runs e) (λ x. Some (cycle u)) (value_takes e vars depth frames)
           (λ x vars. value_after_cycle u true (stored o (value_of_variable vars v) x)
@@ -458,11 +458,11 @@ module _ (u : Counted) (p : Profile) (file : File) (again : Again) (sooner : Bod
           let x : ℤ = value_of_variable vars v in
           let stepped : Vars = assigned vars v (stored o x (pos 1)) in
           behind_cycle u (nat_lt depth p.words)
-          (λ (rest : List ℤ). push p (depth + 1) rest (λ rest. pass rest (λ rest. pass rest
+          (λ (rest : List ℤ). push p (depth + 1) rest (λ rest. quiet_cycle rest (λ rest. quiet_cycle rest
           (λ rest. Gives x stepped rest))))
           (λ x. Some (cycle u ⊕ two_cycles u))
           (behind_cycle u (nat_lt (depth + 1) p.words)
-          (λ (rest : List ℤ). pass rest (λ rest. pass rest (λ rest. Gives x stepped rest)))
+          (λ (rest : List ℤ). quiet_cycle rest (λ rest. quiet_cycle rest (λ rest. Gives x stepped rest)))
           (λ x. Some (two_cycles u)) (value_after_two u true true x stepped))
       value_takes (Call f arguments) vars depth frames =
           behind_cycle u (nat_lt frames p.frames)
@@ -523,13 +523,13 @@ module _ (u : Counted) (p : Profile) (file : File) (again : Again) (sooner : Bod
         let last : Ends = ends_of u p runs next in
         test_takes u (λ (trace : List ℤ). value p file again c vars depth frames trace)
         (λ vars rest. and_on (effect p file again s vars depth frames rest)
-        (λ vars rest. over p depth rest (λ rest. effect p file again next vars depth frames rest)))
+        (λ vars rest. end_of_branch_or_iteration p depth rest (λ rest. effect p file again next vars depth frames rest)))
         (λ vars rest. and_on (effect p file again t vars depth frames rest)
         (λ vars rest. effect p file again next vars depth frames rest))
         (span_of u p runs c) (followed first (after (two_cycles u) last)) (followed second last)
         (value_takes c vars depth frames)
         (λ vars. next_takes u (λ (trace : List ℤ). effect p file again s vars depth frames trace)
-        (λ vars rest. over p depth rest (λ rest. effect p file again next vars depth frames rest)) first
+        (λ vars rest. end_of_branch_or_iteration p depth rest (λ rest. effect p file again next vars depth frames rest)) first
         (after (two_cycles u) last) (effect_takes s vars depth frames)
         (λ vars. over_takes u p depth (λ (rest : List ℤ). effect p file again next vars depth frames rest) last
         (effect_takes next vars depth frames)))

@@ -3,7 +3,7 @@ use Rattle.std.specs.Prelude.{ℕ, ℤ, ◌+◌, ◌==◌, List, [], ◌∷◌, 
 use Rattle.grammar.specs.declared.resolved_names.Intrinsic.{Intrinsic}
 use Rattle.grammar.specs.declared.resolved_names.Intrinsic.TheVariants.{Scan, Cannon, Drive, Damage, Speed, LocX, LocY, Rand}
 use Rattle.grammar.specs.declared.resolved_names.Intrinsic.TheVariants.{Sqrt, Sin, Cos, Tan, Atan}
-use Rattle.code.specs.Meaning.{Evaluated, Gives, Awaits}
+use Rattle.code.specs.Meaning.{EvaluationResult, Gives, Awaits}
 use Rattle.code.specs.declared.want.Want.{Want}
 use Rattle.code.specs.declared.want.Want.TheVariants.{Ask}
 use Rattle.cycles.specs.declared.counted.Counted.{Counted}
@@ -43,11 +43,11 @@ counted u (Ask asked arguments) = asking u asked
 counted u want = quiet u
 
 -- what the cycle counts for which a run waits
-abbrev pub counts : {A : Type 0} → Counted → Evaluated A → ℕ
+abbrev pub counts : {A : Type 0} → Counted → EvaluationResult A → ℕ
 counts u (Awaits want) = counted u want
 counts u (Gives value vars rest) = quiet u
 
 -- What the cycles of a run count in which it got these replies. A run goes on with each reply.
-abbrev pub spent : {A : Type 0} → Counted → (List ℤ → Evaluated A) → List ℤ → ℕ
+abbrev pub spent : {A : Type 0} → Counted → (List ℤ → EvaluationResult A) → List ℤ → ℕ
 spent u run [] = 0
 spent u run (reply ∷ replies) = counts u (run []) + spent u (λ rest. run (reply ∷ rest)) replies

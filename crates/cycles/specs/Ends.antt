@@ -1,6 +1,6 @@
 -- What statements take up to each of their ends.
 use Rattle.std.specs.Prelude.{Option, Some, None}
-use Rattle.code.specs.Meaning.{Flow, Through, Returns}
+use Rattle.code.specs.Meaning.{Completion, Through, Returns}
 use Rattle.cycles.specs.declared.spans.Span.{Span}
 use Rattle.cycles.specs.declared.spans.Ends.{Ends}
 use Rattle.cycles.specs.Spans.{◌⊕◌, either, exactly, most_of_any}
@@ -27,7 +27,7 @@ repeated None = exactly 0
 repeated (Some s) = record { least = 0; most = most_of_any s.most }
 
 -- the end of this flow
-abbrev pub end_of : Ends → Flow → Option Span
+abbrev pub end_of : Ends → Completion → Option Span
 end_of ends Through = ends.through
 end_of ends (Returns x) = ends.returns
 

@@ -3,7 +3,7 @@ use Rattle.std.specs.Prelude.{◌≡◌, ℕ, ℤ, List, ◌++◌, length, Optio
 use Rattle.grammar.specs.declared.resolved_names.Callee.TheVariants as callee
 use Rattle.grammar.specs.Profile.{Profile}
 use Rattle.grammar.specs.Tree.{Expr, Body, File, While}
-use Rattle.code.specs.Meaning.{Vars, Evaluated, Gives, Flow, and_then, called, value, effect, effect_within}
+use Rattle.code.specs.Meaning.{Vars, EvaluationResult, Gives, Completion, and_then, called, value, effect, effect_within}
 use Rattle.cycles.specs.declared.counted.Counted.{Counted}
 use Rattle.cycles.specs.declared.counted.Counted.TheVariants.{Cycles}
 use Rattle.cycles.specs.declared.spans.Span.{Span}
@@ -16,7 +16,7 @@ use Rattle.cycles.specs.Runs.{run_span}
 use Rattle.cycles.specs.Turns.{TurnEnd, Begins, after_turn, turn, turn_of}
 
 -- a run took the first of these replies and left the rest, and what it counted is within the span
-pub record Takes {A : Type 0} (u : Counted) (run : List ℤ → Evaluated A) (s : Option Span)
+pub record Takes {A : Type 0} (u : Counted) (run : List ℤ → EvaluationResult A) (s : Option Span)
     (trace rest : List ℤ) : Type 0 where
   pub replies : List ℤ
   pub took : trace ≡ replies ++ rest
@@ -33,7 +33,7 @@ ExpressionsTake = (u : Counted) (p : Profile) (file : File) (n : ℕ) (e : Expr)
 -- If statements end along some replies, they take a number within the span of this end.
 abbrev pub StatementsTake : Type 0
 StatementsTake = (u : Counted) (p : Profile) (file : File) (n : ℕ) (b : Body) (vars : Vars) (depth frames : ℕ)
-    (trace : List ℤ) (flow : Flow) (behind : Vars) (rest : List ℤ)
+    (trace : List ℤ) (flow : Completion) (behind : Vars) (rest : List ℤ)
     → effect_within p file n b vars depth frames trace ≡ Gives flow behind rest
     → Takes u (λ (t : List ℤ). effect_within p file n b vars depth frames t)
     (end_of (ends_of u p (run_span u p file) b) flow) trace rest
@@ -61,11 +61,11 @@ LoopsAreTurns = (p : Profile) (file : File) (n : ℕ) (c : Expr) (s next : Body)
     effect p file again (While c s next) vars depth frames trace ≡
     and_then (turn p file again c s vars depth frames trace) (after_turn p file again c s next depth frames)
 
-abbrev pub AreReplies : {A : Type 0} → (List ℤ → Evaluated A) → Type 0
+abbrev pub AreReplies : {A : Type 0} → (List ℤ → EvaluationResult A) → Type 0
 AreReplies run = (replies : List ℤ) → spent Cycles run replies ≡ length replies
 
 -- Each reply is a cycle: of a value, of statements, and of a turn.
 pub record CyclesAreReplies : Type 0 where
-  pub of_value : (run : List ℤ → Evaluated ℤ) → AreReplies run
-  pub of_statements : (run : List ℤ → Evaluated Flow) → AreReplies run
-  pub of_turn : (run : List ℤ → Evaluated TurnEnd) → AreReplies run
+  pub of_value : (run : List ℤ → EvaluationResult ℤ) → AreReplies run
+  pub of_statements : (run : List ℤ → EvaluationResult Completion) → AreReplies run
+  pub of_turn : (run : List ℤ → EvaluationResult TurnEnd) → AreReplies run

@@ -2,7 +2,7 @@
 use Rattle.std.specs.Prelude.{ℕ, ◌-◌, List, Bool, true, false, Option, Some, None, is_some, length, slice_get, if◌then◌else◌}
 use Rattle.tokens.specs.declared.located_tokens.Token.{Token}
 use Rattle.tokens.specs.declared.located_tokens.Token.TheVariants as token
-use Rattle.grammar.specs.Grammar.{is_fault, is_punctuator, is_keyword, choice}
+use Rattle.grammar.specs.Grammar.{is_lexical_error, is_punctuator, is_keyword, choice}
 use Rattle.grammar.specs.Derivation.{constant_value, is_end, name_of_token}
 use Rattle.grammar.specs.Grammar as table
 use Rattle.derivations.specs.Table.{item_of}
@@ -34,7 +34,7 @@ stepped_if fits = if fits then outcome.Stepped else outcome.Misfit
 
 -- how a step ends with this item in front: a lexical error fits nothing
 abbrev pub decided_of : table.Item → Token → Token → StepEnd
-decided_of item next after = if is_fault next then outcome.Misfit else stepped_if (has_step item next after)
+decided_of item next after = if is_lexical_error next then outcome.Misfit else stepped_if (has_step item next after)
 
 -- how a step ends
 abbrev pub outcome_of : Option Pending → Token → Token → StepEnd

@@ -13,7 +13,7 @@ use arrayvec::ArrayVec;
 use tokens::Token;
 
 /// The most items that are pending. A source has fewer up to its first fault: each of its levels,
-/// `grammar::MOST_LEVELS` at most, has at most 30, three for each level of operators.
+/// `grammar::MOST_NESTED` at most, has at most 30, three for each level of operators.
 pub(crate) const MOST_PENDING: usize = 2048;
 
 /// How a step ended.

@@ -2,7 +2,7 @@
 
 ghost use Rattle.std.specs.Prelude.{◌+◌, ◌-◌, ◌^◌, ◌<◌, ◌≤◌, ◌≢◌};
 ghost use Rattle.code.specs.Machine.{want_next};
-ghost use Rattle.code.specs.ReachedMachines.{FitsProgram};
+ghost use Rattle.code.specs.ReachedMachines.{IsReachable};
 
 use code::{Machine, Maker, Profile, Program, Want};
 use parser::parse;
@@ -63,10 +63,10 @@ pub fn counted(program: &Program, cycles: u32) -> Counts
 
 /// Runs the cycle in which the machine asks or restarts, and counts it.
 fn count(machine: &mut Machine, program: &Program, counts: &mut Counts)
-    requires fits { FitsProgram machine.old program.now }
+    requires fits { IsReachable machine.old program.now }
     requires stopped { want_next program.now machine.old ≢ Want.Quiet }
     requires room { counts.old.asks + counts.old.restarts < 2 ^ 32 - 1 }
-    ensures fits { FitsProgram machine.new program.now }
+    ensures fits { IsReachable machine.new program.now }
     ensures one { counts.new.asks + counts.new.restarts ≤ counts.old.asks + counts.old.restarts + 1 }
 {
     match machine.stopped_want(program) {

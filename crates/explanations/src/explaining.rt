@@ -12,7 +12,7 @@ use crate::told::add_token;
 use crate::walks::Walk;
 use crate::wanted::add_wanted;
 use derivations::{Located, fitting};
-use grammar::{Code, Diagnostic, MOST_LEVELS, MOST_NAMES, Profile};
+use grammar::{Code, Diagnostic, MOST_NESTED, MOST_NAMES, Profile};
 use tokens::{MOST_CONSTANT_VALUE, MOST_NAME_BYTES, MOST_SOURCE_BYTES};
 
 /// A fault whose token is found.
@@ -163,7 +163,7 @@ fn add_limit(note: &mut Note, found: &Found<'_>) {
         Code::NestedTooDeeply => add_most(
             note,
             "at most ",
-            usize::from(MOST_LEVELS),
+            usize::from(MOST_NESTED),
             " blocks, branches, loops, assignments, brackets and calls are open at once",
         ),
         Code::TooManyVariables => {

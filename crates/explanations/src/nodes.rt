@@ -6,7 +6,7 @@ use crate::misnamed::name_at;
 use crate::walks::{Event, Meaning, Walk};
 use arrayvec::ArrayVec;
 use derivations::{Located, SemanticAction};
-use grammar::{Callee, MOST_LEVELS, MOST_NAMES, Op, Profile, StoreOp, Var};
+use grammar::{Callee, MOST_NESTED, MOST_NAMES, Op, Profile, StoreOp, Var};
 
 /// The most nodes of a source that compiles: each makes at least one instruction.
 const MOST_NODES: usize = 4000;
@@ -15,7 +15,7 @@ const MOST_NODES: usize = 4000;
 const MOST_ROOTS: usize = MOST_NODES + MOST_OPEN;
 
 /// The most variables, calls and bodies that are open at once: more than levels.
-const MOST_OPEN: usize = 2 * MOST_LEVELS as usize;
+const MOST_OPEN: usize = 2 * MOST_NESTED as usize;
 
 /// What a node is.
 #[derive(Clone, Copy, PartialEq, Eq)]

@@ -1,7 +1,7 @@
 //! A walk along the derivation of a source, with what each name means at its token.
 
 use derivations::{Derivation, Item, Located, Role, SemanticAction, StepEnd};
-use grammar::{Callee, Code, MOST_LEVELS, Profile, Scope, Var, lexical_error_code};
+use grammar::{Callee, Code, MOST_NESTED, Profile, Scope, Var, lexical_error_code};
 use tokens::{Keyword, Name, Token};
 
 /// What a name means at its token.
@@ -134,7 +134,7 @@ impl<'a> Walk<'a> {
 
     /// Reports whether more levels are open than may be.
     fn has_too_many_levels(&self) -> bool {
-        self.derivation.levels() > usize::from(MOST_LEVELS)
+        self.derivation.levels() > usize::from(MOST_NESTED)
     }
 
     /// Returns what the next step comes upon, if it fits.

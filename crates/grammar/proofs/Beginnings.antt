@@ -11,7 +11,7 @@ use Rattle.grammar.specs.declared.actions.Action.TheVariants.{LogicMiddle, Begin
 use Rattle.grammar.specs.declared.actions.Action.TheVariants.{BeginWhile, WhileTest, EndWhile, GiveBack, Chop}
 use Rattle.grammar.specs.declared.actions.Action.TheVariants.{BeginFunction, EndFunction}
 use Rattle.grammar.specs.Actions.{expr_actions, body_actions, function_actions, last_return}
-use Rattle.grammar.specs.Beginning.{IsTellable, AreTellable, IsBeginning}
+use Rattle.grammar.specs.Beginning.{IsReportable, AreReportable, IsBeginning}
 use Rattle.grammar.specs.Derivation.{Definition}
 use Rattle.grammar.specs.Faults.{definitions_actions}
 use Rattle.grammar.specs.Following.{InFunction, Opened, open_count, few_open, follow, follow_all, then_follow, is_number, is_var_numbered, is_callee_numbered, only_on}
@@ -43,7 +43,7 @@ front_follows (x ∷ xs) ys o h = front_then xs ys (follow x o) (λ p. front_fol
 
 -- The actions of functions may follow one another.
 
-functions_follow : (ds : List Definition) → AreTellable ds → Leads (definitions_actions ds) [] []
+functions_follow : (ds : List Definition) → AreReportable ds → Leads (definitions_actions ds) [] []
 functions_follow [] h = record { is = refl }
 functions_follow (d ∷ ds) h =
     chain (function_actions d.number d.function) (definitions_actions ds) [] [] []
@@ -80,7 +80,7 @@ count_fits (InLoop c b outer) fits =
 
 record Closes (acts : List Action) : Type 0 where
   definition : Definition
-  tellable : IsTellable definition
+  tellable : IsReportable definition
   rest : List Action
   is : acts ++ rest ≡ function_actions definition.number definition.function
 
@@ -103,7 +103,7 @@ definition_actions : (n k v : ℕ) (b : Body) →
 definition_actions n k v b =
     ap (λ (m : ℕ). BeginFunction n k ∷ (body_actions b ++ (last_return ++ EndFunction m ∷ []))) (length-replicate v [])
 
-definition_told : (n k v : ℕ) (b : Body) → n < 64 → k ≤ v → v ≤ 64 → BodyFits 0 b → IsTellable (definition n k v b)
+definition_told : (n k v : ℕ) (b : Body) → n < 64 → k ≤ v → v ≤ 64 → BodyFits 0 b → IsReportable (definition n k v b)
 definition_told n k v b h l m f =
     let long : length {A = List ℕ} (replicate v []) ≡ v = length-replicate v [] in
     record {
@@ -217,7 +217,7 @@ record Makes (acts : List Action) (o : Opened) : Type 0 where
   held : Held
   opens : open_held held ≡ o
   actions : definitions_actions functions ++ held_actions held ≡ acts
-  tellable : AreTellable functions
+  tellable : AreReportable functions
   fits : HeldFits held
 
 pub definitions_last : (ds : List Definition) (d : Definition) →
@@ -229,7 +229,7 @@ definitions_last (x ∷ ds) d =
     (append_assoc (function_actions x.number x.function) (definitions_actions ds)
     (function_actions d.number d.function))
 
-pub tellable_last : (ds : List Definition) (d : Definition) → AreTellable ds → IsTellable d → AreTellable (ds ++ d ∷ [])
+pub tellable_last : (ds : List Definition) (d : Definition) → AreReportable ds → IsReportable d → AreReportable (ds ++ d ∷ [])
 tellable_last [] d h t = (t, tt)
 tellable_last (x ∷ ds) d h t = (h.0, tellable_last ds d h.1 t)
 
@@ -353,7 +353,7 @@ fits_front b s f = record { names = names_front b s f.names; few = omega (arith,
 -- One action more.
 
 within_makes : (a : Action) (h : Hole) (q : Opened) (acts : List Action) (ds : List Definition) →
-    definitions_actions ds ++ hole_actions h ≡ acts → AreTellable ds → open_count q ≤ 200 →
+    definitions_actions ds ++ hole_actions h ≡ acts → AreReportable ds → open_count q ≤ 200 →
     Steps a h q → Makes (acts ++ a ∷ []) q
 within_makes a h q acts ds e told small s = record {
   functions = ds;
@@ -366,7 +366,7 @@ within_makes a h q acts ds e told small s = record {
 }
 
 begun : (n k : ℕ) (q : Opened) (acts : List Action) (ds : List Definition) → definitions_actions ds ++ [] ≡ acts →
-    AreTellable ds → follow (BeginFunction n k) [] ≡ Some q → Makes (acts ++ BeginFunction n k ∷ []) q
+    AreReportable ds → follow (BeginFunction n k) [] ≡ Some q → Makes (acts ++ BeginFunction n k ∷ []) q
 begun n k q acts ds e told is =
     let made = begin_makes n k q is in
     record {
@@ -379,7 +379,7 @@ begun n k q acts ds e told is =
     }
 
 finished : (n k v : ℕ) (b : Body) (q : Opened) (acts : List Action) (ds : List Definition) →
-    definitions_actions ds ++ (BeginFunction n k ∷ body_actions b) ≡ acts → AreTellable ds →
+    definitions_actions ds ++ (BeginFunction n k ∷ body_actions b) ≡ acts → AreReportable ds →
     PlaceFits (InFun n k b) → follow (EndFunction v) (InFunction k (ends_in_return false b) ∷ []) ≡ Some q →
     Makes (acts ++ EndFunction v ∷ []) q
 finished n k v b q acts ds e told fits is =
@@ -437,7 +437,7 @@ never_begins n k (RightSide o x h) q e = cc
 never_begins n k (Arguments h) q e = cc
 
 nothing_makes : (a : Action) (q : Opened) (acts : List Action) (ds : List Definition) →
-    definitions_actions ds ++ [] ≡ acts → AreTellable ds → follow a [] ≡ Some q → Makes (acts ++ a ∷ []) q
+    definitions_actions ds ++ [] ≡ acts → AreReportable ds → follow a [] ≡ Some q → Makes (acts ++ a ∷ []) q
 nothing_makes (BeginFunction n k) q acts ds e told is = begun n k q acts ds e told is
 nothing_makes (EndFunction v) q acts ds e told is = absurd (cc)
 nothing_makes (PushConstant x) q acts ds e told is = absurd (nothing_then (PushConstant x) q tt is)
@@ -449,7 +449,7 @@ nothing_makes (EndCall f) q acts ds e told is = absurd (nothing_then (EndCall f)
 nothing_makes a q acts ds e told is = absurd (cc)
 
 hole_makes : (a : Action) (h : Hole) (q : Opened) (acts : List Action) (ds : List Definition) →
-    definitions_actions ds ++ hole_actions h ≡ acts → AreTellable ds → HoleFits h → hole_count h ≤ 200 →
+    definitions_actions ds ++ hole_actions h ≡ acts → AreReportable ds → HoleFits h → hole_count h ≤ 200 →
     follow a (open_hole h) ≡ Some q → open_count q ≤ 200 → Makes (acts ++ a ∷ []) q
 hole_makes (BeginFunction n k) h q acts ds e told fits least is small = absurd (never_begins n k h q is)
 hole_makes (EndFunction v) (Statement (InFun n k b)) q acts ds e told fits least is small =

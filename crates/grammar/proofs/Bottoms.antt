@@ -11,9 +11,9 @@ use Rattle.tokens.specs.declared.located_tokens.Keyword.{Keyword}
 use Rattle.tokens.specs.declared.located_tokens.Keyword.TheVariants as keyword
 use Rattle.arith.specs.declared.operators.Op.{Op}
 use Rattle.grammar.specs.declared.operators.StoreOp.{StoreOp}
-use Rattle.grammar.specs.Derivation.{State, state, Value, Definition, initial_state, step, stack_step, stepped, derived, next_token, name_of_token, constant_value, matched, name_matched, replaced, constant_matched}
+use Rattle.grammar.specs.Derivation.{State, state, PartialTree, Definition, initial_state, step, stack_step, stepped, derived, next_token, name_of_token, constant_value, matched, name_matched, replaced, constant_matched}
 use Rattle.grammar.specs.Faults.{Fault, faults_at}
-use Rattle.grammar.specs.Grammar.{Symbol, Source, Types, Head, More, Parameters, ParameterTypes, FunctionBlock, Block, Declarations, Statements, Statement, ElsePart, Back, Expression, Level, Tail, Unary, Primary, Arguments, MoreArguments, Role, Item, Exactly, AKeyword, AName, AConstant, AnEnd, Part, Make, Close, Production, choice, assignment_or, tail_production, is_fault, is_punctuator, is_keyword}
+use Rattle.grammar.specs.Grammar.{Symbol, Source, Types, Head, More, Parameters, ParameterTypes, FunctionBlock, Block, Declarations, Statements, Statement, ElsePart, Back, Expression, Level, Tail, Unary, Primary, Arguments, MoreArguments, Role, Item, Exactly, AKeyword, AName, AConstant, AnEnd, Part, Make, Close, Production, choice, assignment_or, tail_production, is_lexical_error, is_punctuator, is_keyword}
 use Rattle.grammar.specs.Operators.{operator_at, store_of}
 use Rattle.grammar.specs.Laws.Parsing.{IsIn}
 use Rattle.grammar.specs.Profile.{Profile}
@@ -199,7 +199,7 @@ left_at_end [] item h = refl
 left_at_end (located_token ∷ []) item h = refl
 left_at_end (located_token ∷ next ∷ rest) item h = h
 
-matched_leads : (b : Bool) (item : Item) (stack : List Item) (rest : List LocatedToken) (values : List Value)
+matched_leads : (b : Bool) (item : Item) (stack : List Item) (rest : List LocatedToken) (values : List PartialTree)
     (scope : Scope) (functions : List Definition) →
     at_bottom stack ≡ true → (b ≡ true → is_last (next_token rest) ≡ false) → Left (item ∷ stack) rest →
     Leads (matched b (state stack rest values scope functions))
@@ -208,14 +208,14 @@ matched_leads true item stack rest values scope functions bottom other h =
 matched_leads false item stack rest values scope functions bottom other h = tt
 
 name_leads : (role : Role) (name : Option (List ℕ)) (item : Item) (stack : List Item) (rest : List LocatedToken)
-    (values : List Value) (scope : Scope) (functions : List Definition) →
+    (values : List PartialTree) (scope : Scope) (functions : List Definition) →
     at_bottom stack ≡ true → ((n : List ℕ) → name ≡ Some n → is_last (next_token rest) ≡ false) →
     Left (item ∷ stack) rest → Leads (name_matched role name (state stack rest values scope functions))
 name_leads role (Some name) item stack rest values scope functions bottom other h =
     record { bottom = bottom; left = left_behind item stack rest (other name refl) h }
 name_leads role None item stack rest values scope functions bottom other h = tt
 
-constant_leads : (value : Option ℕ) (item : Item) (stack : List Item) (rest : List LocatedToken) (values : List Value)
+constant_leads : (value : Option ℕ) (item : Item) (stack : List Item) (rest : List LocatedToken) (values : List PartialTree)
     (scope : Scope) (functions : List Definition) →
     at_bottom stack ≡ true → ((n : ℕ) → value ≡ Some n → is_last (next_token rest) ≡ false) → Left (item ∷ stack) rest →
     Leads (constant_matched value (state stack rest values scope functions))
@@ -223,7 +223,7 @@ constant_leads (Some value) item stack rest values scope functions bottom other 
     record { bottom = bottom; left = left_behind item stack rest (other value refl) h }
 constant_leads None item stack rest values scope functions bottom other h = tt
 
-end_leads : (b : Bool) (stack : List Item) (rest : List LocatedToken) (values : List Value) (scope : Scope)
+end_leads : (b : Bool) (stack : List Item) (rest : List LocatedToken) (values : List PartialTree) (scope : Scope)
     (functions : List Definition) →
     is_nothing stack ≡ true → Left (AnEnd ∷ stack) rest → Leads (matched b (state stack rest values scope functions))
 end_leads true [] rest values scope functions bottom h = record { bottom = refl; left = left_at_end rest AnEnd h }
@@ -237,7 +237,7 @@ left_same item stack items [] h = absurd cc
 left_same item stack items (located_token ∷ rest) h = h
 
 replaced_leads : (symbol : Symbol) (items : Production) (stack : List Item) (rest : List LocatedToken)
-    (values : List Value) (scope : Scope) (functions : List Definition) →
+    (values : List PartialTree) (scope : Scope) (functions : List Definition) →
     fits (is_bottom (Part symbol)) items ≡ true → IsGrounded (Part symbol ∷ stack) rest →
     Leads (replaced items (state stack rest values scope functions))
 replaced_leads symbol (Some items) stack rest values scope functions fit h = record {
@@ -246,7 +246,7 @@ replaced_leads symbol (Some items) stack rest values scope functions fit h = rec
 }
 replaced_leads symbol None stack rest values scope functions fit h = tt
 
-step_leads : (stack : List Item) (rest : List LocatedToken) (values : List Value) (scope : Scope)
+step_leads : (stack : List Item) (rest : List LocatedToken) (values : List PartialTree) (scope : Scope)
     (functions : List Definition) → IsGrounded stack rest →
     Leads (stack_step stack (state stack rest values scope functions))
 step_leads [] rest values scope functions h = tt
@@ -283,13 +283,13 @@ run_grounded : (n : ℕ) (s : State) → IsGrounded s.stack s.rest → IsGrounde
 run_grounded zero s h = h
 run_grounded (suc n) s h = run_grounded n (stepped s)
     (kept_grounded s (step s) h
-    (guarded_leads (is_fault (next_token s.rest)) _ (step_leads s.stack s.rest s.values s.scope s.functions h)))
+    (guarded_leads (is_lexical_error (next_token s.rest)) _ (step_leads s.stack s.rest s.values s.scope s.functions h)))
 
 start_left : (located_tokens : List LocatedToken) → EndsWithLast located_tokens → Left (Part Source ∷ []) located_tokens
 start_left [] h = absurd h
 start_left (located_token ∷ rest) h = h
 
-some_left : (profile : Profile) (f : Fault) (stack : List Item) (rest : List LocatedToken) (values : List Value)
+some_left : (profile : Profile) (f : Fault) (stack : List Item) (rest : List LocatedToken) (values : List PartialTree)
     (scope : Scope) (functions : List Definition) →
     Left stack rest → IsIn f (faults_at profile (state stack rest values scope functions)) → 0 < length rest
 some_left profile f [] [] values scope functions left h = absurd h

@@ -14,7 +14,7 @@ use Rattle.grammar.specs.Intrinsics.{is_intrinsic}
 use Rattle.grammar.specs.Pools.{FunctionNames}
 use Rattle.grammar.specs.Resolved.{IsAmong, AreDistinct}
 use Rattle.grammar.specs.Scope.{Scope, number_of_name, function_number, is_variable_new, is_local_new, is_external_new, is_function_new, only_named}
-use Rattle.grammar.proofs.Places.{get_append}
+use Rattle.grammar.proofs.Indices.{get_append}
 
 -- What is there once.
 

@@ -10,8 +10,8 @@ use Rattle.tokens.specs.declared.located_tokens.Token.TheVariants as token
 use Rattle.tokens.specs.declared.located_tokens.Keyword.TheVariants as keyword
 use Rattle.arith.specs.declared.operators.Op.{Op}
 use Rattle.grammar.specs.declared.operators.StoreOp.{StoreOp}
-use Rattle.grammar.specs.Derivation.{State, state, Value, Definition, step, stack_step, stepped, derived, next_token, token_after_next, matched, name_matched, replaced, constant_matched}
-use Rattle.grammar.specs.Grammar.{Symbol, Source, Types, Head, More, Parameters, ParameterTypes, FunctionBlock, Block, Declarations, Statements, Statement, ElsePart, Back, Expression, Level, Tail, Unary, Primary, Arguments, MoreArguments, Role, Item, Exactly, AKeyword, AName, AConstant, AnEnd, Part, Make, Close, Production, choice, assignment_or, tail_production, is_fault}
+use Rattle.grammar.specs.Derivation.{State, state, PartialTree, Definition, step, stack_step, stepped, derived, next_token, token_after_next, matched, name_matched, replaced, constant_matched}
+use Rattle.grammar.specs.Grammar.{Symbol, Source, Types, Head, More, Parameters, ParameterTypes, FunctionBlock, Block, Declarations, Statements, Statement, ElsePart, Back, Expression, Level, Tail, Unary, Primary, Arguments, MoreArguments, Role, Item, Exactly, AKeyword, AName, AConstant, AnEnd, Part, Make, Close, Production, choice, assignment_or, tail_production, is_lexical_error}
 use Rattle.grammar.specs.Operators.{operator_at, store_of}
 use Rattle.grammar.specs.Scope.{Scope}
 use Rattle.grammar.proofs.Runs.{stays}
@@ -190,7 +190,7 @@ Falls n (Some t) = weight t < n
 
 -- the item that was matched is gone, and so is its token
 matched_falls : (fits : Bool) (item : Item) (stack : List Item) (located_token : LocatedToken)
-    (rest : List LocatedToken) (values : List Value) (scope : Scope) (functions : List Definition) →
+    (rest : List LocatedToken) (values : List PartialTree) (scope : Scope) (functions : List Definition) →
     1 ≤ cost item →
     Falls (weight (state (item ∷ stack) (located_token ∷ rest) values scope functions))
     (matched fits (state stack (located_token ∷ rest) values scope functions))
@@ -198,28 +198,28 @@ matched_falls false item stack located_token rest values scope functions h = tt
 matched_falls true item stack located_token rest values scope functions h = omega (arith, credit_small stack)
 
 name_falls : (role : Role) (name : Option (List ℕ)) (stack : List Item) (located_token : LocatedToken)
-    (rest : List LocatedToken) (values : List Value) (scope : Scope) (functions : List Definition) →
+    (rest : List LocatedToken) (values : List PartialTree) (scope : Scope) (functions : List Definition) →
     Falls (weight (state (AName role ∷ stack) (located_token ∷ rest) values scope functions))
     (name_matched role name (state stack (located_token ∷ rest) values scope functions))
 name_falls role None stack located_token rest values scope functions = tt
 name_falls role (Some name) stack located_token rest values scope functions = omega (arith, credit_small stack)
 
 constant_falls : (value : Option ℕ) (stack : List Item) (located_token : LocatedToken) (rest : List LocatedToken)
-    (values : List Value) (scope : Scope) (functions : List Definition) →
+    (values : List PartialTree) (scope : Scope) (functions : List Definition) →
     Falls (weight (state (AConstant ∷ stack) (located_token ∷ rest) values scope functions))
     (constant_matched value (state stack (located_token ∷ rest) values scope functions))
 constant_falls None stack located_token rest values scope functions = tt
 constant_falls (Some value) stack located_token rest values scope functions = omega (arith, credit_small stack)
 
 replaced_falls : (symbol : Symbol) (items : Production) (stack : List Item) (rest : List LocatedToken)
-    (values : List Value) (scope : Scope) (functions : List Definition) →
+    (values : List PartialTree) (scope : Scope) (functions : List Definition) →
     Lighter symbol items →
     Falls (weight (state (Part symbol ∷ stack) rest values scope functions))
     (replaced items (state stack rest values scope functions))
 replaced_falls symbol None stack rest values scope functions h = tt
 replaced_falls symbol (Some items) stack rest values scope functions h = omega (arith, h stack)
 
-falls_of : (stack : List Item) (rest : List LocatedToken) (values : List Value) (scope : Scope)
+falls_of : (stack : List Item) (rest : List LocatedToken) (values : List PartialTree) (scope : Scope)
     (functions : List Definition) →
     Falls (weight (state stack rest values scope functions))
     (stack_step stack (state stack rest values scope functions))
@@ -250,7 +250,7 @@ guarded_falls false n o h = h
 
 pub falls : (s : State) → Falls (weight s) (step s)
 falls s =
-    guarded_falls (is_fault (next_token s.rest)) (weight s) _ (falls_of s.stack s.rest s.values s.scope s.functions)
+    guarded_falls (is_lexical_error (next_token s.rest)) (weight s) _ (falls_of s.stack s.rest s.values s.scope s.functions)
 
 -- a state from which no step leads on
 abbrev pub IsFinal : State → Type 0

@@ -21,7 +21,7 @@ use Rattle.grammar.proofs.ResolvedLaws.{Sound, compiled_is_resolved, order_below
 use Rattle.grammar.proofs.Verdicts.{clean_verdict}
 use Rattle.grammar.specs.Laws.Finished.{PassesAll, Finished, Undefined, WithoutMain, known_names}
 use Rattle.grammar.proofs.NamedFunctions.{AreNamed, sound_of_passes, named_of_passes}
-use Rattle.grammar.proofs.Places.{map_of_places}
+use Rattle.grammar.proofs.Indices.{map_of_places}
 
 -- Functions by number.
 

@@ -9,16 +9,16 @@ use Rattle.tokens.specs.declared.located_tokens.Keyword.{Keyword}
 use Rattle.grammar.specs.declared.diagnostics.Code.{Code}
 use Rattle.grammar.specs.declared.diagnostics.Code.TheVariants as code
 use Rattle.grammar.specs.Compiled.{diagnostic}
-use Rattle.grammar.specs.Derivation.{State, state, Value, Definition, definition_of, last_body, stepped, derived, next_token, token_after_next, line_at, name_of_token}
-use Rattle.grammar.specs.Faults.{Fault, fault, faults_at, is_first, stack_faults, level_faults, length_faults, name_faults, role_faults, no_room, misfits, misfit_code, levels, code_number, is_too_long, only_if}
-use Rattle.grammar.specs.Grammar.{Item, Exactly, AKeyword, AName, AConstant, AnEnd, Part, Make, Close, Symbol, Role, Defined, External, Parameter, Typed, Local, Called, Mentioned, Define, choice, enters, is_punctuator, is_keyword, is_fault}
+use Rattle.grammar.specs.Derivation.{State, state, PartialTree, Definition, definition_of, last_body, stepped, derived, next_token, token_after_next, line_at, name_of_token}
+use Rattle.grammar.specs.Faults.{Fault, fault, faults_at, is_first, stack_faults, nesting_faults, length_faults, name_faults, role_faults, no_room, unexpected_tokens, unexpected_token_code, nested_count, code_number, is_too_long, only_if}
+use Rattle.grammar.specs.Grammar.{Item, Exactly, AKeyword, AName, AConstant, AnEnd, Part, Make, Close, Symbol, Role, Defined, External, Parameter, Typed, Local, Called, Mentioned, Define, choice, enters, is_punctuator, is_keyword, is_lexical_error}
 use Rattle.grammar.specs.Intrinsics.{is_intrinsic}
 use Rattle.grammar.specs.Laws.Parsing.{IsIn, IsFirstFault, Fails}
-use Rattle.grammar.specs.NameLimits.{most_levels, most_names}
+use Rattle.grammar.specs.NameLimits.{most_nested, most_names}
 use Rattle.grammar.specs.Profile.{Profile}
 use Rattle.grammar.specs.Scope.{Scope, has_begun, is_external_new, is_function_new, is_local_new, is_variable_new}
 -- a step never adds tokens
-pub use Rattle.grammar.proofs.Rests.{run_keeps}
+pub use Rattle.grammar.proofs.TokensLeft.{run_keeps}
 use Rattle.grammar.proofs.Runs.{stays}
 
 reflexive_at : (n c : ℕ) → (if nat_lt n n then true else (if nat_lt n n then false else nat_le c c)) ≡ true
@@ -52,42 +52,42 @@ fails_stuck profile s rest c still faults =
     record { fault = fault rest c; first = stuck profile s (fault rest c) still faults; line = refl; code = refl }
 
 -- a lexical error fits nothing
-pub at_fault : (profile : Profile) (stack : List Item) (rest : List LocatedToken) (values : List Value) (scope : Scope)
+pub at_fault : (profile : Profile) (stack : List Item) (rest : List LocatedToken) (values : List PartialTree) (scope : Scope)
     (functions : List Definition) →
-    is_fault (next_token rest) ≡ true →
-    Fails profile (state stack rest values scope functions) (diagnostic (line_at rest) (misfit_code (next_token rest)))
+    is_lexical_error (next_token rest) ≡ true →
+    Fails profile (state stack rest values scope functions) (diagnostic (line_at rest) (unexpected_token_code (next_token rest)))
 at_fault profile stack rest values scope functions is = fails_stuck profile _ rest _ (rw is refl) (rw is refl)
 
-pub no_part : (profile : Profile) (symbol : Symbol) (stack : List Item) (rest : List LocatedToken) (values : List Value)
+pub no_part : (profile : Profile) (symbol : Symbol) (stack : List Item) (rest : List LocatedToken) (values : List PartialTree)
     (scope : Scope) (functions : List Definition) →
-    is_fault (next_token rest) ≡ false → choice symbol (next_token rest) (token_after_next rest) ≡ None →
-    level_faults symbol (state stack rest values scope functions) ≡ [] →
+    is_lexical_error (next_token rest) ≡ false → choice symbol (next_token rest) (token_after_next rest) ≡ None →
+    nesting_faults symbol (state stack rest values scope functions) ≡ [] →
     Fails profile (state (Part symbol ∷ stack) rest values scope functions)
-    (diagnostic (line_at rest) (misfit_code (next_token rest)))
+    (diagnostic (line_at rest) (unexpected_token_code (next_token rest)))
 no_part profile symbol stack rest values scope functions sound none clean =
     fails_stuck profile _ rest _ (rw (sound, none) refl) (rw (sound, clean, none) refl)
 
 pub no_punctuator : (profile : Profile) (m : Punctuator) (stack : List Item) (rest : List LocatedToken)
-    (values : List Value) (scope : Scope) (functions : List Definition) →
-    is_fault (next_token rest) ≡ false → is_punctuator m (next_token rest) ≡ false →
+    (values : List PartialTree) (scope : Scope) (functions : List Definition) →
+    is_lexical_error (next_token rest) ≡ false → is_punctuator m (next_token rest) ≡ false →
     Fails profile (state (Exactly m ∷ stack) rest values scope functions)
-    (diagnostic (line_at rest) (misfit_code (next_token rest)))
+    (diagnostic (line_at rest) (unexpected_token_code (next_token rest)))
 no_punctuator profile m stack rest values scope functions sound none =
     fails_stuck profile _ rest _ (rw (sound, none) refl) (rw (sound, none) refl)
 
-pub no_word : (profile : Profile) (w : Keyword) (stack : List Item) (rest : List LocatedToken) (values : List Value)
+pub no_word : (profile : Profile) (w : Keyword) (stack : List Item) (rest : List LocatedToken) (values : List PartialTree)
     (scope : Scope) (functions : List Definition) →
-    is_fault (next_token rest) ≡ false → is_keyword w (next_token rest) ≡ false →
+    is_lexical_error (next_token rest) ≡ false → is_keyword w (next_token rest) ≡ false →
     Fails profile (state (AKeyword w ∷ stack) rest values scope functions)
-    (diagnostic (line_at rest) (misfit_code (next_token rest)))
+    (diagnostic (line_at rest) (unexpected_token_code (next_token rest)))
 no_word profile w stack rest values scope functions sound none =
     fails_stuck profile _ rest _ (rw (sound, none) refl) (rw (sound, none) refl)
 
-pub no_name : (profile : Profile) (role : Role) (stack : List Item) (rest : List LocatedToken) (values : List Value)
+pub no_name : (profile : Profile) (role : Role) (stack : List Item) (rest : List LocatedToken) (values : List PartialTree)
     (scope : Scope) (functions : List Definition) →
-    is_fault (next_token rest) ≡ false → name_of_token (next_token rest) ≡ None →
+    is_lexical_error (next_token rest) ≡ false → name_of_token (next_token rest) ≡ None →
     Fails profile (state (AName role ∷ stack) rest values scope functions)
-    (diagnostic (line_at rest) (misfit_code (next_token rest)))
+    (diagnostic (line_at rest) (unexpected_token_code (next_token rest)))
 no_name profile role stack rest values scope functions sound none =
     fails_stuck profile _ rest _ (rw (sound, none) refl) (rw (sound, none) refl)
 
@@ -153,7 +153,7 @@ name_rest : (g : Fault) (role : Role) (name : Option (List ℕ)) (scope : Scope)
 name_rest g role None scope rest h = absurd h
 name_rest g role (Some name) scope rest h = role_rest g role name scope rest h
 
-item_rest : (profile : Profile) (g : Fault) (stack : List Item) (rest : List LocatedToken) (values : List Value)
+item_rest : (profile : Profile) (g : Fault) (stack : List Item) (rest : List LocatedToken) (values : List PartialTree)
     (scope : Scope) (functions : List Definition) →
     IsIn g (stack_faults profile stack (state stack rest values scope functions)) → g.rest ≡ rest
 item_rest profile g [] rest values scope functions h = absurd h
@@ -165,8 +165,8 @@ item_rest profile g (AnEnd ∷ stack) rest values scope functions h = absurd h
 item_rest profile g (AConstant ∷ stack) rest values scope functions h = absurd h
 item_rest profile g (Part symbol ∷ stack) rest values scope functions h =
     only_if_rest g (enters symbol (next_token rest) (token_after_next rest))
-    (only_if (nat_le most_levels (levels stack)) (fault rest code.NestedTooDeeply ∷ [])) rest
-    (only_if_rest g (nat_le most_levels (levels stack)) (fault rest code.NestedTooDeeply ∷ []) rest
+    (only_if (nat_le most_nested (nested_count stack)) (fault rest code.NestedTooDeeply ∷ [])) rest
+    (only_if_rest g (nat_le most_nested (nested_count stack)) (fault rest code.NestedTooDeeply ∷ []) rest
     (single_rest g rest code.NestedTooDeeply)) h
 item_rest profile g (Make Define ∷ stack) rest values scope functions h =
     only_if_rest g (is_too_long profile (functions ++ definition_of scope (last_body values) ∷ []))
@@ -175,14 +175,14 @@ item_rest profile g (Make rule ∷ stack) rest values scope functions h = absurd
 item_rest profile g (Close ∷ stack) rest values scope functions h = absurd h
 
 misfits_rest : (g : Fault) (stack : List Item) (rest : List LocatedToken) (next : Option State) →
-    IsIn g (misfits stack rest next) → g.rest ≡ rest
+    IsIn g (unexpected_tokens stack rest next) → g.rest ≡ rest
 misfits_rest g [] rest next h = absurd h
 misfits_rest g (item ∷ stack) rest None h = single_rest g rest _ h
 misfits_rest g (item ∷ stack) rest (Some s) h = absurd h
 
 pub at_rest : (profile : Profile) (g : Fault) (s : State) → IsIn g (faults_at profile s) → g.rest ≡ s.rest
 at_rest profile g s h =
-    guarded_rest g (is_fault (next_token s.rest)) _ _ s.rest (single_rest g s.rest _)
+    guarded_rest g (is_lexical_error (next_token s.rest)) _ _ s.rest (single_rest g s.rest _)
     (appended_rest g _ _ s.rest (item_rest profile g s.stack s.rest s.values s.scope s.functions)
     (misfits_rest g s.stack s.rest _)) h
 
@@ -235,9 +235,9 @@ none_in f (x ∷ faults) e g h = absurd (cc)
 
 -- A name with a fault of its role.
 pub name_fails : (profile : Profile) (role : Role) (name : List ℕ) (c : Code) (stack : List Item)
-    (located_token : LocatedToken) (rest : List LocatedToken) (values : List Value) (scope : Scope)
+    (located_token : LocatedToken) (rest : List LocatedToken) (values : List PartialTree) (scope : Scope)
     (functions : List Definition) →
-    is_fault located_token.token ≡ false → name_of_token located_token.token ≡ Some name →
+    is_lexical_error located_token.token ≡ false → name_of_token located_token.token ≡ Some name →
     role_faults role name scope (located_token ∷ rest) ≡ fault (located_token ∷ rest) c ∷ [] →
     Fails profile (state (AName role ∷ stack) (located_token ∷ rest) values scope functions)
     (diagnostic located_token.line c)
@@ -250,8 +250,8 @@ name_fails profile role name c stack located_token rest values scope functions s
 
 -- The closing brace of the function with which the code is too long.
 pub too_long : (profile : Profile) (stack : List Item) (located_token : LocatedToken) (rest : List LocatedToken)
-    (values : List Value) (scope : Scope) (functions : List Definition) →
-    is_fault located_token.token ≡ false → is_punctuator punctuator.CloseCurly located_token.token ≡ true →
+    (values : List PartialTree) (scope : Scope) (functions : List Definition) →
+    is_lexical_error located_token.token ≡ false → is_punctuator punctuator.CloseCurly located_token.token ≡ true →
     length_faults profile
     (state (Exactly punctuator.CloseCurly ∷ stack) (located_token ∷ rest) values scope functions) ≡
     fault (located_token ∷ rest) code.TooMuchCode ∷ [] →
@@ -269,12 +269,12 @@ too_long profile stack located_token rest values scope functions sound fits long
 
 -- A level beyond the last one, opened by a punctuator.
 pub too_deep : (profile : Profile) (symbol : Symbol) (m : Punctuator) (items stack : List Item)
-    (located_token : LocatedToken) (rest : List LocatedToken) (values : List Value) (scope : Scope)
+    (located_token : LocatedToken) (rest : List LocatedToken) (values : List PartialTree) (scope : Scope)
     (functions : List Definition) →
-    is_fault located_token.token ≡ false →
+    is_lexical_error located_token.token ≡ false →
     choice symbol located_token.token (next_token rest) ≡ Some (Exactly m ∷ items) →
     is_punctuator m located_token.token ≡ true →
-    level_faults symbol (state stack (located_token ∷ rest) values scope functions) ≡
+    nesting_faults symbol (state stack (located_token ∷ rest) values scope functions) ≡
     fault (located_token ∷ rest) code.NestedTooDeeply ∷ [] →
     Fails profile (state (Part symbol ∷ stack) (located_token ∷ rest) values scope functions)
     (diagnostic located_token.line code.NestedTooDeeply)
@@ -289,12 +289,12 @@ too_deep profile symbol m items stack located_token rest values scope functions 
 
 -- By a keyword.
 pub too_deep_word : (profile : Profile) (symbol : Symbol) (w : Keyword) (items stack : List Item)
-    (located_token : LocatedToken) (rest : List LocatedToken) (values : List Value) (scope : Scope)
+    (located_token : LocatedToken) (rest : List LocatedToken) (values : List PartialTree) (scope : Scope)
     (functions : List Definition) →
-    is_fault located_token.token ≡ false →
+    is_lexical_error located_token.token ≡ false →
     choice symbol located_token.token (next_token rest) ≡ Some (AKeyword w ∷ items) →
     is_keyword w located_token.token ≡ true →
-    level_faults symbol (state stack (located_token ∷ rest) values scope functions) ≡
+    nesting_faults symbol (state stack (located_token ∷ rest) values scope functions) ≡
     fault (located_token ∷ rest) code.NestedTooDeeply ∷ [] →
     Fails profile (state (Part symbol ∷ stack) (located_token ∷ rest) values scope functions)
     (diagnostic located_token.line code.NestedTooDeeply)
@@ -371,12 +371,12 @@ deep_before_role g role name scope rest faults same h =
 
 -- A level beyond the last one, opened by a name: the name may have a fault of its role, which comes after.
 pub too_deep_name : (profile : Profile) (symbol : Symbol) (role : Role) (name : List ℕ) (items stack : List Item)
-    (located_token : LocatedToken) (rest : List LocatedToken) (values : List Value) (scope : Scope)
+    (located_token : LocatedToken) (rest : List LocatedToken) (values : List PartialTree) (scope : Scope)
     (functions : List Definition) →
-    is_fault located_token.token ≡ false →
+    is_lexical_error located_token.token ≡ false →
     choice symbol located_token.token (next_token rest) ≡ Some (AName role ∷ items) →
     name_of_token located_token.token ≡ Some name →
-    level_faults symbol (state stack (located_token ∷ rest) values scope functions) ≡
+    nesting_faults symbol (state stack (located_token ∷ rest) values scope functions) ≡
     fault (located_token ∷ rest) code.NestedTooDeeply ∷ [] →
     Fails profile (state (Part symbol ∷ stack) (located_token ∷ rest) values scope functions)
     (diagnostic located_token.line code.NestedTooDeeply)

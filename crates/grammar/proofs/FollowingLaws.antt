@@ -15,12 +15,12 @@ use Rattle.grammar.specs.declared.actions.Action.TheVariants.{BeginWhile, WhileT
 use Rattle.grammar.specs.declared.actions.Action.TheVariants.{BeginFunction, EndFunction}
 use Rattle.grammar.specs.Actions.{expr_actions, args_actions, body_actions, last_return, middle, function_actions}
 use Rattle.grammar.specs.Actions.{functions_actions, numbered_actions}
-use Rattle.grammar.specs.Following.{Open, InFunction, AValue, BeforeRight, InCall, InBranch, InElse, BeforeTest, InTurn, Opened, Origin, Number, Fetched, Incremented, Computed, open_count, may_take_statement, few_open, follow, follow_all, then_follow, is_var_numbered, is_callee_numbered, statement_done, call_done, is_number, same_op, same_var}
+use Rattle.grammar.specs.Following.{Open, InFunction, AValue, BeforeRight, InCall, InBranch, InElse, BeforeTest, InLoopBody, Opened, ValueCategory, Number, Fetched, Incremented, Computed, open_count, may_take_statement, few_open, follow, follow_all, then_follow, is_var_numbered, is_callee_numbered, statement_done, call_done, is_number, same_op, same_var}
 use Rattle.grammar.specs.Nesting.{nesting, args_nesting, body_nesting, right_side}
 use Rattle.arith.specs.Op.{is_logic}
 -- how the value of an expression came about
 pub use Rattle.grammar.specs.Laws.Origins.{origin_of}
-use Rattle.grammar.specs.Resolved.{IsVariable, IsCallable, InExpr, InArgs, InBody, InFile, IsAmong}
+use Rattle.grammar.specs.Resolved.{IsVariable, IsCallable, InExpr, InArgs, InBody, FitsFile, IsAmong}
 use Rattle.grammar.specs.Tree.{Expr, Constant, Variable, Binary, Assign, Postfix, Call, Args, NoMore, Argument, Body, Done, ExpressionStatement, IfStatement, IfElseStatement, While, Return, Function}
 use Rattle.grammar.specs.Laws.{EachFileFollows}
 use Rattle.grammar.proofs.Widening.{body_wider, function_wider}
@@ -192,7 +192,7 @@ done_settles returned [] e = absurd (cc)
 done_settles returned (InFunction parameters before ∷ o) e = refl
 done_settles returned (InBranch ∷ o) e = refl
 done_settles returned (InElse ∷ o) e = refl
-done_settles returned (InTurn ∷ o) e = refl
+done_settles returned (InLoopBody ∷ o) e = refl
 done_settles returned (x ∷ o) e = absurd (cc)
 
 pub settled_place : (returned : Bool) (o : Opened) → may_take_statement o ≡ true →
@@ -222,14 +222,14 @@ value_leads : (e : Expr) (o : Opened) → may_take_statement o ≡ true → InEx
 value_leads e [] place h small = absurd (cc)
 value_leads e (outer ∷ o) place h small = expr_leads e outer o h small
 
-pub chop_settles : (origin : Origin) (o : Opened) → may_take_statement o ≡ true →
+pub chop_settles : (origin : ValueCategory) (o : Opened) → may_take_statement o ≡ true →
     follow Chop (AValue origin ∷ o) ≡ Some (settled false o)
 chop_settles origin [] e = absurd (cc)
 chop_settles origin (AValue below ∷ o) e = absurd (cc)
 chop_settles origin (InFunction parameters before ∷ o) e = refl
 chop_settles origin (InBranch ∷ o) e = refl
 chop_settles origin (InElse ∷ o) e = refl
-chop_settles origin (InTurn ∷ o) e = refl
+chop_settles origin (InLoopBody ∷ o) e = refl
 chop_settles origin (x ∷ o) e = absurd (cc)
 
 -- inside of a branch or a loop nothing is settled
@@ -273,9 +273,9 @@ body_leads (IfElseStatement c s t rest) o place h small =
 body_leads (While c s rest) o place h small =
     also BeginWhile _ _ (BeforeTest ∷ o) _ (rw place refl) (omega arith)
     (chain (expr_actions c) _ _ _ _ (expr_leads c BeforeTest o h.0 (omega arith))
-    (also WhileTest _ _ (InTurn ∷ o) _ refl (omega arith)
-    (chain (body_actions s) _ _ (InTurn ∷ o) _
-    (leads_to _ _ _ _ (inside s InTurn o (λ returned. refl)) (body_leads s (InTurn ∷ o) refl h.1 (omega arith)))
+    (also WhileTest _ _ (InLoopBody ∷ o) _ refl (omega arith)
+    (chain (body_actions s) _ _ (InLoopBody ∷ o) _
+    (leads_to _ _ _ _ (inside s InLoopBody o (λ returned. refl)) (body_leads s (InLoopBody ∷ o) refl h.1 (omega arith)))
     (also EndWhile _ _ (settled false o) _ (done_settles false o place) (omega (arith, settled_count false o))
     (body_leads rest (settled false o) (settled_place false o place) h.2 (omega (arith, settled_count false o)))))))
 body_leads (Return e rest) o place h small =
@@ -334,7 +334,7 @@ definition_leads number parameters variables body known within most h small =
     (also GiveBack _ _ (InFunction parameters true ∷ []) _ refl (omega arith)
     (act (EndFunction variables) _ _ (function_finishes parameters variables within most) (omega arith)))))
 
-pub function_leads : (number : ℕ) (f : Function) → number < 64 → InFile 64 64 f → body_nesting f.body ≤ 200 →
+pub function_leads : (number : ℕ) (f : Function) → number < 64 → FitsFile 64 64 f → body_nesting f.body ≤ 200 →
     Leads (function_actions number f) [] []
 function_leads number f known h small =
     let within : InBody 64 64 64 f.body =
@@ -345,7 +345,7 @@ function_leads number f known h small =
 -- Files.
 
 numbered_leads : (functions : List Function) (numbers : List ℕ) →
-    ((k : ℕ) (f : Function) → slice_get functions k ≡ Some f → InFile 64 64 f × (body_nesting f.body ≤ 200)) →
+    ((k : ℕ) (f : Function) → slice_get functions k ≡ Some f → FitsFile 64 64 f × (body_nesting f.body ≤ 200)) →
     ((k : ℕ) → IsAmong k numbers → k < 64) → Leads (functions_actions functions numbers) [] []
 numbered_leads functions [] each known = record { is = refl }
 numbered_leads functions (k ∷ ks) each known =
@@ -355,7 +355,7 @@ numbered_leads functions (k ∷ ks) each known =
     one : (f : Option Function) → slice_get functions k ≡ f → Leads (numbered_actions k f) [] []
     one None e = record { is = refl }
     one (Some f) e =
-        let h : InFile 64 64 f × (body_nesting f.body ≤ 200) = each k f e in
+        let h : FitsFile 64 64 f × (body_nesting f.body ≤ 200) = each k f e in
         function_leads k f (known k (inl refl)) h.0 h.1
 
 pub file_leads : EachFileFollows

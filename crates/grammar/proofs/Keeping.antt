@@ -9,8 +9,8 @@ use Rattle.tokens.specs.declared.located_tokens.Token.TheVariants as token
 use Rattle.tokens.specs.declared.located_tokens.Keyword.TheVariants as keyword
 use Rattle.arith.specs.declared.operators.Op.{Op}
 use Rattle.grammar.specs.declared.operators.StoreOp.{StoreOp}
-use Rattle.grammar.specs.Derivation.{State, state, Value, Definition, step, item_step, stack_step, stepped, derived, next_token, token_after_next, line_at, matched, name_matched, constant_matched, replaced, name_of_token, constant_value, is_end, functions_defined, scope_after_action}
-use Rattle.grammar.specs.Grammar.{Symbol, Source, Types, Head, More, Parameters, ParameterTypes, FunctionBlock, Block, Declarations, Statements, Statement, ElsePart, Back, Expression, Level, Tail, Unary, Primary, Arguments, MoreArguments, Role, Defined, External, Parameter, Typed, Local, Called, Mentioned, Item, Exactly, AKeyword, AName, AConstant, AnEnd, Part, Make, Close, SemanticAction, Define, Production, choice, assignment_or, tail_production, is_fault, is_punctuator, is_keyword}
+use Rattle.grammar.specs.Derivation.{State, state, PartialTree, Definition, step, item_step, stack_step, stepped, derived, next_token, token_after_next, line_at, matched, name_matched, constant_matched, replaced, name_of_token, constant_value, is_end, functions_defined, scope_after_action}
+use Rattle.grammar.specs.Grammar.{Symbol, Source, Types, Head, More, Parameters, ParameterTypes, FunctionBlock, Block, Declarations, Statements, Statement, ElsePart, Back, Expression, Level, Tail, Unary, Primary, Arguments, MoreArguments, Role, Defined, External, Parameter, Typed, Local, Called, Mentioned, Item, Exactly, AKeyword, AName, AConstant, AnEnd, Part, Make, Close, SemanticAction, Define, Production, choice, assignment_or, tail_production, is_lexical_error, is_punctuator, is_keyword}
 use Rattle.grammar.specs.Laws.{KeepsFunction, BlocksKeepTheFunction}
 use Rattle.grammar.specs.Operators.{operator_at, store_of}
 use Rattle.grammar.specs.Scope.{Scope, scope_after_name, is_external_new, is_local_new, is_variable_new, is_function_new, with_external, with_variable, with_new_function}
@@ -176,7 +176,7 @@ rule_keeps : (rule : SemanticAction) (scope : Scope) → is_inner (Make rule) �
 rule_keeps Define scope h = absurd (cc)
 rule_keeps rule scope h = kept scope
 
-defines_none : (rule : SemanticAction) (values : List Value) (scope : Scope) (functions : List Definition) →
+defines_none : (rule : SemanticAction) (values : List PartialTree) (scope : Scope) (functions : List Definition) →
     is_inner (Make rule) ≡ true →
     length (functions ++ functions_defined rule values scope) ≡ length functions
 defines_none Define values scope functions h = absurd (cc)
@@ -195,7 +195,7 @@ abbrev IfStands : List Item → Scope → ℕ → Option State → Type 0
 IfStands base known count None = Unit {0}
 IfStands base known count (Some s) = Stands base known count s
 
-matched_stands : (fits : Bool) (items base : List Item) (rest : List LocatedToken) (values : List Value) (scope : Scope)
+matched_stands : (fits : Bool) (items base : List Item) (rest : List LocatedToken) (values : List PartialTree) (scope : Scope)
     (functions : List Definition) → all_inner items ≡ true →
     IfStands base scope (length functions) (matched fits (state (items ++ base) rest values scope functions))
 matched_stands false items base rest values scope functions h = tt
@@ -203,21 +203,21 @@ matched_stands true items base rest values scope functions h =
     record { items = items; inner = h; over = refl; keeps = kept scope; same = refl }
 
 name_stands : (role : Role) (o : Option (List ℕ)) (items base : List Item) (rest : List LocatedToken)
-    (values : List Value) (scope : Scope) (functions : List Definition) → is_inner_role role ≡ true →
+    (values : List PartialTree) (scope : Scope) (functions : List Definition) → is_inner_role role ≡ true →
     all_inner items ≡ true →
     IfStands base scope (length functions) (name_matched role o (state (items ++ base) rest values scope functions))
 name_stands role None items base rest values scope functions r h = tt
 name_stands role (Some name) items base rest values scope functions r h =
     record { items = items; inner = h; over = refl; keeps = name_keeps role name (line_at rest) scope r; same = refl }
 
-constant_stands : (o : Option ℕ) (items base : List Item) (rest : List LocatedToken) (values : List Value)
+constant_stands : (o : Option ℕ) (items base : List Item) (rest : List LocatedToken) (values : List PartialTree)
     (scope : Scope) (functions : List Definition) → all_inner items ≡ true →
     IfStands base scope (length functions) (constant_matched o (state (items ++ base) rest values scope functions))
 constant_stands None items base rest values scope functions h = tt
 constant_stands (Some value) items base rest values scope functions h =
     record { items = items; inner = h; over = refl; keeps = kept scope; same = refl }
 
-part_stands : (production : Production) (items base : List Item) (rest : List LocatedToken) (values : List Value)
+part_stands : (production : Production) (items base : List Item) (rest : List LocatedToken) (values : List PartialTree)
     (scope : Scope) (functions : List Definition) → inner_production production ≡ true →
     all_inner items ≡ true →
     IfStands base scope (length functions) (replaced production (state (items ++ base) rest values scope functions))
@@ -231,7 +231,7 @@ part_stands (Some front) items base rest values scope functions p h =
       same = refl;
     }
 
-item_stands : (item : Item) (items base : List Item) (rest : List LocatedToken) (values : List Value) (scope : Scope)
+item_stands : (item : Item) (items base : List Item) (rest : List LocatedToken) (values : List PartialTree) (scope : Scope)
     (functions : List Definition) → is_inner item ≡ true → all_inner items ≡ true →
     IfStands base scope (length functions) (item_step item (state (items ++ base) rest values scope functions))
 item_stands (Exactly m) items base rest values scope functions i h =
@@ -281,31 +281,31 @@ abbrev IfMore : ℕ → Option State → Type 0
 IfMore count None = Unit {0}
 IfMore count (Some s) = count ≤ length s.functions
 
-matched_more : (fits : Bool) (stack : List Item) (rest : List LocatedToken) (values : List Value) (scope : Scope)
+matched_more : (fits : Bool) (stack : List Item) (rest : List LocatedToken) (values : List PartialTree) (scope : Scope)
     (functions : List Definition) →
     IfMore (length functions) (matched fits (state stack rest values scope functions))
 matched_more false stack rest values scope functions = tt
 matched_more true stack rest values scope functions = omega arith
 
-name_more : (role : Role) (o : Option (List ℕ)) (stack : List Item) (rest : List LocatedToken) (values : List Value)
+name_more : (role : Role) (o : Option (List ℕ)) (stack : List Item) (rest : List LocatedToken) (values : List PartialTree)
     (scope : Scope) (functions : List Definition) →
     IfMore (length functions) (name_matched role o (state stack rest values scope functions))
 name_more role None stack rest values scope functions = tt
 name_more role (Some name) stack rest values scope functions = omega arith
 
-constant_more : (o : Option ℕ) (stack : List Item) (rest : List LocatedToken) (values : List Value) (scope : Scope)
+constant_more : (o : Option ℕ) (stack : List Item) (rest : List LocatedToken) (values : List PartialTree) (scope : Scope)
     (functions : List Definition) →
     IfMore (length functions) (constant_matched o (state stack rest values scope functions))
 constant_more None stack rest values scope functions = tt
 constant_more (Some value) stack rest values scope functions = omega arith
 
-part_more : (production : Production) (stack : List Item) (rest : List LocatedToken) (values : List Value)
+part_more : (production : Production) (stack : List Item) (rest : List LocatedToken) (values : List PartialTree)
     (scope : Scope) (functions : List Definition) →
     IfMore (length functions) (replaced production (state stack rest values scope functions))
 part_more None stack rest values scope functions = tt
 part_more (Some items) stack rest values scope functions = omega arith
 
-item_more : (stack : List Item) (rest : List LocatedToken) (values : List Value) (scope : Scope)
+item_more : (stack : List Item) (rest : List LocatedToken) (values : List PartialTree) (scope : Scope)
     (functions : List Definition) →
     IfMore (length functions) (stack_step stack (state stack rest values scope functions))
 item_more [] rest values scope functions = tt
@@ -337,7 +337,7 @@ run_more (suc n) s =
     omega (
       arith,
       run_more n (stepped s),
-      stepped_more (is_fault (next_token s.rest)) s (stack_step s.stack s)
+      stepped_more (is_lexical_error (next_token s.rest)) s (stack_step s.stack s)
           (item_more s.stack s.rest s.values s.scope s.functions),
     )
 
@@ -367,11 +367,11 @@ step_keeps : (n : ℕ) (items stack : List Item) (known : Scope) (count : ℕ) (
 step_keeps n [] stack known count s inner over h again =
     subst
     (λ (xs : List Item). KeepsFrom n known count
-    (unwrap_or (if is_fault (next_token s.rest) then None else stack_step xs s) s))
+    (unwrap_or (if is_lexical_error (next_token s.rest) then None else stack_step xs s) s))
     (sym over)
-    (end_keeps (is_fault (next_token s.rest)) n stack known count s h.same (again s h))
+    (end_keeps (is_lexical_error (next_token s.rest)) n stack known count s h.same (again s h))
 step_keeps n (item ∷ items) stack known count s inner over h again =
-    again (stepped s) (stays base known count s (step s) h (guarded_stands (is_fault (next_token s.rest)) base s.scope
+    again (stepped s) (stays base known count s (step s) h (guarded_stands (is_lexical_error (next_token s.rest)) base s.scope
     (length s.functions) (stack_step s.stack s)
     (subst
     (λ (xs : List Item). IfStands base s.scope (length s.functions) (stack_step xs s))
@@ -389,7 +389,7 @@ run_keeps (suc n) stack known count s h =
     step_keeps n h.items stack known count s h.inner h.over h (λ t k. run_keeps n stack known count t k)
 
 -- from inner items over a function's end to any state before the next function is defined
-pub inner_keeps : (n : ℕ) (items stack after : List Item) (rest later : List LocatedToken) (values left : List Value)
+pub inner_keeps : (n : ℕ) (items stack after : List Item) (rest later : List LocatedToken) (values left : List PartialTree)
     (known learnt : Scope) (functions : List Definition) → all_inner items ≡ true →
     derived n (state (items ++ Make Define ∷ stack) rest values known functions) ≡
     state after later left learnt functions →

@@ -1,5 +1,5 @@
 pub mod Runs
-pub mod Rests
+pub mod TokensLeft
 pub mod Steps
 pub mod Weight
 pub mod Endings
@@ -9,7 +9,7 @@ pub mod Verdicts
 pub mod Keeping
 pub mod Widening
 pub mod FollowingLaws
-pub mod StandingLaws
+pub mod RepresentationLaws
 pub mod Judging
 pub mod Lengths
 pub mod Unfinished
@@ -24,7 +24,7 @@ pub mod ScopeLaws
 pub mod LastTokens
 pub mod Bottoms
 pub mod Reach
-pub mod Places
+pub mod Indices
 pub mod NamedFunctions
 pub mod FileLaws
 pub mod Joins

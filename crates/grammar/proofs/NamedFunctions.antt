@@ -3,10 +3,10 @@ use Rattle.std.proofs.Common.{◌≡◌, ℕ, zero, suc, ◌<◌, List, [], ◌�
 use Rattle.std.specs.Prelude.{Option, Some, None, if◌then◌else◌, unwrap_or, slice_get, set}
 use Rattle.tokens.specs.declared.located_tokens.LocatedToken.{LocatedToken}
 use Rattle.grammar.specs.Compiled.{order_of}
-use Rattle.grammar.specs.Derivation.{State, state, initial_state, Value, Definition, definition_of, last_body, next_token, token_after_next, line_at, name_of_token, constant_value, is_end, matched, name_matched, constant_matched, replaced, stack_step, step, stepped, derived}
+use Rattle.grammar.specs.Derivation.{State, state, initial_state, PartialTree, Definition, definition_of, last_body, next_token, token_after_next, line_at, name_of_token, constant_value, is_end, matched, name_matched, constant_matched, replaced, stack_step, step, stepped, derived}
 use Rattle.grammar.specs.Faults.{faults_at, faults_in}
-use Rattle.grammar.specs.Grammar.{Item, Exactly, AKeyword, AName, AConstant, AnEnd, Part, Make, Close, Define, Role, Defined, External, Parameter, Typed, Local, Called, Mentioned, Production, choice, is_fault, is_punctuator, is_keyword}
-use Rattle.grammar.specs.Laws.Parsing.{Passes}
+use Rattle.grammar.specs.Grammar.{Item, Exactly, AKeyword, AName, AConstant, AnEnd, Part, Make, Close, Define, Role, Defined, External, Parameter, Typed, Local, Called, Mentioned, Production, choice, is_lexical_error, is_punctuator, is_keyword}
+use Rattle.grammar.specs.Laws.Parsing.{DerivesWithoutFault}
 use Rattle.grammar.specs.Pools.{FunctionNames, names_of_function}
 use Rattle.grammar.specs.Profile.{Profile}
 use Rattle.grammar.specs.Resolved.{IsAmong, AreDistinct}
@@ -14,11 +14,11 @@ use Rattle.grammar.specs.Scope.{Scope, scope_after_name, end_definition, is_func
 use Rattle.grammar.proofs.Phases.{phase_of}
 use Rattle.grammar.proofs.ResolvedLaws.{Sound, Busy, among_last, ended, stepped_sound, run_sound, start_sound}
 use Rattle.grammar.proofs.Runs.{append_empty}
-use Rattle.grammar.proofs.Places.{get_append, get_set_same, get_set_other}
+use Rattle.grammar.proofs.Indices.{get_append, get_set_same, get_set_other}
 
 -- a derivation that comes from the start without a fault is sound
 pub sound_of_passes : (profile : Profile) (located_tokens : List LocatedToken) (s : State) →
-    Passes profile (initial_state located_tokens) s → Sound s
+    DerivesWithoutFault profile (initial_state located_tokens) s → Sound s
 sound_of_passes profile located_tokens s p =
     subst (λ (t : State). Sound t) p.leads
     (run_sound profile p.steps (initial_state located_tokens) p.clean (start_sound located_tokens))
@@ -81,7 +81,7 @@ named_append : (functions : List FunctionNames) (ds : List Definition) (d : Defi
 named_append functions [] d h e = (e, tt)
 named_append functions (x ∷ ds) d h e = (h.0, named_append functions ds d h.1 e)
 
-define_named : (stack : List Item) (rest : List LocatedToken) (values : List Value) (scope : Scope)
+define_named : (stack : List Item) (rest : List LocatedToken) (values : List PartialTree) (scope : Scope)
     (ds : List Definition) → Sound (state (Make Define ∷ stack) rest values scope ds) →
     AreNamed scope.functions ds →
     AreNamed (end_definition scope).functions (ds ++ definition_of scope (last_body values) ∷ [])
@@ -102,25 +102,25 @@ abbrev IfNamed : Option State → Type 0
 IfNamed None = Unit {0}
 IfNamed (Some s) = AreNamed s.scope.functions s.functions
 
-matched_named : (fits : Bool) (stack : List Item) (rest : List LocatedToken) (values : List Value) (scope : Scope)
+matched_named : (fits : Bool) (stack : List Item) (rest : List LocatedToken) (values : List PartialTree) (scope : Scope)
     (ds : List Definition) → AreNamed scope.functions ds →
     IfNamed (matched fits (state stack rest values scope ds))
 matched_named true stack rest values scope ds h = h
 matched_named false stack rest values scope ds h = tt
 
-name_named : (role : Role) (name : Option (List ℕ)) (stack : List Item) (rest : List LocatedToken) (values : List Value)
+name_named : (role : Role) (name : Option (List ℕ)) (stack : List Item) (rest : List LocatedToken) (values : List PartialTree)
     (scope : Scope) (ds : List Definition) → AreNamed scope.functions ds →
     IfNamed (name_matched role name (state stack rest values scope ds))
 name_named role None stack rest values scope ds h = tt
 name_named role (Some name) stack rest values scope ds h = role_named role name (line_at rest) scope ds h
 
-constant_named : (value : Option ℕ) (stack : List Item) (rest : List LocatedToken) (values : List Value) (scope : Scope)
+constant_named : (value : Option ℕ) (stack : List Item) (rest : List LocatedToken) (values : List PartialTree) (scope : Scope)
     (ds : List Definition) → AreNamed scope.functions ds →
     IfNamed (constant_matched value (state stack rest values scope ds))
 constant_named None stack rest values scope ds h = tt
 constant_named (Some value) stack rest values scope ds h = h
 
-part_named : (production : Production) (stack : List Item) (rest : List LocatedToken) (values : List Value)
+part_named : (production : Production) (stack : List Item) (rest : List LocatedToken) (values : List PartialTree)
     (scope : Scope) (ds : List Definition) → AreNamed scope.functions ds →
     IfNamed (replaced production (state stack rest values scope ds))
 part_named None stack rest values scope ds h = tt
@@ -130,7 +130,7 @@ same_named : (functions : List FunctionNames) (ds : List Definition) → AreName
     AreNamed functions (ds ++ [])
 same_named functions ds h = subst (λ (xs : List Definition). AreNamed functions xs) (sym (append-nil ds)) h
 
-step_named : (stack : List Item) (rest : List LocatedToken) (values : List Value) (scope : Scope) (ds : List Definition)
+step_named : (stack : List Item) (rest : List LocatedToken) (values : List PartialTree) (scope : Scope) (ds : List Definition)
     → Sound (state stack rest values scope ds) →
     AreNamed scope.functions ds → IfNamed (stack_step stack (state stack rest values scope ds))
 step_named [] rest values scope ds s h = tt
@@ -164,7 +164,7 @@ kept_named s (Some t) h k = k
 stepped_named : (s : State) → Sound s → AreNamed s.scope.functions s.functions →
     AreNamed (stepped s).scope.functions (stepped s).functions
 stepped_named s sound h = kept_named s (step s) h
-    (guarded_named (is_fault (next_token s.rest)) (stack_step s.stack s)
+    (guarded_named (is_lexical_error (next_token s.rest)) (stack_step s.stack s)
     (step_named s.stack s.rest s.values s.scope s.functions (record { known = sound.known; tied = sound.tied }) h))
 
 run_named : (profile : Profile) (n : ℕ) (s : State) → faults_in profile n s ≡ [] → Sound s →
@@ -178,7 +178,7 @@ run_named profile (suc n) s clean sound h =
 
 -- so it is wherever a derivation leads without a fault
 pub named_of_passes : (profile : Profile) (located_tokens : List LocatedToken) (s : State) →
-    Passes profile (initial_state located_tokens) s → AreNamed s.scope.functions s.functions
+    DerivesWithoutFault profile (initial_state located_tokens) s → AreNamed s.scope.functions s.functions
 named_of_passes profile located_tokens s p =
     subst (λ (t : State). AreNamed t.scope.functions t.functions) p.leads
     (run_named profile p.steps (initial_state located_tokens) p.clean (start_sound located_tokens) tt)

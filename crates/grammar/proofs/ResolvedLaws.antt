@@ -6,33 +6,33 @@ use Rattle.std.specs.Prelude.{Option, Some, None, Result, Ok, Err, if◌then◌e
 use Rattle.tokens.specs.declared.located_tokens.LocatedToken.{LocatedToken}
 use Rattle.grammar.specs.declared.diagnostics.Diagnostic.{Diagnostic}
 use Rattle.grammar.specs.Compiled.{order_of, defined_as, in_front, all_defined, file_of, resolved, verdict, main_name, all_faults, last_state, enough_steps, last_line}
-use Rattle.grammar.specs.Derivation.{State, state, initial_state, Value, Definition, definition_of, last_body, trees_after, name_tree, next_token, token_after_next, line_at, name_of_token, constant_value, matched, name_matched, constant_matched, replaced, stack_step, step, stepped, derived}
-use Rattle.grammar.specs.Faults.{Fault, faults_at, faults_in, stack_faults, name_faults, role_faults, misfit, misfits}
-use Rattle.grammar.specs.Grammar.{Item, Exactly, AKeyword, AName, AConstant, AnEnd, Part, Make, Close, Symbol, SemanticAction, Operate, Negate, Not, Complement, Fetch, Store, PrefixIncrement, PostfixIncrement, Pass, Invoke, Empty, Evaluate, Decide, DecideElse, Repeat, Zero, GiveBack, Define, Role, Defined, External, Parameter, Typed, Local, Called, Mentioned, Production, choice, is_fault}
+use Rattle.grammar.specs.Derivation.{State, state, initial_state, PartialTree, Definition, definition_of, last_body, trees_after, name_tree, next_token, token_after_next, line_at, name_of_token, constant_value, matched, name_matched, constant_matched, replaced, stack_step, step, stepped, derived}
+use Rattle.grammar.specs.Faults.{Fault, faults_at, faults_in, stack_faults, name_faults, role_faults, unexpected_token, unexpected_tokens}
+use Rattle.grammar.specs.Grammar.{Item, Exactly, AKeyword, AName, AConstant, AnEnd, Part, Make, Close, Symbol, SemanticAction, Operate, Negate, Not, Complement, Fetch, Store, PrefixIncrement, PostfixIncrement, AddArgument, Invoke, Empty, Evaluate, Decide, DecideElse, Repeat, Zero, GiveBack, Define, Role, Defined, External, Parameter, Typed, Local, Called, Mentioned, Production, choice, is_lexical_error}
 use Rattle.grammar.specs.Laws.{CompiledIsResolved}
 use Rattle.grammar.specs.Profile.{Profile}
 use Rattle.grammar.specs.Pools.{FunctionNames}
-use Rattle.grammar.specs.Resolved.{InFile, IsAmong, AreDistinct, IsResolved}
+use Rattle.grammar.specs.Resolved.{FitsFile, IsAmong, AreDistinct, IsResolved}
 use Rattle.grammar.specs.Scope.{Scope, scope_after_name, end_definition, function_number, number_or_next}
 use Rattle.grammar.specs.Tree.{Function, File}
 use Rattle.grammar.proofs.Phases.{Phase, Outside, Before, Inside, Wrong, Stays, inside, outside_then, begun, by_role, phase_of, part_stays}
 use Rattle.grammar.proofs.DistinctNames.{distinct_front, HaveNames, names, names_append, names_kept}
-use Rattle.grammar.proofs.Places.{map_of_places}
+use Rattle.grammar.proofs.Indices.{map_of_places}
 use Rattle.grammar.proofs.Runs.{append_empty}
 use Rattle.grammar.proofs.Soundness.{ValuesIn, values_wider, made_in, last_body_in, Known, Grows, Clean, AllIn, all_append, BeginsWell, definition_begins, role_grows, callee_in, variable_in, function_below}
 
 -- The names and trees, by the phase.
 
-pub record Quiet (values : List Value) (scope : Scope) (ds : List Definition) : Type 0 where
+pub record Quiet (values : List PartialTree) (scope : Scope) (ds : List Definition) : Type 0 where
   pub none : values ≡ []
   pub begun : scope.begun ≡ order_of ds
 
-pub record Busy (values : List Value) (scope : Scope) (ds : List Definition) : Type 0 where
+pub record Busy (values : List PartialTree) (scope : Scope) (ds : List Definition) : Type 0 where
   pub within : ValuesIn (length scope.externals) (length scope.current.variables) (length scope.functions) values
   pub begun : scope.begun ≡ order_of ds ++ scope.number ∷ []
   pub named : slice_get (names scope.functions) scope.number ≡ Some scope.current.name
 
-abbrev pub Tied : Phase → List Value → Scope → List Definition → Type 0
+abbrev pub Tied : Phase → List PartialTree → Scope → List Definition → Type 0
 Tied Outside values scope ds = Quiet values scope ds
 Tied Before values scope ds = Quiet values scope ds
 Tied Inside values scope ds = Busy values scope ds
@@ -42,7 +42,7 @@ pub record Sound (s : State) : Type 0 where
   pub known : Known s.scope s.functions
   pub tied : Tied (phase_of s.stack) s.values s.scope s.functions
 
-tied_stays : (before after : Phase) (values : List Value) (scope : Scope) (ds : List Definition) → Stays before after →
+tied_stays : (before after : Phase) (values : List PartialTree) (scope : Scope) (ds : List Definition) → Stays before after →
     Tied before values scope ds → Tied after values scope ds
 tied_stays Outside Outside values scope ds e t = t
 tied_stays Outside Before values scope ds e t = t
@@ -58,11 +58,11 @@ tied_stays Inside Inside values scope ds e t = t
 tied_stays Inside Wrong values scope ds e t = absurd (cc)
 tied_stays Wrong after values scope ds e t = absurd t
 
-quiet_grows : (values : List Value) (old new : Scope) (ds : List Definition) → Grows old new ds → Quiet values old ds →
+quiet_grows : (values : List PartialTree) (old new : Scope) (ds : List Definition) → Grows old new ds → Quiet values old ds →
     Quiet values new ds
 quiet_grows values old new ds g q = record { none = q.none; begun = g.begun ∙ q.begun }
 
-busy_grows : (values : List Value) (old new : Scope) (ds : List Definition) → Grows old new ds → Busy values old ds →
+busy_grows : (values : List PartialTree) (old new : Scope) (ds : List Definition) → Grows old new ds → Busy values old ds →
     Busy values new ds
 busy_grows values old new ds g b = record {
   within = values_wider _ _ _ _ _ _ g.wider values b.within;
@@ -70,7 +70,7 @@ busy_grows values old new ds g b = record {
   named = rw (g.number, g.current) (g.same old.number old.current.name b.named);
 }
 
-tied_grows : (phase : Phase) (values : List Value) (old new : Scope) (ds : List Definition) → Grows old new ds →
+tied_grows : (phase : Phase) (values : List PartialTree) (old new : Scope) (ds : List Definition) → Grows old new ds →
     Tied phase values old ds → Tied phase values new ds
 tied_grows Outside values old new ds g t = quiet_grows values old new ds g t
 tied_grows Before values old new ds g t = quiet_grows values old new ds g t
@@ -78,7 +78,7 @@ tied_grows Inside values old new ds g t = busy_grows values old new ds g t
 tied_grows Wrong values old new ds g t = absurd t
 
 -- inside of a function the trees may change
-tied_inside : (phase : Phase) (values more : List Value) (old new : Scope) (ds : List Definition) →
+tied_inside : (phase : Phase) (values more : List PartialTree) (old new : Scope) (ds : List Definition) →
     (Busy values old ds → Busy more new ds) → Tied (inside phase) values old ds → Tied phase more new ds
 tied_inside Inside values more old new ds change t = change t
 tied_inside Outside values more old new ds change t = absurd t
@@ -86,7 +86,7 @@ tied_inside Before values more old new ds change t = absurd t
 tied_inside Wrong values more old new ds change t = absurd t
 
 -- a definition begins
-tied_begun : (phase : Phase) (values : List Value) (old new : Scope) (ds : List Definition) →
+tied_begun : (phase : Phase) (values : List PartialTree) (old new : Scope) (ds : List Definition) →
     (Quiet values old ds → Busy values new ds) → Tied (begun phase) values old ds → Tied phase values new ds
 tied_begun Inside values old new ds change t = change t
 tied_begun Outside values old new ds change t = absurd t
@@ -94,7 +94,7 @@ tied_begun Before values old new ds change t = absurd t
 tied_begun Wrong values old new ds change t = absurd t
 
 -- it ends
-tied_ended : (phase : Phase) (values : List Value) (old new : Scope) (ds more : List Definition) →
+tied_ended : (phase : Phase) (values : List PartialTree) (old new : Scope) (ds more : List Definition) →
     (Busy values old ds → Quiet [] new more) → Tied (outside_then Inside phase) values old ds → Tied phase [] new more
 tied_ended Outside values old new ds more change t = change t
 tied_ended Inside values old new ds more change t = absurd t
@@ -104,7 +104,7 @@ tied_ended Wrong values old new ds more change t = absurd t
 -- Steps.
 
 name_sound : (role : Role) (name : List ℕ) (stack : List Item) (rest : List LocatedToken) (line : ℕ)
-    (left : List LocatedToken) (values : List Value) (scope : Scope) (ds : List Definition) →
+    (left : List LocatedToken) (values : List PartialTree) (scope : Scope) (ds : List Definition) →
     Known scope ds → Clean (role_faults role name scope rest) → Tied (by_role role (phase_of stack)) values scope ds →
     Sound (state stack left (name_tree role name scope ++ values) (scope_after_name role name line scope) ds)
 name_sound Defined name stack rest line left values scope ds k clean t =
@@ -166,7 +166,7 @@ among_last n [] = inl refl
 among_last n (x ∷ ns) = inr (among_last n ns)
 
 -- at a function's end
-define_known : (values : List Value) (scope : Scope) (ds : List Definition) → Known scope ds → Busy values scope ds →
+define_known : (values : List PartialTree) (scope : Scope) (ds : List Definition) → Known scope ds → Busy values scope ds →
     Known (end_definition scope) (ds ++ definition_of scope (last_body values) ∷ [])
 define_known values scope ds k b =
     let same : length (end_definition scope).functions ≡ length scope.functions =
@@ -201,14 +201,14 @@ define_known values scope ds k b =
     }
 
 -- a function that ends had begun
-pub ended : (phase : Phase) (values : List Value) (scope : Scope) (ds : List Definition) →
+pub ended : (phase : Phase) (values : List PartialTree) (scope : Scope) (ds : List Definition) →
     Tied (outside_then Inside phase) values scope ds → Busy values scope ds
 ended Outside values scope ds t = t
 ended Inside values scope ds t = absurd t
 ended Before values scope ds t = absurd t
 ended Wrong values scope ds t = absurd t
 
-define_sound : (stack : List Item) (rest : List LocatedToken) (values : List Value) (scope : Scope)
+define_sound : (stack : List Item) (rest : List LocatedToken) (values : List PartialTree) (scope : Scope)
     (ds : List Definition) →
     Known scope ds → Tied (outside_then Inside (phase_of stack)) values scope ds →
     Sound (state stack rest [] (end_definition scope) (ds ++ definition_of scope (last_body values) ∷ []))
@@ -218,7 +218,7 @@ define_sound stack rest values scope ds k t = record {
       (λ b. record { none = refl; begun = b.begun ∙ sym (order-append ds (definition_of scope (last_body values))) }) t;
 }
 
-make_sound : (rule : SemanticAction) (stack : List Item) (rest : List LocatedToken) (values : List Value)
+make_sound : (rule : SemanticAction) (stack : List Item) (rest : List LocatedToken) (values : List PartialTree)
     (scope : Scope) (ds : List Definition) →
     Known scope ds → Tied (inside (phase_of stack)) values scope ds →
     Sound (state stack rest (trees_after rule values) scope (ds ++ []))
@@ -234,13 +234,13 @@ abbrev IfSound : Option State → Type 0
 IfSound None = Unit {0}
 IfSound (Some s) = Sound s
 
-matched_sound : (fits : Bool) (stack : List Item) (rest : List LocatedToken) (values : List Value) (scope : Scope)
+matched_sound : (fits : Bool) (stack : List Item) (rest : List LocatedToken) (values : List PartialTree) (scope : Scope)
     (ds : List Definition) →
     Sound (state stack rest values scope ds) → IfSound (matched fits (state stack rest values scope ds))
 matched_sound true stack rest values scope ds s = record { known = s.known; tied = s.tied }
 matched_sound false stack rest values scope ds s = tt
 
-constant_sound : (value : Option ℕ) (stack : List Item) (rest : List LocatedToken) (values : List Value) (scope : Scope)
+constant_sound : (value : Option ℕ) (stack : List Item) (rest : List LocatedToken) (values : List PartialTree) (scope : Scope)
     (ds : List Definition) →
     Known scope ds → Tied (inside (phase_of stack)) values scope ds →
     IfSound (constant_matched value (state stack rest values scope ds))
@@ -252,7 +252,7 @@ constant_sound (Some value) stack rest values scope ds k t = record {
 }
 
 named_sound : (role : Role) (name : Option (List ℕ)) (stack : List Item) (rest : List LocatedToken)
-    (values : List Value) (scope : Scope) (ds : List Definition) →
+    (values : List PartialTree) (scope : Scope) (ds : List Definition) →
     Clean (name_faults role name scope rest) → Known scope ds → Tied (by_role role (phase_of stack)) values scope ds →
     IfSound (name_matched role name (state stack rest values scope ds))
 named_sound role None stack rest values scope ds clean k t = tt
@@ -260,7 +260,7 @@ named_sound role (Some name) stack rest values scope ds clean k t =
     name_sound role name stack rest (line_at rest) (drop 1 rest) values scope ds k clean t
 
 part_sound : (symbol : Symbol) (production : Production) (stack : List Item) (rest : List LocatedToken)
-    (values : List Value) (scope : Scope) (ds : List Definition) →
+    (values : List PartialTree) (scope : Scope) (ds : List Definition) →
     choice symbol (next_token rest) (token_after_next rest) ≡ production →
     Sound (state (Part symbol ∷ stack) rest values scope ds) →
     IfSound (replaced production (state stack rest values scope ds))
@@ -271,7 +271,7 @@ part_sound symbol (Some items) stack rest values scope ds e s = record {
       (part_stays symbol (next_token rest) (token_after_next rest) items stack e) s.tied;
 }
 
-sound_of : (profile : Profile) (stack : List Item) (rest : List LocatedToken) (values : List Value) (scope : Scope)
+sound_of : (profile : Profile) (stack : List Item) (rest : List LocatedToken) (values : List PartialTree) (scope : Scope)
     (ds : List Definition) →
     Clean (stack_faults profile stack (state stack rest values scope ds)) → Sound (state stack rest values scope ds) →
     IfSound (stack_step stack (state stack rest values scope ds))
@@ -306,8 +306,8 @@ sound_of profile (Make (PrefixIncrement o) ∷ stack) rest values scope ds clean
     make_sound (PrefixIncrement o) stack rest values scope ds s.known s.tied
 sound_of profile (Make (PostfixIncrement o) ∷ stack) rest values scope ds clean s =
     make_sound (PostfixIncrement o) stack rest values scope ds s.known s.tied
-sound_of profile (Make Pass ∷ stack) rest values scope ds clean s =
-    make_sound Pass stack rest values scope ds s.known s.tied
+sound_of profile (Make AddArgument ∷ stack) rest values scope ds clean s =
+    make_sound AddArgument stack rest values scope ds s.known s.tied
 sound_of profile (Make Invoke ∷ stack) rest values scope ds clean s =
     make_sound Invoke stack rest values scope ds s.known s.tied
 sound_of profile (Make Empty ∷ stack) rest values scope ds clean s =
@@ -327,7 +327,7 @@ sound_of profile (Make GiveBack ∷ stack) rest values scope ds clean s =
 sound_of profile (Close ∷ stack) rest values scope ds clean s = record { known = s.known; tied = s.tied }
 
 guarded_sound : (b : Bool) (rest : List LocatedToken) (xs ys : List Fault) (o : Option State) →
-    (if b then misfit rest else xs ++ ys) ≡ [] → (xs ≡ [] → IfSound o) → IfSound (if b then None else o)
+    (if b then unexpected_token rest else xs ++ ys) ≡ [] → (xs ≡ [] → IfSound o) → IfSound (if b then None else o)
 guarded_sound true rest xs ys o e h = tt
 guarded_sound false rest xs ys o e h = h (append_empty xs ys e).0
 
@@ -337,9 +337,9 @@ kept_sound s (Some t) h k = k
 
 pub stepped_sound : (profile : Profile) (s : State) → faults_at profile s ≡ [] → Sound s → Sound (stepped s)
 stepped_sound profile s clean h = kept_sound s (step s) h
-    (guarded_sound (is_fault (next_token s.rest)) s.rest
+    (guarded_sound (is_lexical_error (next_token s.rest)) s.rest
     (stack_faults profile s.stack s)
-    (misfits s.stack s.rest (stack_step s.stack s))
+    (unexpected_tokens s.stack s.rest (stack_step s.stack s))
     (stack_step s.stack s) clean
     (λ c. sound_of profile s.stack s.rest s.values s.scope s.functions c (record { known = h.known; tied = h.tied })))
 
@@ -370,13 +370,13 @@ start_sound located_tokens = record {
 
 -- The file of the last state.
 
-defined_in : (e n k : ℕ) (f : Function) (ds : List Definition) → AllIn e n ds → defined_as k ds ≡ Some f → InFile e n f
+defined_in : (e n k : ℕ) (f : Function) (ds : List Definition) → AllIn e n ds → defined_as k ds ≡ Some f → FitsFile e n f
 defined_in e n k f [] h is = absurd (cc)
 defined_in e n k f (d ∷ ds) h is = at_test (λ g. defined_in e n k f ds h.2 g) (d.number == k) is
   where
-    at_test : (defined_as k ds ≡ Some f → InFile e n f) → (b : Bool) →
-        (if b then Some d.function else defined_as k ds) ≡ Some f → InFile e n f
-    at_test again true g = let same : d.function ≡ f = cc in subst (λ (x : Function). InFile e n x) same h.1
+    at_test : (defined_as k ds ≡ Some f → FitsFile e n f) → (b : Bool) →
+        (if b then Some d.function else defined_as k ds) ≡ Some f → FitsFile e n f
+    at_test again true g = let same : d.function ≡ f = cc in subst (λ (x : Function). FitsFile e n x) same h.1
     at_test again false g = again g
 
 defined_among : (k : ℕ) (f : Function) (ds : List Definition) → defined_as k ds ≡ Some f → IsAmong k (order_of ds)
@@ -481,7 +481,7 @@ is_made last scope order (Ok fs) (Some place) file e =
     ok_same : (x y : File) → ok_at x ≡ ok_at y → x ≡ y
     ok_same x y h = cc
 
-pub distinct_of : (phase : Phase) (values : List Value) (scope : Scope) (ds : List Definition) →
+pub distinct_of : (phase : Phase) (values : List PartialTree) (scope : Scope) (ds : List Definition) →
     AreDistinct scope.begun → Tied phase values scope ds → AreDistinct (order_of ds)
 distinct_of Outside values scope ds h t = subst (λ (ns : List ℕ). AreDistinct ns) t.begun h
 distinct_of Before values scope ds h t = subst (λ (ns : List ℕ). AreDistinct ns) t.begun h
@@ -533,7 +533,7 @@ resolved_of s all place h found named =
       distinct_functions = rw (defined_names s.scope.functions s.scope.lines s.functions all a h.known.named count)
           h.known.distinct_functions;
       each =
-          λ k f e. subst (λ (n : ℕ). InFile (length s.scope.externals) n f) (sym count)
+          λ k f e. subst (λ (n : ℕ). FitsFile (length s.scope.externals) n f) (sym count)
           (defined_in _ _ (0 + k) f s.functions h.known.definitions (a.each k f e));
       defined =
           λ k less. subst (λ (n : ℕ). IsAmong n (order_of s.functions)) (from_zero k)

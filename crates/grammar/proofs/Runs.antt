@@ -3,7 +3,7 @@ use Rattle.std.proofs.Common.{◌≡◌, ℕ, zero, suc, ◌+◌, List, [], ◌�
 use Rattle.grammar.specs.declared.diagnostics.Diagnostic.{Diagnostic}
 use Rattle.grammar.specs.Derivation.{State, stepped, derived}
 use Rattle.grammar.specs.Faults.{Fault, faults_at, faults_in}
-use Rattle.grammar.specs.Laws.Parsing.{IsIn, IsFault, IsFirstFault, Fails, Passes}
+use Rattle.grammar.specs.Laws.Parsing.{IsIn, IsFault, IsFirstFault, Fails, DerivesWithoutFault}
 use Rattle.grammar.specs.Profile.{Profile}
 
 pub derived-add : (m n : ℕ) (s : State) → derived (m + n) s ≡ derived n (derived m s)
@@ -26,13 +26,13 @@ faults_in-add profile (suc m) n s =
     (append_assoc (faults_at profile s) (faults_in profile m (stepped s))
     (faults_in profile n (derived m (stepped s))))
 
-pub here : (profile : Profile) (s : State) → Passes profile s s
+pub here : (profile : Profile) (s : State) → DerivesWithoutFault profile s s
 here profile s = record { steps = 0; leads = refl; clean = refl }
 
 both_empty : (xs ys : List Fault) → xs ≡ [] → ys ≡ [] → xs ++ ys ≡ []
 both_empty xs ys p q = rw (p, q) refl
 
-pub then : (profile : Profile) (s t u : State) → Passes profile s t → Passes profile t u → Passes profile s u
+pub then : (profile : Profile) (s t u : State) → DerivesWithoutFault profile s t → DerivesWithoutFault profile t u → DerivesWithoutFault profile s u
 then profile s t u a b = record {
   steps = a.steps + b.steps;
   leads = derived-add a.steps b.steps s ∙ ap (λ v. derived b.steps v) a.leads ∙ b.leads;
@@ -72,7 +72,7 @@ sooner profile m s f h = record {
 }
 
 -- a first fault goes back along a segment without faults
-pub first_back : (profile : Profile) (s t : State) (f : Fault) → Passes profile s t → IsFirstFault profile t f →
+pub first_back : (profile : Profile) (s t : State) (f : Fault) → DerivesWithoutFault profile s t → IsFirstFault profile t f →
     IsFirstFault profile s f
 first_back profile s t f p h = record {
   comes = sooner profile p.steps s f (subst (λ (v : State). IsFault profile v f) (sym p.leads) h.comes);
@@ -81,7 +81,7 @@ first_back profile s t f p h = record {
       (subst (λ (v : State). IsFault profile v g) p.leads (later profile p.steps s g p.clean is.steps is.here));
 }
 
-pub back : (profile : Profile) (s t : State) (d : Diagnostic) → Passes profile s t → Fails profile t d →
+pub back : (profile : Profile) (s t : State) (d : Diagnostic) → DerivesWithoutFault profile s t → Fails profile t d →
     Fails profile s d
 back profile s t d p h =
     record { fault = h.fault; first = first_back profile s t h.fault p h.first; line = h.line; code = h.code }

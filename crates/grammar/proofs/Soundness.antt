@@ -10,17 +10,17 @@ use Rattle.grammar.specs.declared.diagnostics.Code.{Code}
 use Rattle.grammar.specs.declared.diagnostics.Code.TheVariants as code
 use Rattle.grammar.specs.declared.resolved_names.Callee.{Callee}
 use Rattle.grammar.specs.declared.resolved_names.Intrinsic.{Intrinsic}
-use Rattle.grammar.specs.Derivation.{Value, AnExpr, AVariable, ACall, ABody, Definition, last_body, trees_after}
+use Rattle.grammar.specs.Derivation.{PartialTree, AnExpr, AVariable, ACall, ABody, Definition, last_body, trees_after}
 use Rattle.grammar.specs.Faults.{Fault, fault, no_room, role_faults}
-use Rattle.grammar.specs.Grammar.{SemanticAction, Operate, Negate, Not, Complement, Fetch, Store, PrefixIncrement, PostfixIncrement, Pass, Invoke, Empty, Evaluate, Decide, DecideElse, Repeat, Zero, GiveBack, Define, Role, Defined, External, Parameter, Typed, Local, Called, Mentioned}
+use Rattle.grammar.specs.Grammar.{SemanticAction, Operate, Negate, Not, Complement, Fetch, Store, PrefixIncrement, PostfixIncrement, AddArgument, Invoke, Empty, Evaluate, Decide, DecideElse, Repeat, Zero, GiveBack, Define, Role, Defined, External, Parameter, Typed, Local, Called, Mentioned}
 use Rattle.grammar.specs.Intrinsics.{intrinsic_named, is_intrinsic}
 use Rattle.grammar.specs.Pools.{FunctionNames}
-use Rattle.grammar.specs.Resolved.{IsVariable, IsCallable, InExpr, InArgs, InBody, InFile, IsAmong, AreDistinct}
+use Rattle.grammar.specs.Resolved.{IsVariable, IsCallable, InExpr, InArgs, InBody, FitsFile, IsAmong, AreDistinct}
 use Rattle.grammar.specs.Scope.{Scope, number_of_name, function_number, variable_of, callee_or, callee_of, is_variable_new, is_local_new, is_external_new, is_function_new, number_or_next, has_begun, with_variable, with_parameter, with_external, with_function, scope_after_name, begun_with, begin_definition, only_named}
 use Rattle.grammar.specs.Tree as tree
 use Rattle.grammar.specs.Tree.{Expr, Args, Body, add_argument, join}
 use Rattle.grammar.proofs.DistinctNames.{among_append, distinct_append, less_of, local_free, external_free, variable_free, function_free, names, names_more, named_there, HaveNames, names_wider}
-use Rattle.grammar.proofs.Places.{get_append}
+use Rattle.grammar.proofs.Indices.{get_append}
 use Rattle.grammar.proofs.Widening.{IsWider, expr_wider, args_wider, body_wider, variable_wider, callable_wider, function_wider}
 
 -- Trees among this many names.
@@ -29,17 +29,17 @@ pub record IsCallIn (e l n : ℕ) (f : Callee) (args : Args) : Type 0 where
   pub callable : IsCallable n f
   pub arguments : InArgs e l n args
 
-abbrev pub InValue : ℕ → ℕ → ℕ → Value → Type 0
+abbrev pub InValue : ℕ → ℕ → ℕ → PartialTree → Type 0
 InValue e l n (AnExpr x) = InExpr e l n x
 InValue e l n (AVariable v) = IsVariable e l v
 InValue e l n (ACall f args) = IsCallIn e l n f args
 InValue e l n (ABody b) = InBody e l n b
 
-abbrev pub ValuesIn : ℕ → ℕ → ℕ → List Value → Type 0
+abbrev pub ValuesIn : ℕ → ℕ → ℕ → List PartialTree → Type 0
 ValuesIn e l n [] = Unit {0}
 ValuesIn e l n (v ∷ values) = InValue e l n v × ValuesIn e l n values
 
-value_wider : (e l n e' l' n' : ℕ) → IsWider e l n e' l' n' → (v : Value) → InValue e l n v → InValue e' l' n' v
+value_wider : (e l n e' l' n' : ℕ) → IsWider e l n e' l' n' → (v : PartialTree) → InValue e l n v → InValue e' l' n' v
 value_wider e l n e' l' n' w (AnExpr x) h = expr_wider e l n e' l' n' w x h
 value_wider e l n e' l' n' w (AVariable v) h = variable_wider e l n e' l' n' w v h
 value_wider e l n e' l' n' w (ACall f args) h =
@@ -49,7 +49,7 @@ value_wider e l n e' l' n' w (ACall f args) h =
     }
 value_wider e l n e' l' n' w (ABody b) h = body_wider e l n e' l' n' w b h
 
-pub values_wider : (e l n e' l' n' : ℕ) → IsWider e l n e' l' n' → (values : List Value) → ValuesIn e l n values →
+pub values_wider : (e l n e' l' n' : ℕ) → IsWider e l n e' l' n' → (values : List PartialTree) → ValuesIn e l n values →
     ValuesIn e' l' n' values
 values_wider e l n e' l' n' w [] h = tt
 values_wider e l n e' l' n' w (v ∷ values) h =
@@ -68,12 +68,12 @@ join_in e l n (tree.IfElseStatement a s t rest) c h k = (h.0, h.1, h.2, join_in 
 join_in e l n (tree.While a s rest) c h k = (h.0, h.1, join_in e l n rest c h.2 k)
 join_in e l n (tree.Return a rest) c h k = (h.0, join_in e l n rest c h.1 k)
 
-pub last_body_in : (e l n : ℕ) (values : List Value) → ValuesIn e l n values → InBody e l n (last_body values)
+pub last_body_in : (e l n : ℕ) (values : List PartialTree) → ValuesIn e l n values → InBody e l n (last_body values)
 last_body_in e l n (ABody b ∷ values) h = h.0
 last_body_in e l n values h = tt
 
 -- what a semantic action makes is among the same names
-pub made_in : (e l n : ℕ) (rule : SemanticAction) (values : List Value) → ValuesIn e l n values →
+pub made_in : (e l n : ℕ) (rule : SemanticAction) (values : List PartialTree) → ValuesIn e l n values →
     ValuesIn e l n (trees_after rule values)
 made_in e l n (Operate o) (AnExpr b ∷ AnExpr a ∷ values) h = ((h.1.0, h.0), h.1.1)
 made_in e l n Negate (AnExpr x ∷ values) h = ((tt, h.0), h.1)
@@ -83,7 +83,7 @@ made_in e l n Fetch (AVariable v ∷ values) h = h
 made_in e l n (Store o) (AnExpr x ∷ AVariable v ∷ values) h = ((h.1.0, h.0), h.1.1)
 made_in e l n (PrefixIncrement o) (AVariable v ∷ values) h = ((h.0, tt), h.1)
 made_in e l n (PostfixIncrement o) (AVariable v ∷ values) h = h
-made_in e l n Pass (AnExpr x ∷ ACall f args ∷ values) h =
+made_in e l n AddArgument (AnExpr x ∷ ACall f args ∷ values) h =
     (record { callable = h.1.0.callable; arguments = argument_in e l n args x h.1.0.arguments h.0 }, h.1.1)
 made_in e l n Invoke (ACall f args ∷ values) h = ((h.0.callable, h.0.arguments), h.1)
 made_in e l n Empty values h = (tt, h)
@@ -101,7 +101,7 @@ made_in e l n rule values h = h
 
 abbrev pub AllIn : ℕ → ℕ → List Definition → Type 0
 AllIn e n [] = Unit {0}
-AllIn e n (d ∷ ds) = (d.number < n) × InFile e n d.function × AllIn e n ds
+AllIn e n (d ∷ ds) = (d.number < n) × FitsFile e n d.function × AllIn e n ds
 
 all_wider : (e n e' n' : ℕ) → e ≤ e' → n ≤ n' → (ds : List Definition) → AllIn e n ds → AllIn e' n' ds
 all_wider e n e' n' p q [] h = tt
@@ -109,7 +109,7 @@ all_wider e n e' n' p q (d ∷ ds) h =
     (omega (arith, h.0), function_wider e n e' n' p q d.function h.1, all_wider e n e' n' p q ds h.2)
 
 pub all_append : (e n : ℕ) (ds : List Definition) (d : Definition) → AllIn e n ds → d.number < n →
-    InFile e n d.function → AllIn e n (ds ++ d ∷ [])
+    FitsFile e n d.function → AllIn e n (ds ++ d ∷ [])
 all_append e n [] d h k i = (k, i, tt)
 all_append e n (x ∷ ds) d h k i = (h.0, h.1, all_append e n ds d h.2 k i)
 

@@ -6,7 +6,7 @@ use Rattle.grammar.specs.declared.actions.Action.{Action}
 use Rattle.grammar.specs.declared.actions.Action.TheVariants.{LogicMiddle, BeginCall, IfTest, ElsePart, BeginWhile}
 use Rattle.grammar.specs.declared.actions.Action.TheVariants.{WhileTest, BeginFunction}
 use Rattle.grammar.specs.Actions.{expr_actions, body_actions}
-use Rattle.grammar.specs.Following.{InFunction, AValue, BeforeRight, InCall, InBranch, InElse, BeforeTest, InTurn, Open, Opened, open_count, is_number, statement_done, opens_within}
+use Rattle.grammar.specs.Following.{InFunction, AValue, BeforeRight, InCall, InBranch, InElse, BeforeTest, InLoopBody, Open, Opened, open_count, is_number, statement_done, opens_within}
 use Rattle.grammar.specs.Nesting.{nesting, body_nesting}
 use Rattle.arith.specs.Op.{is_logic}
 use Rattle.grammar.specs.Laws.Origins.{origin_of, ends_in_return}
@@ -33,7 +33,7 @@ abbrev pub open_place : Place → Opened
 open_place (InFun n k b) = InFunction k (ends_in_return false b) ∷ []
 open_place (InFirst c b outer) = InBranch ∷ open_place outer
 open_place (InSecond c s b outer) = InElse ∷ open_place outer
-open_place (InLoop c b outer) = InTurn ∷ open_place outer
+open_place (InLoop c b outer) = InLoopBody ∷ open_place outer
 
 abbrev pub open_hole : Hole → Opened
 open_hole (Statement p) = open_place p

@@ -15,7 +15,7 @@ use Rattle.grammar.specs.declared.actions.Action.TheVariants.{LogicMiddle, Begin
 use Rattle.grammar.specs.declared.actions.Action.TheVariants.{BeginWhile, WhileTest, EndWhile, GiveBack, Chop}
 use Rattle.grammar.specs.declared.actions.Action.TheVariants.{BeginFunction, EndFunction}
 use Rattle.grammar.specs.Actions.{expr_actions, args_actions, body_actions}
-use Rattle.grammar.specs.Following.{AValue, BeforeRight, InCall, InBranch, InElse, BeforeTest, Opened, Origin, Number, Fetched, Incremented, Computed, open_count, may_take_statement, is_number, is_increment, is_var_numbered, is_callee_numbered, same_var, same_op, stored_origin, statement_done, call_done, only_on, opens_within, follow}
+use Rattle.grammar.specs.Following.{AValue, BeforeRight, InCall, InBranch, InElse, BeforeTest, Opened, ValueCategory, Number, Fetched, Incremented, Computed, open_count, may_take_statement, is_number, is_increment, is_var_numbered, is_callee_numbered, same_var, same_op, stored_origin, statement_done, call_done, only_on, opens_within, follow}
 use Rattle.grammar.specs.Nesting.{nesting, args_nesting, body_nesting, right_side}
 use Rattle.arith.specs.Op.{is_logic}
 use Rattle.grammar.specs.Laws.Origins.{origin_of, ends_in_return}
@@ -76,7 +76,7 @@ number_is n (Assign op v e) h = split (is_number 1 (origin_of e)) h
 number_is n (Postfix op v) h = absurd (cc)
 number_is n (Call f args) h = absurd (cc)
 
-pub step_is : (v : Var) (o under : Origin) → is_increment (stored_origin v o) under ≡ true →
+pub step_is : (v : Var) (o under : ValueCategory) → is_increment (stored_origin v o) under ≡ true →
     (is_number 1 o ≡ true) × (is_increment (Incremented v) under ≡ true)
 step_is v o under h = split (is_number 1 o) h
   where
@@ -347,7 +347,7 @@ give_back (Behind x (Statement p)) q fits e small =
 give_back (Statement (InFun n k b)) q fits e small = absurd (cc)
 give_back h q fits e small = absurd (cc)
 
-chop_place : (o : Origin) (p : Place) → follow Chop (AValue o ∷ open_place p) ≡ statement_done false (open_place p)
+chop_place : (o : ValueCategory) (p : Place) → follow Chop (AValue o ∷ open_place p) ≡ statement_done false (open_place p)
 chop_place o (InFun n k b) = refl
 chop_place o (InFirst c b outer) = refl
 chop_place o (InSecond c s b outer) = refl

@@ -6,14 +6,14 @@ use Rattle.grammar.specs.declared.diagnostics.Diagnostic.{Diagnostic}
 use Rattle.grammar.specs.Compiled.{compiled_tokens, verdict, resolved, enough_steps, diagnostic}
 use Rattle.grammar.specs.Derivation.{State, Definition, initial_state, stepped, derived, line_at}
 use Rattle.grammar.specs.Faults.{Fault, faults_at, faults_in, first_fault}
-use Rattle.grammar.specs.Laws.Parsing.{IsIn, IsFault, IsFirstFault, Fails, Passes}
+use Rattle.grammar.specs.Laws.Parsing.{IsIn, IsFault, IsFirstFault, Fails, DerivesWithoutFault}
 use Rattle.grammar.specs.Profile.{Profile}
 use Rattle.grammar.specs.Scope.{Scope}
 use Rattle.grammar.proofs.Weight.{weight}
 use Rattle.grammar.proofs.Endings.{IsFinal, ends, stays_final, final_stays}
 use Rattle.grammar.proofs.Firsts.{at_rest}
 use Rattle.grammar.proofs.Order.{first_in, first_least, same_place}
-pub use Rattle.grammar.proofs.Rests.{IsRest, run_rests}
+pub use Rattle.grammar.proofs.TokensLeft.{IsRest, run_rests}
 use Rattle.grammar.proofs.Runs.{append_empty, derived-add, faults_in-add}
 
 -- A derivation without a fault.
@@ -71,7 +71,7 @@ enough_ends located_tokens = ends (enough_steps located_tokens) (initial_state l
     (le-add_right (weight (initial_state located_tokens)) 1))
 
 pub clean_verdict : (profile : Profile) (located_tokens : List LocatedToken) (t : State) →
-    Passes profile (initial_state located_tokens) t → IsFinal t → faults_at profile t ≡ [] →
+    DerivesWithoutFault profile (initial_state located_tokens) t → IsFinal t → faults_at profile t ≡ [] →
     compiled_tokens profile located_tokens ≡ resolved located_tokens t.scope t.functions
 clean_verdict profile located_tokens t p ended quiet =
     let r : Reaches profile (enough_steps located_tokens) (initial_state located_tokens) t =

@@ -4,7 +4,7 @@ use Rattle.grammar.specs.declared.resolved_names.Callee.{Callee}
 use Rattle.grammar.specs.declared.resolved_names.Callee.TheVariants as callee
 use Rattle.grammar.specs.declared.resolved_names.Var.{Var}
 use Rattle.grammar.specs.declared.resolved_names.Var.TheVariants as var
-use Rattle.grammar.specs.Resolved.{IsVariable, IsCallable, InExpr, InArgs, InBody, InFile}
+use Rattle.grammar.specs.Resolved.{IsVariable, IsCallable, InExpr, InArgs, InBody, FitsFile}
 use Rattle.grammar.specs.Tree.{Expr, Constant, Variable, Binary, Assign, Postfix, Call, Args, NoMore, Argument, Body, Done, ExpressionStatement, IfStatement, IfElseStatement, While, Return, Function}
 
 -- as many names, or more
@@ -54,7 +54,7 @@ body_wider e l n e' l' n' w (While c s rest) h =
 body_wider e l n e' l' n' w (Return a rest) h =
     (expr_wider e l n e' l' n' w a h.0, body_wider e l n e' l' n' w rest h.1)
 
-pub function_wider : (e n e' n' : ℕ) → e ≤ e' → n ≤ n' → (f : Function) → InFile e n f → InFile e' n' f
+pub function_wider : (e n e' n' : ℕ) → e ≤ e' → n ≤ n' → (f : Function) → FitsFile e n f → FitsFile e' n' f
 function_wider e n e' n' p q f h = record {
   parameters = h.parameters;
   variables = h.variables;

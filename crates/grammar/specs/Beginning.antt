@@ -9,20 +9,20 @@ use Rattle.grammar.specs.Resolved.{InBody}
 
 -- a function whose numbers are within the limits, its own among them, and in which at most as many calls, ifs, whiles
 -- and right sides of && and || are open at once as may be
-pub record IsTellable (d : Definition) : Type 0 where
+pub record IsReportable (d : Definition) : Type 0 where
   pub number : d.number < most_names
   pub parameters : d.function.parameters ≤ length d.function.variables
   pub variables : length d.function.variables ≤ most_names
   pub names : InBody most_names most_names most_names d.function.body
   pub few : body_nesting d.function.body ≤ most_open
 
-abbrev pub AreTellable : List Definition → Type 0
-AreTellable [] = Unit {0}
-AreTellable (d ∷ ds) = IsTellable d × AreTellable ds
+abbrev pub AreReportable : List Definition → Type 0
+AreReportable [] = Unit {0}
+AreReportable (d ∷ ds) = IsReportable d × AreReportable ds
 
 -- there are functions whose actions begin with these
 pub record IsBeginning (acts : List Action) : Type 0 where
   pub functions : List Definition
-  pub tellable : AreTellable functions
+  pub tellable : AreReportable functions
   pub rest : List Action
   pub begins : acts ++ rest ≡ definitions_actions functions

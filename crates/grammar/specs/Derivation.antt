@@ -11,17 +11,17 @@ use Rattle.grammar.specs.Tree as tree
 use Rattle.grammar.specs.Tree.{Expr, Args, Body, add_argument, join, Function}
 use Rattle.grammar.specs.Grammar.{Source, Role, Called, Mentioned, Item, Exactly, AKeyword, AName, AConstant, AnEnd, Part}
 use Rattle.grammar.specs.Grammar.{Make, Close, SemanticAction, Operate, Negate, Not, Complement, Fetch, Store}
-use Rattle.grammar.specs.Grammar.{PrefixIncrement, PostfixIncrement, Pass, Invoke, Empty, Evaluate, Decide, DecideElse, Repeat}
-use Rattle.grammar.specs.Grammar.{Zero, GiveBack, Define, Production, choice, is_fault, is_punctuator, is_keyword}
+use Rattle.grammar.specs.Grammar.{PrefixIncrement, PostfixIncrement, AddArgument, Invoke, Empty, Evaluate, Decide, DecideElse, Repeat}
+use Rattle.grammar.specs.Grammar.{Zero, GiveBack, Define, Production, choice, is_lexical_error, is_punctuator, is_keyword}
 use Rattle.grammar.specs.Pools.{FunctionNames}
 use Rattle.grammar.specs.Scope.{Scope, no_names, scope_after_name, end_definition, variable_of, callee_of}
 
 -- a tree that is not yet part of a larger one
-pub data Value : Type 0 where
-  AnExpr : (e : Expr) → Value
-  AVariable : (v : Var) → Value
-  ACall : (callee : Callee) (arguments : Args) → Value  -- with its arguments so far
-  ABody : (b : Body) → Value
+pub data PartialTree : Type 0 where
+  AnExpr : (e : Expr) → PartialTree
+  AVariable : (v : Var) → PartialTree
+  ACall : (callee : Callee) (arguments : Args) → PartialTree  -- with its arguments so far
+  ABody : (b : Body) → PartialTree
 
 -- a function that was defined, with its number
 pub record Definition : Type 0 where
@@ -32,11 +32,11 @@ pub record Definition : Type 0 where
 pub record State : Type 0 where
   pub stack : List Item  -- what is still to match or to do, the next first
   pub rest : List LocatedToken  -- the tokens left
-  pub values : List Value  -- the trees made, the last first
+  pub values : List PartialTree  -- the trees made, the last first
   pub scope : Scope  -- the names known
   pub functions : List Definition  -- the functions defined, in file order
 
-abbrev pub state : List Item → List LocatedToken → List Value → Scope → List Definition → State
+abbrev pub state : List Item → List LocatedToken → List PartialTree → Scope → List Definition → State
 state stack rest values scope functions = record
     { stack = stack; rest = rest; values = values; scope = scope; functions = functions }
 
@@ -70,7 +70,7 @@ abbrev pub definition_of : Scope → Body → Definition
 definition_of scope body = record { number = scope.number; function = function_of scope.current body }
 
 -- what a semantic action makes of the trees; after a function there are none
-abbrev pub trees_after : SemanticAction → List Value → List Value
+abbrev pub trees_after : SemanticAction → List PartialTree → List PartialTree
 trees_after (Operate o) (AnExpr b ∷ AnExpr a ∷ values) = AnExpr (tree.Binary o a b) ∷ values
 trees_after Negate (AnExpr e ∷ values) = AnExpr (tree.Binary op.Subtract (tree.Constant (pos 0)) e) ∷ values
 trees_after Not (AnExpr e ∷ values) = AnExpr (tree.Binary op.Equal e (tree.Constant (pos 0))) ∷ values
@@ -79,7 +79,7 @@ trees_after Fetch (AVariable v ∷ values) = AnExpr (tree.Variable v) ∷ values
 trees_after (Store o) (AnExpr e ∷ AVariable v ∷ values) = AnExpr (tree.Assign o v e) ∷ values
 trees_after (PrefixIncrement o) (AVariable v ∷ values) = AnExpr (tree.Assign o v (tree.Constant (pos 1))) ∷ values
 trees_after (PostfixIncrement o) (AVariable v ∷ values) = AnExpr (tree.Postfix o v) ∷ values
-trees_after Pass (AnExpr e ∷ ACall f args ∷ values) = ACall f (add_argument args e) ∷ values
+trees_after AddArgument (AnExpr e ∷ ACall f args ∷ values) = ACall f (add_argument args e) ∷ values
 trees_after Invoke (ACall f args ∷ values) = AnExpr (tree.Call f args) ∷ values
 trees_after Empty values = ABody tree.Done ∷ values
 trees_after Evaluate (AnExpr e ∷ ABody b ∷ values) = ABody (join b (tree.ExpressionStatement e tree.Done)) ∷ values
@@ -93,12 +93,12 @@ trees_after Define values = []
 trees_after rule values = values
 
 -- the body made last
-abbrev pub last_body : List Value → Body
+abbrev pub last_body : List PartialTree → Body
 last_body (ABody b ∷ values) = b
 last_body values = tree.Done
 
 -- what it adds to the functions
-abbrev pub functions_defined : SemanticAction → List Value → Scope → List Definition
+abbrev pub functions_defined : SemanticAction → List PartialTree → Scope → List Definition
 functions_defined Define values scope = definition_of scope (last_body values) ∷ []
 functions_defined rule values scope = []
 
@@ -108,7 +108,7 @@ scope_after_action Define scope = end_definition scope
 scope_after_action rule scope = scope
 
 -- the tree of a name that was matched
-abbrev pub name_tree : Role → List ℕ → Scope → List Value
+abbrev pub name_tree : Role → List ℕ → Scope → List PartialTree
 name_tree Called name scope = ACall (callee_of name scope) tree.NoMore ∷ []
 name_tree Mentioned name scope = AVariable (variable_of name scope) ∷ []
 name_tree role name scope = []
@@ -133,7 +133,7 @@ past_token s = record s { rest = drop 1 s.rest }
 abbrev pub with_items : List Item → State → State
 with_items items s = record s { stack = items ++ s.stack }
 
-abbrev pub with_trees : List Value → State → State
+abbrev pub with_trees : List PartialTree → State → State
 with_trees trees s = record s { values = trees ++ s.values }
 
 -- if the next token is the one wanted, the state after it
@@ -181,7 +181,7 @@ stack_step (item ∷ stack) s = item_step item (record s { stack = stack })
 
 -- One step. A lexical error fits nothing: the derivation stops if one is next.
 abbrev pub step : State → Option State
-step s = if is_fault (next_token s.rest) then None else stack_step s.stack s
+step s = if is_lexical_error (next_token s.rest) then None else stack_step s.stack s
 
 -- the state after a step; if there is none, the derivation stays
 abbrev pub stepped : State → State

@@ -14,9 +14,9 @@ use Rattle.grammar.specs.Actions.{code_length, function_actions}
 use Rattle.grammar.specs.Derivation.{State, Definition, definition_of, last_body, stack_step, stepped, next_token}
 use Rattle.grammar.specs.Derivation.{token_after_next, name_of_token}
 use Rattle.grammar.specs.Grammar.{Item, AName, Part, Make, Close, Define, Symbol, Role, Defined, External, Parameter}
-use Rattle.grammar.specs.Grammar.{Typed, Local, Called, Mentioned, is_fault, enters}
+use Rattle.grammar.specs.Grammar.{Typed, Local, Called, Mentioned, is_lexical_error, enters}
 use Rattle.grammar.specs.Intrinsics.{is_intrinsic}
-use Rattle.grammar.specs.NameLimits.{most_levels, most_names}
+use Rattle.grammar.specs.NameLimits.{most_nested, most_names}
 use Rattle.grammar.specs.Profile.{Profile}
 use Rattle.grammar.specs.Scope.{Scope, has_begun, is_external_new, is_function_new, is_local_new, is_variable_new}
 
@@ -55,25 +55,25 @@ lexical_error_code lexical_error.ConstantTooLarge = code.ConstantTooLarge
 lexical_error_code lexical_error.SourceTooLong = code.SourceTooLong
 
 -- the code of a token that doesn't fit
-abbrev pub misfit_code : Token → Code
-misfit_code (token.Fault f) = lexical_error_code f
-misfit_code (token.Keyword keyword.Refused) = code.ReservedWord
-misfit_code next = code.SyntaxError
+abbrev pub unexpected_token_code : Token → Code
+unexpected_token_code (token.Fault f) = lexical_error_code f
+unexpected_token_code (token.Keyword keyword.Refused) = code.ReservedWord
+unexpected_token_code next = code.SyntaxError
 
 -- how many levels are open: each stays open until its production is done
-abbrev pub levels : List Item → ℕ
-levels [] = 0
-levels (Close ∷ stack) = levels stack + 1
-levels (item ∷ stack) = levels stack
+abbrev pub nested_count : List Item → ℕ
+nested_count [] = 0
+nested_count (Close ∷ stack) = nested_count stack + 1
+nested_count (item ∷ stack) = nested_count stack
 
 abbrev pub only_if : Bool → List Fault → List Fault
 only_if b faults = if b then faults else []
 
 -- a symbol enters a level beyond the last one
-abbrev pub level_faults : Symbol → State → List Fault
-level_faults symbol s =
+abbrev pub nesting_faults : Symbol → State → List Fault
+nesting_faults symbol s =
     only_if (enters symbol (next_token s.rest) (token_after_next s.rest))
-    (only_if (nat_le most_levels (levels s.stack)) (fault s.rest code.NestedTooDeeply ∷ []))
+    (only_if (nat_le most_nested (nested_count s.stack)) (fault s.rest code.NestedTooDeeply ∷ []))
 
 -- a new name for which there is no room after this many
 abbrev pub no_room : Bool → ℕ → Code → List LocatedToken → List Fault
@@ -128,7 +128,7 @@ length_faults profile s =
 
 -- the faults at the item in front; the state has the items behind it
 abbrev pub item_faults : Profile → Item → State → List Fault
-item_faults profile (Part symbol) s = level_faults symbol s
+item_faults profile (Part symbol) s = nesting_faults symbol s
 item_faults profile (AName role) s = name_faults role (name_of_token (next_token s.rest)) s.scope s.rest
 item_faults profile (Make Define) s = length_faults profile s
 item_faults profile item s = []
@@ -138,20 +138,20 @@ stack_faults profile [] s = []
 stack_faults profile (item ∷ stack) s = item_faults profile item (record s { stack = stack })
 
 -- the fault of a token that doesn't fit
-abbrev pub misfit : List LocatedToken → List Fault
-misfit rest = fault rest (misfit_code (next_token rest)) ∷ []
+abbrev pub unexpected_token : List LocatedToken → List Fault
+unexpected_token rest = fault rest (unexpected_token_code (next_token rest)) ∷ []
 
 -- if something is still to derive, and no step leads on
-abbrev pub misfits : List Item → List LocatedToken → Option State → List Fault
-misfits [] rest next = []
-misfits (item ∷ stack) rest None = misfit rest
-misfits (item ∷ stack) rest (Some s) = []
+abbrev pub unexpected_tokens : List Item → List LocatedToken → Option State → List Fault
+unexpected_tokens [] rest next = []
+unexpected_tokens (item ∷ stack) rest None = unexpected_token rest
+unexpected_tokens (item ∷ stack) rest (Some s) = []
 
 -- the faults at one state of a derivation
 abbrev pub faults_at : Profile → State → List Fault
 faults_at profile s =
-    if is_fault (next_token s.rest) then misfit s.rest
-    else stack_faults profile s.stack s ++ misfits s.stack s.rest (stack_step s.stack s)
+    if is_lexical_error (next_token s.rest) then unexpected_token s.rest
+    else stack_faults profile s.stack s ++ unexpected_tokens s.stack s.rest (stack_step s.stack s)
 
 -- the faults at the first n states
 abbrev pub faults_in : Profile → ℕ → State → List Fault

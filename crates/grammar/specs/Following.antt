@@ -17,22 +17,22 @@ use Rattle.grammar.specs.NameLimits.{most_names, most_open}
 use Rattle.arith.specs.Op.{is_logic}
 
 -- how a value came about, as far as it matters for what follows
-pub data Origin : Type 0 where
-  Number : (value : ℤ) → Origin  -- a constant
-  Fetched : (v : Var) → Origin  -- a variable's value
-  Incremented : (v : Var) → Origin  -- a store of 1 by an operator, as ++ and -- make
-  Computed : Origin
+pub data ValueCategory : Type 0 where
+  Number : (value : ℤ) → ValueCategory  -- a constant
+  Fetched : (v : Var) → ValueCategory  -- a variable's value
+  Incremented : (v : Var) → ValueCategory  -- a store of 1 by an operator, as ++ and -- make
+  Computed : ValueCategory
 
 -- what is open
 pub data Open : Type 0 where
   InFunction : (parameters : ℕ) (returned : Bool) → Open  -- a function; whether its last statement is `return 0;`
-  AValue : (origin : Origin) → Open  -- a value that is still to be used
+  AValue : (origin : ValueCategory) → Open  -- a value that is still to be used
   BeforeRight : (op : Op) → Open  -- && or ||, whose right side is to come
   InCall : Open  -- a call, whose arguments are the values inside of it
   InBranch : Open  -- an if, in its first branch
   InElse : Open  -- an if, in its second branch
   BeforeTest : Open  -- a while, whose condition is to come
-  InTurn : Open  -- a while, in its body
+  InLoopBody : Open  -- a while, in its body
 
 -- what is open, the innermost first
 abbrev pub Opened : Type 0
@@ -52,7 +52,7 @@ abbrev pub may_take_statement : Opened → Bool
 may_take_statement (InFunction parameters returned ∷ opened) = true
 may_take_statement (InBranch ∷ opened) = true
 may_take_statement (InElse ∷ opened) = true
-may_take_statement (InTurn ∷ opened) = true
+may_take_statement (InLoopBody ∷ opened) = true
 may_take_statement opened = false
 
 abbrev pub only_on : Bool → Opened → Option Opened
@@ -78,16 +78,16 @@ same_var (var.Local m) (var.Local n) = m == n
 same_var (var.External m) (var.External n) = m == n
 same_var v w = false
 
-abbrev pub is_number : ℕ → Origin → Bool
+abbrev pub is_number : ℕ → ValueCategory → Bool
 is_number n (Number (pos m)) = m == n
 is_number n origin = false
 
 -- the new value of a variable over its old one, as v++ and v-- leave them
-abbrev pub is_increment : Origin → Origin → Bool
+abbrev pub is_increment : ValueCategory → ValueCategory → Bool
 is_increment (Incremented v) (Fetched w) = same_var v w
 is_increment origin below = false
 
-abbrev pub stored_origin : Var → Origin → Origin
+abbrev pub stored_origin : Var → ValueCategory → ValueCategory
 stored_origin v origin = if is_number 1 origin then Incremented v else Computed
 
 abbrev pub is_var_numbered : Var → Bool
@@ -119,8 +119,8 @@ follow ElsePart (InBranch ∷ opened) = Some (InElse ∷ opened)
 follow EndIf (InBranch ∷ opened) = statement_done false opened
 follow EndIf (InElse ∷ opened) = statement_done false opened
 follow BeginWhile opened = only_on (may_take_statement opened) (BeforeTest ∷ opened)
-follow WhileTest (AValue condition ∷ BeforeTest ∷ opened) = Some (InTurn ∷ opened)
-follow EndWhile (InTurn ∷ opened) = statement_done false opened
+follow WhileTest (AValue condition ∷ BeforeTest ∷ opened) = Some (InLoopBody ∷ opened)
+follow EndWhile (InLoopBody ∷ opened) = statement_done false opened
 follow GiveBack (AValue origin ∷ opened) = statement_done (is_number 0 origin) opened
 follow Chop (AValue origin ∷ AValue below ∷ opened) = only_on (is_increment origin below) (AValue Computed ∷ opened)
 follow Chop (AValue origin ∷ opened) = statement_done false opened

@@ -58,7 +58,7 @@ pub data SemanticAction : Type 0 where
   Store : (op : StoreOp) → SemanticAction  -- of a variable and an expression: the assignment
   PrefixIncrement : (op : StoreOp) → SemanticAction  -- of a variable: ++v or --v
   PostfixIncrement : (op : StoreOp) → SemanticAction  -- v++ or v--
-  Pass : SemanticAction  -- of a call and an expression: the call with this argument after the others
+  AddArgument : SemanticAction  -- of a call and an expression: the call with this argument after the others
   Invoke : SemanticAction  -- of a call: the expression
   Empty : SemanticAction  -- a body without statements
   Evaluate : SemanticAction  -- of a body and an expression: the body with the expression as its last statement
@@ -97,9 +97,9 @@ abbrev pub is_keyword : Keyword → Token → Bool
 is_keyword w (token.Keyword v) = same_keyword w v
 is_keyword w _ = false
 
-abbrev pub is_fault : Token → Bool
-is_fault (token.Fault lexical_error) = true
-is_fault _ = false
+abbrev pub is_lexical_error : Token → Bool
+is_lexical_error (token.Fault lexical_error) = true
+is_lexical_error _ = false
 
 -- an assignment, if its operator follows the name
 abbrev pub assignment_or : Option StoreOp → Punctuator → List Item
@@ -197,9 +197,9 @@ choice Primary (token.Punctuator punctuator.OpenRound) after =
     Some (Exactly punctuator.OpenRound ∷ Part Expression ∷ Exactly punctuator.CloseRound ∷ Close ∷ [])
 choice Primary next after = None
 choice Arguments (token.Punctuator punctuator.CloseRound) after = Some []
-choice Arguments next after = Some (Part Expression ∷ Make Pass ∷ Part MoreArguments ∷ [])
+choice Arguments next after = Some (Part Expression ∷ Make AddArgument ∷ Part MoreArguments ∷ [])
 choice MoreArguments (token.Punctuator punctuator.Comma) after =
-    Some (Exactly punctuator.Comma ∷ Part Expression ∷ Make Pass ∷ Part MoreArguments ∷ [])
+    Some (Exactly punctuator.Comma ∷ Part Expression ∷ Make AddArgument ∷ Part MoreArguments ∷ [])
 choice MoreArguments next after = Some []
 
 -- Whether the production chosen enters a level: a block, an `if`, a `while`, an assignment, a unary `-`, `!` or `~`,

@@ -137,7 +137,7 @@ abbrev pub constant : ℕ → Expr
 constant n = Constant (pos n)
 
 -- the source is this file, with this many instructions
-pub record IsFile (source : List LocatedToken) (file : File) (instructions : ℕ) : Type 0 where
+pub record CompilesToFile (source : List LocatedToken) (file : File) (instructions : ℕ) : Type 0 where
   pub compiled : compiled_tokens first_profile source ≡ Ok file
   pub code : code_length first_profile (actions file) + 1 ≡ instructions
 
@@ -284,16 +284,16 @@ defined_later_file = record {
 
 -- The trees of sources.
 pub record KnownTrees : Type 0 where
-  pub nothing : IsFile (in_main []) (file_of_main [] Done) 3
-  pub sum_of_postfix : IsFile (in_main sum_of_postfix)
+  pub nothing : CompilesToFile (in_main []) (file_of_main [] Done) 3
+  pub sum_of_postfix : CompilesToFile (in_main sum_of_postfix)
       (file_of_main (codes "x" ∷ codes "a" ∷ codes "b" ∷ []) sum_of_postfix_tree) 11
-  pub distance : IsFile (on_lines distance) distance_file 17
-  pub nearest_else : IsFile (in_main nearest_else)
+  pub distance : CompilesToFile (on_lines distance) distance_file 17
+  pub nearest_else : CompilesToFile (in_main nearest_else)
       (file_of_main (codes "a" ∷ codes "b" ∷ codes "c" ∷ codes "d" ∷ []) nearest_else_tree) 13
-  pub late_read : IsFile (on_lines late_read) late_read_file 27
-  pub unary_signs : IsFile (in_main unary_signs) (file_of_main (codes "a" ∷ []) unary_trees) 28
-  pub hidden_later : IsFile (on_lines hidden_later) hidden_later_file 9
-  pub defined_later : IsFile (on_lines defined_later) defined_later_file 13
+  pub late_read : CompilesToFile (on_lines late_read) late_read_file 27
+  pub unary_signs : CompilesToFile (in_main unary_signs) (file_of_main (codes "a" ∷ []) unary_trees) 28
+  pub hidden_later : CompilesToFile (on_lines hidden_later) hidden_later_file 9
+  pub defined_later : CompilesToFile (on_lines defined_later) defined_later_file 13
 
 -- Tokens that don't fit.
 pub record KnownMisfits : Type 0 where

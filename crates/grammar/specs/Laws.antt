@@ -13,7 +13,7 @@ use Rattle.tokens.specs.Tokens.{tokens}
 use Rattle.tokens.specs.declared.located_tokens.LocatedToken.{LocatedToken}
 use Rattle.grammar.specs.declared.diagnostics.Diagnostic.{Diagnostic}
 use Rattle.grammar.specs.Compiled.{compiled_tokens, last_state, resolved}
-use Rattle.grammar.specs.Derivation.{State, state, Value, Definition, initial_state, step, derived}
+use Rattle.grammar.specs.Derivation.{State, state, PartialTree, Definition, initial_state, step, derived}
 use Rattle.grammar.specs.Faults.{Fault, faults_at}
 use Rattle.grammar.specs.declared.actions.Action.{Action}
 use Rattle.grammar.specs.Actions.{actions}
@@ -24,7 +24,7 @@ use Rattle.grammar.specs.Grammar.{Declarations, Statements, Item, Part, Make, De
 use Rattle.grammar.specs.NameLimits.{most_open}
 use Rattle.grammar.specs.Need.{need}
 use Rattle.grammar.specs.Nesting.{body_nesting}
-use Rattle.grammar.specs.Laws.Parsing.{Fails, IsFault, Passes}
+use Rattle.grammar.specs.Laws.Parsing.{Fails, IsFault, DerivesWithoutFault}
 use Rattle.grammar.specs.Profile.{Profile}
 use Rattle.grammar.specs.Resolved.{IsResolved}
 use Rattle.grammar.specs.Scope.{Scope}
@@ -37,7 +37,7 @@ EachDerivationEnds = (located_tokens : List LocatedToken) → step (last_state l
 -- a source whose derivation ends without a fault is the file of its last state, or lacks a function
 abbrev pub FaultlessIsResolved : Type 0
 FaultlessIsResolved = (profile : Profile) (located_tokens : List LocatedToken) (t : State) →
-    Passes profile (initial_state located_tokens) t → step t ≡ None → faults_at profile t ≡ []
+    DerivesWithoutFault profile (initial_state located_tokens) t → step t ≡ None → faults_at profile t ≡ []
     → compiled_tokens profile located_tokens ≡ resolved located_tokens t.scope t.functions
 
 -- any other is its first fault: the one at the earliest token, and there the one with the least code
@@ -78,7 +78,7 @@ pub record KeepsFunction (known learnt : Scope) : Type 0 where
 
 -- what is in a function's block keeps the function, up to the block's end: there no further function is defined yet
 abbrev pub BlocksKeepTheFunction : Type 0
-BlocksKeepTheFunction = (n : ℕ) (stack : List Item) (rest later : List LocatedToken) (values left : List Value)
+BlocksKeepTheFunction = (n : ℕ) (stack : List Item) (rest later : List LocatedToken) (values left : List PartialTree)
     (known learnt : Scope) (functions : List Definition) →
     derived n (state (Part Declarations ∷ Part Statements ∷ Make Define ∷ stack) rest values known functions)
     ≡ state (Make Define ∷ stack) later left learnt functions →

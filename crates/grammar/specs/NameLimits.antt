@@ -6,8 +6,8 @@ abbrev pub most_names : ℕ
 most_names = 64
 
 -- the most levels that are open at once
-unfoldable pub most_levels : ℕ
-most_levels = 64
+unfoldable pub most_nested : ℕ
+most_nested = 64
 
 -- the most calls, ifs, whiles and right sides of && and || that are open at once
 abbrev pub most_open : ℕ

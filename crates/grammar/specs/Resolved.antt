@@ -51,7 +51,7 @@ AreDistinct [] = Unit {0}
 AreDistinct (x ∷ others) = (IsAmong x others → ⊥) × AreDistinct others
 
 -- a function among this many externals and functions
-pub record InFile (externals functions : ℕ) (f : Function) : Type 0 where
+pub record FitsFile (externals functions : ℕ) (f : Function) : Type 0 where
   pub parameters : f.parameters ≤ length f.variables
   pub variables : length f.variables ≤ most_names
   pub distinct : AreDistinct f.variables
@@ -64,7 +64,7 @@ pub record IsResolved (file : File) : Type 0 where
   pub distinct_externals : AreDistinct file.externals
   pub distinct_functions : AreDistinct (map (λ (f : Function). f.name) file.functions)
   pub each : (k : ℕ) (f : Function) → slice_get file.functions k ≡ Some f
-      → InFile (length file.externals) (length file.functions) f
+      → FitsFile (length file.externals) (length file.functions) f
   pub defined : (k : ℕ) → k < length file.functions → IsAmong k file.order
   pub only : (k : ℕ) → IsAmong k file.order → k < length file.functions
   pub once : AreDistinct file.order

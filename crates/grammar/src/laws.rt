@@ -27,12 +27,12 @@ pub fn finished()
 
 /// Proves that what was read of a source is needed: up to the second of the tokens that are next, if no fault is before
 /// them.
-pub fn reach()
+pub fn lookahead_is_needed()
     ensures { WhatWasReadIsNeeded }
 {}
 
 /// Proves that a function's block changes neither which function is being defined, nor its name, nor its parameters.
-pub fn blocks()
+pub fn blocks_keep_scope()
     ensures { BlocksKeepTheFunction }
 {}
 
@@ -53,7 +53,7 @@ pub fn resolved_files()
 {}
 
 /// Proves that any action may be reported to a builder that may follow those that it represents.
-pub fn building<B: Build>()
+pub fn any_action_may_follow<B: Build>()
     ensures { (builder : B) → MayBeTold (B.stands builder) }
 {}
 

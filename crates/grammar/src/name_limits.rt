@@ -4,4 +4,4 @@
 pub const MOST_NAMES: usize = 64;
 
 /// The most levels that may be open at once.
-pub const MOST_LEVELS: u8 = 64;
+pub const MOST_NESTED: u8 = 64;

@@ -5,7 +5,7 @@ use Rattle.tokens.specs.declared.located_tokens.Punctuator.TheVariants as punctu
 use Rattle.tokens.specs.declared.located_tokens.Token.{Token}
 use Rattle.tokens.specs.declared.located_tokens.Token.TheVariants as token
 use Rattle.grammar.specs.Grammar as grammar
-use Rattle.grammar.specs.Grammar.{Exactly, Part, Make, Declarations, ElsePart, Back, Decide, choice, is_fault}
+use Rattle.grammar.specs.Grammar.{Exactly, Part, Make, Declarations, ElsePart, Back, Decide, choice, is_lexical_error}
 use Rattle.grammar_laws.specs.Written.{Sign, Minus, Step, Up, Expression, Constant, Variable, Binary, Signed, Assign, StepBefore, StepBehind, Call, NoMore, Argument, Statement, Evaluate, Statements, Done, Next}
 use Rattle.grammar.specs.Operators.{binary_punctuator}
 use Rattle.grammar_laws.specs.Spelling.{sign_punctuator, step_punctuator, spell, spell_statement, spell_statements}
@@ -14,7 +14,7 @@ use Rattle.grammar_laws.proofs.Parts.{spell_part}
 
 -- a statement begins with this token
 pub record BeginsStatement (t : Token) : Type 0 where
-  pub sound : is_fault t ≡ false
+  pub sound : is_lexical_error t ≡ false
   pub no_declaration : (after : Token) → choice Declarations t after ≡ Some []
   pub no_else : (after : Token) → choice ElsePart t after ≡ Some (Make Decide ∷ [])
   pub one_more : (after : Token) →
@@ -100,7 +100,7 @@ statement_first s rest =
 
 -- what follows a statement: another one, or the brace
 pub record Follows (tokens : List Token) : Type 0 where
-  pub sound : is_fault (first tokens) ≡ false
+  pub sound : is_lexical_error (first tokens) ≡ false
   pub no_declaration : choice Declarations (first tokens) (second tokens) ≡ Some []
   pub no_else : choice ElsePart (first tokens) (second tokens) ≡ Some (Make Decide ∷ [])
 

@@ -9,8 +9,8 @@ use Rattle.grammar.specs.declared.actions.Action.{Action}
 use Rattle.grammar.specs.declared.actions.Action.TheVariants.{PushConstant, BeginCall, BeginFunction, EndFunction}
 use Rattle.grammar.specs.declared.actions.Action.TheVariants.{EndIf}
 use Rattle.grammar.specs.Actions.{body_actions, last_return}
-use Rattle.grammar.specs.Beginning.{AreTellable, IsTellable}
-use Rattle.grammar.specs.Derivation.{Value, Definition, last_body, trees_after}
+use Rattle.grammar.specs.Beginning.{AreReportable, IsReportable}
+use Rattle.grammar.specs.Derivation.{PartialTree, Definition, last_body, trees_after}
 use Rattle.grammar_laws.specs.Emission.{on_rule}
 use Rattle.grammar.specs.Faults.{definitions_actions}
 use Rattle.grammar.specs.Grammar.{Symbol, Source, Types, Head, More, Parameters, ParameterTypes, FunctionBlock, Block}
@@ -32,7 +32,7 @@ pub record Completes (A : Type 0) (ds : List Definition) (acts : List Action) : 
   pub one : length further ≤ 1
   pub rest : List Action
   pub begins : acts ++ rest ≡ definitions_actions (ds ++ further)
-  pub fit : A → AreTellable (ds ++ further)
+  pub fit : A → AreReportable (ds ++ further)
 
 front : (A : Type 0) (ds : List Definition) (acts more : List Action) → Completes A ds (acts ++ more) →
     Completes A ds acts
@@ -46,13 +46,13 @@ front A ds acts more c = record {
 }
 
 ended : (A : Type 0) (ds : List Definition) (acts : List Action) → definitions_actions ds ≡ acts →
-    (A → AreTellable ds) → Completes A ds acts
+    (A → AreReportable ds) → Completes A ds acts
 ended A ds acts e f = record {
   further = [];
   one = omega arith;
   rest = [];
   begins = append-nil acts ∙ sym e ∙ ap definitions_actions (sym (append-nil ds));
-  fit = λ a. subst (λ (xs : List Definition). AreTellable xs) (sym (append-nil ds)) (f a);
+  fit = λ a. subst (λ (xs : List Definition). AreReportable xs) (sym (append-nil ds)) (f a);
 }
 
 -- a function with this body, and no variables but its parameters
@@ -63,7 +63,7 @@ shortest n k b = record {
       { name = []; parameters = k; variables = replicate k []; body = b };
 }
 
-defined : (A : Type 0) (next : Fact) (values : List Value) (n k : ℕ) (ds : List Definition) (acts : List Action) →
+defined : (A : Type 0) (next : Fact) (values : List PartialTree) (n k : ℕ) (ds : List Definition) (acts : List Action) →
     Defines A next values n k ds acts → Completes A ds acts
 defined A next values n k ds acts h = record {
   further = shortest n k (last_body values) ∷ [];
@@ -82,7 +82,7 @@ defined A next values n k ds acts h = record {
     long : length {A = List ℕ} (replicate k []) ≡ k
     long = length-replicate k []
 
-    tellable : A → IsTellable (shortest n k (last_body values))
+    tellable : A → IsReportable (shortest n k (last_body values))
     tellable a = record {
       number = (h.numbers a).0;
       parameters = omega (arith, long);
@@ -93,7 +93,7 @@ defined A next values n k ds acts h = record {
 
 -- whatever is left after an item leads to the end
 abbrev Completed : Type 0 → Fact → Type 0
-Completed A next = (values : List Value) (n k : ℕ) (ds : List Definition) (acts : List Action) →
+Completed A next = (values : List PartialTree) (n k : ℕ) (ds : List Definition) (acts : List Action) →
     next values n k ds acts → Completes A ds acts
 
 name_completes : (A : Type 0) (role : Role) (next : Fact) → Completed A next →
@@ -160,7 +160,7 @@ rule_completes A rule stack on values n k ds acts h =
     front A ds acts (on_rule rule stack values 0)
     (on (trees_after rule values) n k ds (acts ++ on_rule rule stack values 0) h)
 
-pub completes : (A : Type 0) (stack : List Item) (values : List Value) (n k : ℕ) (ds : List Definition)
+pub completes : (A : Type 0) (stack : List Item) (values : List PartialTree) (n k : ℕ) (ds : List Definition)
     (acts : List Action) → Tells A stack values n k ds acts → Completes A ds acts
 completes A [] values n k ds acts h = ended A ds acts h.told h.fit
 completes A (Exactly m ∷ stack) values n k ds acts h = completes A stack values n k ds acts h

@@ -7,15 +7,15 @@ use Rattle.tokens.specs.declared.located_tokens.LocatedToken.{LocatedToken}
 use Rattle.grammar.specs.declared.actions.Action.{Action}
 use Rattle.grammar.specs.Actions.{function_actions}
 use Rattle.grammar.specs.Beginning.{IsBeginning}
-use Rattle.grammar.specs.Derivation.{State, state, initial_state, Value, Definition, last_body, definition_of, next_token, token_after_next}
+use Rattle.grammar.specs.Derivation.{State, state, initial_state, PartialTree, Definition, last_body, definition_of, next_token, token_after_next}
 use Rattle.grammar.specs.Derivation.{name_of_token, constant_value, is_end, matched, name_matched, constant_matched}
 use Rattle.grammar.specs.Derivation.{replaced, stack_step, stepped, derived}
 use Rattle.grammar_laws.specs.Emission.{on_item, emitted, emissions}
 use Rattle.grammar.specs.Faults.{definitions_actions, faults_at, faults_in}
 use Rattle.grammar.specs.Grammar.{Item, Exactly, AKeyword, AName, AConstant, AnEnd, Part, Make, Close, Operate, Negate}
-use Rattle.grammar.specs.Grammar.{Not, Complement, Fetch, Store, PrefixIncrement, PostfixIncrement, Pass, Invoke, Empty, Evaluate}
+use Rattle.grammar.specs.Grammar.{Not, Complement, Fetch, Store, PrefixIncrement, PostfixIncrement, AddArgument, Invoke, Empty, Evaluate}
 use Rattle.grammar.specs.Grammar.{Decide, DecideElse, Repeat, Zero, GiveBack, Define, Role, Production, choice}
-use Rattle.grammar.specs.Grammar.{is_fault, is_punctuator, is_keyword}
+use Rattle.grammar.specs.Grammar.{is_lexical_error, is_punctuator, is_keyword}
 use Rattle.grammar.specs.Profile.{Profile}
 use Rattle.grammar.specs.Scope.{Scope}
 use Rattle.grammar.proofs.Beginnings.{beginning_follows}
@@ -57,31 +57,31 @@ abbrev IfPart : Option State → List Action → Type 0
 IfPart None acts = Unit {0}
 IfPart (Some s) acts = HasPart acts s.functions
 
-matched_part : (fits : Bool) (stack : List Item) (rest : List LocatedToken) (values : List Value) (scope : Scope)
+matched_part : (fits : Bool) (stack : List Item) (rest : List LocatedToken) (values : List PartialTree) (scope : Scope)
     (ds : List Definition) (acts : List Action) → HasPart acts ds →
     IfPart (matched fits (state stack rest values scope ds)) acts
 matched_part true stack rest values scope ds acts h = h
 matched_part false stack rest values scope ds acts h = tt
 
-constant_part : (value : Option ℕ) (stack : List Item) (rest : List LocatedToken) (values : List Value) (scope : Scope)
+constant_part : (value : Option ℕ) (stack : List Item) (rest : List LocatedToken) (values : List PartialTree) (scope : Scope)
     (ds : List Definition) (acts : List Action) → HasPart acts ds →
     IfPart (constant_matched value (state stack rest values scope ds)) acts
 constant_part None stack rest values scope ds acts h = tt
 constant_part (Some value) stack rest values scope ds acts h = h
 
-named_part : (role : Role) (name : Option (List ℕ)) (stack : List Item) (rest : List LocatedToken) (values : List Value)
+named_part : (role : Role) (name : Option (List ℕ)) (stack : List Item) (rest : List LocatedToken) (values : List PartialTree)
     (scope : Scope) (ds : List Definition) (acts : List Action) → HasPart acts ds →
     IfPart (name_matched role name (state stack rest values scope ds)) acts
 named_part role None stack rest values scope ds acts h = tt
 named_part role (Some name) stack rest values scope ds acts h = h
 
-replaced_part : (production : Production) (stack : List Item) (rest : List LocatedToken) (values : List Value)
+replaced_part : (production : Production) (stack : List Item) (rest : List LocatedToken) (values : List PartialTree)
     (scope : Scope) (ds : List Definition) (acts : List Action) → HasPart acts ds →
     IfPart (replaced production (state stack rest values scope ds)) acts
 replaced_part None stack rest values scope ds acts h = tt
 replaced_part (Some items) stack rest values scope ds acts h = h
 
-step_part : (A : Type 0) (stack : List Item) (rest : List LocatedToken) (values : List Value) (scope : Scope)
+step_part : (A : Type 0) (stack : List Item) (rest : List LocatedToken) (values : List PartialTree) (scope : Scope)
     (ds : List Definition) (acts : List Action) → Tells A stack values scope.number scope.current.parameters ds acts →
     HasPart (acts ++ on_item stack (next_token rest) values scope) ds →
     IfPart (stack_step stack (state stack rest values scope ds)) (acts ++ on_item stack (next_token rest) values scope)
@@ -112,7 +112,7 @@ step_part A (Make Fetch ∷ stack) rest values scope ds acts t h = no_more _ ds 
 step_part A (Make (Store o) ∷ stack) rest values scope ds acts t h = no_more _ ds h
 step_part A (Make (PrefixIncrement o) ∷ stack) rest values scope ds acts t h = no_more _ ds h
 step_part A (Make (PostfixIncrement o) ∷ stack) rest values scope ds acts t h = no_more _ ds h
-step_part A (Make Pass ∷ stack) rest values scope ds acts t h = no_more _ ds h
+step_part A (Make AddArgument ∷ stack) rest values scope ds acts t h = no_more _ ds h
 step_part A (Make Invoke ∷ stack) rest values scope ds acts t h = no_more _ ds h
 step_part A (Make Empty ∷ stack) rest values scope ds acts t h = no_more _ ds h
 step_part A (Make Evaluate ∷ stack) rest values scope ds acts t h = no_more _ ds h
@@ -137,7 +137,7 @@ guarded_part s false o acts more h k = kept_part s o (acts ++ more) (more_part a
 stepped_part : (A : Type 0) (s : State) (acts : List Action) → StateTells A s acts → HasPart acts s.functions →
     HasPart (acts ++ emitted s) (stepped s).functions
 stepped_part A s acts t h =
-    guarded_part s (is_fault (next_token s.rest)) (stack_step s.stack s) acts
+    guarded_part s (is_lexical_error (next_token s.rest)) (stack_step s.stack s) acts
     (on_item s.stack (next_token s.rest) s.values s.scope) h
     (step_part A s.stack s.rest s.values s.scope s.functions acts t
     (more_part acts (on_item s.stack (next_token s.rest) s.values s.scope) s.functions h))

@@ -9,8 +9,8 @@ use Rattle.grammar.specs.Compiled.{all_defined, all_faults, defined_as, enough_s
 use Rattle.grammar.specs.Compiled.{main_name, order_of}
 use Rattle.grammar.specs.Derivation.{Definition, State, next_token, derived, initial_state, stack_step}
 use Rattle.grammar_laws.specs.Emitted.{EmitsItsFile}
-use Rattle.grammar.specs.Faults.{Fault, definitions_actions, faults_at, faults_in, stack_faults, misfit, misfits}
-use Rattle.grammar.specs.Grammar.{Item, is_fault}
+use Rattle.grammar.specs.Faults.{Fault, definitions_actions, faults_at, faults_in, stack_faults, unexpected_token, unexpected_tokens}
+use Rattle.grammar.specs.Grammar.{Item, is_lexical_error}
 use Rattle.grammar.specs.Profile.{Profile}
 use Rattle.grammar.specs.Scope.{function_number}
 use Rattle.grammar.specs.Tree.{Function}
@@ -27,16 +27,16 @@ use Rattle.grammar.proofs.Weight.{weight}
 -- If a derivation ends without a fault, nothing is left to match.
 
 nothing_left : (stack : List Item) (rest : List LocatedToken) (fault : Bool) (xs : List Fault) (o : Option State) →
-    (if fault then None else o) ≡ None → (if fault then misfit rest else xs ++ misfits stack rest o) ≡ [] → stack ≡ []
+    (if fault then None else o) ≡ None → (if fault then unexpected_token rest else xs ++ unexpected_tokens stack rest o) ≡ [] → stack ≡ []
 nothing_left [] rest fault xs o final clean = refl
 nothing_left (item ∷ stack) rest true xs o final clean = absurd (cc)
 nothing_left (item ∷ stack) rest false xs None final clean =
-    absurd (let no : misfit rest ≡ [] = (append_empty xs (misfit rest) clean).1 in cc)
+    absurd (let no : unexpected_token rest ≡ [] = (append_empty xs (unexpected_token rest) clean).1 in cc)
 nothing_left (item ∷ stack) rest false xs (Some s) final clean = absurd (cc)
 
 done : (profile : Profile) (s : State) → IsFinal s → faults_at profile s ≡ [] → s.stack ≡ []
 done profile s final clean =
-    nothing_left s.stack s.rest (is_fault (next_token s.rest))
+    nothing_left s.stack s.rest (is_lexical_error (next_token s.rest))
     (stack_faults profile s.stack s)
     (stack_step s.stack s) final clean
 

@@ -8,9 +8,9 @@ use Rattle.grammar.specs.declared.resolved_names.Callee.{Callee}
 use Rattle.arith.specs.declared.operators.Op.{Op}
 use Rattle.grammar.specs.declared.operators.StoreOp.{StoreOp}
 use Rattle.grammar.specs.declared.operators.StoreOp.TheVariants as store
-use Rattle.grammar.specs.Derivation.{Value, AnExpr, AVariable, ACall, Definition}
+use Rattle.grammar.specs.Derivation.{PartialTree, AnExpr, AVariable, ACall, Definition}
 use Rattle.grammar.specs.Grammar as grammar
-use Rattle.grammar.specs.Grammar.{Item, Exactly, AName, Part, Make, Close, Mentioned, Level, Unary, Primary, MoreArguments, SemanticAction, Operate, Negate, Complement, Store, Pass, Invoke, choice}
+use Rattle.grammar.specs.Grammar.{Item, Exactly, AName, Part, Make, Close, Mentioned, Level, Unary, Primary, MoreArguments, SemanticAction, Operate, Negate, Complement, Store, AddArgument, Invoke, choice}
 use Rattle.grammar.specs.Scope.{Scope, variable_of, callee_of}
 use Rattle.grammar.specs.Tree as tree
 use Rattle.grammar.specs.Tree.{Expr, Args, add_argument}
@@ -28,7 +28,7 @@ binary : (o : Op) (a b : Expression) → IsOperand a → IsOperand b → IsTaken
 binary o a b is_a is_b c rest stack values scope functions =
     let goes : Operates o = operates o in
     let right : List Token = spell_part b ++ token.Punctuator (closing_punctuator c) ∷ rest in
-    let both : List Value = AnExpr (tree_of b (behind a scope)) ∷ AnExpr (tree_of a scope) ∷ values in
+    let both : List PartialTree = AnExpr (tree_of b (behind a scope)) ∷ AnExpr (tree_of a scope) ∷ values in
     rw
     (append_assoc (spell_part a) (token.Punctuator (binary_punctuator o) ∷ spell_part b)
     (token.Punctuator (closing_punctuator c) ∷ rest))
@@ -57,7 +57,7 @@ sign_rule Minus = Negate
 sign_rule Not = grammar.Not
 sign_rule Tilde = Complement
 
-sign_begins : (sign : Sign) (tokens : List Token) (stack : List Item) (values : List Value) (scope : Scope)
+sign_begins : (sign : Sign) (tokens : List Token) (stack : List Item) (values : List PartialTree) (scope : Scope)
     (functions : List Definition) →
     Leads (at (Part Unary ∷ stack) (token.Punctuator (sign_punctuator sign) ∷ tokens) values scope functions)
     (at (Part Unary ∷ Make (sign_rule sign) ∷ Close ∷ stack) tokens values scope functions)
@@ -65,7 +65,7 @@ unfolding sign_rule
 sign_begins Minus tokens stack values scope functions = record { steps = 2; leads = refl }
 sign_begins sign tokens stack values scope functions = record { steps = 2; leads = refl }
 
-sign_ends : (sign : Sign) (e : Expr) (c : Closing) (rest : List Token) (stack : List Item) (values : List Value)
+sign_ends : (sign : Sign) (e : Expr) (c : Closing) (rest : List Token) (stack : List Item) (values : List PartialTree)
     (scope : Scope) (functions : List Definition) →
     Leads
     (at (Make (sign_rule sign) ∷ stack) (token.Punctuator (closing_punctuator c) ∷ rest) (AnExpr e ∷ values) scope
@@ -99,7 +99,7 @@ with_sign sign e is c rest stack values scope functions =
 
 -- ++ and --
 
-before_begins : (step : Step) (name : List ℕ) (tokens : List Token) (stack : List Item) (values : List Value)
+before_begins : (step : Step) (name : List ℕ) (tokens : List Token) (stack : List Item) (values : List PartialTree)
     (scope : Scope) (functions : List Definition) →
     Leads
     (at (Part Unary ∷ stack) (token.Punctuator (step_punctuator step) ∷ token.Name name ∷ tokens) values scope
@@ -109,7 +109,7 @@ before_begins : (step : Step) (name : List ℕ) (tokens : List Token) (stack : L
 before_begins Up name tokens stack values scope functions = record { steps = 3; leads = refl }
 before_begins Down name tokens stack values scope functions = record { steps = 3; leads = refl }
 
-behind_begins : (step : Step) (name : List ℕ) (tokens : List Token) (stack : List Item) (values : List Value)
+behind_begins : (step : Step) (name : List ℕ) (tokens : List Token) (stack : List Item) (values : List PartialTree)
     (scope : Scope) (functions : List Definition) →
     Leads
     (at (Part Unary ∷ stack) (token.Name name ∷ token.Punctuator (step_punctuator step) ∷ tokens) values scope
@@ -155,7 +155,7 @@ stepped_behind step name c rest stack values scope functions =
 
 -- an assignment
 
-assignment_begins : (o : StoreOp) (name : List ℕ) (tokens : List Token) (stack : List Item) (values : List Value)
+assignment_begins : (o : StoreOp) (name : List ℕ) (tokens : List Token) (stack : List Item) (values : List PartialTree)
     (scope : Scope) (functions : List Definition) →
     Leads
     (at (Part grammar.Expression ∷ stack) (token.Name name ∷ token.Punctuator (store_punctuator o) ∷ tokens) values
@@ -167,7 +167,7 @@ assignment_begins o name tokens stack values scope functions = record { steps = 
 
 assignment : (o : StoreOp) (name : List ℕ) (e : Expression) → IsOperand e → IsTaken (Assign o name e)
 assignment o name e is c rest stack values scope functions =
-    let variable : Value = AVariable (variable_of name scope) in
+    let variable : PartialTree = AVariable (variable_of name scope) in
     let known : Scope = mentioned name scope in
     let whole : Expr = tree_of (Assign o name e) scope in
     then _ _ _
@@ -213,23 +213,23 @@ stops (Argument e more) rest =
 
 -- one argument
 passed : (e : Expression) → IsOperand e → (tokens : List Token) → Stops tokens →
-    (stack : List Item) (callee : Callee) (arguments : Args) (values : List Value) (scope : Scope)
+    (stack : List Item) (callee : Callee) (arguments : Args) (values : List PartialTree) (scope : Scope)
     (functions : List Definition) →
     Leads
-    (at (Part grammar.Expression ∷ Make Pass ∷ stack) (spell_part e ++ tokens) (ACall callee arguments ∷ values) scope
+    (at (Part grammar.Expression ∷ Make AddArgument ∷ stack) (spell_part e ++ tokens) (ACall callee arguments ∷ values) scope
     functions)
     (at stack tokens (ACall callee (add_argument arguments (tree_of e scope)) ∷ values) (behind e scope) functions)
 passed e is tokens s stack callee arguments values scope functions =
     rw s.is
     (then _ _ _
-    (part_alone e is s.closing s.behind (Make Pass ∷ stack) (ACall callee arguments ∷ values) scope functions)
-    (make Pass stack (token.Punctuator (closing_punctuator s.closing) ∷ s.behind) _ _ (behind e scope) functions refl
+    (part_alone e is s.closing s.behind (Make AddArgument ∷ stack) (ACall callee arguments ∷ values) scope functions)
+    (make AddArgument stack (token.Punctuator (closing_punctuator s.closing) ∷ s.behind) _ _ (behind e scope) functions refl
     refl refl refl))
 
 -- further arguments
 abbrev AreTaken : Arguments → Type 0
 AreTaken more =
-    (rest : List Token) (stack : List Item) (callee : Callee) (arguments : Args) (values : List Value) (scope : Scope)
+    (rest : List Token) (stack : List Item) (callee : Callee) (arguments : Args) (values : List PartialTree) (scope : Scope)
     (functions : List Definition) →
     Leads
     (at (Part MoreArguments ∷ stack) (spell_more more ++ token.Punctuator punctuator.CloseRound ∷ rest)
@@ -250,7 +250,7 @@ one_more e more is others rest stack callee arguments values scope functions =
       sym (with_one_more arguments (tree_of e scope) (trees_of more (behind e scope))),
     )
     (then _
-    (at (Part grammar.Expression ∷ Make Pass ∷ Part MoreArguments ∷ stack) (spell_part e ++ behind_e)
+    (at (Part grammar.Expression ∷ Make AddArgument ∷ Part MoreArguments ∷ stack) (spell_part e ++ behind_e)
     (ACall callee arguments ∷ values) scope functions) _
     (record { steps = 2; leads = refl })
     (then _ _ _
@@ -259,13 +259,13 @@ one_more e more is others rest stack callee arguments values scope functions =
 
 arguments_begin : (e : Expression) (rest : List Token) →
     choice grammar.Arguments (first (spell_part e ++ rest)) (second (spell_part e ++ rest)) ≡
-    Some (Part grammar.Expression ∷ Make Pass ∷ Part MoreArguments ∷ [])
+    Some (Part grammar.Expression ∷ Make AddArgument ∷ Part MoreArguments ∷ [])
 arguments_begin (Constant value) rest = refl
 arguments_begin (Variable name) rest = refl
 arguments_begin e rest = refl
 
 -- up to the bracket after the name
-call_begins : (name : List ℕ) (tokens : List Token) (stack : List Item) (values : List Value) (scope : Scope)
+call_begins : (name : List ℕ) (tokens : List Token) (stack : List Item) (values : List PartialTree) (scope : Scope)
     (functions : List Definition) →
     Leads
     (at (Part grammar.Expression ∷ stack) (token.Name name ∷ token.Punctuator punctuator.OpenRound ∷ tokens) values
@@ -276,7 +276,7 @@ call_begins name tokens stack values scope functions = record { steps = 16; lead
 
 -- from the bracket after the arguments
 call_ends : (callee : Callee) (arguments : Args) (c : Closing) (rest : List Token) (stack : List Item)
-    (values : List Value) (scope : Scope) (functions : List Definition) →
+    (values : List PartialTree) (scope : Scope) (functions : List Definition) →
     Leads
     (at (Exactly punctuator.CloseRound ∷ Make Invoke ∷ Close ∷ tails 10 1 stack)
     (token.Punctuator punctuator.CloseRound ∷ token.Punctuator (closing_punctuator c) ∷ rest)
@@ -321,7 +321,7 @@ call name e more is others c rest stack values scope functions =
       append_assoc (spell_part e) (spell_more more) close,
     )
     (then _ _ _ (call_begins name inner stack values scope functions)
-    (then _ _ _ (part grammar.Arguments (Part grammar.Expression ∷ Make Pass ∷ Part MoreArguments ∷ []) end inner
+    (then _ _ _ (part grammar.Arguments (Part grammar.Expression ∷ Make AddArgument ∷ Part MoreArguments ∷ []) end inner
     (ACall callee tree.NoMore ∷ values) known functions
     (part_sound e (spell_more more ++ close)) (arguments_begin e (spell_more more ++ close)))
     (then _ _ _

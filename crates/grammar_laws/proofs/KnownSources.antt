@@ -2,13 +2,13 @@
 use Rattle.std.proofs.Common.{refl, ◌∷◌}
 use Rattle.grammar.specs.declared.actions.Action.TheVariants.{BeginFunction}
 use Rattle.grammar.specs.Intrinsics.{intrinsic_named, intrinsic_name}
-use Rattle.grammar.specs.NameLimits.{most_levels}
+use Rattle.grammar.specs.NameLimits.{most_nested}
 use Rattle.grammar.specs.Profile.{first_profile}
 use Rattle.grammar.specs.KnownSources.{calls_begun, KnownBeginnings, KnownLimits, KnownMisfits, KnownNameFaults, KnownNeeds, KnownTrees}
 use Rattle.grammar.proofs.Beginnings.{follows_begins}
 
 pub trees : KnownTrees
-unfolding most_levels intrinsic_named intrinsic_name first_profile
+unfolding most_nested intrinsic_named intrinsic_name first_profile
 trees = record {
   nothing = record { compiled = refl; code = refl };
   sum_of_postfix = record { compiled = refl; code = refl };
@@ -21,7 +21,7 @@ trees = record {
 }
 
 pub misfits : KnownMisfits
-unfolding most_levels intrinsic_named intrinsic_name first_profile
+unfolding most_nested intrinsic_named intrinsic_name first_profile
 misfits = record {
   sum_assigned = refl;
   brackets_stepped = refl;
@@ -38,7 +38,7 @@ misfits = record {
 }
 
 pub names : KnownNameFaults
-unfolding most_levels intrinsic_named intrinsic_name first_profile
+unfolding most_nested intrinsic_named intrinsic_name first_profile
 names = record {
   defined_twice = refl;
   mentioned_as_twice = refl;
@@ -56,7 +56,7 @@ names = record {
 }
 
 pub needs : KnownNeeds
-unfolding most_levels intrinsic_named intrinsic_name first_profile
+unfolding most_nested intrinsic_named intrinsic_name first_profile
 needs = record {
   all = refl;
   misfit = refl;
@@ -67,7 +67,7 @@ needs = record {
 }
 
 pub limits : KnownLimits
-unfolding most_levels intrinsic_named intrinsic_name first_profile
+unfolding most_nested intrinsic_named intrinsic_name first_profile
 limits = record {
   deepest = refl;
   too_deep = refl;

@@ -4,8 +4,8 @@ use Rattle.std.proofs.lemmas.List.{append-nil}
 use Rattle.std.specs.Prelude.{Some}
 use Rattle.tokens.specs.declared.located_tokens.LocatedToken.{LocatedToken}
 use Rattle.tokens.specs.declared.located_tokens.Token.{Token}
-use Rattle.grammar.specs.Derivation.{State, state, Value, Definition, derived, next_token, token_after_next, trees_after, functions_defined, scope_after_action}
-use Rattle.grammar.specs.Grammar.{Item, Part, Make, Close, Symbol, SemanticAction, choice, is_fault}
+use Rattle.grammar.specs.Derivation.{State, state, PartialTree, Definition, derived, next_token, token_after_next, trees_after, functions_defined, scope_after_action}
+use Rattle.grammar.specs.Grammar.{Item, Part, Make, Close, Symbol, SemanticAction, choice, is_lexical_error}
 use Rattle.grammar.specs.Scope.{Scope}
 use Rattle.grammar.proofs.Runs.{derived-add}
 
@@ -28,7 +28,7 @@ abbrev pub located_tokens_of : List Token → List LocatedToken
 located_tokens_of tokens = map placed tokens
 
 -- a state with these tokens left
-abbrev pub at : List Item → List Token → List Value → Scope → List Definition → State
+abbrev pub at : List Item → List Token → List PartialTree → Scope → List Definition → State
 at stack tokens values scope functions = state stack (located_tokens_of tokens) values scope functions
 
 abbrev pub first : List Token → Token
@@ -38,24 +38,24 @@ abbrev pub second : List Token → Token
 second tokens = token_after_next (located_tokens_of tokens)
 
 -- a symbol is replaced
-pub part : (symbol : Symbol) (items stack : List Item) (tokens : List Token) (values : List Value) (scope : Scope)
+pub part : (symbol : Symbol) (items stack : List Item) (tokens : List Token) (values : List PartialTree) (scope : Scope)
     (functions : List Definition) →
-    is_fault (first tokens) ≡ false → choice symbol (first tokens) (second tokens) ≡ Some items →
+    is_lexical_error (first tokens) ≡ false → choice symbol (first tokens) (second tokens) ≡ Some items →
     Leads (at (Part symbol ∷ stack) tokens values scope functions) (at (items ++ stack) tokens values scope functions)
 part symbol items stack tokens values scope functions sound chosen =
     record { steps = 1; leads = rw (sound, chosen) refl }
 
 -- a tree is made; only the semantic action of a function's end adds to the functions
-pub make : (rule : SemanticAction) (stack : List Item) (tokens : List Token) (values left : List Value) (scope : Scope)
+pub make : (rule : SemanticAction) (stack : List Item) (tokens : List Token) (values left : List PartialTree) (scope : Scope)
     (functions : List Definition) →
-    is_fault (first tokens) ≡ false → trees_after rule values ≡ left → functions_defined rule values scope ≡ [] →
+    is_lexical_error (first tokens) ≡ false → trees_after rule values ≡ left → functions_defined rule values scope ≡ [] →
     scope_after_action rule scope ≡ scope →
     Leads (at (Make rule ∷ stack) tokens values scope functions) (at stack tokens left scope functions)
 make rule stack tokens values left scope functions sound is quiet same =
     record { steps = 1; leads = rw (sound, is, quiet, same, append-nil functions) refl }
 
-pub close : (stack : List Item) (tokens : List Token) (values : List Value) (scope : Scope)
+pub close : (stack : List Item) (tokens : List Token) (values : List PartialTree) (scope : Scope)
     (functions : List Definition) →
-    is_fault (first tokens) ≡ false →
+    is_lexical_error (first tokens) ≡ false →
     Leads (at (Close ∷ stack) tokens values scope functions) (at stack tokens values scope functions)
 close stack tokens values scope functions sound = record { steps = 1; leads = rw sound refl }

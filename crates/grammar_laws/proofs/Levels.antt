@@ -8,8 +8,8 @@ use Rattle.tokens.specs.declared.located_tokens.Token.{Token}
 use Rattle.tokens.specs.declared.located_tokens.Token.TheVariants as token
 use Rattle.arith.specs.declared.operators.Op.{Op}
 use Rattle.arith.specs.declared.operators.Op.TheVariants as op
-use Rattle.grammar.specs.Derivation.{Value, Definition}
-use Rattle.grammar.specs.Grammar.{Item, Part, Make, Level, Tail, Unary, Operate, is_fault}
+use Rattle.grammar.specs.Derivation.{PartialTree, Definition}
+use Rattle.grammar.specs.Grammar.{Item, Part, Make, Level, Tail, Unary, Operate, is_lexical_error}
 use Rattle.grammar.specs.Scope.{Scope}
 use Rattle.grammar.specs.Operators.{binary_punctuator}
 use Rattle.grammar_laws.proofs.Leading.{Leads, then, at, first, part}
@@ -28,9 +28,9 @@ tightest n sum = grind (arith, nat_tests)
 next_sum : (m n : ℕ) → suc m + n ≡ 11 → m + (n + 1) ≡ 11
 next_sum m n sum = omega arith
 
-pub down : (m n : ℕ) (stack : List Item) (tokens : List Token) (values : List Value) (scope : Scope)
+pub down : (m n : ℕ) (stack : List Item) (tokens : List Token) (values : List PartialTree) (scope : Scope)
     (functions : List Definition) →
-    m + n ≡ 11 → is_fault (first tokens) ≡ false →
+    m + n ≡ 11 → is_lexical_error (first tokens) ≡ false →
     Leads (at (Part (Level n) ∷ stack) tokens values scope functions)
     (at (Part Unary ∷ tails m n stack) tokens values scope functions)
 down zero n stack tokens values scope functions sum sound =
@@ -51,14 +51,14 @@ closing_punctuator Round = punctuator.CloseRound
 closing_punctuator Comma = punctuator.Comma
 closing_punctuator Semicolon = punctuator.Semicolon
 
-no_tail : (n : ℕ) (c : Closing) (stack : List Item) (tokens : List Token) (values : List Value) (scope : Scope)
+no_tail : (n : ℕ) (c : Closing) (stack : List Item) (tokens : List Token) (values : List PartialTree) (scope : Scope)
     (functions : List Definition) →
     Leads (at (Part (Tail n) ∷ stack) (token.Punctuator (closing_punctuator c) ∷ tokens) values scope functions)
     (at stack (token.Punctuator (closing_punctuator c) ∷ tokens) values scope functions)
 no_tail n Round stack tokens values scope functions = record { steps = 1; leads = refl }
 no_tail n c stack tokens values scope functions = record { steps = 1; leads = refl }
 
-pub up : (m n : ℕ) (c : Closing) (stack : List Item) (tokens : List Token) (values : List Value) (scope : Scope)
+pub up : (m n : ℕ) (c : Closing) (stack : List Item) (tokens : List Token) (values : List PartialTree) (scope : Scope)
     (functions : List Definition) →
     Leads (at (tails m n stack) (token.Punctuator (closing_punctuator c) ∷ tokens) values scope functions)
     (at stack (token.Punctuator (closing_punctuator c) ∷ tokens) values scope functions)
@@ -72,7 +72,7 @@ pub record Operates (o : Op) : Type 0 where
   pub level : ℕ
   pub above : ℕ
   pub sum : above + (level + 1) ≡ 11
-  pub goes : (stack : List Item) (tokens : List Token) (values : List Value) (scope : Scope)
+  pub goes : (stack : List Item) (tokens : List Token) (values : List PartialTree) (scope : Scope)
       (functions : List Definition) →
       Leads (at (tails 10 1 stack) (token.Punctuator (binary_punctuator o) ∷ tokens) values scope functions)
       (at (Part (Level (level + 1)) ∷ Make (Operate o) ∷ tails level 1 stack) tokens values scope functions)

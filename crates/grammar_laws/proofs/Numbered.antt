@@ -7,9 +7,9 @@ use Rattle.tokens.specs.declared.located_tokens.Token.{Token}
 use Rattle.tokens.specs.declared.located_tokens.Token.TheVariants as token
 use Rattle.grammar.specs.declared.diagnostics.Code.TheVariants as code
 use Rattle.grammar.specs.Compiled.{order_of, all_defined, all_faults, defined_as, enough_steps, last_line, last_state, main_name}
-use Rattle.grammar.specs.Derivation.{State, state, initial_state, Value, Definition, definition_of, last_body, name_tree, next_token, token_after_next, line_at, name_of_token, constant_value, is_end, matched, name_matched, constant_matched, replaced, stack_step, step, stepped, derived}
-use Rattle.grammar.specs.Faults.{Fault, fault, faults_at, faults_in, stack_faults, definition_faults, name_faults, role_faults, misfit, misfits}
-use Rattle.grammar.specs.Grammar.{Item, Exactly, AKeyword, AName, AConstant, AnEnd, Part, Make, Close, Define, Role, Defined, External, Parameter, Typed, Local, Called, Mentioned, Production, choice, is_fault, is_punctuator, is_keyword}
+use Rattle.grammar.specs.Derivation.{State, state, initial_state, PartialTree, Definition, definition_of, last_body, name_tree, next_token, token_after_next, line_at, name_of_token, constant_value, is_end, matched, name_matched, constant_matched, replaced, stack_step, step, stepped, derived}
+use Rattle.grammar.specs.Faults.{Fault, fault, faults_at, faults_in, stack_faults, definition_faults, name_faults, role_faults, unexpected_token, unexpected_tokens}
+use Rattle.grammar.specs.Grammar.{Item, Exactly, AKeyword, AName, AConstant, AnEnd, Part, Make, Close, Define, Role, Defined, External, Parameter, Typed, Local, Called, Mentioned, Production, choice, is_lexical_error, is_punctuator, is_keyword}
 use Rattle.grammar.specs.Intrinsics.{is_intrinsic}
 use Rattle.grammar.specs.Pools.{FunctionNames, names_of_function}
 use Rattle.grammar.specs.Profile.{Profile}
@@ -18,7 +18,7 @@ use Rattle.grammar.specs.Tree.{Function, File}
 use Rattle.grammar.proofs.FileLaws.{named_at}
 use Rattle.grammar.proofs.NamedFunctions.{AreNamed, named_of_passes}
 use Rattle.grammar.proofs.Phases.{phase_of}
-use Rattle.grammar.proofs.Places.{get_append, map_of_places}
+use Rattle.grammar.proofs.Indices.{get_append, map_of_places}
 use Rattle.grammar.proofs.ResolvedLaws.{AreDefined, IsClean, IsMade, are_defined, is_clean, is_made, Sound, Busy, ended, stepped_sound, run_sound, start_sound}
 use Rattle.grammar.proofs.Runs.{append_empty}
 use Rattle.grammar_laws.specs.Numbering.{Says, Ends, History, distinct, function_names}
@@ -31,31 +31,31 @@ abbrev IfAgrees : History → History → Option State → Type 0
 IfAgrees more h None = more ≡ []
 IfAgrees more h (Some s) = Agrees (more ++ h) s.scope
 
-matched_agrees : (fits : Bool) (stack : List Item) (rest : List LocatedToken) (values : List Value) (scope : Scope)
+matched_agrees : (fits : Bool) (stack : List Item) (rest : List LocatedToken) (values : List PartialTree) (scope : Scope)
     (ds : List Definition) (h : History) → Agrees h scope →
     IfAgrees [] h (matched fits (state stack rest values scope ds))
 matched_agrees true stack rest values scope ds h a = a
 matched_agrees false stack rest values scope ds h a = refl
 
 name_agrees : (role : Role) (name : Option (List ℕ)) (stack : List Item) (rest : List LocatedToken)
-    (values : List Value) (scope : Scope) (ds : List Definition) (h : History) → Agrees h scope →
+    (values : List PartialTree) (scope : Scope) (ds : List Definition) (h : History) → Agrees h scope →
     IfAgrees (says role name) h (name_matched role name (state stack rest values scope ds))
 name_agrees role None stack rest values scope ds h a = refl
 name_agrees role (Some name) stack rest values scope ds h a = agrees_named role name (line_at rest) h scope a
 
-constant_agrees : (value : Option ℕ) (stack : List Item) (rest : List LocatedToken) (values : List Value)
+constant_agrees : (value : Option ℕ) (stack : List Item) (rest : List LocatedToken) (values : List PartialTree)
     (scope : Scope) (ds : List Definition) (h : History) → Agrees h scope →
     IfAgrees [] h (constant_matched value (state stack rest values scope ds))
 constant_agrees None stack rest values scope ds h a = refl
 constant_agrees (Some value) stack rest values scope ds h a = a
 
-part_agrees : (production : Production) (stack : List Item) (rest : List LocatedToken) (values : List Value)
+part_agrees : (production : Production) (stack : List Item) (rest : List LocatedToken) (values : List PartialTree)
     (scope : Scope) (ds : List Definition) (h : History) → Agrees h scope →
     IfAgrees [] h (replaced production (state stack rest values scope ds))
 part_agrees None stack rest values scope ds h a = refl
 part_agrees (Some items) stack rest values scope ds h a = a
 
-step_agrees : (stack : List Item) (rest : List LocatedToken) (values : List Value) (scope : Scope)
+step_agrees : (stack : List Item) (rest : List LocatedToken) (values : List PartialTree) (scope : Scope)
     (ds : List Definition) (h : History) → Agrees h scope →
     IfAgrees (said_of stack rest) h (stack_step stack (state stack rest values scope ds))
 step_agrees [] rest values scope ds h a = refl
@@ -87,7 +87,7 @@ kept_agrees s more h (Some t) a k = k
 
 stepped_agrees : (s : State) (h : History) → Agrees h s.scope → Agrees (said s ++ h) (stepped s).scope
 stepped_agrees s h a = kept_agrees s (said s) h (step s) a
-    (guarded_agrees (is_fault (next_token s.rest)) (said_of s.stack s.rest) h
+    (guarded_agrees (is_lexical_error (next_token s.rest)) (said_of s.stack s.rest) h
     (stack_step s.stack s)
     (step_agrees s.stack s.rest s.values s.scope s.functions h a))
 
@@ -106,7 +106,7 @@ agrees_at located_tokens n =
 
 -- What a name makes.
 
-no_fault : (t : Token) (name : List ℕ) → name_of_token t ≡ Some name → is_fault t ≡ false
+no_fault : (t : Token) (name : List ℕ) → name_of_token t ≡ Some name → is_lexical_error t ≡ false
 no_fault (token.Fault f) name e = absurd (cc)
 no_fault t name e = refl
 
@@ -217,14 +217,14 @@ map_set (g ∷ fs) zero f e =
 map_set (g ∷ fs) (suc n) f e = ap (λ ns. g.name ∷ ns) (map_set fs n f e)
 
 -- the number of the function whose definition ends
-ending_number : (values : List Value) (h : History) (scope : Scope) (ds : List Definition) → Busy values scope ds →
+ending_number : (values : List PartialTree) (h : History) (scope : Scope) (ds : List Definition) → Busy values scope ds →
     Counts h scope ds → slice_get (names_in scope) scope.number ≡ Some scope.current.name
 ending_number values h scope ds b c =
     c.current
     (ap length b.begun ∙ length-append (order_of ds) (scope.number ∷ []) ∙
     ap (λ n. n + 1) (length-map ds (λ (d : Definition). d.number)))
 
-ended_counts : (values : List Value) (d : Definition) (h : History) (scope : Scope) (ds : List Definition) →
+ended_counts : (values : List PartialTree) (d : Definition) (h : History) (scope : Scope) (ds : List Definition) →
     Busy values scope ds → Counts h scope ds → Counts (Ends ∷ h) (end_definition scope) (ds ++ d ∷ [])
 ended_counts values d h scope ds b c = record {
   names = map_set scope.functions scope.number scope.current (ending_number values h scope ds b c) ∙ c.names;
@@ -244,33 +244,33 @@ abbrev IfCounts : History → History → Option State → Type 0
 IfCounts more h None = more ≡ []
 IfCounts more h (Some s) = Counts (more ++ h) s.scope s.functions
 
-matched_counts : (fits : Bool) (stack : List Item) (rest : List LocatedToken) (values : List Value) (scope : Scope)
+matched_counts : (fits : Bool) (stack : List Item) (rest : List LocatedToken) (values : List PartialTree) (scope : Scope)
     (ds : List Definition) (h : History) → Counts h scope ds →
     IfCounts [] h (matched fits (state stack rest values scope ds))
 matched_counts true stack rest values scope ds h c = c
 matched_counts false stack rest values scope ds h c = refl
 
 name_counts : (role : Role) (name : Option (List ℕ)) (stack : List Item) (rest : List LocatedToken)
-    (values : List Value) (scope : Scope) (ds : List Definition) (h : History) →
+    (values : List PartialTree) (scope : Scope) (ds : List Definition) (h : History) →
     name_faults role name scope rest ≡ [] → Counts h scope ds →
     IfCounts (says role name) h (name_matched role name (state stack rest values scope ds))
 name_counts role None stack rest values scope ds h clean c = refl
 name_counts role (Some name) stack rest values scope ds h clean c =
     named_counts role name (line_at rest) rest h scope ds clean c
 
-constant_counts : (value : Option ℕ) (stack : List Item) (rest : List LocatedToken) (values : List Value)
+constant_counts : (value : Option ℕ) (stack : List Item) (rest : List LocatedToken) (values : List PartialTree)
     (scope : Scope) (ds : List Definition) (h : History) → Counts h scope ds →
     IfCounts [] h (constant_matched value (state stack rest values scope ds))
 constant_counts None stack rest values scope ds h c = refl
 constant_counts (Some value) stack rest values scope ds h c = c
 
-part_counts : (production : Production) (stack : List Item) (rest : List LocatedToken) (values : List Value)
+part_counts : (production : Production) (stack : List Item) (rest : List LocatedToken) (values : List PartialTree)
     (scope : Scope) (ds : List Definition) (h : History) → Counts h scope ds →
     IfCounts [] h (replaced production (state stack rest values scope ds))
 part_counts None stack rest values scope ds h c = refl
 part_counts (Some items) stack rest values scope ds h c = c
 
-step_counts : (profile : Profile) (stack : List Item) (rest : List LocatedToken) (values : List Value) (scope : Scope)
+step_counts : (profile : Profile) (stack : List Item) (rest : List LocatedToken) (values : List PartialTree) (scope : Scope)
     (ds : List Definition) (h : History) →
     stack_faults profile stack (state stack rest values scope ds) ≡ [] → Sound (state stack rest values scope ds) →
     Counts h scope ds →
@@ -296,7 +296,7 @@ step_counts profile (Make rule ∷ stack) rest values scope ds h clean s c =
 step_counts profile (Close ∷ stack) rest values scope ds h clean s c = c
 
 guarded_counts : (b : Bool) (more h : History) (rest : List LocatedToken) (xs ys : List Fault) (o : Option State) →
-    (if b then misfit rest else xs ++ ys) ≡ [] → (xs ≡ [] → IfCounts more h o) →
+    (if b then unexpected_token rest else xs ++ ys) ≡ [] → (xs ≡ [] → IfCounts more h o) →
     IfCounts (if b then [] else more) h (if b then None else o)
 guarded_counts true more h rest xs ys o e c = refl
 guarded_counts false more h rest xs ys o e c = c (append_empty xs ys e).0
@@ -309,9 +309,9 @@ kept_counting s more h (Some t) c k = k
 stepped_counts : (profile : Profile) (s : State) (h : History) → faults_at profile s ≡ [] → Sound s →
     Counts h s.scope s.functions → Counts (said s ++ h) (stepped s).scope (stepped s).functions
 stepped_counts profile s h clean sound c = kept_counting s (said s) h (step s) c
-    (guarded_counts (is_fault (next_token s.rest)) (said_of s.stack s.rest) h s.rest
+    (guarded_counts (is_lexical_error (next_token s.rest)) (said_of s.stack s.rest) h s.rest
     (stack_faults profile s.stack s)
-    (misfits s.stack s.rest (stack_step s.stack s))
+    (unexpected_tokens s.stack s.rest (stack_step s.stack s))
     (stack_step s.stack s) clean
     (λ e. step_counts profile s.stack s.rest s.values s.scope s.functions h e
     (record { known = sound.known; tied = sound.tied }) c))
@@ -347,7 +347,7 @@ calls profile located_tokens n name clean next = record {
 -- Definitions.
 
 functions_behind : (s : State) (stack : List Item) → s.stack ≡ Make Define ∷ stack →
-    is_fault (next_token s.rest) ≡ false →
+    is_lexical_error (next_token s.rest) ≡ false →
     (stepped s).functions ≡ s.functions ++ definition_of s.scope (last_body s.values) ∷ []
 functions_behind s stack here sound = rw (sound, here) refl
 

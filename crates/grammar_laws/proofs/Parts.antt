@@ -7,9 +7,9 @@ use Rattle.tokens.specs.declared.located_tokens.Token.{Token}
 use Rattle.tokens.specs.declared.located_tokens.Token.TheVariants as token
 use Rattle.arith.specs.declared.operators.Op.{Op}
 use Rattle.arith.specs.declared.operators.Op.TheVariants as op
-use Rattle.grammar.specs.Derivation.{Value, AnExpr, AVariable, Definition}
+use Rattle.grammar.specs.Derivation.{PartialTree, AnExpr, AVariable, Definition}
 use Rattle.grammar.specs.Grammar as grammar
-use Rattle.grammar.specs.Grammar.{Item, Exactly, AName, Part, Make, Close, Mentioned, Level, Unary, Primary, Fetch, choice, is_fault}
+use Rattle.grammar.specs.Grammar.{Item, Exactly, AName, Part, Make, Close, Mentioned, Level, Unary, Primary, Fetch, choice, is_lexical_error}
 use Rattle.grammar.specs.Scope.{Scope, variable_of}
 use Rattle.grammar_laws.specs.Written.{Expression, Constant, Variable}
 use Rattle.grammar.specs.Operators.{binary_punctuator}
@@ -36,7 +36,7 @@ operator_ends o = record { fetches = λ name. refl; begins = λ name. refl }
 -- the derivation takes an expression as it is spelled, up to the punctuator after it
 abbrev pub IsTaken : Expression → Type 0
 IsTaken e =
-    (c : Closing) (rest : List Token) (stack : List Item) (values : List Value) (scope : Scope)
+    (c : Closing) (rest : List Token) (stack : List Item) (values : List PartialTree) (scope : Scope)
     (functions : List Definition) →
     Leads
     (at (Part grammar.Expression ∷ stack) (spell e ++ token.Punctuator (closing_punctuator c) ∷ rest) values scope
@@ -51,12 +51,12 @@ spell_part e = as_part e (spell e)
 abbrev pub IsOperand : Expression → Type 0
 IsOperand e =
     (m : Punctuator) → EndsPart m →
-    (rest : List Token) (stack : List Item) (values : List Value) (scope : Scope) (functions : List Definition) →
+    (rest : List Token) (stack : List Item) (values : List PartialTree) (scope : Scope) (functions : List Definition) →
     Leads (at (Part Unary ∷ stack) (spell_part e ++ token.Punctuator m ∷ rest) values scope functions)
     (at stack (token.Punctuator m ∷ rest) (AnExpr (tree_of e scope) ∷ values) (behind e scope) functions)
 
 in_brackets : (e : Expression) → IsTaken e →
-    (m : Punctuator) (rest : List Token) (stack : List Item) (values : List Value) (scope : Scope)
+    (m : Punctuator) (rest : List Token) (stack : List Item) (values : List PartialTree) (scope : Scope)
     (functions : List Definition) →
     Leads (at (Part Unary ∷ stack) (brackets (spell e) ++ token.Punctuator m ∷ rest) values scope functions)
     (at stack (token.Punctuator m ∷ rest) (AnExpr (tree_of e scope) ∷ values) (behind e scope) functions)
@@ -93,7 +93,7 @@ operand e taken = λ m ends rest stack values scope functions. in_brackets e tak
 
 -- what a part begins with
 
-pub part_sound : (e : Expression) (rest : List Token) → is_fault (first (spell_part e ++ rest)) ≡ false
+pub part_sound : (e : Expression) (rest : List Token) → is_lexical_error (first (spell_part e ++ rest)) ≡ false
 part_sound (Constant value) rest = refl
 part_sound e rest = refl
 
@@ -105,7 +105,7 @@ part_begins e m rest ends = refl
 
 -- a part after which a level of operators ends
 pub part_at_level : (e : Expression) → IsOperand e → (m n : ℕ) → m + n ≡ 11 →
-    (c : Closing) (rest : List Token) (stack : List Item) (values : List Value) (scope : Scope)
+    (c : Closing) (rest : List Token) (stack : List Item) (values : List PartialTree) (scope : Scope)
     (functions : List Definition) →
     Leads
     (at (Part (Level n) ∷ stack) (spell_part e ++ token.Punctuator (closing_punctuator c) ∷ rest) values scope
@@ -121,7 +121,7 @@ part_at_level e is m n sum c rest stack values scope functions =
 
 -- a part that is an expression of its own
 pub part_alone : (e : Expression) → IsOperand e →
-    (c : Closing) (rest : List Token) (stack : List Item) (values : List Value) (scope : Scope)
+    (c : Closing) (rest : List Token) (stack : List Item) (values : List PartialTree) (scope : Scope)
     (functions : List Definition) →
     Leads
     (at (Part grammar.Expression ∷ stack) (spell_part e ++ token.Punctuator (closing_punctuator c) ∷ rest) values scope

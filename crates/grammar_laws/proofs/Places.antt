@@ -4,8 +4,8 @@ use Rattle.std.proofs.lemmas.List.{map-append}
 use Rattle.std.specs.Prelude.{Option, Some, None, unwrap_or, if◌then◌else◌}
 use Rattle.std.specs.Option.{option_map}
 use Rattle.tokens.specs.declared.located_tokens.LocatedToken.{LocatedToken}
-use Rattle.grammar.specs.Derivation.{State, state, Value, Definition, step, stack_step, stepped, derived, next_token, token_after_next, matched, name_matched, constant_matched, replaced, name_of_token, constant_value, name_tree, functions_defined, scope_after_action, is_end}
-use Rattle.grammar.specs.Grammar.{Item, Exactly, AKeyword, AName, AConstant, AnEnd, Part, Make, Close, Role, Defined, External, Parameter, Typed, Local, Called, Mentioned, SemanticAction, Define, Production, choice, is_punctuator, is_keyword, is_fault}
+use Rattle.grammar.specs.Derivation.{State, state, PartialTree, Definition, step, stack_step, stepped, derived, next_token, token_after_next, matched, name_matched, constant_matched, replaced, name_of_token, constant_value, name_tree, functions_defined, scope_after_action, is_end}
+use Rattle.grammar.specs.Grammar.{Item, Exactly, AKeyword, AName, AConstant, AnEnd, Part, Make, Close, Role, Defined, External, Parameter, Typed, Local, Called, Mentioned, SemanticAction, Define, Production, choice, is_punctuator, is_keyword, is_lexical_error}
 use Rattle.grammar.specs.Scope.{Scope, scope_after_name, with_function, with_new_function, with_variable, with_parameter, with_external, is_function_new, is_variable_new, is_local_new, is_external_new}
 use Rattle.grammar_laws.specs.RoundTrip.{tokens_of}
 use Rattle.grammar_laws.proofs.Leading.{located_tokens_of}
@@ -61,7 +61,7 @@ bare_rule : (rule : SemanticAction) (scope : Scope) →
 bare_rule Define scope = refl
 bare_rule rule scope = refl
 
-bare_defined : (rule : SemanticAction) (values : List Value) (scope : Scope) →
+bare_defined : (rule : SemanticAction) (values : List PartialTree) (scope : Scope) →
     functions_defined rule values (bare_scope scope) ≡ functions_defined rule values scope
 bare_defined Define values scope = refl
 bare_defined rule values scope = refl
@@ -83,7 +83,7 @@ bare_drop (l ∷ rest) = refl
 abbrev AreBare : Option State → Option State → Type 0
 AreBare x y = x ≡ option_map bare y
 
-bare_matched : (fits : Bool) (stack : List Item) (rest : List LocatedToken) (values : List Value) (scope : Scope)
+bare_matched : (fits : Bool) (stack : List Item) (rest : List LocatedToken) (values : List PartialTree) (scope : Scope)
     (functions : List Definition) →
     AreBare (matched fits (state stack (bare_rest rest) values (bare_scope scope) functions))
     (matched fits (state stack rest values scope functions))
@@ -91,28 +91,28 @@ bare_matched true stack rest values scope functions = rw (bare_drop rest) refl
 bare_matched false stack rest values scope functions = refl
 
 bare_name_matched : (role : Role) (name : Option (List ℕ)) (stack : List Item) (l : LocatedToken)
-    (rest : List LocatedToken) (values : List Value) (scope : Scope) (functions : List Definition) →
+    (rest : List LocatedToken) (values : List PartialTree) (scope : Scope) (functions : List Definition) →
     AreBare (name_matched role name (state stack (bare_rest (l ∷ rest)) values (bare_scope scope) functions))
     (name_matched role name (state stack (l ∷ rest) values scope functions))
 bare_name_matched role None stack l rest values scope functions = refl
 bare_name_matched role (Some name) stack l rest values scope functions =
     rw (bare_tree role name scope, bare_name role name l.line scope) refl
 
-bare_constant : (value : Option ℕ) (stack : List Item) (rest : List LocatedToken) (values : List Value) (scope : Scope)
+bare_constant : (value : Option ℕ) (stack : List Item) (rest : List LocatedToken) (values : List PartialTree) (scope : Scope)
     (functions : List Definition) →
     AreBare (constant_matched value (state stack (bare_rest rest) values (bare_scope scope) functions))
     (constant_matched value (state stack rest values scope functions))
 bare_constant None stack rest values scope functions = refl
 bare_constant (Some value) stack rest values scope functions = rw (bare_drop rest) refl
 
-bare_replaced : (items : Production) (stack : List Item) (rest : List LocatedToken) (values : List Value)
+bare_replaced : (items : Production) (stack : List Item) (rest : List LocatedToken) (values : List PartialTree)
     (scope : Scope) (functions : List Definition) →
     AreBare (replaced items (state stack (bare_rest rest) values (bare_scope scope) functions))
     (replaced items (state stack rest values scope functions))
 bare_replaced None stack rest values scope functions = refl
 bare_replaced (Some items) stack rest values scope functions = refl
 
-bare_step_of : (stack : List Item) (rest : List LocatedToken) (values : List Value) (scope : Scope)
+bare_step_of : (stack : List Item) (rest : List LocatedToken) (values : List PartialTree) (scope : Scope)
     (functions : List Definition) →
     AreBare (stack_step stack (state stack (bare_rest rest) values (bare_scope scope) functions))
     (stack_step stack (state stack rest values scope functions))
@@ -143,7 +143,7 @@ unless false x y same = same
 bare_step : (s : State) → AreBare (step (bare s)) (step s)
 bare_step s =
     rw (bare_next s.rest)
-    (unless (is_fault (next_token s.rest)) _ _ (bare_step_of s.stack s.rest s.values s.scope s.functions))
+    (unless (is_lexical_error (next_token s.rest)) _ _ (bare_step_of s.stack s.rest s.values s.scope s.functions))
 
 bare_or : (x : Option State) (s : State) → unwrap_or (option_map bare x) (bare s) ≡ bare (unwrap_or x s)
 bare_or None s = refl

@@ -4,9 +4,9 @@ use Rattle.tokens.specs.declared.located_tokens.Punctuator.TheVariants as punctu
 use Rattle.tokens.specs.declared.located_tokens.Token.{Token}
 use Rattle.tokens.specs.declared.located_tokens.Token.TheVariants as token
 use Rattle.tokens.specs.declared.located_tokens.Keyword.TheVariants as keyword
-use Rattle.grammar.specs.Derivation.{Value, AnExpr, ABody, Definition}
+use Rattle.grammar.specs.Derivation.{PartialTree, AnExpr, ABody, Definition}
 use Rattle.grammar.specs.Grammar as grammar
-use Rattle.grammar.specs.Grammar.{Item, Exactly, Part, Make, Close, Declarations, ElsePart, Back, Empty, Decide, DecideElse, Repeat, Zero, GiveBack, is_fault}
+use Rattle.grammar.specs.Grammar.{Item, Exactly, Part, Make, Close, Declarations, ElsePart, Back, Empty, Decide, DecideElse, Repeat, Zero, GiveBack, is_lexical_error}
 use Rattle.grammar.specs.Scope.{Scope}
 use Rattle.grammar.specs.Tree as tree
 use Rattle.grammar.specs.Tree.{Expr, Body, join}
@@ -23,14 +23,14 @@ use Rattle.grammar.proofs.Joins.{join_done, join_assoc}
 abbrev pub IsAdded : Statement → Type 0
 IsAdded s =
     (rest : List Token) → Follows rest →
-    (stack : List Item) (before : Body) (values : List Value) (scope : Scope) (functions : List Definition) →
+    (stack : List Item) (before : Body) (values : List PartialTree) (scope : Scope) (functions : List Definition) →
     Leads (at (Part grammar.Statement ∷ stack) (spell_statement s ++ rest) (ABody before ∷ values) scope functions)
     (at stack rest (ABody (join before (body_of s scope)) ∷ values) (behind_statement s scope) functions)
 
 -- statements are added up to the brace
 abbrev AreAdded : Statements → Type 0
 AreAdded body =
-    (rest : List Token) (stack : List Item) (before : Body) (values : List Value) (scope : Scope)
+    (rest : List Token) (stack : List Item) (before : Body) (values : List PartialTree) (scope : Scope)
     (functions : List Definition) →
     Leads
     (at (Part grammar.Statements ∷ stack) (spell_statements body ++ token.Punctuator punctuator.CloseCurly ∷ rest)
@@ -39,8 +39,8 @@ AreAdded body =
     (behind_statements body scope) functions)
 
 -- a block, and a body in braces
-block : (body : Statements) → AreAdded body → (rest : List Token) → is_fault (first rest) ≡ false →
-    (stack : List Item) (before : Body) (values : List Value) (scope : Scope) (functions : List Definition) →
+block : (body : Statements) → AreAdded body → (rest : List Token) → is_lexical_error (first rest) ≡ false →
+    (stack : List Item) (before : Body) (values : List PartialTree) (scope : Scope) (functions : List Definition) →
     Leads
     (at (Part grammar.Statement ∷ stack) (braces (spell_statements body) ++ rest) (ABody before ∷ values) scope
     functions)
@@ -83,8 +83,8 @@ evaluate e rest f stack before values scope functions =
 
 -- a condition in brackets, and the body after it
 conditioned : (c : Expression) (body : Statements) → AreAdded body → (rest : List Token) →
-    is_fault (first rest) ≡ false →
-    (stack : List Item) (values : List Value) (scope : Scope) (functions : List Definition) →
+    is_lexical_error (first rest) ≡ false →
+    (stack : List Item) (values : List PartialTree) (scope : Scope) (functions : List Definition) →
     Leads
     (at (Part grammar.Expression ∷ Exactly punctuator.CloseRound ∷ Make Empty ∷ Part grammar.Statement ∷ stack)
     (spell c ++ token.Punctuator punctuator.CloseRound ∷ (braces (spell_statements body) ++ rest)) values scope
@@ -93,7 +93,7 @@ conditioned : (c : Expression) (body : Statements) → AreAdded body → (rest :
     (behind_statements body (behind c scope)) functions)
 conditioned c body added rest sound stack values scope functions =
     let tokens : List Token = braces (spell_statements body) ++ rest in
-    let test : List Value = AnExpr (tree_of c scope) ∷ values in
+    let test : List PartialTree = AnExpr (tree_of c scope) ∷ values in
     then _ _ _
     (taken c Round tokens (Exactly punctuator.CloseRound ∷ Make Empty ∷ Part grammar.Statement ∷ stack) values scope
     functions)
@@ -117,7 +117,7 @@ opened c more rest =
 decide : (c : Expression) (body : Statements) → AreAdded body → IsAdded (If c body)
 decide c body added rest f stack before values scope functions =
     let known : Scope = behind_statements body (behind c scope) in
-    let parts : List Value =
+    let parts : List PartialTree =
     ABody (bodies_of body (behind c scope)) ∷ AnExpr (tree_of c scope) ∷ ABody before ∷ values in
     let all : Body = join before (body_of (If c body) scope) in
     let end : List Item = Part ElsePart ∷ Close ∷ stack in
@@ -137,7 +137,7 @@ decide_else : (c : Expression) (body other : Statements) → AreAdded body → A
 decide_else c body other added added_other rest f stack before values scope functions =
     let known : Scope = behind_statements body (behind c scope) in
     let learnt : Scope = behind_statements other known in
-    let parts : List Value =
+    let parts : List PartialTree =
     ABody (bodies_of body (behind c scope)) ∷ AnExpr (tree_of c scope) ∷ ABody before ∷ values in
     let all : Body = join before (body_of (IfElse c body other) scope) in
     let second_body : List Token = braces (spell_statements other) in
@@ -169,7 +169,7 @@ decide_else c body other added added_other rest f stack before values scope func
 repeat : (c : Expression) (body : Statements) → AreAdded body → IsAdded (While c body)
 repeat c body added rest f stack before values scope functions =
     let known : Scope = behind_statements body (behind c scope) in
-    let parts : List Value =
+    let parts : List PartialTree =
     ABody (bodies_of body (behind c scope)) ∷ AnExpr (tree_of c scope) ∷ ABody before ∷ values in
     let all : Body = join before (body_of (While c body) scope) in
     let end : List Item = Make Repeat ∷ Close ∷ stack in
@@ -184,8 +184,8 @@ repeat c body added rest f stack before values scope functions =
     (close stack rest (ABody all ∷ values) known functions f.sound))))
 
 -- the semicolon after a return
-return_ends : (e : Expr) (rest : List Token) → is_fault (first rest) ≡ false →
-    (stack : List Item) (before : Body) (values : List Value) (scope : Scope) (functions : List Definition) →
+return_ends : (e : Expr) (rest : List Token) → is_lexical_error (first rest) ≡ false →
+    (stack : List Item) (before : Body) (values : List PartialTree) (scope : Scope) (functions : List Definition) →
     Leads
     (at (Exactly punctuator.Semicolon ∷ Make GiveBack ∷ stack) (token.Punctuator punctuator.Semicolon ∷ rest)
     (AnExpr e ∷ ABody before ∷ values) scope functions)
@@ -199,7 +199,7 @@ return_alone : IsAdded Return
 return_alone rest f stack before values scope functions =
     let tokens : List Token = token.Punctuator punctuator.Semicolon ∷ rest in
     let end : List Item = Exactly punctuator.Semicolon ∷ Make GiveBack ∷ stack in
-    let zero : Value = AnExpr (tree.Constant (pos 0)) in
+    let zero : PartialTree = AnExpr (tree.Constant (pos 0)) in
     then _ (at (Make Zero ∷ end) tokens (ABody before ∷ values) scope functions) _
     (record { steps = 3; leads = refl })
     (then _ _ _

@@ -8,10 +8,10 @@ use Rattle.grammar.specs.declared.resolved_names.Var.{Var}
 use Rattle.grammar.specs.declared.actions.Action.{Action}
 use Rattle.grammar.specs.declared.actions.Action.TheVariants.{PushConstant, BeginCall, IfTest, BeginFunction}
 use Rattle.grammar.specs.Actions.{expr_actions, args_actions, body_actions}
-use Rattle.grammar.specs.Beginning.{AreTellable}
-use Rattle.grammar.specs.Derivation.{Value, AnExpr, AVariable, ACall, ABody, Definition, last_body, trees_after}
+use Rattle.grammar.specs.Beginning.{AreReportable}
+use Rattle.grammar.specs.Derivation.{PartialTree, AnExpr, AVariable, ACall, ABody, Definition, last_body, trees_after}
 use Rattle.grammar_laws.specs.Emission.{on_rule}
-use Rattle.grammar.specs.Faults.{definitions_actions, levels}
+use Rattle.grammar.specs.Faults.{definitions_actions, nested_count}
 use Rattle.grammar.specs.Grammar.{Symbol, Source, Types, Head, More, Parameters, ParameterTypes, FunctionBlock, Block}
 use Rattle.grammar.specs.Grammar.{Declarations, Statements, Statement, ElsePart, Back, Expression, Level, Tail, Unary}
 use Rattle.grammar.specs.Grammar.{Primary, Arguments, MoreArguments, Role, Defined, Parameter, Called, Mentioned, Item}
@@ -38,7 +38,7 @@ pub record BodyFits (A : Type 0) (room : ℕ) (b : Body) : Type 0 where
 -- what is true of the trees, of the number and the parameters of the function that is being defined, of the functions
 -- defined, and of the actions
 abbrev pub Fact : Type 1
-Fact = List Value → ℕ → ℕ → List Definition → List Action → Type 0
+Fact = List PartialTree → ℕ → ℕ → List Definition → List Action → Type 0
 
 -- Trees that grow.
 
@@ -81,39 +81,39 @@ pub record Branches (A : Type 0) (least : ℕ) (next : Body → List Action → 
 -- between functions
 pub record Between (A : Type 0) (next : Fact) (ds : List Definition) (acts : List Action) : Type 0 where
   pub told : definitions_actions ds ≡ acts
-  pub fit : A → AreTellable ds
-  pub on : (values : List Value) (n k : ℕ) (more : List Definition) → (A → AreTellable more) →
+  pub fit : A → AreReportable ds
+  pub on : (values : List PartialTree) (n k : ℕ) (more : List Definition) → (A → AreReportable more) →
       next values n k more (definitions_actions more)
 
 -- at a function's end
-pub record Defines (A : Type 0) (next : Fact) (values : List Value) (n k : ℕ) (ds : List Definition)
+pub record Defines (A : Type 0) (next : Fact) (values : List PartialTree) (n k : ℕ) (ds : List Definition)
     (acts : List Action) : Type 0 where
   pub told : definitions_actions ds ++ (BeginFunction n k ∷ body_actions (last_body values)) ≡ acts
-  pub fit : A → AreTellable ds
+  pub fit : A → AreReportable ds
   pub body : BodyFits A 200 (last_body values)
   pub numbers : A → (n < 64) × (k ≤ 64)
-  pub on : (left : List Value) (m j : ℕ) (more : List Definition) → (A → AreTellable more) →
+  pub on : (left : List PartialTree) (m j : ℕ) (more : List Definition) → (A → AreReportable more) →
       next left m j more (definitions_actions more)
 
 pub record Ends (A : Type 0) (ds : List Definition) (acts : List Action) : Type 0 where
   pub told : definitions_actions ds ≡ acts
-  pub fit : A → AreTellable ds
+  pub fit : A → AreReportable ds
 
 -- The last trees.
 
-abbrev pub OnExpr : (Expr → List Value → Type 0) → List Value → Type 0
+abbrev pub OnExpr : (Expr → List PartialTree → Type 0) → List PartialTree → Type 0
 OnExpr P (AnExpr e ∷ below) = P e below
 OnExpr P values = ⊥
 
-abbrev pub OnCall : (Callee → Args → List Value → Type 0) → List Value → Type 0
+abbrev pub OnCall : (Callee → Args → List PartialTree → Type 0) → List PartialTree → Type 0
 OnCall P (ACall f args ∷ below) = P f args below
 OnCall P values = ⊥
 
-abbrev pub OnBody : (Body → List Value → Type 0) → List Value → Type 0
+abbrev pub OnBody : (Body → List PartialTree → Type 0) → List PartialTree → Type 0
 OnBody P (ABody b ∷ below) = P b below
 OnBody P values = ⊥
 
-abbrev pub OnBranch : (Body → Expr → Body → List Value → Type 0) → List Value → Type 0
+abbrev pub OnBranch : (Body → Expr → Body → List PartialTree → Type 0) → List PartialTree → Type 0
 OnBranch P (ABody s ∷ AnExpr c ∷ ABody b ∷ below) = P s c b below
 OnBranch P values = ⊥
 
@@ -157,7 +157,7 @@ Listed role next values n k ds acts = next values n k ds acts
 
 -- how much may be open at once within this many levels, without the right sides of && and ||
 abbrev pub room_in : List Item → ℕ
-room_in stack = 3 * (64 - levels stack)
+room_in stack = 3 * (64 - nested_count stack)
 
 abbrev pub Parted : Type 0 → Symbol → ℕ → Fact → Fact
 Parted A Source room next values n k ds acts = Between A next ds acts

@@ -5,13 +5,13 @@ use Rattle.std.specs.Prelude.{Option, Some, nat_le, if◌then◌else◌}
 use Rattle.tokens.specs.declared.located_tokens.LocatedToken.{LocatedToken}
 use Rattle.grammar.specs.declared.diagnostics.Code.TheVariants as code
 use Rattle.grammar.specs.Compiled.{order_of}
-use Rattle.grammar.specs.Derivation.{State, state, Value, Definition, next_token, token_after_next, line_at, name_of_token}
+use Rattle.grammar.specs.Derivation.{State, state, PartialTree, Definition, next_token, token_after_next, line_at, name_of_token}
 use Rattle.grammar.specs.Derivation.{stack_step}
-use Rattle.grammar.specs.Faults.{Fault, fault, faults_at, stack_faults, levels, misfit, misfits}
+use Rattle.grammar.specs.Faults.{Fault, fault, faults_at, stack_faults, nested_count, unexpected_token, unexpected_tokens}
 use Rattle.grammar.specs.Faults.{name_faults, only_if, role_faults}
 use Rattle.grammar.specs.Grammar.{Symbol, FunctionBlock, Item, AName, Part, Make, Define, Role, Called, Mentioned}
-use Rattle.grammar.specs.Grammar.{enters, is_fault}
-use Rattle.grammar.specs.NameLimits.{most_levels}
+use Rattle.grammar.specs.Grammar.{enters, is_lexical_error}
+use Rattle.grammar.specs.NameLimits.{most_nested}
 use Rattle.grammar.specs.Profile.{Profile}
 use Rattle.grammar.specs.Resolved.{IsAmong}
 use Rattle.grammar.specs.Scope.{Scope, scope_after_name, callee_of, variable_of}
@@ -26,8 +26,8 @@ use Rattle.grammar_laws.proofs.TellingSteps.{Allows, NameAllows}
 -- Levels.
 
 level_below : (enters : Bool) (open_levels : ℕ) (f : Fault) →
-    only_if enters (only_if (nat_le most_levels open_levels) (f ∷ [])) ≡ [] → enters ≡ true → open_levels < 64
-unfolding most_levels
+    only_if enters (only_if (nat_le most_nested open_levels) (f ∷ [])) ≡ [] → enters ≡ true → open_levels < 64
+unfolding most_nested
 level_below true open_levels f clean e = by (nat_le 64 open_levels) refl clean
   where
     by : (b : Bool) → nat_le 64 open_levels ≡ b → only_if b (f ∷ []) ≡ [] → open_levels < 64
@@ -66,7 +66,7 @@ name_allowed role name scope ds rest k clean = tt
 
 -- Functions.
 
-begins_allowed : (symbol : Symbol) (stack : List Item) (rest : List LocatedToken) (values : List Value) (scope : Scope)
+begins_allowed : (symbol : Symbol) (stack : List Item) (rest : List LocatedToken) (values : List PartialTree) (scope : Scope)
     (ds : List Definition) → Sound (state (Part symbol ∷ stack) rest values scope ds) → Begins (Unit {0}) symbol scope
 begins_allowed FunctionBlock stack rest values scope ds s =
     let k : Known scope ds = s.known in
@@ -79,12 +79,12 @@ begins_allowed symbol stack rest values scope ds s = tt
 
 -- Any item.
 
-item_allowed : (profile : Profile) (stack : List Item) (rest : List LocatedToken) (values : List Value) (scope : Scope)
+item_allowed : (profile : Profile) (stack : List Item) (rest : List LocatedToken) (values : List PartialTree) (scope : Scope)
     (ds : List Definition) → Clean (stack_faults profile stack (state stack rest values scope ds)) →
     Sound (state stack rest values scope ds) → Allows (Unit {0}) stack rest scope
 item_allowed profile [] rest values scope ds clean s = tt
 item_allowed profile (Part symbol ∷ stack) rest values scope ds clean s = (
-  (λ a e. level_below (enters symbol (next_token rest) (token_after_next rest)) (levels stack)
+  (λ a e. level_below (enters symbol (next_token rest) (token_after_next rest)) (nested_count stack)
       (fault rest code.NestedTooDeeply)
       clean e),
   begins_allowed symbol stack rest values scope ds s,
@@ -95,18 +95,18 @@ item_allowed profile (Make Define ∷ stack) rest values scope ds clean s = λ a
 item_allowed profile (item ∷ stack) rest values scope ds clean s = tt
 
 guarded_clean : (b : Bool) (rest : List LocatedToken) (xs ys : List Fault) →
-    (if b then misfit rest else xs ++ ys) ≡ [] → b ≡ false → xs ≡ []
+    (if b then unexpected_token rest else xs ++ ys) ≡ [] → b ≡ false → xs ≡ []
 guarded_clean true rest xs ys e is = absurd (cc)
 guarded_clean false rest xs ys e is = (append_empty xs ys e).0
 
 pub allowed : (profile : Profile) (s : State) → faults_at profile s ≡ [] → Sound s →
-    is_fault (next_token s.rest) ≡ false →
+    is_lexical_error (next_token s.rest) ≡ false →
     Allows (Unit {0}) s.stack s.rest s.scope
 allowed profile s clean h e =
     item_allowed profile s.stack s.rest s.values s.scope s.functions
-    (guarded_clean (is_fault (next_token s.rest)) s.rest
+    (guarded_clean (is_lexical_error (next_token s.rest)) s.rest
     (stack_faults profile s.stack s)
-    (misfits s.stack s.rest (stack_step s.stack s)) clean e)
+    (unexpected_tokens s.stack s.rest (stack_step s.stack s)) clean e)
     (record { known = h.known; tied = h.tied })
 
 -- Without limits nothing is asked.

@@ -15,12 +15,12 @@ use Rattle.grammar.specs.declared.actions.Action.{Action}
 use Rattle.grammar.specs.declared.actions.Action.TheVariants.{PushConstant, StoreVariable, ApplyBinop, BeginCall}
 use Rattle.grammar.specs.declared.actions.Action.TheVariants.{EndCall}
 use Rattle.grammar.specs.Actions.{expr_actions, args_actions, middle}
-use Rattle.grammar.specs.Derivation.{Value, AnExpr, ACall, Definition}
+use Rattle.grammar.specs.Derivation.{PartialTree, AnExpr, ACall, Definition}
 use Rattle.grammar_laws.specs.Emission.{on_choice, on_operator}
-use Rattle.grammar.specs.Faults.{levels}
+use Rattle.grammar.specs.Faults.{nested_count}
 use Rattle.grammar.specs.Grammar.{Symbol, Source, Types, Head, More, Parameters, ParameterTypes, FunctionBlock, Block}
 use Rattle.grammar.specs.Grammar.{Declarations, Statements, Statement, ElsePart, Back, Expression, Level, Tail, Unary}
-use Rattle.grammar.specs.Grammar.{Primary, Arguments, MoreArguments, Item, Part, Make, Operate, Pass, choice}
+use Rattle.grammar.specs.Grammar.{Primary, Arguments, MoreArguments, Item, Part, Make, Operate, AddArgument, choice}
 use Rattle.grammar.specs.Grammar.{assignment_or, tail_production}
 use Rattle.grammar.specs.Operators.{operator_at, store_of}
 use Rattle.grammar.specs.Scope.{Scope}
@@ -34,7 +34,7 @@ use Rattle.grammar_laws.proofs.TellingProductions.{else_tells}
 use Rattle.grammar_laws.proofs.Telling.{ExprFits, Fact, Gives, Goes, Passed, Parted, room_in, Tells}
 
 -- an expression more, with its actions as they come
-given : (A : Type 0) (room : ℕ) (next : Fact) (values : List Value) (n k : ℕ) (ds : List Definition)
+given : (A : Type 0) (room : ℕ) (next : Fact) (values : List PartialTree) (n k : ℕ) (ds : List Definition)
     (acts : List Action) → Gives A room next values n k ds acts →
     (e : Expr) → ExprFits A room e → (more : List Action) → acts ++ expr_actions e ≡ more →
     next (AnExpr e ∷ values) n k ds more
@@ -43,7 +43,7 @@ given A room next values n k ds acts h e f more is =
 
 -- Operators of a level.
 
-level_tells : (A : Type 0) (m : ℕ) (b : Bool) (stack : List Item) (values : List Value) (n k : ℕ) (ds : List Definition)
+level_tells : (A : Type 0) (m : ℕ) (b : Bool) (stack : List Item) (values : List PartialTree) (n k : ℕ) (ds : List Definition)
     (acts : List Action) →
     Gives A (room_in stack + (3 - m)) (Tells A stack) values n k ds acts →
     Produced A (if b then Some (Part (Level (m + 1)) ∷ Part (Tail m) ∷ []) else Some (Part Unary ∷ []))
@@ -57,7 +57,7 @@ level_tells A m true stack values n k ds acts h = λ e f. record {
 level_tells A m false stack values n k ds acts h =
     λ e f. h e (expr_wider A (room_in stack) (room_in stack + (3 - m)) e (λ a. omega arith) f)
 
-pub no_more_operators : (A : Type 0) (room : ℕ) (next : Fact) (values : List Value) (n k : ℕ) (ds : List Definition)
+pub no_more_operators : (A : Type 0) (room : ℕ) (next : Fact) (values : List PartialTree) (n k : ℕ) (ds : List Definition)
     (acts : List Action) → Goes A room next values n k ds acts → next values n k ds acts
 no_more_operators A room next (AnExpr e ∷ below) n k ds acts h =
     subst (λ (xs : List Action). next (AnExpr e ∷ below) n k ds xs) h.told (h.on e h.fits)
@@ -74,7 +74,7 @@ operated base a acts b o e =
     again m = simp append_assoc refl
 
 one_more_operator : (A : Type 0) (m : ℕ) (p : Punctuator) (o : Op) → operator_at m (token.Punctuator p) ≡ Some o →
-    (stack : List Item) (values : List Value) (n k : ℕ) (ds : List Definition) (acts : List Action) →
+    (stack : List Item) (values : List PartialTree) (n k : ℕ) (ds : List Definition) (acts : List Action) →
     Goes A (room_in stack + (3 - m)) (Tells A stack) values n k ds acts →
     Tells A (Part (Level (m + 1)) ∷ Make (Operate o) ∷ Part (Tail m) ∷ stack) values n k ds
     (and_then acts (middle o))
@@ -88,14 +88,14 @@ one_more_operator A m p o is stack (AnExpr e ∷ below) n k ds acts h = λ b f. 
 one_more_operator A m p o is stack values n k ds acts h = absurd h
 
 operator_tells : (A : Type 0) (m : ℕ) (p : Punctuator) (o : Option Op) → operator_at m (token.Punctuator p) ≡ o →
-    (stack : List Item) (values : List Value) (n k : ℕ) (ds : List Definition) (acts : List Action) →
+    (stack : List Item) (values : List PartialTree) (n k : ℕ) (ds : List Definition) (acts : List Action) →
     Goes A (room_in stack + (3 - m)) (Tells A stack) values n k ds acts →
     Produced A (Some (tail_production m o p)) stack values n k ds (and_then acts (on_operator o))
 operator_tells A m p None is stack values n k ds acts h =
     no_more_operators A (room_in stack + (3 - m)) (Tells A stack) values n k ds acts h
 operator_tells A m p (Some o) is stack values n k ds acts h = one_more_operator A m p o is stack values n k ds acts h
 
-tail_tells : (A : Type 0) (m : ℕ) (next after : Token) (stack : List Item) (values : List Value) (scope : Scope)
+tail_tells : (A : Type 0) (m : ℕ) (next after : Token) (stack : List Item) (values : List PartialTree) (scope : Scope)
     (n k : ℕ) (ds : List Definition) (acts : List Action) →
     Goes A (room_in stack + (3 - m)) (Tells A stack) values n k ds acts →
     Produced A (choice (Tail m) next after) stack values n k ds (and_then acts (on_choice (Tail m) next scope))
@@ -106,17 +106,17 @@ tail_tells A m next after stack values scope n k ds acts h =
 
 -- Assignments.
 
-assignment_tells : (A : Type 0) (o : Option StoreOp) (p : Punctuator) (stack : List Item) (values : List Value)
+assignment_tells : (A : Type 0) (o : Option StoreOp) (p : Punctuator) (stack : List Item) (values : List PartialTree)
     (n k : ℕ) (ds : List Definition) (acts : List Action) →
     Gives A (room_in stack + 2) (Tells A stack) values n k ds acts →
     Produced A (Some (assignment_or o p)) stack values n k ds acts
 assignment_tells A None p stack values n k ds acts h = h
 assignment_tells A (Some o) p stack values n k ds acts h = λ v i e f.
     given A (room_in stack + 2) (Tells A stack) values n k ds acts h (tree.Assign o v e)
-    (assign_fits A (3 * (64 - (levels stack + 1)) + 2) (room_in stack + 2) o v e (λ a. omega arith) i f)
+    (assign_fits A (3 * (64 - (nested_count stack + 1)) + 2) (room_in stack + 2) o v e (λ a. omega arith) i f)
     _ (sym (append_assoc acts (expr_actions e) (StoreVariable v o ∷ [])))
 
-expression_tells : (A : Type 0) (next after : Token) (stack : List Item) (values : List Value) (n k : ℕ)
+expression_tells : (A : Type 0) (next after : Token) (stack : List Item) (values : List PartialTree) (n k : ℕ)
     (ds : List Definition) (acts : List Action) →
     Gives A (room_in stack + 2) (Tells A stack) values n k ds acts →
     Produced A (choice Expression next after) stack values n k ds acts
@@ -124,7 +124,7 @@ expression_tells A (token.Name name) (token.Punctuator p) stack values n k ds ac
     assignment_tells A (store_of p) p stack values n k ds acts h
 expression_tells A next after stack values n k ds acts h = h
 
-back_tells : (A : Type 0) (next after : Token) (stack : List Item) (values : List Value) (n k : ℕ)
+back_tells : (A : Type 0) (next after : Token) (stack : List Item) (values : List PartialTree) (n k : ℕ)
     (ds : List Definition) (acts : List Action) →
     Gives A (room_in stack + 2) (Tells A stack) values n k ds acts →
     Produced A (choice Back next after) stack values n k ds acts
@@ -136,7 +136,7 @@ back_tells A next after stack values n k ds acts h = h
 
 -- the room within a level more
 abbrev inner : List Item → ℕ
-inner stack = 3 * (64 - (levels stack + 1))
+inner stack = 3 * (64 - (nested_count stack + 1))
 
 negated : (acts e : List Action) → acts ++ (PushConstant (pos 0) ∷ (e ++ ApplyBinop op.Subtract ∷ [])) ≡
     ((acts ++ PushConstant (pos 0) ∷ []) ++ e) ++ ApplyBinop op.Subtract ∷ []
@@ -146,7 +146,7 @@ compared : (acts e : List Action) (value : ℤ) (o : Op) →
     acts ++ (e ++ PushConstant value ∷ ApplyBinop o ∷ []) ≡ (acts ++ e) ++ PushConstant value ∷ ApplyBinop o ∷ []
 compared acts e value o = simp append_assoc refl
 
-unary_tells : (A : Type 0) (next after : Token) (stack : List Item) (values : List Value) (scope : Scope) (n k : ℕ)
+unary_tells : (A : Type 0) (next after : Token) (stack : List Item) (values : List PartialTree) (scope : Scope) (n k : ℕ)
     (ds : List Definition) (acts : List Action) →
     Gives A (room_in stack) (Tells A stack) values n k ds acts →
     Produced A (choice Unary next after) stack values n k ds (and_then acts (on_choice Unary next scope))
@@ -179,7 +179,7 @@ called : (acts args : List Action) (last : Action) →
     acts ++ (BeginCall ∷ (args ++ last ∷ [])) ≡ ((acts ++ BeginCall ∷ []) ++ args) ++ last ∷ []
 called acts args last = simp append_assoc refl
 
-primary_tells : (A : Type 0) (next after : Token) (stack : List Item) (values : List Value) (n k : ℕ)
+primary_tells : (A : Type 0) (next after : Token) (stack : List Item) (values : List PartialTree) (n k : ℕ)
     (ds : List Definition) (acts : List Action) → Enters A Primary next after stack →
     Gives A (room_in stack) (Tells A stack) values n k ds acts →
     Produced A (choice Primary next after) stack values n k ds acts
@@ -207,15 +207,15 @@ primary_tells A next after stack values n k ds acts level h = tt
 
 -- Arguments.
 
-pub no_more_arguments : (A : Type 0) (room : ℕ) (next : Fact) (values : List Value) (n k : ℕ) (ds : List Definition)
+pub no_more_arguments : (A : Type 0) (room : ℕ) (next : Fact) (values : List PartialTree) (n k : ℕ) (ds : List Definition)
     (acts : List Action) → Passed A room next values n k ds acts → next values n k ds acts
 no_more_arguments A room next (ACall c args ∷ below) n k ds acts h =
     subst (λ (xs : List Action). next (ACall c args ∷ below) n k ds xs) h.told (h.on args h.fits)
 no_more_arguments A room next values n k ds acts h = absurd h
 
-one_more_argument : (A : Type 0) (stack : List Item) (values : List Value) (n k : ℕ) (ds : List Definition)
+one_more_argument : (A : Type 0) (stack : List Item) (values : List PartialTree) (n k : ℕ) (ds : List Definition)
     (acts : List Action) → Passed A (room_in stack + 2) (Tells A stack) values n k ds acts →
-    Tells A (Part Expression ∷ Make Pass ∷ Part MoreArguments ∷ stack) values n k ds acts
+    Tells A (Part Expression ∷ Make AddArgument ∷ Part MoreArguments ∷ stack) values n k ds acts
 one_more_argument A stack (ACall c args ∷ below) n k ds acts h = λ e f. record {
   base = h.base;
   told = ap (λ xs. h.base ++ xs) (argument_actions args e)
@@ -226,7 +226,7 @@ one_more_argument A stack (ACall c args ∷ below) n k ds acts h = λ e f. recor
 }
 one_more_argument A stack values n k ds acts h = absurd h
 
-arguments_tell : (A : Type 0) (next after : Token) (stack : List Item) (values : List Value) (n k : ℕ)
+arguments_tell : (A : Type 0) (next after : Token) (stack : List Item) (values : List PartialTree) (n k : ℕ)
     (ds : List Definition) (acts : List Action) →
     Passed A (room_in stack + 2) (Tells A stack) values n k ds acts →
     Produced A (choice Arguments next after) stack values n k ds acts
@@ -234,7 +234,7 @@ arguments_tell A (token.Punctuator punctuator.CloseRound) after stack values n k
     no_more_arguments A (room_in stack + 2) (Tells A stack) values n k ds acts h
 arguments_tell A next after stack values n k ds acts h = one_more_argument A stack values n k ds acts h
 
-further_arguments_tell : (A : Type 0) (next after : Token) (stack : List Item) (values : List Value) (n k : ℕ)
+further_arguments_tell : (A : Type 0) (next after : Token) (stack : List Item) (values : List PartialTree) (n k : ℕ)
     (ds : List Definition) (acts : List Action) →
     Passed A (room_in stack + 2) (Tells A stack) values n k ds acts →
     Produced A (choice MoreArguments next after) stack values n k ds acts
@@ -245,25 +245,25 @@ further_arguments_tell A next after stack values n k ds acts h =
 
 -- Any symbol.
 
-types_tell : (A : Type 0) (next after : Token) (stack : List Item) (values : List Value) (n k : ℕ)
+types_tell : (A : Type 0) (next after : Token) (stack : List Item) (values : List PartialTree) (n k : ℕ)
     (ds : List Definition) (acts : List Action) →
     Tells A stack values n k ds acts → Produced A (choice Types next after) stack values n k ds acts
 types_tell A (token.Keyword keyword.Type) after stack values n k ds acts h = h
 types_tell A next after stack values n k ds acts h = h
 
-parameters_tell : (A : Type 0) (next after : Token) (stack : List Item) (values : List Value) (n k : ℕ)
+parameters_tell : (A : Type 0) (next after : Token) (stack : List Item) (values : List PartialTree) (n k : ℕ)
     (ds : List Definition) (acts : List Action) →
     ((j : ℕ) → Tells A stack values n j ds acts) → Produced A (choice Parameters next after) stack values n k ds acts
 parameters_tell A (token.Name name) after stack values n k ds acts h = λ j i. h i
 parameters_tell A next after stack values n k ds acts h = h k
 
-parameter_types_tell : (A : Type 0) (next after : Token) (stack : List Item) (values : List Value) (n k : ℕ)
+parameter_types_tell : (A : Type 0) (next after : Token) (stack : List Item) (values : List PartialTree) (n k : ℕ)
     (ds : List Definition) (acts : List Action) →
     Tells A stack values n k ds acts → Produced A (choice ParameterTypes next after) stack values n k ds acts
 parameter_types_tell A (token.Keyword keyword.Type) after stack values n k ds acts h = h
 parameter_types_tell A next after stack values n k ds acts h = h
 
-declarations_tell : (A : Type 0) (next after : Token) (stack : List Item) (values : List Value) (n k : ℕ)
+declarations_tell : (A : Type 0) (next after : Token) (stack : List Item) (values : List PartialTree) (n k : ℕ)
     (ds : List Definition) (acts : List Action) →
     Tells A stack values n k ds acts → Produced A (choice Declarations next after) stack values n k ds acts
 declarations_tell A (token.Keyword keyword.Type) after stack values n k ds acts h = h
@@ -274,7 +274,7 @@ abbrev pub Begins : Type 0 → Symbol → Scope → Type 0
 Begins A FunctionBlock scope = A → (scope.number < 64) × (scope.current.parameters ≤ 64)
 Begins A symbol scope = Unit {0}
 
-pub part_tells : (A : Type 0) (symbol : Symbol) (next after : Token) (stack : List Item) (values : List Value)
+pub part_tells : (A : Type 0) (symbol : Symbol) (next after : Token) (stack : List Item) (values : List PartialTree)
     (scope : Scope) (ds : List Definition) (acts : List Action) →
     Enters A symbol next after stack → Begins A symbol scope →
     Parted A symbol (room_in stack) (Tells A stack) values scope.number scope.current.parameters ds acts →

@@ -12,9 +12,9 @@ use Rattle.grammar.specs.declared.actions.Action.TheVariants.{PushConstant, Stor
 use Rattle.grammar.specs.declared.actions.Action.TheVariants.{EndCall, IfTest, EndIf, BeginWhile, WhileTest, EndWhile}
 use Rattle.grammar.specs.declared.actions.Action.TheVariants.{Chop, BeginFunction}
 use Rattle.grammar.specs.Actions.{expr_actions, body_actions}
-use Rattle.grammar.specs.Derivation.{Value, AnExpr, ABody, Definition}
+use Rattle.grammar.specs.Derivation.{PartialTree, AnExpr, ABody, Definition}
 use Rattle.grammar_laws.specs.Emission.{on_choice}
-use Rattle.grammar.specs.Faults.{levels}
+use Rattle.grammar.specs.Faults.{nested_count}
 use Rattle.grammar.specs.Grammar.{Symbol, Source, Head, More, FunctionBlock, Block, Statements, Statement, ElsePart}
 use Rattle.grammar.specs.Grammar.{Back, Expression, Role, Defined, External, Parameter, Typed, Local, Called, Mentioned}
 use Rattle.grammar.specs.Grammar.{Item, Exactly, AName, Part, Make, Close, Repeat, DecideElse, Evaluate, GiveBack}
@@ -42,11 +42,11 @@ Produced A (Some items) stack values n k ds acts = Tells A (items ++ stack) valu
 
 -- the level that a production enters is one of those that there are
 abbrev pub Enters : Type 0 → Symbol → Token → Token → List Item → Type 0
-Enters A symbol next after stack = A → enters symbol next after ≡ true → levels stack < 64
+Enters A symbol next after stack = A → enters symbol next after ≡ true → nested_count stack < 64
 
 -- Files.
 
-ends_between : (A : Type 0) (next : Fact) (values : List Value) (n k : ℕ) (ds : List Definition) (acts : List Action) →
+ends_between : (A : Type 0) (next : Fact) (values : List PartialTree) (n k : ℕ) (ds : List Definition) (acts : List Action) →
     Between A next ds acts → next values n k ds acts
 ends_between A next values n k ds acts h = subst (λ (xs : List Action). next values n k ds xs) h.told
     (h.on values n k ds h.fit)
@@ -61,7 +61,7 @@ then_further A next ds acts h = record {
       λ values n k more f. record { told = refl; fit = f; on = h.on };
 }
 
-pub source_tells : (A : Type 0) (next after : Token) (stack : List Item) (values : List Value) (n k : ℕ)
+pub source_tells : (A : Type 0) (next after : Token) (stack : List Item) (values : List PartialTree) (n k : ℕ)
     (ds : List Definition) (acts : List Action) →
     Between A (Tells A stack) ds acts → Produced A (choice Source next after) stack values n k ds acts
 source_tells A token.End after stack values n k ds acts h = ends_between A (Tells A stack) values n k ds acts h
@@ -69,14 +69,14 @@ source_tells A (token.Keyword keyword.Type) after stack values n k ds acts h = t
 source_tells A (token.Name name) after stack values n k ds acts h = λ m j i. then_further A (Tells A stack) ds acts h
 source_tells A next after stack values n k ds acts h = tt
 
-pub head_tells : (A : Type 0) (next after : Token) (stack : List Item) (values : List Value) (n k : ℕ)
+pub head_tells : (A : Type 0) (next after : Token) (stack : List Item) (values : List PartialTree) (n k : ℕ)
     (ds : List Definition) (acts : List Action) →
     Between A (Tells A stack) ds acts → Produced A (choice Head next after) stack values n k ds acts
 head_tells A (token.Name name) (token.Punctuator punctuator.OpenRound) stack values n k ds acts h = λ m j i. h
 head_tells A (token.Name name) after stack values n k ds acts h = ends_between A (Tells A stack) values n k ds acts h
 head_tells A next after stack values n k ds acts h = tt
 
-one_more_name : (A : Type 0) (role : Role) (stack : List Item) (values : List Value) (n k : ℕ) (ds : List Definition)
+one_more_name : (A : Type 0) (role : Role) (stack : List Item) (values : List PartialTree) (n k : ℕ) (ds : List Definition)
     (acts : List Action) →
     Listed role (Tells A stack) values n k ds acts → Tells A (AName role ∷ Part (More role) ∷ stack) values n k ds acts
 one_more_name A Defined stack values n k ds acts h = absurd h
@@ -87,7 +87,7 @@ one_more_name A Local stack values n k ds acts h = h
 one_more_name A Called stack values n k ds acts h = absurd h
 one_more_name A Mentioned stack values n k ds acts h = absurd h
 
-pub no_more_names : (A : Type 0) (role : Role) (next : Fact) (values : List Value) (n k : ℕ) (ds : List Definition)
+pub no_more_names : (A : Type 0) (role : Role) (next : Fact) (values : List PartialTree) (n k : ℕ) (ds : List Definition)
     (acts : List Action) →
     Listed role next values n k ds acts → next values n k ds acts
 no_more_names A Defined next values n k ds acts h = absurd h
@@ -98,7 +98,7 @@ no_more_names A Local next values n k ds acts h = h
 no_more_names A Called next values n k ds acts h = absurd h
 no_more_names A Mentioned next values n k ds acts h = absurd h
 
-pub more_tells : (A : Type 0) (role : Role) (next after : Token) (stack : List Item) (values : List Value) (n k : ℕ)
+pub more_tells : (A : Type 0) (role : Role) (next after : Token) (stack : List Item) (values : List PartialTree) (n k : ℕ)
     (ds : List Definition) (acts : List Action) →
     Listed role (Tells A stack) values n k ds acts → Produced A (choice (More role) next after) stack values n k ds acts
 more_tells A role (token.Punctuator punctuator.Comma) after stack values n k ds acts h =
@@ -107,7 +107,7 @@ more_tells A role next after stack values n k ds acts h = no_more_names A role (
 
 -- Functions.
 
-defines : (A : Type 0) (next : Fact) (values : List Value) (n k : ℕ) (ds : List Definition) (acts : List Action) →
+defines : (A : Type 0) (next : Fact) (values : List PartialTree) (n k : ℕ) (ds : List Definition) (acts : List Action) →
     (A → (n < 64) × (k ≤ 64)) → Between A next ds acts →
     (b : Body) → BodyFits A 200 b → Defines A next (ABody b ∷ values) n k ds
     ((acts ++ BeginFunction n k ∷ []) ++ body_actions b)
@@ -120,7 +120,7 @@ defines A next values n k ds acts numbers h b f = record {
   on = h.on;
 }
 
-pub function_tells : (A : Type 0) (next after : Token) (stack : List Item) (values : List Value) (scope : Scope)
+pub function_tells : (A : Type 0) (next after : Token) (stack : List Item) (values : List PartialTree) (scope : Scope)
     (ds : List Definition) (acts : List Action) →
     (A → (scope.number < 64) × (scope.current.parameters ≤ 64)) → Between A (Tells A stack) ds acts →
     Produced A (choice FunctionBlock next after) stack values scope.number scope.current.parameters ds
@@ -147,13 +147,13 @@ added A least next b acts h s f more e =
     ∙ ap (λ xs. xs ++ body_actions s) h.told ∙ e)
     (h.on (join b s) (join_fits A h.room b s h.fits f))
 
-pub no_more_statements : (A : Type 0) (least : ℕ) (next : Fact) (values : List Value) (n k : ℕ) (ds : List Definition)
+pub no_more_statements : (A : Type 0) (least : ℕ) (next : Fact) (values : List PartialTree) (n k : ℕ) (ds : List Definition)
     (acts : List Action) → Stated A least next values n k ds acts → next values n k ds acts
 no_more_statements A least next (ABody b ∷ below) n k ds acts h =
     subst (λ (xs : List Action). next (ABody b ∷ below) n k ds xs) h.told (h.on b h.fits)
 no_more_statements A least next values n k ds acts h = absurd h
 
-then_statements : (A : Type 0) (least : ℕ) (next : Fact) (values : List Value) (n k : ℕ) (ds : List Definition)
+then_statements : (A : Type 0) (least : ℕ) (next : Fact) (values : List PartialTree) (n k : ℕ) (ds : List Definition)
     (acts : List Action) → Stated A least next values n k ds acts →
     Stated A least (λ vs m j more told. Stated A least next vs m j more told) values n k ds acts
 then_statements A least next (ABody b ∷ below) n k ds acts h = record {
@@ -167,7 +167,7 @@ then_statements A least next (ABody b ∷ below) n k ds acts h = record {
 then_statements A least next values n k ds acts h = absurd h
 
 -- a block's statements
-narrower : (A : Type 0) (small least : ℕ) (next : Fact) (values : List Value) (n k : ℕ) (ds : List Definition)
+narrower : (A : Type 0) (small least : ℕ) (next : Fact) (values : List PartialTree) (n k : ℕ) (ds : List Definition)
     (acts : List Action) → small ≤ least → Stated A least next values n k ds acts →
     Stated A small next values n k ds acts
 narrower A small least next (ABody b ∷ below) n k ds acts less h = record {
@@ -180,7 +180,7 @@ narrower A small least next (ABody b ∷ below) n k ds acts less h = record {
 }
 narrower A small least next values n k ds acts less h = absurd h
 
-evaluates : (A : Type 0) (stack : List Item) (values : List Value) (n k : ℕ) (ds : List Definition)
+evaluates : (A : Type 0) (stack : List Item) (values : List PartialTree) (n k : ℕ) (ds : List Definition)
     (acts : List Action) → Stated A (room_in stack + 2) (Tells A stack) values n k ds acts →
     Tells A (Part Expression ∷ Exactly punctuator.Semicolon ∷ Make Evaluate ∷ stack) values n k ds acts
 evaluates A stack (ABody b ∷ below) n k ds acts h = λ e f.
@@ -189,7 +189,7 @@ evaluates A stack (ABody b ∷ below) n k ds acts h = λ e f.
     _ (sym (append_assoc acts (expr_actions e) (Chop ∷ [])))
 evaluates A stack values n k ds acts h = absurd h
 
-gives_back : (A : Type 0) (stack : List Item) (values : List Value) (n k : ℕ) (ds : List Definition)
+gives_back : (A : Type 0) (stack : List Item) (values : List PartialTree) (n k : ℕ) (ds : List Definition)
     (acts : List Action) → Stated A (room_in stack + 2) (Tells A stack) values n k ds acts →
     Tells A (Part Back ∷ Exactly punctuator.Semicolon ∷ Make GiveBack ∷ stack) values n k ds acts
 gives_back A stack (ABody b ∷ below) n k ds acts h = λ e f.
@@ -205,16 +205,16 @@ branch_actions base b acts c x s e = sym (append_assoc base b (c ++ x ∷ s)) �
     again : acts ++ (c ++ x ∷ s) ≡ ((acts ++ c) ++ x ∷ []) ++ s
     again = simp append_assoc refl
 
-decides : (A : Type 0) (stack : List Item) (values : List Value) (n k : ℕ) (ds : List Definition) (acts : List Action) →
-    (A → levels stack < 64) → Stated A (room_in stack + 2) (Tells A stack) values n k ds acts →
+decides : (A : Type 0) (stack : List Item) (values : List PartialTree) (n k : ℕ) (ds : List Definition) (acts : List Action) →
+    (A → nested_count stack < 64) → Stated A (room_in stack + 2) (Tells A stack) values n k ds acts →
     Tells A (Part Expression ∷ Exactly punctuator.CloseRound ∷ Make Empty ∷ Part Statement ∷ Part
     ElsePart ∷ Close ∷ stack) values n k ds acts
 decides A stack (ABody b ∷ below) n k ds acts level h = λ c f. record {
   base = (acts ++ expr_actions c) ++ IfTest ∷ [];
-  room = 3 * (64 - (levels stack + 1)) + 2;
+  room = 3 * (64 - (nested_count stack + 1)) + 2;
   enough = λ a. omega arith;
   told = append-nil ((acts ++ expr_actions c) ++ IfTest ∷ []);
-  fits = done_fits A (3 * (64 - (levels stack + 1)) + 2);
+  fits = done_fits A (3 * (64 - (nested_count stack + 1)) + 2);
   on = λ s g. record {
     base = h.base;
     room = h.room;
@@ -232,24 +232,24 @@ turn_actions : (acts c s : List Action) → acts ++ (BeginWhile ∷ (c ++ WhileT
     ((((acts ++ BeginWhile ∷ []) ++ c) ++ WhileTest ∷ []) ++ s) ++ EndWhile ∷ []
 turn_actions acts c s = simp append_assoc refl
 
-repeats : (A : Type 0) (stack : List Item) (values : List Value) (n k : ℕ) (ds : List Definition) (acts : List Action) →
-    (A → levels stack < 64) → Stated A (room_in stack + 2) (Tells A stack) values n k ds acts →
+repeats : (A : Type 0) (stack : List Item) (values : List PartialTree) (n k : ℕ) (ds : List Definition) (acts : List Action) →
+    (A → nested_count stack < 64) → Stated A (room_in stack + 2) (Tells A stack) values n k ds acts →
     Tells A (Part Expression ∷ Exactly punctuator.CloseRound ∷ Make Empty ∷ Part Statement ∷ Make
     Repeat ∷ Close ∷ stack) values n k ds (acts ++ BeginWhile ∷ [])
 repeats A stack (ABody b ∷ below) n k ds acts level h = λ c f. record {
   base = ((acts ++ BeginWhile ∷ []) ++ expr_actions c) ++ WhileTest ∷ [];
-  room = 3 * (64 - (levels stack + 1)) + 2;
+  room = 3 * (64 - (nested_count stack + 1)) + 2;
   enough = λ a. omega arith;
   told = append-nil (((acts ++ BeginWhile ∷ []) ++ expr_actions c) ++ WhileTest ∷ []);
-  fits = done_fits A (3 * (64 - (levels stack + 1)) + 2);
+  fits = done_fits A (3 * (64 - (nested_count stack + 1)) + 2);
   on = λ s g. added A (room_in stack + 2) (λ x more. Tells A stack (ABody x ∷ below) n k ds more) b acts h
       (tree.While c s tree.Done)
-      (while_fits A (3 * (64 - (levels stack + 1)) + 2) h.room c s (λ a. omega (arith, level a, h.enough a)) f g)
+      (while_fits A (3 * (64 - (nested_count stack + 1)) + 2) h.room c s (λ a. omega (arith, level a, h.enough a)) f g)
       _ (turn_actions acts (expr_actions c) (body_actions s));
 }
 repeats A stack values n k ds acts level h = absurd h
 
-pub block_tells : (A : Type 0) (next after : Token) (stack : List Item) (values : List Value) (n k : ℕ)
+pub block_tells : (A : Type 0) (next after : Token) (stack : List Item) (values : List PartialTree) (n k : ℕ)
     (ds : List Definition) (acts : List Action) →
     Stated A (room_in stack + 2) (Tells A stack) values n k ds acts →
     Produced A (choice Block next after) stack values n k ds acts
@@ -257,7 +257,7 @@ block_tells A (token.Punctuator punctuator.OpenCurly) after stack values n k ds 
     narrower A (room_in (Close ∷ stack) + 2) (room_in stack + 2) (Tells A stack) values n k ds acts (omega arith) h
 block_tells A next after stack values n k ds acts h = tt
 
-pub statements_tell : (A : Type 0) (next after : Token) (stack : List Item) (values : List Value) (n k : ℕ)
+pub statements_tell : (A : Type 0) (next after : Token) (stack : List Item) (values : List PartialTree) (n k : ℕ)
     (ds : List Definition) (acts : List Action) →
     Stated A (room_in stack + 2) (Tells A stack) values n k ds acts →
     Produced A (choice Statements next after) stack values n k ds acts
@@ -266,7 +266,7 @@ statements_tell A (token.Punctuator punctuator.CloseCurly) after stack values n 
 statements_tell A next after stack values n k ds acts h =
     then_statements A (room_in stack + 2) (Tells A stack) values n k ds acts h
 
-pub statement_tells : (A : Type 0) (next after : Token) (stack : List Item) (values : List Value) (scope : Scope)
+pub statement_tells : (A : Type 0) (next after : Token) (stack : List Item) (values : List PartialTree) (scope : Scope)
     (n k : ℕ) (ds : List Definition) (acts : List Action) → Enters A Statement next after stack →
     Stated A (room_in stack + 2) (Tells A stack) values n k ds acts →
     Produced A (choice Statement next after) stack values n k ds (and_then acts (on_choice Statement next scope))
@@ -326,7 +326,7 @@ decided_else A least next s c b acts h t g =
 abbrev else_items : List Item → List Item
 else_items stack = Make Empty ∷ Part Statement ∷ Make DecideElse ∷ stack
 
-with_else : (A : Type 0) (stack : List Item) (values : List Value) (n k : ℕ) (ds : List Definition)
+with_else : (A : Type 0) (stack : List Item) (values : List PartialTree) (n k : ℕ) (ds : List Definition)
     (acts : List Action) → Branched A (room_in stack + 2) (Tells A stack) values n k ds acts →
     Tells A (else_items stack) values n k ds acts
 with_else A stack (ABody s ∷ AnExpr c ∷ ABody b ∷ below) n k ds acts h = record {
@@ -340,14 +340,14 @@ with_else A stack (ABody s ∷ AnExpr c ∷ ABody b ∷ below) n k ds acts h = r
 }
 with_else A stack values n k ds acts h = absurd h
 
-pub without_else : (A : Type 0) (stack : List Item) (values : List Value) (n k : ℕ) (ds : List Definition)
+pub without_else : (A : Type 0) (stack : List Item) (values : List PartialTree) (n k : ℕ) (ds : List Definition)
     (acts : List Action) → Branched A (room_in stack + 2) (Tells A stack) values n k ds acts →
     Tells A (Make Decide ∷ stack) values n k ds acts
 without_else A stack (ABody s ∷ AnExpr c ∷ ABody b ∷ below) n k ds acts h =
     decided A (room_in stack + 2) (λ x more. Tells A stack (ABody x ∷ below) n k ds more) s c b acts h
 without_else A stack values n k ds acts h = absurd h
 
-pub else_tells : (A : Type 0) (next after : Token) (stack : List Item) (values : List Value) (n k : ℕ)
+pub else_tells : (A : Type 0) (next after : Token) (stack : List Item) (values : List PartialTree) (n k : ℕ)
     (ds : List Definition) (acts : List Action) →
     Branched A (room_in stack + 2) (Tells A stack) values n k ds acts →
     Produced A (choice ElsePart next after) stack values n k ds acts

@@ -11,7 +11,7 @@ use Rattle.grammar.specs.declared.actions.Action.TheVariants as action
 use Rattle.grammar.specs.declared.actions.Action.{Action}
 use Rattle.grammar.specs.declared.actions.Action.TheVariants.{PushConstant, BeginFunction, EndFunction}
 use Rattle.grammar.specs.Actions.{body_actions}
-use Rattle.grammar.specs.Derivation.{State, state, Value, AnExpr, AVariable, ACall, Definition, definition_of, last_body, trees_after}
+use Rattle.grammar.specs.Derivation.{State, state, PartialTree, AnExpr, AVariable, ACall, Definition, definition_of, last_body, trees_after}
 use Rattle.grammar.specs.Derivation.{name_tree, next_token, token_after_next, line_at, name_of_token, constant_value, is_end}
 use Rattle.grammar.specs.Derivation.{matched, name_matched, constant_matched, replaced, stack_step, stepped}
 use Rattle.grammar.specs.declared.operators.StoreOp.{StoreOp}
@@ -19,9 +19,9 @@ use Rattle.grammar_laws.specs.Emission.{on_choice, on_name, on_constant, on_rule
 use Rattle.grammar.specs.Faults.{definitions_actions}
 use Rattle.grammar.specs.Grammar.{Symbol, FunctionBlock, Statement, Tail, Unary, Item, Exactly, AKeyword, AName, AConstant}
 use Rattle.grammar.specs.Grammar.{AnEnd, Part, Make, Close, SemanticAction, Operate, Negate, Not, Complement, Fetch}
-use Rattle.grammar.specs.Grammar.{Store, PrefixIncrement, PostfixIncrement, Pass, Invoke, Empty, Evaluate, Decide, DecideElse}
+use Rattle.grammar.specs.Grammar.{Store, PrefixIncrement, PostfixIncrement, AddArgument, Invoke, Empty, Evaluate, Decide, DecideElse}
 use Rattle.grammar.specs.Grammar.{Repeat, Zero, GiveBack, Define, Role, Defined, External, Parameter, Typed, Local}
-use Rattle.grammar.specs.Grammar.{Called, Mentioned, Production, choice, is_fault, is_punctuator, is_keyword}
+use Rattle.grammar.specs.Grammar.{Called, Mentioned, Production, choice, is_lexical_error, is_punctuator, is_keyword}
 use Rattle.grammar.specs.Resolved.{IsVariable, IsCallable}
 use Rattle.grammar.specs.Scope.{Scope, scope_after_name, end_definition, variable_of, callee_of, is_external_new}
 use Rattle.grammar.specs.Scope.{is_local_new, is_variable_new, is_function_new, with_external, with_parameter}
@@ -61,14 +61,14 @@ Allows A stack rest scope = Unit {0}
 
 -- Tokens.
 
-matched_tells : (A : Type 0) (fits : Bool) (stack : List Item) (rest : List LocatedToken) (values : List Value)
+matched_tells : (A : Type 0) (fits : Bool) (stack : List Item) (rest : List LocatedToken) (values : List PartialTree)
     (scope : Scope) (ds : List Definition) (acts : List Action) →
     Tells A stack values scope.number scope.current.parameters ds acts →
     After A (matched fits (state stack rest values scope ds)) acts []
 matched_tells A true stack rest values scope ds acts h = h
 matched_tells A false stack rest values scope ds acts h = refl
 
-constant_tells : (A : Type 0) (value : Option ℕ) (stack : List Item) (rest : List LocatedToken) (values : List Value)
+constant_tells : (A : Type 0) (value : Option ℕ) (stack : List Item) (rest : List LocatedToken) (values : List PartialTree)
     (scope : Scope) (ds : List Definition) (acts : List Action) →
     Tells A (AConstant ∷ stack) values scope.number scope.current.parameters ds acts →
     After A (constant_matched value (state stack rest values scope ds)) acts (on_constant value)
@@ -80,10 +80,10 @@ by_test : (P : Scope → Type 0) (new : Bool) (more same : Scope) → P more →
 by_test P true more same h k = h
 by_test P false more same h k = k
 
-abbrev AtScope : Type 0 → List Item → List Value → List Definition → List Action → Scope → Type 0
+abbrev AtScope : Type 0 → List Item → List PartialTree → List Definition → List Action → Scope → Type 0
 AtScope A stack values ds acts scope = Tells A stack values scope.number scope.current.parameters ds acts
 
-name_tells : (A : Type 0) (role : Role) (name : List ℕ) (line : ℕ) (stack : List Item) (values : List Value)
+name_tells : (A : Type 0) (role : Role) (name : List ℕ) (line : ℕ) (stack : List Item) (values : List PartialTree)
     (scope : Scope) (ds : List Definition) (acts : List Action) → NameAllows A role (Some name) scope →
     Named A role (Tells A stack) values scope.number scope.current.parameters ds acts →
     AtScope A stack (name_tree role name scope ++ values) ds (and_then acts (on_name role (Some name)))
@@ -113,7 +113,7 @@ nameless Called = refl
 nameless role = refl
 
 named_tells : (A : Type 0) (role : Role) (name : Option (List ℕ)) (stack : List Item) (rest : List LocatedToken)
-    (values : List Value) (scope : Scope) (ds : List Definition) (acts : List Action) → NameAllows A role name scope →
+    (values : List PartialTree) (scope : Scope) (ds : List Definition) (acts : List Action) → NameAllows A role name scope →
     Named A role (Tells A stack) values scope.number scope.current.parameters ds acts →
     After A (name_matched role name (state stack rest values scope ds)) acts (on_name role name)
 named_tells A role None stack rest values scope ds acts allows h = nameless role
@@ -136,7 +136,7 @@ silent Unary next after scope e = refl
 silent symbol next after scope e = refl
 
 replaced_tells : (A : Type 0) (production : Production) (stack : List Item) (rest : List LocatedToken)
-    (values : List Value) (scope : Scope) (ds : List Definition) (acts more : List Action) →
+    (values : List PartialTree) (scope : Scope) (ds : List Definition) (acts more : List Action) →
     (production ≡ None → more ≡ []) →
     Produced A production stack values scope.number scope.current.parameters ds (and_then acts more) →
     After A (replaced production (state stack rest values scope ds)) acts more
@@ -146,33 +146,33 @@ replaced_tells A (Some items) stack rest values scope ds acts more none h = h
 -- Semantic actions.
 
 -- only a function's end is told of its variables
-fetched : (stack : List Item) (values : List Value) (variables : ℕ) →
+fetched : (stack : List Item) (values : List PartialTree) (variables : ℕ) →
     on_rule Fetch stack values 0 ≡ on_rule Fetch stack values variables
 fetched stack (AVariable v ∷ values) variables = refl
 fetched stack values variables = refl
 
-stored : (o : StoreOp) (stack : List Item) (values : List Value) (variables : ℕ) →
+stored : (o : StoreOp) (stack : List Item) (values : List PartialTree) (variables : ℕ) →
     on_rule (Store o) stack values 0 ≡ on_rule (Store o) stack values variables
 stored o stack (AnExpr e ∷ AVariable v ∷ values) variables = refl
 stored o stack values variables = refl
 
-stepped_before : (o : StoreOp) (stack : List Item) (values : List Value) (variables : ℕ) →
+stepped_before : (o : StoreOp) (stack : List Item) (values : List PartialTree) (variables : ℕ) →
     on_rule (PrefixIncrement o) stack values 0 ≡ on_rule (PrefixIncrement o) stack values variables
 stepped_before o stack (AVariable v ∷ values) variables = refl
 stepped_before o stack values variables = refl
 
-stepped_behind : (o : StoreOp) (stack : List Item) (values : List Value) (variables : ℕ) →
+stepped_behind : (o : StoreOp) (stack : List Item) (values : List PartialTree) (variables : ℕ) →
     on_rule (PostfixIncrement o) stack values 0 ≡ on_rule (PostfixIncrement o) stack values variables
 stepped_behind o stack (AVariable v ∷ values) variables = refl
 stepped_behind o stack values variables = refl
 
-invoked : (stack : List Item) (values : List Value) (variables : ℕ) →
+invoked : (stack : List Item) (values : List PartialTree) (variables : ℕ) →
     on_rule Invoke stack values 0 ≡ on_rule Invoke stack values variables
 invoked stack (ACall f args ∷ values) variables = refl
 invoked stack values variables = refl
 
 -- what one leaves of the functions defined, if it defines none
-rule_tells : (A : Type 0) (stack : List Item) (values : List Value) (scope : Scope) (ds : List Definition)
+rule_tells : (A : Type 0) (stack : List Item) (values : List PartialTree) (scope : Scope) (ds : List Definition)
     (acts told more : List Action) → told ≡ more →
     Tells A stack values scope.number scope.current.parameters ds (acts ++ told) →
     Tells A stack values scope.number scope.current.parameters (ds ++ []) (and_then acts more)
@@ -185,7 +185,7 @@ rule_tells A stack values scope ds acts told more e h =
 abbrev function_end : Scope → List Action
 function_end scope = PushConstant (pos 0) ∷ action.GiveBack ∷ EndFunction (length scope.current.variables) ∷ []
 
-pub defined_told : (values : List Value) (scope : Scope) (ds : List Definition) (acts : List Action) →
+pub defined_told : (values : List PartialTree) (scope : Scope) (ds : List Definition) (acts : List Action) →
     definitions_actions ds ++ (BeginFunction scope.number scope.current.parameters ∷ body_actions (last_body values))
     ≡ acts →
     definitions_actions (ds ++ definition_of scope (last_body values) ∷ []) ≡ acts ++ function_end scope
@@ -195,7 +195,7 @@ defined_told values scope ds acts e =
     (last_body values)) (function_end scope))
     ∙ ap (λ xs. xs ++ function_end scope) e
 
-define_tells : (A : Type 0) (stack : List Item) (values : List Value) (scope : Scope) (ds : List Definition)
+define_tells : (A : Type 0) (stack : List Item) (values : List PartialTree) (scope : Scope) (ds : List Definition)
     (acts : List Action) → RuleAllows A Define scope →
     Defines A (Tells A stack) values scope.number scope.current.parameters ds acts →
     Tells A stack [] (end_definition scope).number (end_definition scope).current.parameters
@@ -217,7 +217,7 @@ define_tells A stack values scope ds acts allows h =
 
 -- Any step.
 
-pub step_tells : (A : Type 0) (stack : List Item) (rest : List LocatedToken) (values : List Value) (scope : Scope)
+pub step_tells : (A : Type 0) (stack : List Item) (rest : List LocatedToken) (values : List PartialTree) (scope : Scope)
     (ds : List Definition) (acts : List Action) → Allows A stack rest scope →
     Tells A stack values scope.number scope.current.parameters ds acts →
     After A (stack_step stack (state stack rest values scope ds)) acts (on_item stack (next_token rest) values scope)
@@ -258,8 +258,8 @@ step_tells A (Make (PrefixIncrement o) ∷ stack) rest values scope ds acts allo
 step_tells A (Make (PostfixIncrement o) ∷ stack) rest values scope ds acts allows h =
     rule_tells A stack (trees_after (PostfixIncrement o) values) scope ds acts _ _
     (stepped_behind o stack values (length scope.current.variables)) h
-step_tells A (Make Pass ∷ stack) rest values scope ds acts allows h =
-    rule_tells A stack (trees_after Pass values) scope ds acts _ _ refl h
+step_tells A (Make AddArgument ∷ stack) rest values scope ds acts allows h =
+    rule_tells A stack (trees_after AddArgument values) scope ds acts _ _ refl h
 step_tells A (Make Invoke ∷ stack) rest values scope ds acts allows h =
     rule_tells A stack (trees_after Invoke values) scope ds acts _ _
     (invoked stack values (length scope.current.variables)) h
@@ -292,9 +292,9 @@ guarded_tells A s true o acts more h k = kept_tells A s None acts [] h refl
 guarded_tells A s false o acts more h k = kept_tells A s o acts more h (k refl)
 
 pub stepped_tells : (A : Type 0) (s : State) (acts : List Action) →
-    (is_fault (next_token s.rest) ≡ false → Allows A s.stack s.rest s.scope) → StateTells A s acts →
+    (is_lexical_error (next_token s.rest) ≡ false → Allows A s.stack s.rest s.scope) → StateTells A s acts →
     StateTells A (stepped s) (acts ++ emitted s)
 stepped_tells A s acts allows h =
-    guarded_tells A s (is_fault (next_token s.rest)) (stack_step s.stack s) acts
+    guarded_tells A s (is_lexical_error (next_token s.rest)) (stack_step s.stack s) acts
     (on_item s.stack (next_token s.rest) s.values s.scope) h
     (λ e. step_tells A s.stack s.rest s.values s.scope s.functions acts (allows e) h)

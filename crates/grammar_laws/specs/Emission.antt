@@ -12,9 +12,9 @@ use Rattle.grammar.specs.declared.actions.Action.TheVariants.{PushConstant, Fetc
 use Rattle.grammar.specs.declared.actions.Action.TheVariants.{BeginCall, EndCall, IfTest, EndIf, BeginWhile, WhileTest}
 use Rattle.grammar.specs.declared.actions.Action.TheVariants.{EndWhile, Chop, BeginFunction, EndFunction}
 use Rattle.grammar.specs.Actions.{middle}
-use Rattle.grammar.specs.Derivation.{Value, AnExpr, AVariable, ACall, State, next_token, name_of_token, constant_value}
+use Rattle.grammar.specs.Derivation.{PartialTree, AnExpr, AVariable, ACall, State, next_token, name_of_token, constant_value}
 use Rattle.grammar.specs.Derivation.{stepped}
-use Rattle.grammar.specs.Grammar.{Role, Called, Symbol, FunctionBlock, Statement, ElsePart, Tail, Unary, is_fault}
+use Rattle.grammar.specs.Grammar.{Role, Called, Symbol, FunctionBlock, Statement, ElsePart, Tail, Unary, is_lexical_error}
 use Rattle.grammar.specs.Grammar.{SemanticAction, Operate, Negate, Not, Complement, Fetch, Store, PrefixIncrement}
 use Rattle.grammar.specs.Grammar.{PostfixIncrement, Invoke, Empty, Evaluate, Decide, DecideElse, Repeat, Zero, GiveBack}
 use Rattle.grammar.specs.Grammar.{Define, Item, AName, AConstant, Part, Make}
@@ -53,7 +53,7 @@ on_body (Part Statement ∷ Make Repeat ∷ stack) = WhileTest ∷ []
 on_body stack = []
 
 -- as a tree is made, in a function with this many variables; a name's number is that of its tree
-abbrev pub on_rule : SemanticAction → List Item → List Value → (variables : ℕ) → List Action
+abbrev pub on_rule : SemanticAction → List Item → List PartialTree → (variables : ℕ) → List Action
 on_rule (Operate o) stack values variables = ApplyBinop o ∷ []
 on_rule Negate stack values variables = ApplyBinop op.Subtract ∷ []
 on_rule Not stack values variables = PushConstant (pos 0) ∷ ApplyBinop op.Equal ∷ []
@@ -75,7 +75,7 @@ on_rule Define stack values variables = PushConstant (pos 0) ∷ action.GiveBack
 on_rule rule stack values variables = []
 
 -- by the item in front and the next token, if it is no lexical error
-abbrev pub on_item : List Item → Token → List Value → Scope → List Action
+abbrev pub on_item : List Item → Token → List PartialTree → Scope → List Action
 on_item (Part symbol ∷ stack) next values scope = on_choice symbol next scope
 on_item (AName role ∷ stack) next values scope = on_name role (name_of_token next)
 on_item (AConstant ∷ stack) next values scope = on_constant (constant_value next)
@@ -84,7 +84,7 @@ on_item stack next values scope = []
 
 -- what the step from a state emits; if there is no step, nothing is emitted
 abbrev pub emitted : State → List Action
-emitted s = if is_fault (next_token s.rest) then [] else on_item s.stack (next_token s.rest) s.values s.scope
+emitted s = if is_lexical_error (next_token s.rest) then [] else on_item s.stack (next_token s.rest) s.values s.scope
 
 -- what the first n steps emit
 abbrev pub emissions : ℕ → State → List Action

@@ -6,7 +6,7 @@ use Rattle.grammar.specs.declared.resolved_names.Var.{Var}
 use Rattle.grammar.specs.Compiled.{compiled_tokens, enough_steps}
 use Rattle.grammar.specs.Derivation.{State, AVariable, ACall, Definition, initial_state, stepped, derived, next_token, name_of_token}
 use Rattle.grammar.specs.Faults.{faults_in}
-use Rattle.grammar.specs.Grammar.{Item, AName, Make, Define, Role, Called, Mentioned, is_fault}
+use Rattle.grammar.specs.Grammar.{Item, AName, Make, Define, Role, Called, Mentioned, is_lexical_error}
 use Rattle.grammar.specs.Profile.{Profile}
 use Rattle.grammar.specs.Tree.{Function, File, NoMore}
 use Rattle.grammar_laws.specs.Numbering.{Says, Ends, History, HasNumber, IsVariableOf, IsCalleeOf}
@@ -26,7 +26,7 @@ said_of stack rest = []
 
 -- in one step: none is taken if a lexical error is next
 abbrev pub said : State → History
-said s = if is_fault (next_token s.rest) then [] else said_of s.stack s.rest
+said s = if is_lexical_error (next_token s.rest) then [] else said_of s.stack s.rest
 
 -- in n steps, the last first
 abbrev pub said_in : ℕ → State → History
@@ -74,7 +74,7 @@ CallsAreNumbered = (profile : Profile) (located_tokens : List LocatedToken) (n :
 pub record IsEnding (s : State) : Type 0 where
   pub stack : List Item
   pub define_next : s.stack ≡ Make Define ∷ stack
-  pub sound : is_fault (next_token s.rest) ≡ false
+  pub sound : is_lexical_error (next_token s.rest) ≡ false
 
 -- the function that is added has the name that was defined, and the number of that name
 pub record AddsFunction (history : History) (s : State) : Type 0 where

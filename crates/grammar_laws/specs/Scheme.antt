@@ -16,7 +16,7 @@ use Rattle.grammar.specs.Grammar.{Role, Defined, External, Parameter, Typed, Loc
 use Rattle.grammar.specs.Grammar.{Types, Head, More, Parameters, ParameterTypes, FunctionBlock, Block, Declarations}
 use Rattle.grammar.specs.Grammar.{Statements, Statement, ElsePart, Back, Expression, Level, Tail, Unary, Primary}
 use Rattle.grammar.specs.Grammar.{Arguments, MoreArguments, Operate, Negate, Not, Complement, Fetch, Store, PrefixIncrement}
-use Rattle.grammar.specs.Grammar.{PostfixIncrement, Pass, Invoke, Empty, Evaluate, Decide, DecideElse, Repeat, Zero, GiveBack}
+use Rattle.grammar.specs.Grammar.{PostfixIncrement, AddArgument, Invoke, Empty, Evaluate, Decide, DecideElse, Repeat, Zero, GiveBack}
 use Rattle.grammar.specs.Grammar.{Define, Item, Exactly, AKeyword, AName, AConstant, AnEnd, Part, Make, Close, Production}
 use Rattle.grammar.specs.Grammar.{choice}
 use Rattle.grammar_laws.specs.Productions.{Row, rows}
@@ -76,8 +76,8 @@ action_rows =
     ∷ ("primary", "name --", (2, Make (PostfixIncrement store.Subtract)) ∷ [])
     ∷ ("primary", "name", (1, Make Fetch) ∷ [])
     ∷ ("primary", "( expr )", (3, Close) ∷ [])
-    ∷ ("args", "expr moreargs", (1, Make Pass) ∷ [])
-    ∷ ("moreargs", ", expr moreargs", (2, Make Pass) ∷ [])
+    ∷ ("args", "expr moreargs", (1, Make AddArgument) ∷ [])
+    ∷ ("moreargs", ", expr moreargs", (2, Make AddArgument) ∷ [])
     ∷ []
 
 -- what the names in a production of this symbol are there for, if this token is after the next

@@ -3,7 +3,7 @@
 #![tactic(auto)]
 
 pub use grammar::{
-    Action, Build, BuildFault, Callee, Code, Diagnostic, FunctionNames, Intrinsic, MOST_LEVELS,
+    Action, Build, BuildFault, Callee, Code, Diagnostic, FunctionNames, Intrinsic, MOST_NESTED,
     MOST_NAMES, Op, ParseFault, Pools, Profile, StoreOp, Var, Watch, Watched,
 };
 pub use grammar_laws::{known, laws};

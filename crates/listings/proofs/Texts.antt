@@ -3,7 +3,7 @@ use Rattle.std.specs.Prelude.{ℕ, zero, suc, ◌+◌, ◌≡◌, ◌<◌, List,
 use Rattle.std.specs.List.{concat}
 use Rattle.std.proofs.Common.{refl, sym, ap, ◌∙◌, arith, append_assoc, add-zero, add-one}
 use Rattle.std.proofs.lemmas.List.{append-nil}
-use Rattle.sinks.specs.Portions.{Contents, Portions}
+use Rattle.sinks.specs.Portions.{KnownPortions, Portions}
 use Rattle.listings.specs.Listing.{numbered}
 
 -- one member more
@@ -33,7 +33,7 @@ portions_of None = []
 portions_of (Some taken) = taken.portions
 
 -- a sink whose portions are known, and that had taken nothing, took this text
-pub all_taken : (new after : Contents) (portions : List (List ℕ)) (bytes : List ℕ) → new.portions ≡ []
+pub all_taken : (new after : KnownPortions) (portions : List (List ℕ)) (bytes : List ℕ) → new.portions ≡ []
     → Some after ≡ Some (record new { portions = new.portions ++ portions }) → concat portions ≡ bytes →
     concat after.portions ≡ bytes
 all_taken new after portions bytes none told joined =

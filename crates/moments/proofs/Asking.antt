@@ -3,8 +3,8 @@ use Rattle.std.proofs.Common.{◌≡◌, ℕ, ◌+◌, ◌-◌, ◌<◌, Bool, t
 use Rattle.std.specs.Prelude.{if◌then◌else◌}
 use Rattle.std.proofs.lemmas.Bool.{cases_Bool}
 use Rattle.std.proofs.lemmas.List.{length-append}
-use Rattle.arena.specs.Field.{is_live}
-use Rattle.arena.specs.Arena.{Arena, lives}
+use Rattle.arena.specs.Field.{is_live_at}
+use Rattle.arena.specs.Arena.{Arena, is_live}
 use Rattle.grammar.specs.declared.resolved_names.Callee.TheVariants as callee
 use Rattle.grammar.specs.declared.resolved_names.Intrinsic.{Intrinsic}
 use Rattle.code.specs.declared.instr.Instr.{Instr}
@@ -15,7 +15,7 @@ use Rattle.code.specs.Generation.{Program}
 use Rattle.code.specs.Machine.{Machine, machine_after, done_with, event_of, frame_of, instr_at, is_fitting, reached, started_machine, want_code, want_next}
 use Rattle.code.specs.ReachedMachines.{IsReached}
 use Rattle.code.proofs.Machines.{reached-last}
-use Rattle.battles.specs.Battle.{Behaviour, Stage, behaviour_at, stage_after}
+use Rattle.battles.specs.Battle.{Behaviour, BattleState, behaviour_at, state_after}
 use Rattle.battles.specs.Carrying.{AreRobotsOf}
 use Rattle.playing.specs.Games.{Game, HasCome}
 use Rattle.playing.specs.Pilot.{Pilot}
@@ -63,44 +63,44 @@ asked_alike Quiet cycle one other same = refl
 asked_alike Restart cycle one other same = refl
 
 -- what a robot wants of the next cycle, by its machine
-pub wanted_is : (codes : List Program) (robots : List Behaviour) (seats : List Pilot) (arena : Arena) (s : Stage)
+pub wanted_is : (codes : List Program) (robots : List Behaviour) (seats : List Pilot) (arena : Arena) (s : BattleState)
     (i : ℕ) (none : Pilot) (w : Want) → AreRobotsOf (exes_of codes) robots → codes_of seats ≡ codes → i < length seats
     → (game : Game) → HasCome codes robots s seats game → game.arena ≡ arena
     → ((trace : List ℤ) → IsReached (get_or seats i none).state (get_or seats i none).code trace
-    → w ≡ (if lives arena i then want_code (get_or seats i none).code trace else Quiet))
-    → w ≡ wanted robots i (stage_after robots s game.ending.cycles)
+    → w ≡ (if is_live arena i then want_code (get_or seats i none).code trace else Quiet))
+    → w ≡ wanted robots i (state_after robots s game.ending.cycles)
 unfolding wanted
 wanted_is codes robots seats arena s i none w are same inside game come is by =
-    let now = stage_after robots s game.ending.cycles in
+    let now = state_after robots s game.ending.cycles in
     let at = seat_reached codes seats game.arena now i none same inside come.played in
-    let live : lives arena i ≡ is_live now.field i =
-    ap (λ (g : Arena). lives g i) (sym is) ∙ lives_are game.arena now.field i come.played.field in
+    let live : is_live arena i ≡ is_live_at now.field i =
+    ap (λ (g : Arena). is_live g i) (sym is) ∙ lives_are game.arena now.field i come.played.field in
     by (replies_of now i) at
     ∙ ap (λ (b : Bool). if b then want_code (get_or seats i none).code (replies_of now i) else Quiet) live
-    ∙ ap (λ (v : Want). if is_live now.field i then v else Quiet)
+    ∙ ap (λ (v : Want). if is_live_at now.field i then v else Quiet)
     (sym (robot_wants codes robots seats i none (replies_of now i) are same inside))
 
 -- a robot that is found to ask lives, and asks by its replies
-asks_live : (robots : List Behaviour) (i : ℕ) (s : Stage) (k : Intrinsic) (a : List ℤ) → wanted robots i s ≡ Ask k a
-    → (is_live s.field i ≡ true) × (behaviour_at robots i (replies_of s i) ≡ Ask k a)
+asks_live : (robots : List Behaviour) (i : ℕ) (s : BattleState) (k : Intrinsic) (a : List ℤ) → wanted robots i s ≡ Ask k a
+    → (is_live_at s.field i ≡ true) × (behaviour_at robots i (replies_of s i) ≡ Ask k a)
 unfolding wanted
-asks_live robots i s k a asks = elim (cases_Bool (is_live s.field i)) [
+asks_live robots i s k a asks = elim (cases_Bool (is_live_at s.field i)) [
   | inl live ↦ (live, rw live at asks)
   | inr dead ↦ absurd (let quiet : Quiet ≡ Ask k a = rw dead at asks in cc)
 ]
 
 -- After a question of the next cycle the machine has the robot's last reply on top.
-pub reply_is : (codes : List Program) (robots : List Behaviour) (s : Stage) (seats others : List Pilot) (i : ℕ)
+pub reply_is : (codes : List Program) (robots : List Behaviour) (s : BattleState) (seats others : List Pilot) (i : ℕ)
     (none new : Pilot) (game next : Game) (k : Intrinsic) (a : List ℤ) → AreRobotsOf (exes_of codes) robots
     → codes_of seats ≡ codes → codes_of others ≡ codes → i < length seats → HasCome codes robots s seats game
     → HasCome codes robots s others next → next.ending.cycles ≡ game.ending.cycles + 1
-    → wanted robots i (stage_after robots s game.ending.cycles) ≡ Ask k a
+    → wanted robots i (state_after robots s game.ending.cycles) ≡ Ask k a
     → last_of (get_or others i new).state.words
-    ≡ last_of (replies_of (stage_after robots s (game.ending.cycles + 1)) i)
+    ≡ last_of (replies_of (state_after robots s (game.ending.cycles + 1)) i)
 reply_is codes robots s seats others i none new game next k a are same still inside come came one asks =
     let n = game.ending.cycles in
-    let now = stage_after robots s n in
-    let later = stage_after robots s (n + 1) in
+    let now = state_after robots s n in
+    let later = state_after robots s (n + 1) in
     let old = get_or seats i none in
     let seat = get_or others i new in
     let count : length others ≡ length seats =
@@ -108,7 +108,7 @@ reply_is codes robots s seats others i none new game next k a are same still ins
     let old_at : IsReached old.state old.code (replies_of now i) =
     seat_reached codes seats game.arena now i none same inside come.played in
     let new_at : IsReached seat.state seat.code (replies_of later i) =
-    rw one at (seat_reached codes others next.arena (stage_after robots s next.ending.cycles) i new still
+    rw one at (seat_reached codes others next.arena (state_after robots s next.ending.cycles) i new still
     (omega (arith, inside, count)) came.played) in
     let kept : seat.code ≡ old.code = code_same codes seats others i none new same still inside in
     let asked = asks_live robots i now k a asks in
@@ -129,19 +129,19 @@ reply_is codes robots s seats others i none new game next k a are same still ins
     ∙ ap last_of (sym comes.1)
 
 -- The question of the next cycle, from its want before and the machine after it.
-pub question_is : (codes : List Program) (robots : List Behaviour) (s : Stage) (seats others : List Pilot) (i : ℕ)
+pub question_is : (codes : List Program) (robots : List Behaviour) (s : BattleState) (seats others : List Pilot) (i : ℕ)
     (none new : Pilot) (w : Want) (game next : Game) → AreRobotsOf (exes_of codes) robots → codes_of seats ≡ codes
     → codes_of others ≡ codes → i < length seats → HasCome codes robots s seats game
     → HasCome codes robots s others next → next.ending.cycles ≡ game.ending.cycles + 1
-    → w ≡ wanted robots i (stage_after robots s game.ending.cycles)
+    → w ≡ wanted robots i (state_after robots s game.ending.cycles)
     → asked_in w next.ending.cycles (last_of (get_or others i new).state.words)
     ≡ question_in robots i s game.ending.cycles
 unfolding question_in
 question_is codes robots s seats others i none new w game next are same still inside come came one is =
     let n = game.ending.cycles in
-    let now = stage_after robots s n in
+    let now = state_after robots s n in
     let top = last_of (get_or others i new).state.words in
     ap (λ (m : ℕ). asked_in w m top) one
     ∙ ap (λ (v : Want). asked_in v (n + 1) top) is
-    ∙ asked_alike (wanted robots i now) (n + 1) top (last_of (replies_of (stage_after robots s (n + 1)) i))
+    ∙ asked_alike (wanted robots i now) (n + 1) top (last_of (replies_of (state_after robots s (n + 1)) i))
     (λ k a asks. reply_is codes robots s seats others i none new game next k a are same still inside come came one asks)

@@ -4,7 +4,7 @@ use Rattle.std.specs.Prelude.{option_map, slice_get}
 use Rattle.std.proofs.lemmas.Option.{slice_get-get_or, slice_get-map}
 use Rattle.arena.specs.Field.{damage_of, robot_at}
 use Rattle.grammar.specs.declared.resolved_names.Intrinsic.{Intrinsic}
-use Rattle.battles.specs.Battle.{Behaviour, Stage, stage_after}
+use Rattle.battles.specs.Battle.{Behaviour, BattleState, state_after}
 use Rattle.battles.specs.Carrying.{AreRobotsOf}
 use Rattle.code.specs.declared.want.Want.TheVariants.{Ask}
 use Rattle.code.specs.Generation.{Program}
@@ -21,7 +21,7 @@ use Rattle.moments.specs.Searches.{Happens, IsGlanced, IsOneCall, Seems, Shows, 
 use Rattle.moments.proofs.Asking.{reply_is, wanted_is}
 
 -- two glances see a robot at two stages
-pub record See (robots : List Behaviour) (code : Program) (i : ℕ) (sought : Sought) (now later : Stage)
+pub record See (robots : List Behaviour) (code : Program) (i : ℕ) (sought : Sought) (now later : BattleState)
     (before after : Glance) : Type 0 where
   pub want : before.wanted ≡ wanted robots i now
   pub damage : before.damage ≡ damage_of (robot_at now.field i)
@@ -41,7 +41,7 @@ one_call : (marks : List Bool) (a b c d a' b' c' d' : ℕ) → a ≡ a' → b �
 one_call marks a b c d a' b' c' d' p q r t (here, there, same) =
     (ap (λ n. get_or marks n false) (sym p) ∙ here, ap (λ n. get_or marks n false) (sym r) ∙ there, sym q ∙ same ∙ t)
 
-pub shows_so : (sought : Sought) (robots : List Behaviour) (code : Program) (i : ℕ) (now later : Stage)
+pub shows_so : (sought : Sought) (robots : List Behaviour) (code : Program) (i : ℕ) (now later : BattleState)
     (before after : Glance) → See robots code i sought now later before after → Seems sought before after
     → Shows sought robots code i now later
 shows_so (Place marks most) robots code i now later before after see (here, few) =
@@ -63,7 +63,7 @@ shows_so (LocalChange marks number) robots code i now later before after see (on
 shows_so (LocalValue marks number value) robots code i now later before after see (here, is) =
     (ap (λ n. get_or marks.now n false) (sym see.address_then) ∙ here, sym see.value_then ∙ is)
 
-pub seems_so : (sought : Sought) (robots : List Behaviour) (code : Program) (i : ℕ) (now later : Stage)
+pub seems_so : (sought : Sought) (robots : List Behaviour) (code : Program) (i : ℕ) (now later : BattleState)
     (before after : Glance) → See robots code i sought now later before after → Shows sought robots code i now later
     → Seems sought before after
 seems_so (Place marks most) robots code i now later before after see (here, few) =
@@ -85,18 +85,18 @@ seems_so (LocalValue marks number value) robots code i now later before after se
     (ap (λ n. get_or marks.now n false) see.address_then ∙ here, see.value_then ∙ is)
 
 -- glances before and after a cycle do so
-pub glances_see : (codes : List Program) (robots : List Behaviour) (s : Stage) (seats others : List Pilot) (i : ℕ)
+pub glances_see : (codes : List Program) (robots : List Behaviour) (s : BattleState) (seats others : List Pilot) (i : ℕ)
     (none new : Pilot) (game next : Game) (code : Program) (sought : Sought) (before after : Glance)
     → AreRobotsOf (exes_of codes) robots → codes_of seats ≡ codes → codes_of others ≡ codes → i < length seats
     → HasCome codes robots s seats game → HasCome codes robots s others next
     → next.ending.cycles ≡ game.ending.cycles + 1 → (get_or seats i none).code ≡ code
     → IsGlanced game (get_or seats i none) i sought before → IsGlanced next (get_or others i new) i sought after
-    → See robots code i sought (stage_after robots s game.ending.cycles)
-    (stage_after robots s (game.ending.cycles + 1)) before after
+    → See robots code i sought (state_after robots s game.ending.cycles)
+    (state_after robots s (game.ending.cycles + 1)) before after
 glances_see codes robots s seats others i none new game next code sought before after are same still inside come came
     one is first second =
-    let now = stage_after robots s game.ending.cycles in
-    let later = stage_after robots s (game.ending.cycles + 1) in
+    let now = state_after robots s game.ending.cycles in
+    let later = state_after robots s (game.ending.cycles + 1) in
     let old = get_or seats i none in
     let seat = get_or others i new in
     let count : length others ≡ length seats =
@@ -105,12 +105,12 @@ glances_see codes robots s seats others i none new game next code sought before 
     rw is at (seat_reached codes seats game.arena now i none same inside come.played) in
     let kept : seat.code ≡ code = code_same codes seats others i none new same still inside ∙ is in
     let new_at : seat.state ≡ state_at code i later =
-    rw (one, kept) at (seat_reached codes others next.arena (stage_after robots s next.ending.cycles) i new still
+    rw (one, kept) at (seat_reached codes others next.arena (state_after robots s next.ending.cycles) i new still
     (omega (arith, inside, count)) came.played) in
     record {
       want = wanted_is codes robots seats game.arena s i none before.wanted are same inside game come refl first.wanted;
       damage = first.damage now.field come.played.field;
-      damage_then = rw one at (second.damage (stage_after robots s next.ending.cycles).field came.played.field);
+      damage_then = rw one at (second.damage (state_after robots s next.ending.cycles).field came.played.field);
       value = first.value ∙ ap (value_of sought) old_at;
       value_then = second.value ∙ ap (value_of sought) new_at;
       address = first.address ∙ ap (λ (t : Machine). t.at) old_at;
@@ -131,7 +131,7 @@ code_is seats i none code inside here =
     ∙ ap (option_map (λ (seat : Pilot). seat.code)) (slice_get-get_or seats i none inside)) ∙ here)
 
 -- So what seems to happen happens, and nothing else does.
-pub happens_so : (codes : List Program) (robots : List Behaviour) (s : Stage) (seats others : List Pilot) (i : ℕ)
+pub happens_so : (codes : List Program) (robots : List Behaviour) (s : BattleState) (seats others : List Pilot) (i : ℕ)
     (none new : Pilot) (game next : Game) (code : Program) (sought : Sought) (before after : Glance)
     → AreRobotsOf (exes_of codes) robots → codes_of seats ≡ codes → codes_of others ≡ codes → i < length seats
     → HasCome codes robots s seats game → HasCome codes robots s others next
@@ -141,8 +141,8 @@ pub happens_so : (codes : List Program) (robots : List Behaviour) (s : Stage) (s
     × (Happens robots code s i sought game.ending.cycles → (before.is_alive ≡ true) × Seems sought before after)
 happens_so codes robots s seats others i none new game next code sought before after are same still inside come came one
     here first second =
-    let now = stage_after robots s game.ending.cycles in
-    let later = stage_after robots s (game.ending.cycles + 1) in
+    let now = state_after robots s game.ending.cycles in
+    let later = state_after robots s (game.ending.cycles + 1) in
     let is = code_is seats i none code inside (rw same here) in
     let see =
     glances_see codes robots s seats others i none new game next code sought before after are same still inside

@@ -1,9 +1,9 @@
 -- In which cycle of a match something happens to a robot.
 use Rattle.std.specs.Prelude.{◌≡◌, ◌≢◌, ◌<◌, ◌≤◌, ◌+◌, ◌≤ℤ◌, ℕ, ℤ, pos, Bool, true, false, if◌then◌else◌, List, get_or, length, Option, Some, None}
-use Rattle.arena.specs.Field.{Field, damage_of, is_live, robot_at}
-use Rattle.arena.specs.Arena.{lives}
+use Rattle.arena.specs.Field.{Field, damage_of, is_live_at, robot_at}
+use Rattle.arena.specs.Arena.{is_live}
 use Rattle.arena.specs.Representing.{RepresentsField}
-use Rattle.battles.specs.Battle.{Behaviour, Stage, stage_after}
+use Rattle.battles.specs.Battle.{Behaviour, BattleState, state_after}
 use Rattle.code.specs.declared.want.Want.TheVariants.{Ask, Quiet}
 use Rattle.code.specs.declared.want.Want.TheVariants as want
 use Rattle.grammar.specs.declared.resolved_names.Var.TheVariants.{Local}
@@ -18,7 +18,7 @@ use Rattle.moments.specs.declared.sought.Sought.TheVariants.{Place, Question, Re
 use Rattle.moments.specs.Moments.{last_of, replies_of, wanted}
 
 -- where a robot's program is at a stage
-abbrev pub state_at : Program → ℕ → Stage → Machine
+abbrev pub state_at : Program → ℕ → BattleState → Machine
 state_at code i stage = reached code (started_machine code) (replies_of stage i)
 
 -- two instructions are both marked, in one call of a function: its variables begin at the same word
@@ -26,7 +26,7 @@ abbrev pub IsOneCall : List Bool → (at home at' home' : ℕ) → Type 0
 IsOneCall marks at home at' home' = (get_or marks at false ≡ true) × (get_or marks at' false ≡ true) × (home ≡ home')
 
 -- what is sought shows between the stages before and after a cycle
-abbrev pub Shows : Sought → List Behaviour → Program → ℕ → (before after : Stage) → Type 0
+abbrev pub Shows : Sought → List Behaviour → Program → ℕ → (before after : BattleState) → Type 0
 Shows (Place marks most) robots code i before after =
     (get_or marks.now (state_at code i after).at false ≡ true) × (length (state_at code i after).frames ≤ most)
 Shows (Question function least most) robots code i before after =
@@ -46,10 +46,10 @@ Shows (LocalValue marks number value) robots code i before after =
     × (read_variable (state_at code i after) (Local number) ≡ value)
 
 -- it happens to a robot in the cycle after so many: the robot lives to begin it, and it shows
-pub record Happens (robots : List Behaviour) (code : Program) (opening : Stage) (i : ℕ) (sought : Sought) (n : ℕ) :
+pub record Happens (robots : List Behaviour) (code : Program) (opening : BattleState) (i : ℕ) (sought : Sought) (n : ℕ) :
     Type 0 where
-  pub lives : is_live (stage_after robots opening n).field i ≡ true
-  pub shows : Shows sought robots code i (stage_after robots opening n) (stage_after robots opening (n + 1))
+  pub lives : is_live_at (state_after robots opening n).field i ≡ true
+  pub shows : Shows sought robots code i (state_after robots opening n) (state_after robots opening (n + 1))
 
 -- The least cycle later than one, up to a match's last, in which something happens: `Happens n` is of cycle n + 1.
 abbrev pub IsNext : (ℕ → Type 0) → (after last : ℕ) → Option ℕ → Type 0
@@ -78,9 +78,9 @@ value_of _ state = pos 0
 
 -- what a glance at a robot sees
 pub record IsGlanced (game : Game) (seat : Pilot) (i : ℕ) (sought : Sought) (glance : Glance) : Type 0 where
-  pub alive : glance.is_alive ≡ lives game.arena i
+  pub alive : glance.is_alive ≡ is_live game.arena i
   pub wanted : (trace : List ℤ) → IsReached seat.state seat.code trace
-      → glance.wanted ≡ (if lives game.arena i then want_code seat.code trace else Quiet)
+      → glance.wanted ≡ (if is_live game.arena i then want_code seat.code trace else Quiet)
   pub word : glance.word ≡ last_of seat.state.words
   pub damage : (f : Field) → RepresentsField game.arena f → glance.damage ≡ damage_of (robot_at f i)
   pub value : glance.value ≡ value_of sought seat.state

@@ -1,8 +1,8 @@
 //! What a robot wants of a cycle, and the question that it asks in it.
 
 ghost use Rattle.std.specs.Prelude.{◌≡◌, ◌<◌, ℤ, false, List, length, if◌then◌else◌};
-ghost use Rattle.arena.specs.Arena.{lives};
-ghost use Rattle.battles.specs.Battle.{Behaviour, Stage};
+ghost use Rattle.arena.specs.Arena.{is_live};
+ghost use Rattle.battles.specs.Battle.{Behaviour, BattleState};
 ghost use Rattle.battles.specs.Carrying.{AreRobotsOf};
 ghost use Rattle.code.specs.Machine.{want_code};
 ghost use Rattle.code.specs.ReachedMachines.{IsReached};
@@ -32,7 +32,7 @@ impl Watcher for Nobody {}
 pub(crate) fn wanted(game: &Game, pilot: &Pilot<'_>, robot: usize) -> Want
     requires { robot < length game.now.arena.robots }
     ensures { (trace : List ℤ) → IsReached pilot.now.state pilot.now.code trace
-        → result ≡ (if lives game.now.arena robot then want_code pilot.now.code trace else Want.Quiet) }
+        → result ≡ (if is_live game.now.arena robot then want_code pilot.now.code trace else Want.Quiet) }
 {
     if !game.arena().alive(robot) {
         return Want::Quiet;
@@ -45,10 +45,10 @@ pub(crate) fn go_on(game: &mut Game, pilots: &mut [Pilot<'_>], robot: usize) -> 
     requires manned { length game.old.arena.robots ≡ length pilots.old }
     requires goes_on { game.old.ending.is_over ≡ false }
     requires inside { robot < length pilots.old }
-    ensures battle { (robots : List Behaviour) (s : Stage) → AreRobotsOf (exes_of (codes_of pilots.old)) robots
+    ensures battle { (robots : List Behaviour) (s : BattleState) → AreRobotsOf (exes_of (codes_of pilots.old)) robots
         → HasCome (codes_of pilots.old) robots s pilots.old game.old
         → HasCome (codes_of pilots.old) robots s pilots.new game.new }
-    ensures asks { (robots : List Behaviour) (s : Stage) → AreRobotsOf (exes_of (codes_of pilots.old)) robots
+    ensures asks { (robots : List Behaviour) (s : BattleState) → AreRobotsOf (exes_of (codes_of pilots.old)) robots
         → HasCome (codes_of pilots.old) robots s pilots.old game.old
         → result ≡ question_in robots robot s game.old.ending.cycles }
     ensures codes { codes_of pilots.new ≡ codes_of pilots.old }

@@ -1,7 +1,7 @@
 //! Where a robot is at a moment of a match.
 
 ghost use Rattle.std.specs.Prelude.{◌≡◌, ◌<◌, ◌≤◌, List, length};
-ghost use Rattle.battles.specs.Battle.{Behaviour, Stage, opening};
+ghost use Rattle.battles.specs.Battle.{Behaviour, BattleState, first_state};
 ghost use Rattle.battles.specs.Carrying.{AreRobotsOf};
 ghost use Rattle.playing.specs.Games.{HasCome};
 ghost use Rattle.playing.specs.Played.{codes_of, exes_of};
@@ -44,7 +44,7 @@ pub fn moment_at(
     requires limit { limit ≤ MOST_CYCLES }
     requires inside { robot < length pilots.old }
     ensures moment { (robots : List Behaviour) → AreRobotsOf (exes_of (codes_of pilots.old)) robots
-        → IsMoment robots (opening (length robots) seed number) limit robot cycle pilots.new result }
+        → IsMoment robots (first_state (length robots) seed number) limit robot cycle pilots.new result }
     ensures codes { codes_of pilots.new ≡ codes_of pilots.old }
 {
     let mut game = Game::new(pilots, seed, number, limit);
@@ -57,7 +57,7 @@ fn play_to(game: &mut Game, pilots: &mut [Pilot<'_>], robot: usize, cycle: u32) 
     requires manned { length game.old.arena.robots ≡ length pilots.old }
     requires begins { game.old.ending.cycles ≡ 0 }
     requires inside { robot < length pilots.old }
-    ensures battle { (robots : List Behaviour) (s : Stage) → AreRobotsOf (exes_of (codes_of pilots.old)) robots
+    ensures battle { (robots : List Behaviour) (s : BattleState) → AreRobotsOf (exes_of (codes_of pilots.old)) robots
         → HasCome (codes_of pilots.old) robots s pilots.old game.old
         → HasPlayedTo robots s game.old.limit robot cycle (codes_of pilots.old) pilots.new game.new result }
     ensures codes { codes_of pilots.new ≡ codes_of pilots.old }

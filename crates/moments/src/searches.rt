@@ -1,7 +1,7 @@
 //! In which cycle of a match something happens to a robot.
 
 ghost use Rattle.std.specs.Prelude.{◌≡◌, ◌<◌, ◌≤◌, ◌&&◌, false, if◌then◌else◌, List, None, Some, length, nat_lt, slice_get};
-ghost use Rattle.battles.specs.Battle.{Behaviour, Stage, last_cycle, opening};
+ghost use Rattle.battles.specs.Battle.{Behaviour, BattleState, last_cycle, first_state};
 ghost use Rattle.battles.specs.Carrying.{AreRobotsOf};
 ghost use Rattle.code.specs.Generation.{Program};
 ghost use Rattle.playing.specs.Games.{GoesOn, HasCome};
@@ -30,8 +30,8 @@ pub fn next_cycle(
     requires inside { robot < length pilots.old }
     ensures next { (robots : List Behaviour) (code : Program) → AreRobotsOf (exes_of (codes_of pilots.old)) robots
         → slice_get (codes_of pilots.old) robot ≡ Some code → IsNext (Happens robots code
-        (opening (length robots) seed number) robot sought.now) after
-        (last_cycle robots (opening (length robots) seed number) limit) result }
+        (first_state (length robots) seed number) robot sought.now) after
+        (last_cycle robots (first_state (length robots) seed number) limit) result }
 {
     let mut game = Game::new(pilots, seed, number, limit);
     next_in(&mut game, pilots, robot, sought, after, limit)
@@ -54,8 +54,8 @@ pub fn previous_cycle(
     requires inside { robot < length pilots.old }
     ensures last { (robots : List Behaviour) (code : Program) → AreRobotsOf (exes_of (codes_of pilots.old)) robots
         → slice_get (codes_of pilots.old) robot ≡ Some code → IsLast (Happens robots code
-        (opening (length robots) seed number) robot sought.now) before
-        (last_cycle robots (opening (length robots) seed number) limit) result }
+        (first_state (length robots) seed number) robot sought.now) before
+        (last_cycle robots (first_state (length robots) seed number) limit) result }
 {
     let mut game = Game::new(pilots, seed, number, limit);
     last_in(&mut game, pilots, robot, sought, before)
@@ -75,7 +75,7 @@ fn next_in(
     requires begins { game.old.ending.cycles ≡ 0 }
     requires limit { game.old.limit ≡ limit }
     requires inside { robot < length pilots.old }
-    ensures { (robots : List Behaviour) (s : Stage) (code : Program)
+    ensures { (robots : List Behaviour) (s : BattleState) (code : Program)
         → AreRobotsOf (exes_of (codes_of pilots.old)) robots → slice_get (codes_of pilots.old) robot ≡ Some code
         → HasCome (codes_of pilots.old) robots s pilots.old game.old
         → IsNext (Happens robots code s robot sought.now) after (last_cycle robots s limit) result }
@@ -104,7 +104,7 @@ fn last_in(
     requires manned { length game.old.arena.robots ≡ length pilots.old }
     requires begins { game.old.ending.cycles ≡ 0 }
     requires inside { robot < length pilots.old }
-    ensures { (robots : List Behaviour) (s : Stage) (code : Program)
+    ensures { (robots : List Behaviour) (s : BattleState) (code : Program)
         → AreRobotsOf (exes_of (codes_of pilots.old)) robots → slice_get (codes_of pilots.old) robot ≡ Some code
         → HasCome (codes_of pilots.old) robots s pilots.old game.old
         → IsLast (Happens robots code s robot sought.now) before (last_cycle robots s game.old.limit) result }
@@ -131,10 +131,10 @@ fn step(
     requires manned { length game.old.arena.robots ≡ length pilots.old }
     requires goes_on { game.old.ending.is_over ≡ false }
     requires inside { robot < length pilots.old }
-    ensures battle { (robots : List Behaviour) (s : Stage) → AreRobotsOf (exes_of (codes_of pilots.old)) robots
+    ensures battle { (robots : List Behaviour) (s : BattleState) → AreRobotsOf (exes_of (codes_of pilots.old)) robots
         → HasCome (codes_of pilots.old) robots s pilots.old game.old
         → HasCome (codes_of pilots.old) robots s pilots.new game.new }
-    ensures found { (robots : List Behaviour) (s : Stage) (code : Program)
+    ensures found { (robots : List Behaviour) (s : BattleState) (code : Program)
         → AreRobotsOf (exes_of (codes_of pilots.old)) robots → slice_get (codes_of pilots.old) robot ≡ Some code
         → HasCome (codes_of pilots.old) robots s pilots.old game.old
         → IsFound (Happens robots code s robot sought.now) game.old.ending.cycles after result }

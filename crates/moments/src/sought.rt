@@ -1,7 +1,7 @@
 //! What may be sought in the cycles of a match, and whether it happens in one.
 
 ghost use Rattle.std.specs.Prelude.{◌≡◌, ◌<◌, true, false, List, get_or, length, slice_get, ℤ, Some};
-ghost use Rattle.battles.specs.Battle.{Behaviour, Stage};
+ghost use Rattle.battles.specs.Battle.{Behaviour, BattleState};
 ghost use Rattle.battles.specs.Carrying.{AreRobotsOf};
 ghost use Rattle.code.specs.Generation.{Program};
 ghost use Rattle.code.specs.declared.want.Want.TheVariants.{Ask};
@@ -63,14 +63,14 @@ pub(crate) fn happens(
     requires manned { length game.old.arena.robots ≡ length pilots.old }
     requires goes_on { game.old.ending.is_over ≡ false }
     requires inside { robot < length pilots.old }
-    ensures battle { (robots : List Behaviour) (s : Stage) → AreRobotsOf (exes_of (codes_of pilots.old)) robots
+    ensures battle { (robots : List Behaviour) (s : BattleState) → AreRobotsOf (exes_of (codes_of pilots.old)) robots
         → HasCome (codes_of pilots.old) robots s pilots.old game.old
         → HasCome (codes_of pilots.old) robots s pilots.new game.new }
-    ensures yes { (robots : List Behaviour) (s : Stage) (code : Program) → AreRobotsOf (exes_of (codes_of pilots.old)) robots
+    ensures yes { (robots : List Behaviour) (s : BattleState) (code : Program) → AreRobotsOf (exes_of (codes_of pilots.old)) robots
         → slice_get (codes_of pilots.old) robot ≡ Some code
         → HasCome (codes_of pilots.old) robots s pilots.old game.old → result ≡ true
         → Happens robots code s robot sought.now game.old.ending.cycles }
-    ensures no { (robots : List Behaviour) (s : Stage) (code : Program) → AreRobotsOf (exes_of (codes_of pilots.old)) robots
+    ensures no { (robots : List Behaviour) (s : BattleState) (code : Program) → AreRobotsOf (exes_of (codes_of pilots.old)) robots
         → slice_get (codes_of pilots.old) robot ≡ Some code
         → HasCome (codes_of pilots.old) robots s pilots.old game.old
         → Happens robots code s robot sought.now game.old.ending.cycles → result ≡ true }

@@ -5,17 +5,17 @@ use Rattle.std.proofs.lemmas.List.{append-nil, get_or-set_same}
 use Rattle.std.proofs.lemmas.List.Folds.{concat-append}
 use Rattle.std.proofs.lemmas.Simd.{map-map}
 use Rattle.settings.specs.Settings.{Settings}
-use Rattle.series.specs.Compiling.{Source}
+use Rattle.series.specs.Compiling.{SourceFile}
 use Rattle.series.specs.Output.{Output}
 use Rattle.series.specs.SourceContents.{AreSources}
 use Rattle.series.specs.Failures.{FailsAsAnswered, Failures, SinkFailed, failing, no_device}
-use Rattle.tokens.specs.Feed.{Account, failed_again}
+use Rattle.tokens.specs.Feed.{FailureCount, failed_again}
 use Rattle.series.specs.Pieces.{Channel, Piece, Taken, Text, Faults, Writes, TakesOn, on_both}
 use Rattle.series.specs.declared.run_results.RunFault.{RunFault}
 use Rattle.series.specs.declared.run_results.RunFault.TheVariants as fault
 use Rattle.series.specs.declared.run_results.Status.{Status}
 use Rattle.series.specs.declared.run_results.Status.TheVariants.{Done, Faulty}
-use Rattle.sinks.specs.Portions.{Contents, Portions, Takes}
+use Rattle.sinks.specs.Portions.{KnownPortions, Portions, Takes}
 use Rattle.page.specs.declared.orders.Order.{Order}
 use Rattle.page.specs.declared.robots.RobotFile.{RobotFile}
 use Rattle.page.specs.declared.sheets.Sheet.{Sheet}
@@ -25,25 +25,25 @@ use Rattle.page.specs.Running.{Holds, IsFull, IsOfRun, IsOutput, RunsRobots, bla
 use Rattle.page.specs.Sheets.{contents_of, told}
 
 -- two sinks of known contents
-abbrev both : Contents → Contents → Taken
+abbrev both : KnownPortions → KnownPortions → Taken
 both t f = on_both (Some t) (Some f)
 
 -- after this two sinks of known contents have these bytes more
-record Grow (t f : Contents) (after : Taken) (text faults : List ℕ) : Type 0 where
-  new_text : Contents
-  new_faults : Contents
+record Grow (t f : KnownPortions) (after : Taken) (text faults : List ℕ) : Type 0 where
+  new_text : KnownPortions
+  new_faults : KnownPortions
   is : after ≡ both new_text new_faults
   texts : concat new_text.portions ≡ concat t.portions ++ text
   lines : concat new_faults.portions ≡ concat f.portions ++ faults
 
 -- the bytes that a sink took
-grown : (t : Contents) (after : Portions) (bytes : List ℕ) (takes : Takes (Some t) after bytes)
+grown : (t : KnownPortions) (after : Portions) (bytes : List ℕ) (takes : Takes (Some t) after bytes)
     → concat (t.portions ++ takes.portions) ≡ concat t.portions ++ bytes
 grown t after bytes takes =
     concat-append t.portions takes.portions ∙ ap (λ (l : List ℕ). concat t.portions ++ l) takes.joined
 
 -- one piece
-one_grows : (channel : Channel) (bytes : List ℕ) (t f : Contents) (after : Taken) →
+one_grows : (channel : Channel) (bytes : List ℕ) (t f : KnownPortions) (after : Taken) →
     TakesOn channel (both t f) after bytes
     → Grow t f after (part_on Text channel bytes) (part_on Faults channel bytes)
 one_grows Text bytes t f after (takes, same) = record {
@@ -66,7 +66,7 @@ behind : (a b c x y : List ℕ) → b ≡ a ++ x → c ≡ b ++ y → c ≡ a ++
 behind a b c x y first second = second ∙ ap (λ (l : List ℕ). l ++ y) first ∙ append_assoc a x y
 
 -- all pieces
-all_grow : (t f : Contents) (after : Taken) (pieces : List Piece) → Writes (both t f) after pieces
+all_grow : (t f : KnownPortions) (after : Taken) (pieces : List Piece) → Writes (both t f) after pieces
     → Grow t f after (bytes_on Text pieces) (bytes_on Faults pieces)
 all_grow t f after [] is = record {
   new_text = t;
@@ -130,20 +130,20 @@ is_output order robots (Some (Err fault.Write)) text faults runs = λ small. abs
 is_output order robots (Some (Err fault.Memory)) text faults runs = λ small. absurd (omega arith)
 
 -- what is true of all sources with the robots' names and bytes, on blank sheets, is true of those of the robots
-pub by_robots : (R : Settings → List Source → Taken → Type 0) (order : Order) (robots : List RobotFile)
+pub by_robots : (R : Settings → List SourceFile → Taken → Type 0) (order : Order) (robots : List RobotFile)
     (setup : Settings)
     (words : List (List ℕ)) (known : List (Option (List ℕ))) (text faults : Sheet) → setup ≡ setup_of order words
     → words ≡ map name_bytes robots → known ≡ map (λ robot. Some (source_bytes robot)) robots → told text ≡ [] →
     told faults ≡ []
-    → ((sources : List Source) → AreSources sources setup.file_words known
+    → ((sources : List SourceFile) → AreSources sources setup.file_words known
     → R setup sources (on_both (contents_of text) (contents_of faults)))
     → R (setup_of order (map name_bytes robots)) (map source_of robots) blank
 by_robots R order robots setup words known text faults is names bytes no_text no_faults runs =
     let whole : setup ≡ setup_of order (map name_bytes robots) = is ∙ ap (setup_of order) names in
-    let named : map (λ (s : Source). s.word) (map source_of robots) ≡ setup.file_words =
-    map-map (λ (s : Source). s.word) source_of robots ∙ sym (ap (λ (s : Settings). s.file_words) whole) in
-    let told_bytes : map (λ (s : Source). Some s.bytes) (map source_of robots) ≡ known =
-    map-map (λ (s : Source). Some s.bytes) source_of robots ∙ sym bytes in
+    let named : map (λ (s : SourceFile). s.word) (map source_of robots) ≡ setup.file_words =
+    map-map (λ (s : SourceFile). s.word) source_of robots ∙ sym (ap (λ (s : Settings). s.file_words) whole) in
+    let told_bytes : map (λ (s : SourceFile). Some s.bytes) (map source_of robots) ≡ known =
+    map-map (λ (s : SourceFile). Some s.bytes) source_of robots ∙ sym bytes in
     let before : on_both (contents_of text) (contents_of faults) ≡ blank = rw (no_text, no_faults) refl in
     let all = runs (map source_of robots) (record { named = named; bytes = told_bytes }) in
     let P : Settings → Type 0 = λ s. R s (map source_of robots) (on_both (contents_of text) (contents_of faults)) in
@@ -173,11 +173,11 @@ pub only_writes : {X A : Type 0} →
     → IfErr ran (λ stopped. (stopped ≡ fault.Write) × ((0 < later_text) ⊎ (0 < later_faults)))
 only_writes olds news (Ok answer) text faults later_text later_faults accounts = tt
 only_writes olds news (Err (fault.Read file)) text faults later_text later_faults (within, is) =
-    let feeds : List Account = map (λ _. no_device) olds in
+    let feeds : List FailureCount = map (λ _. no_device) olds in
     let here = ap (λ (f : Failures). get_or f.feeds file no_device) is in
     let there = get_or-set_same feeds file (failed_again (get_or feeds file no_device)) no_device within in
     let counts : 0 ≡ (get_or feeds file no_device).failures + 1 =
-    ap (λ (a : Account). a.failures) (sym (never_failed news file) ∙ here ∙ there) in
+    ap (λ (a : FailureCount). a.failures) (sym (never_failed news file) ∙ here ∙ there) in
     absurd (omega (arith, counts))
 only_writes olds news (Err fault.Write) text faults later_text later_faults accounts =
     (refl, sink_failed _ _ accounts)

@@ -1,6 +1,6 @@
 -- The text of a sheet.
 use Rattle.std.specs.Prelude.{ℕ, List, Some, false, map, take}
-use Rattle.sinks.specs.Portions.{Portions, Written}
+use Rattle.sinks.specs.Portions.{Portions, SinkState}
 use Rattle.page.specs.declared.sheets.SheetBlock.{SheetBlock}
 use Rattle.page.specs.declared.sheets.Sheet.{Sheet}
 
@@ -16,5 +16,5 @@ told sheet = map bytes_of (take sheet.used sheet.frames)
 abbrev pub contents_of : Sheet → Portions
 contents_of sheet = Some (record { portions = told sheet; whole = false })
 
-abbrev pub written_of : Sheet → Written
+abbrev pub written_of : Sheet → SinkState
 written_of sheet = record { portions = contents_of sheet; failures = sheet.failures }

@@ -6,7 +6,7 @@ ghost use Rattle.code.specs.Codes.{AreProgramsOf};
 ghost use Rattle.battles.specs.Battle.{battle};
 ghost use Rattle.battles.specs.Pairing.{robots_of};
 ghost use Rattle.playing.specs.Played.{EndsAt, IsPlayed};
-ghost use Rattle.series.specs.Compiling.{Source};
+ghost use Rattle.series.specs.Compiling.{SourceFile};
 ghost use Rattle.series.specs.Pieces.{on_both};
 ghost use Rattle.series.specs.CompiledFiles.{Compiles};
 ghost use Rattle.series.specs.SourceContents.{AreSources};
@@ -96,7 +96,7 @@ fn compile_feeds(
     faults: &mut Sheet,
 ) -> Result<Option<Programs>, RunFault>
     requires fresh { AreFresh (length settings.now.file_words) feeds.old text.old faults.old }
-    ensures output { (sources : List Source)
+    ensures output { (sources : List SourceFile)
         → AreSources sources settings.now.file_words (map (λ feed. Some feed.rest.now) feeds.old)
         → Compiles settings.now sources result (on_both (contents_of text.old) (contents_of faults.old))
         (on_both (contents_of text.new) (contents_of faults.new)) }

@@ -1,7 +1,7 @@
 //! Runs over robots in memory.
 
 ghost use Rattle.std.specs.Prelude.{◌≡◌, ◌<◌, ◌≤◌, All, IfErr, IfSome, IsSome, IsUtf8, List, Some, false, length, map};
-ghost use Rattle.series.specs.Compiling.{Source};
+ghost use Rattle.series.specs.Compiling.{SourceFile};
 ghost use Rattle.series.specs.Output.{Runs};
 ghost use Rattle.series.specs.Pieces.{on_both};
 ghost use Rattle.series.specs.SourceContents.{AreSources};
@@ -79,7 +79,7 @@ fn run_feeds(
 ) -> Result<Status, RunFault>
     requires fresh { AreFresh (length settings.now.file_words) feeds.old text.old faults.old }
     ensures stopped { IfErr result (λ fault. (fault ≡ RunFault.Write) × IsFull text.new faults.new) }
-    ensures output { (sources : List Source)
+    ensures output { (sources : List SourceFile)
         → AreSources sources settings.now.file_words (map (λ feed. Some feed.rest.now) feeds.old)
         → Runs settings.now sources result (on_both (contents_of text.old) (contents_of faults.old))
         (on_both (contents_of text.new) (contents_of faults.new)) }

@@ -4,7 +4,7 @@ use Rattle.std.specs.Prelude.{Option, Result, Ok, Err}
 use Rattle.tokens.specs.Window.{TakesBytes}
 use Rattle.grammar.specs.declared.diagnostics.ParseFault.{ParseFault}
 use Rattle.parser.specs.ScopedCursors.{ScopedCursor}
-use Rattle.tokens.specs.Feed.{Account}
+use Rattle.tokens.specs.Feed.{FailureCount}
 use Rattle.parser.specs.Segment.{account_after}
 use Rattle.parser.specs.Advancing.{Advances, IsReady, HasStayedOrAdvanced, Stopped, HasAdvanced}
 
@@ -52,7 +52,7 @@ kept_on a b c h i = record {
 pub stopped_then : (f : ParseFault) (a b c : ScopedCursor) → HasStayedOrAdvanced a b → Stopped f b c → Stopped f a c
 stopped_then f a b c h i = record {
   borrows = i.borrows ∙ h.borrows;
-  account = i.account ∙ ap (λ (a : Account). account_after a f) h.account;
+  account = i.account ∙ ap (λ (a : FailureCount). account_after a f) h.account;
   took = takes_then _ _ _ _ _ _ h.took i.took;
 }
 

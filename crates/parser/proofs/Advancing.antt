@@ -8,17 +8,17 @@ use Rattle.grammar.specs.declared.actions.Action.{Action}
 use Rattle.grammar.specs.Actions.{function_actions}
 use Rattle.grammar.specs.Building.{Representation}
 use Rattle.grammar.specs.Derivation.{Definition, State, state}
-use Rattle.grammar.specs.Faults.{definitions_actions, levels}
+use Rattle.grammar.specs.Faults.{definitions_actions, nested_count}
 use Rattle.grammar.specs.Grammar.{Item}
-use Rattle.grammar.specs.Laws.Parsing.{Passes, Fails}
+use Rattle.grammar.specs.Laws.Parsing.{DerivesWithoutFault, Fails}
 use Rattle.grammar.proofs.Runs.{here, then}
-use Rattle.parser.specs.ScopedCursors.{MayContinue, Position, scope_at, next_at}
+use Rattle.parser.specs.ScopedCursors.{MayContinue, UnreadPosition, scope_at, next_at}
 use Rattle.parser.specs.Growing.{HasGrown}
 use Rattle.parser.specs.Stopping.{Stop, StopsInside, stop_with}
 use Rattle.grammar.specs.Profile.{Profile}
 use Rattle.parser.specs.Segment.{Derives, FailsAt, Refused, TakesTokens}
 use Rattle.parser.proofs.Segments.{refused_map, told_goes, Begins, functions_back, near_told, stops_back, stops_here, told_begins}
-use Rattle.parser.specs.Progress.{HasTold, ReadsOn, StopsPart, StopsTelling}
+use Rattle.parser.specs.Progress.{HasReported, ReadsOn, StopsPart, StopsTelling}
 use Rattle.tokens.specs.Cursors.{IsNearTo}
 
 pub definitions_actions-append : (ds es : List Definition) →
@@ -29,7 +29,7 @@ definitions_actions-append (d ∷ ds) es =
     ∙ sym (append_assoc (function_actions d.number d.function) (definitions_actions ds) (definitions_actions es))
 
 -- nothing is read
-pub advances_stay : (before : Representation) (front : List Item) (at : Position) →
+pub advances_stay : (before : Representation) (front : List Item) (at : UnreadPosition) →
     ReadsOn before before front front at at
 advances_stay before front at = record {
   consumed = [];
@@ -39,12 +39,12 @@ advances_stay before front at = record {
   added = λ profile acts h. subst (λ (xs : List Action). before profile xs) (sym (append-nil acts)) h;
   passes =
       λ rest g profile functions h. subst
-      (λ (fs : List Definition). Passes profile (state front rest [] (scope_at at) functions)
+      (λ (fs : List Definition). DerivesWithoutFault profile (state front rest [] (scope_at at) functions)
       (state front rest [] (scope_at at) fs)) (sym (append-nil functions)) (here profile _);
 }
 
 -- two parts of a parse, one after the other
-pub advances_then : (before mid after : Representation) (front between pending : List Item) (at now there : Position) →
+pub advances_then : (before mid after : Representation) (front between pending : List Item) (at now there : UnreadPosition) →
     ReadsOn before mid front between at now → ReadsOn mid after between pending now there →
     ReadsOn before after front pending at there
 advances_then before mid after front between pending at now there a b = record {
@@ -81,26 +81,26 @@ advances_then before mid after front between pending at now there a b = record {
 -- where it stops goes back along a segment without faults
 pub telling_back : (after : Representation) (profile : Profile) (s t : State) (stop : Stop)
     (consumed : List LocatedToken) →
-    s.rest ≡ consumed ++ t.rest → Passes profile s t →
+    s.rest ≡ consumed ++ t.rest → DerivesWithoutFault profile s t →
     StopsTelling after profile t stop → StopsTelling after profile s stop
 telling_back after profile s t stop consumed is p h = record {
   stops = stops_back profile s t stop consumed is p h.stops;
   told =
-      λ device. subst (λ (fs : List Definition). HasTold after profile fs)
+      λ device. subst (λ (fs : List Definition). HasReported after profile fs)
       (sym (functions_back profile s t stop consumed is p h.stops)) (h.told device);
 }
 
 -- before a further function is defined
 pub telling_inside : (after : Representation) (profile : Profile) (s : State) (stop : Stop) →
-    (refusal.Device ≡ stop.fault → HasTold after profile s.functions) → StopsInside profile s stop →
+    (refusal.Device ≡ stop.fault → HasReported after profile s.functions) → StopsInside profile s stop →
     StopsTelling after profile s stop
 telling_inside after profile s stop told h = record {
   stops = h.stops;
-  told = λ device. subst (λ (fs : List Definition). HasTold after profile fs) (sym h.functions) (told device);
+  told = λ device. subst (λ (fs : List Definition). HasReported after profile fs) (sym h.functions) (told device);
 }
 
 pub told_alone : (after : Representation) (profile : Profile) (functions : List Definition) →
-    after profile (definitions_actions functions) → HasTold after profile functions
+    after profile (definitions_actions functions) → HasReported after profile functions
 told_alone after profile functions h =
     record {
       more = [];
@@ -109,11 +109,11 @@ told_alone after profile functions h =
 
 pub told_grown : (before after : Representation) (profile : Profile) (functions : List Definition) →
     HasGrown before after →
-    before profile (definitions_actions functions) → HasTold after profile functions
+    before profile (definitions_actions functions) → HasReported after profile functions
 told_grown before after profile functions grown h = record { more = grown.more; stands = grown.added profile _ h }
 
 -- a fault after a part of a parse
-pub stops_then : (before mid after : Representation) (front between : List Item) (at now : Position) (d : Stop) →
+pub stops_then : (before mid after : Representation) (front between : List Item) (at now : UnreadPosition) (d : Stop) →
     ReadsOn before mid front between at now → StopsPart mid after between now d →
     StopsPart before after front at d
 stops_then before mid after front between at now d a stops located_tokens is profile functions h =
@@ -127,8 +127,8 @@ stops_then before mid after front between at now d a stops located_tokens is pro
     (stops t.rest t.shows profile (functions ++ a.more) told))
 
 -- a segment between functions
-pub segment_advances : (before : Representation) (front pending stack : List Item) (at there : Position) →
-    levels stack ≡ 0 →
+pub segment_advances : (before : Representation) (front pending stack : List Item) (at there : UnreadPosition) →
+    nested_count stack ≡ 0 →
     Derives 0 front pending [] [] at there →
     ReadsOn before before (front ++ stack) (pending ++ stack) at there
 segment_advances before front pending stack at there depths a = record {
@@ -139,21 +139,21 @@ segment_advances before front pending stack at there depths a = record {
   added = λ profile acts h. subst (λ (xs : List Action). before profile xs) (sym (append-nil acts)) h;
   passes = λ rest g profile functions h.
       subst
-      (λ (fs : List Definition). Passes profile
+      (λ (fs : List Definition). DerivesWithoutFault profile
       (state (front ++ stack) (a.consumed ++ rest) [] (scope_at at) functions)
       (state (pending ++ stack) rest [] (scope_at there) fs)) (sym (append-nil functions))
       (a.passes rest g profile stack [] functions depths);
 }
 
 -- a fault within one
-pub segment_stops : (before : Representation) (front stack : List Item) (at : Position) (d : Stop) → levels stack ≡ 0 →
+pub segment_stops : (before : Representation) (front stack : List Item) (at : UnreadPosition) (d : Stop) → nested_count stack ≡ 0 →
     FailsAt 0 front [] at d → StopsPart before before (front ++ stack) at d
 segment_stops before front stack at d depths fails located_tokens is profile functions h =
     telling_inside before profile _ d (λ device. told_alone before profile functions h)
     (fails located_tokens is profile stack [] functions depths)
 
 -- a refusal after a part of a parse
-pub leave : (used : ℕ) (before mid after : Representation) (front between : List Item) (at now : Position)
+pub leave : (used : ℕ) (before mid after : Representation) (front between : List Item) (at now : UnreadPosition)
     (denied more : Type 0)
     (f : ParseFault) → ReadsOn before mid front between at now →
     (denied → more) → Refused (StopsPart mid after between now) denied used f →
@@ -162,7 +162,7 @@ leave used before mid after front between at now denied more f a memory =
     refused_map used _ _ denied more f (λ d. stops_then before mid after front between at now d a) memory
 
 -- the first fault is at the next token
-pub reading_fails_at_next : (before after : Representation) (front : List Item) (at : Position) (d : Diagnostic)
+pub reading_fails_at_next : (before after : Representation) (front : List Item) (at : UnreadPosition) (d : Diagnostic)
     (used : ℕ) →
     IsNearTo at.lookahead.cursor used →
     ((tail : List LocatedToken) (profile : Profile) (functions : List Definition) →

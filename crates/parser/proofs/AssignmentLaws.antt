@@ -16,13 +16,13 @@ use Rattle.grammar.specs.Actions.{expr_actions}
 use Rattle.grammar.specs.Building.{Representation, AppendsAll, MayFollow}
 use Rattle.grammar.specs.Compiled.{diagnostic}
 use Rattle.grammar.specs.Derivation.{AnExpr, AVariable, name_of_token}
-use Rattle.grammar.specs.Grammar.{AName, Exactly, Expression, Level, Make, Mentioned, Part, Close, Store, choice, is_fault, is_punctuator, enters}
+use Rattle.grammar.specs.Grammar.{AName, Exactly, Expression, Level, Make, Mentioned, Part, Close, Store, choice, is_lexical_error, is_punctuator, enters}
 use Rattle.grammar.specs.Nesting.{nesting}
 use Rattle.grammar.specs.Operators.{store_of, store_operator}
 use Rattle.grammar.specs.Resolved.{InExpr, IsVariable}
 use Rattle.grammar.specs.Tree.{Assign, Expr}
 use Rattle.parser.specs.declared.parser.Parser.{Parser}
-use Rattle.parser.specs.ScopedCursors.{Position, after_at, next_at, taken_at}
+use Rattle.parser.specs.ScopedCursors.{UnreadPosition, after_at, next_at, taken_at}
 use Rattle.parser.specs.Room.{HasRoom, room}
 use Rattle.parser.specs.Stopping.{stop_with}
 use Rattle.parser.specs.Segment.{Derives, DerivesItem, FailsAt, FailsItem, GoesPast, Refused, StopsAt}
@@ -31,9 +31,9 @@ use Rattle.parser.specs.Expressions.{AddsExpr, Parses, ParsesLevels}
 use Rattle.parser.proofs.NameLaws.{behind_name_is}
 use Rattle.parser.proofs.Parts.{MakesOnly}
 use Rattle.parser.proofs.Productions.{Chooses, EntersLevel, chosen, chosen_within, item_done, makes_and_closes, punctuator_ends, punctuator_past, name_too_deep, same_self}
-use Rattle.parser.proofs.TellingLaws.{next_follows}
+use Rattle.parser.proofs.ReportingLaws.{next_follows}
 use Rattle.parser.proofs.OperandLaws.{IsNamed, after_name, is_named, named_sound, tree_follows}
-use Rattle.grammar.proofs.StandingLaws.{appends_both}
+use Rattle.grammar.proofs.RepresentationLaws.{appends_both}
 use Rattle.tokens.specs.Cursors.{IsNearTo}
 
 -- An expression that is no assignment.
@@ -49,15 +49,15 @@ plain_enters (token.Name name) (token.Punctuator m) none = let e : store_of m �
 plain_enters t after none = refl
 
 -- no operator of an assignment follows a name
-abbrev pub NoAssignment : Position → Type 0
+abbrev pub NoAssignment : UnreadPosition → Type 0
 NoAssignment at = is_some (name_of_token (next_at at).token) ≡ true → store_operator (after_at at) ≡ None
 
-none_behind : (at : Position) (after : Token) → NoAssignment at →
+none_behind : (at : UnreadPosition) (after : Token) → NoAssignment at →
     (is_last (next_at at).token ≡ false → after ≡ after_at at) → is_some (name_of_token (next_at at).token) ≡ true →
     store_operator after ≡ None
 none_behind at after none more h = rw (after_name at after (is_named (next_at at).token h) more) (none h)
 
-plain_stands : (at : Position) (depth : ℕ) → is_fault (next_at at).token ≡ false → NoAssignment at →
+plain_stands : (at : UnreadPosition) (depth : ℕ) → is_lexical_error (next_at at).token ≡ false → NoAssignment at →
     Derives depth (Part Expression ∷ []) (Part (Level 1) ∷ []) [] [] at at
 plain_stands at depth sound none =
     chosen at depth Expression (Part (Level 1) ∷ []) []
@@ -65,16 +65,16 @@ plain_stands at depth sound none =
     { sound = sound; is = λ after more. plain_choice (next_at at).token after (none_behind at after none more) })
     (λ after more. plain_enters (next_at at).token after (none_behind at after none more))
 
-pub plain_refused : (used : ℕ) (at : Position) (depth : ℕ) (denied : Type 0) (f : ParseFault) →
-    is_fault (next_at at).token ≡ false → NoAssignment at →
+pub plain_refused : (used : ℕ) (at : UnreadPosition) (depth : ℕ) (denied : Type 0) (f : ParseFault) →
+    is_lexical_error (next_at at).token ≡ false → NoAssignment at →
     Refused (FailsAt depth (Part (Level 1) ∷ []) [] at) denied used f →
     Refused (FailsAt depth (Part Expression ∷ []) [] at) denied used f
 plain_refused used at depth denied f sound none =
     exit used depth depth (Part Expression ∷ []) (Part (Level 1) ∷ []) [] [] [] [] at at denied denied f
     (plain_stands at depth sound none) (λ stack same. same) (λ same. same)
 
-pub plain_adds : (before after : Representation) (at there : Position) (depth : ℕ) →
-    is_fault (next_at at).token ≡ false →
+pub plain_adds : (before after : Representation) (at there : UnreadPosition) (depth : ℕ) →
+    is_lexical_error (next_at at).token ≡ false →
     NoAssignment at →
     AddsExpr before after depth 1 (Part (Level 1) ∷ []) [] at there →
     AddsExpr before after depth 1 (Part Expression ∷ []) [] at there
@@ -89,7 +89,7 @@ plain_adds before after at there depth sound none h = record {
 
 -- either, by the result
 pub plain_parses : {A F B : Type 0} (result : Result A ParseFault) (denied : Type 0) (stands : B → Representation)
-    (old new : Parser F B) → is_fault (next_at old.tokens.position).token ≡ false → NoAssignment old.tokens.position →
+    (old new : Parser F B) → is_lexical_error (next_at old.tokens.position).token ≡ false → NoAssignment old.tokens.position →
     ParsesLevels result denied stands 1 old new → Parses result denied stands 1 Expression old new
 plain_parses (Ok x) denied stands old new sound none h =
     plain_adds (stands old.builder.now) (stands new.builder.now) old.tokens.position new.tokens.position old.depth sound
@@ -130,14 +130,14 @@ store_enters : (name : List ℕ) (m : Punctuator) (o : StoreOp) → store_of m �
 store_enters name m o is = rw is refl
 
 -- a name is next, and the operator of an assignment after it
-pub record IsAssignment (at : Position) (o : StoreOp) : Type 0 where
+pub record IsAssignment (at : UnreadPosition) (o : StoreOp) : Type 0 where
   pub named : IsNamed (next_at at).token
   pub is : store_operator (after_at at) ≡ Some o
 
-sign_of : (at : Position) (o : StoreOp) → IsAssignment at o → SpellsStore o (after_at at)
+sign_of : (at : UnreadPosition) (o : StoreOp) → IsAssignment at o → SpellsStore o (after_at at)
 sign_of at o a = spells_store o (after_at at) a.is
 
-store_chooses : (at : Position) (o : StoreOp) (a : IsAssignment at o) (s : SpellsStore o (after_at at)) →
+store_chooses : (at : UnreadPosition) (o : StoreOp) (a : IsAssignment at o) (s : SpellsStore o (after_at at)) →
     Chooses at Expression (AName Mentioned ∷ Exactly s.m ∷ Part Expression ∷ Make (Store o) ∷ Close ∷ [])
 store_chooses at o a s = record {
   sound = named_sound (next_at at).token a.named;
@@ -147,13 +147,13 @@ store_chooses at o a s = record {
       (store_choice a.named.name s.m o s.store);
 }
 
-store_enters_level : (at : Position) (o : StoreOp) (a : IsAssignment at o) (s : SpellsStore o (after_at at)) →
+store_enters_level : (at : UnreadPosition) (o : StoreOp) (a : IsAssignment at o) (s : SpellsStore o (after_at at)) →
     EntersLevel at Expression
 store_enters_level at o a s after more =
     let n : (next_at at).token ≡ token.Name a.named.name = a.named.is in
     rw (n, after_name at after a.named more, s.is) (store_enters a.named.name s.m o s.store)
 
-pub store_too_deep : (at : Position) (used : ℕ) (near : IsNearTo at.lookahead.cursor used) (depth : ℕ) (o : StoreOp) →
+pub store_too_deep : (at : UnreadPosition) (used : ℕ) (near : IsNearTo at.lookahead.cursor used) (depth : ℕ) (o : StoreOp) →
     IsAssignment at o → 64 ≤ depth →
     FailsAt depth (Part Expression ∷ []) [] at
     (stop_with (refusal.Source (diagnostic (next_at at).line code.NestedTooDeeply)) used)
@@ -164,7 +164,7 @@ store_too_deep at used near depth o a deep =
     (Exactly s.m ∷ Part Expression ∷ Make (Store o) ∷ Close ∷ []) (store_chooses at o a s)
     (store_enters_level at o a s) (rw n refl) deep
 
-store_stands : (at : Position) (depth : ℕ) (o : StoreOp) (a : IsAssignment at o) → depth < 64 →
+store_stands : (at : UnreadPosition) (depth : ℕ) (o : StoreOp) (a : IsAssignment at o) → depth < 64 →
     (s : SpellsStore o (after_at at)) →
     Derives depth (Part Expression ∷ []) (AName Mentioned ∷ Exactly s.m ∷ Part Expression ∷ Make (Store o) ∷ Close ∷ [])
     [] [] at at
@@ -172,7 +172,7 @@ store_stands at depth o a shallow s =
     chosen_within at depth Expression (AName Mentioned ∷ Exactly s.m ∷ Part Expression ∷ Make (Store o) ∷ Close ∷ [])
     (store_chooses at o a s) shallow
 
-pub target_refused : (used : ℕ) (at : Position) (depth : ℕ) (o : StoreOp) (more : Type 0) (f : ParseFault) →
+pub target_refused : (used : ℕ) (at : UnreadPosition) (depth : ℕ) (o : StoreOp) (more : Type 0) (f : ParseFault) →
     IsAssignment at o → depth < 64 → Refused (FailsItem (AName Mentioned) at) ⊥ used f →
     Refused (FailsAt depth (Part Expression ∷ []) [] at) more used f
 target_refused used at depth o more f a shallow =
@@ -181,7 +181,7 @@ target_refused used at depth o more f a shallow =
     (Exactly s.m ∷ Part Expression ∷ Make (Store o) ∷ Close ∷ []) [] [] at at more f
     (store_stands at depth o a shallow s) (λ stack same. ap (λ n. n + 1) same)
 
-target_past : (at now : Position) (depth : ℕ) (o : StoreOp) (v : Var) (a : IsAssignment at o) → depth < 64 →
+target_past : (at now : UnreadPosition) (depth : ℕ) (o : StoreOp) (v : Var) (a : IsAssignment at o) → depth < 64 →
     DerivesItem (AName Mentioned) [] (AVariable v ∷ []) at now → (s : SpellsStore o (after_at at)) →
     Derives depth (Part Expression ∷ []) (Exactly s.m ∷ Part Expression ∷ Make (Store o) ∷ Close ∷ []) []
     (AVariable v ∷ []) at now
@@ -191,21 +191,21 @@ target_past at now depth o v a shallow item s =
     (store_stands at depth o a shallow s) (item (depth + 1)) (λ stack same. ap (λ n. n + 1) same)
 
 -- the operator is next after the name
-next_is : (at now : Position) (o : StoreOp) (v : Var) → IsAssignment at o →
+next_is : (at now : UnreadPosition) (o : StoreOp) (v : Var) → IsAssignment at o →
     DerivesItem (AName Mentioned) [] (AVariable v ∷ []) at now → (next_at now).token ≡ after_at at
 next_is at now o v a item =
     ap (λ (l : LocatedToken). l.token) (behind_name_is at now Mentioned (AVariable v ∷ []) a.named item)
 
-pub sign_goes_on : (at now : Position) (o : StoreOp) (v : Var) → IsAssignment at o →
+pub sign_goes_on : (at now : UnreadPosition) (o : StoreOp) (v : Var) → IsAssignment at o →
     DerivesItem (AName Mentioned) [] (AVariable v ∷ []) at now → is_last (next_at now).token ≡ false
 sign_goes_on at now o v a item = rw (next_is at now o v a item) (store_goes_on o (after_at at) a.is)
 
-sign_fits : (at now : Position) (o : StoreOp) (v : Var) → IsAssignment at o →
+sign_fits : (at now : UnreadPosition) (o : StoreOp) (v : Var) → IsAssignment at o →
     DerivesItem (AName Mentioned) [] (AVariable v ∷ []) at now → (s : SpellsStore o (after_at at)) →
     is_punctuator s.m (next_at now).token ≡ true
 sign_fits at now o v a item s = rw (next_is at now o v a item) s.fits
 
-pub sign_refused : (used : ℕ) (at now : Position) (depth : ℕ) (o : StoreOp) (v : Var) (more : Type 0) (f : ParseFault) →
+pub sign_refused : (used : ℕ) (at now : UnreadPosition) (depth : ℕ) (o : StoreOp) (v : Var) (more : Type 0) (f : ParseFault) →
     IsAssignment at o → depth < 64 → DerivesItem (AName Mentioned) [] (AVariable v ∷ []) at now →
     Refused (StopsAt now) ⊥ used f → Refused (FailsAt depth (Part Expression ∷ []) [] at) more used f
 sign_refused used at now depth o v more f a shallow item stop =
@@ -215,7 +215,7 @@ sign_refused used at now depth o v more f a shallow item stop =
     (target_past at now depth o v a shallow item s) (λ stack same. ap (λ n. n + 1) same)
     (punctuator_ends used now s.m f (sign_fits at now o v a item s) stop)
 
-sign_past : (at now next : Position) (depth : ℕ) (o : StoreOp) (v : Var) → IsAssignment at o → depth < 64 →
+sign_past : (at now next : UnreadPosition) (depth : ℕ) (o : StoreOp) (v : Var) → IsAssignment at o → depth < 64 →
     DerivesItem (AName Mentioned) [] (AVariable v ∷ []) at now → GoesPast now next →
     Derives depth (Part Expression ∷ []) (Part Expression ∷ Make (Store o) ∷ Close ∷ []) [] (AVariable v ∷ []) at next
 sign_past at now next depth o v a shallow item goes =
@@ -226,7 +226,7 @@ sign_past at now next depth o v a shallow item goes =
     (punctuator_past now next s.m (sign_fits at now o v a item s) goes (depth + 1))
     (λ stack same. ap (λ n. n + 1) same)
 
-pub value_refused : (used : ℕ) (at now next : Position) (depth : ℕ) (o : StoreOp) (v : Var) (denied : Type 0)
+pub value_refused : (used : ℕ) (at now next : UnreadPosition) (depth : ℕ) (o : StoreOp) (v : Var) (denied : Type 0)
     (f : ParseFault) → IsAssignment at o → depth < 64 → DerivesItem (AName Mentioned) [] (AVariable v ∷ []) at now →
     GoesPast now next → Refused (FailsAt (depth + 1) (Part Expression ∷ []) [] next) denied used f →
     Refused (FailsAt depth (Part Expression ∷ []) [] at) denied used f
@@ -245,11 +245,11 @@ store_makes o v e =
       defines = λ values scope. refl;
     }
 
-pub assignment_adds : (before mid after : Representation) (at now next there : Position) (depth : ℕ) (o : StoreOp)
+pub assignment_adds : (before mid after : Representation) (at now next there : UnreadPosition) (depth : ℕ) (o : StoreOp)
     (v : Var) →
     IsAssignment at o → depth < 64 → DerivesItem (AName Mentioned) [] (AVariable v ∷ []) at now →
     GoesPast now next → AddsExpr before mid (depth + 1) 1 (Part Expression ∷ []) [] next there → IsVariable 64 64 v →
-    is_fault (next_at there).token ≡ false → AppendsAll mid after (StoreVariable v o ∷ []) →
+    is_lexical_error (next_at there).token ≡ false → AppendsAll mid after (StoreVariable v o ∷ []) →
     AddsExpr before after depth 1 (Part Expression ∷ []) [] at there
 assignment_adds before mid after at now next there depth o v a shallow item goes h numbered sound last = record {
   tree = Assign o v h.tree;

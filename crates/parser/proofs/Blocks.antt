@@ -14,10 +14,10 @@ use Rattle.grammar.specs.declared.actions.Action.{Action}
 use Rattle.grammar.specs.declared.actions.Action.TheVariants.{BeginFunction, EndFunction}
 use Rattle.grammar.specs.Actions.{body_actions, code_length, function_actions, last_return}
 use Rattle.grammar.specs.Building.{Representation, AppendsAll}
-use Rattle.grammar.specs.Derivation.{ABody, Definition, Value, definition_of, state}
+use Rattle.grammar.specs.Derivation.{ABody, Definition, PartialTree, definition_of, state}
 use Rattle.grammar.specs.Faults.{definitions_actions, is_too_long}
-use Rattle.grammar.specs.Grammar.{Item, AName, Define, Defined, Exactly, FunctionBlock, Make, ParameterTypes, Parameters, Part, Close, is_fault, is_punctuator}
-use Rattle.grammar.specs.Laws.Parsing.{Passes, Fails}
+use Rattle.grammar.specs.Grammar.{Item, AName, Define, Defined, Exactly, FunctionBlock, Make, ParameterTypes, Parameters, Part, Close, is_lexical_error, is_punctuator}
+use Rattle.grammar.specs.Laws.Parsing.{DerivesWithoutFault, Fails}
 use Rattle.grammar.specs.Profile.{Profile}
 use Rattle.grammar.specs.Scope.{Scope, end_definition}
 use Rattle.grammar.specs.Tree.{Body}
@@ -27,7 +27,7 @@ use Rattle.grammar.proofs.Runs.{then}
 use Rattle.grammar.proofs.Steps.{make, close}
 use Rattle.parser.specs.Advancing.{IsReady, HasStayedOrAdvanced, Stopped}
 use Rattle.parser.specs.Growing.{HasGrown}
-use Rattle.parser.specs.ScopedCursors.{MayContinue, Position, ScopedCursor, next_at, scope_at, scope_of, tokens_at, with_scope}
+use Rattle.parser.specs.ScopedCursors.{MayContinue, UnreadPosition, ScopedCursor, next_at, scope_at, scope_of, tokens_at, with_scope}
 use Rattle.parser.specs.Stopping.{Stop, Stops, stop_with}
 use Rattle.grammar.specs.Compiled.{diagnostic}
 use Rattle.parser.specs.Segment.{Derives, DerivesItem, FailsAt, FailsItem, Refused, TakesTokens}
@@ -44,14 +44,14 @@ definition_items =
     Part ParameterTypes ∷ Part FunctionBlock ∷ []
 
 -- up to the block
-pub headed : (at now : Position) → Derives 0 header_items [] [] [] at now →
+pub headed : (at now : UnreadPosition) → Derives 0 header_items [] [] [] at now →
     Derives 0 definition_items (Part FunctionBlock ∷ []) [] [] at now
 headed at now h =
     joined 0 0 definition_items header_items [] (Part FunctionBlock ∷ []) [] [] [] [] at at now
     (stay at 0 definition_items []) h (λ stack same. same)
 
 -- up to the closing brace
-pub braced : (before after : Representation) (at now there : Position) → Derives 0 header_items [] [] [] at now →
+pub braced : (before after : Representation) (at now there : UnreadPosition) → Derives 0 header_items [] [] [] at now →
     (b : AddsBlock before after now there) →
     Derives 0 definition_items at_brace [] (ABody b.tree ∷ []) at there
 braced before after at now there h b =
@@ -129,23 +129,23 @@ short_enough profile second third fourth functions scope body number parameters 
 
 define_step : (profile : Profile) (located_tokens : List LocatedToken) (known learnt : Scope)
     (functions : List Definition) (body : Body) (stack : List Item) (next : LocatedToken) (tail : List LocatedToken) →
-    located_tokens ≡ next ∷ tail → is_fault next.token ≡ false → learnt ≡ end_definition known →
+    located_tokens ≡ next ∷ tail → is_lexical_error next.token ≡ false → learnt ≡ end_definition known →
     is_too_long profile (functions ++ definition_of known body ∷ []) ≡ false →
-    Passes profile (state (Make Define ∷ stack) located_tokens (ABody body ∷ []) known functions)
+    DerivesWithoutFault profile (state (Make Define ∷ stack) located_tokens (ABody body ∷ []) known functions)
     (state stack located_tokens [] learnt (functions ++ definition_of known body ∷ []))
 define_step profile located_tokens known learnt functions body stack next tail e sound ended short =
     rw (e, ended) (make profile Define stack (next ∷ tail) (ABody body ∷ []) known functions sound (rw short refl))
 
 close_step : (profile : Profile) (located_tokens : List LocatedToken) (scope : Scope) (functions : List Definition)
     (stack : List Item) (next : LocatedToken) (tail : List LocatedToken) → located_tokens ≡ next ∷ tail →
-    is_fault next.token ≡ false →
-    Passes profile (state (Close ∷ stack) located_tokens [] scope functions)
+    is_lexical_error next.token ≡ false →
+    DerivesWithoutFault profile (state (Close ∷ stack) located_tokens [] scope functions)
     (state stack located_tokens [] scope functions)
 close_step profile located_tokens scope functions stack next tail e sound =
     rw e (close profile stack (next ∷ tail) [] scope functions sound)
 
 -- the position at the closing brace, and the same after the function's end
-pub record IsEnded (brace ended : Position) : Type 0 where
+pub record IsEnded (brace ended : UnreadPosition) : Type 0 where
   pub cursor : ended.lookahead.cursor ≡ brace.lookahead.cursor
   pub to_come : ended.to_come ≡ brace.to_come
   pub scope : scope_at ended ≡ end_definition (scope_at brace)
@@ -174,21 +174,21 @@ short refusal.Device at before line denied ends = absurd ends
 short refusal.Memory at before line denied ends =
     record { borrows = refl; account = refl; took = record { rest = λ total h. h } }
 
-goes_ended : (brace ended : Position) (rest : List LocatedToken) → IsEnded brace ended → MayContinue ended rest →
+goes_ended : (brace ended : UnreadPosition) (rest : List LocatedToken) → IsEnded brace ended → MayContinue ended rest →
     MayContinue brace rest
 goes_ended brace ended rest s g = record { behind = g.behind; is = g.is ∙ rw s.cursor refl }
 
-tokens_ended : (brace ended : Position) → IsEnded brace ended → tokens_at ended ≡ tokens_at brace
+tokens_ended : (brace ended : UnreadPosition) → IsEnded brace ended → tokens_at ended ≡ tokens_at brace
 tokens_ended brace ended s = rw (s.cursor, s.to_come) refl
 
 -- a function was read, whose closing brace ends it
-pub function_advances : (first second third fourth : Representation) (at now brace ended there : Position)
+pub function_advances : (first second third fourth : Representation) (at now brace ended there : UnreadPosition)
     (number parameters variables : ℕ) →
     Derives 0 header_items [] [] [] at now → (b : AddsBlock second third now brace) →
     IsSame number parameters variables (scope_at brace) → IsEnded brace ended →
     AppendsAll first second (BeginFunction number parameters ∷ []) → ClosesFunction third fourth variables →
-    DerivesItem (Exactly punctuator.CloseCurly) [] [] ended there → is_fault (next_at brace).token ≡ false →
-    is_fault (next_at there).token ≡ false →
+    DerivesItem (Exactly punctuator.CloseCurly) [] [] ended there → is_lexical_error (next_at brace).token ≡ false →
+    is_lexical_error (next_at there).token ≡ false →
     ReadsOn first fourth at_definition at_source at there
 function_advances first second third fourth at now brace ended there number parameters variables h b same s told c e
     sound_brace sound =
@@ -236,18 +236,18 @@ function_advances first second third fourth at now brace ended there number para
 
 -- Where the parse of a function stops.
 
-heading_stops : (before : Representation) (at : Position) (d : Stop) → FailsAt 0 header_items [] at d →
+heading_stops : (before : Representation) (at : UnreadPosition) (d : Stop) → FailsAt 0 header_items [] at d →
     StopsPart before before at_definition at d
 heading_stops before at d fails located_tokens is profile functions h =
     telling_inside before profile _ d (λ device. told_alone before profile functions h)
     (fails located_tokens is profile (Part FunctionBlock ∷ at_source) [] functions refl)
 
-pub heading_refused : (used : ℕ) (before : Representation) (at : Position) (f : ParseFault) (more : Type 0) →
+pub heading_refused : (used : ℕ) (before : Representation) (at : UnreadPosition) (f : ParseFault) (more : Type 0) →
     Refused (FailsAt 0 header_items [] at) ⊥ used f → Refused (StopsPart before before at_definition at) more used f
 heading_refused used before at f more =
     refused_map used _ _ ⊥ more f (λ d. heading_stops before at d) (λ never. absurd never)
 
-block_stops : (before after : Representation) (at now : Position) (d : Stop) → Derives 0 header_items [] [] [] at now →
+block_stops : (before after : Representation) (at now : UnreadPosition) (d : Stop) → Derives 0 header_items [] [] [] at now →
     (refusal.Device ≡ d.fault → HasGrown before after) → FailsAt 0 (Part FunctionBlock ∷ []) [] now d →
     StopsPart before after at_definition at d
 block_stops before after at now d h grown fails located_tokens is profile functions k =
@@ -255,7 +255,7 @@ block_stops before after at now d h grown fails located_tokens is profile functi
     (fails_then 0 definition_items (Part FunctionBlock ∷ []) [] [] at now d (headed at now h) fails located_tokens is
     profile at_source [] functions refl)
 
-pub block_refused : (used : ℕ) (before second after : Representation) (at now : Position) (number parameters : ℕ)
+pub block_refused : (used : ℕ) (before second after : Representation) (at now : UnreadPosition) (number parameters : ℕ)
     (f : ParseFault)
     (denied : Type 0) → Derives 0 header_items [] [] [] at now →
     AppendsAll before second (BeginFunction number parameters ∷ []) → (refusal.Device ≡ f → HasGrown second after) →
@@ -275,7 +275,7 @@ block_refused used before second after at now number parameters f denied h told 
         (fails.0, block_stops before after at now (stop_with refusal.Memory used) h (λ device. absurd (cc)) fails.1)
 
 -- the builder was refused memory
-pub definition_halts : (before after : Representation) (pending : List Item) (left : List Value) (at now : Position)
+pub definition_halts : (before after : Representation) (pending : List Item) (left : List PartialTree) (at now : UnreadPosition)
     (used : ℕ) →
     Derives 0 definition_items pending [] left at now → IsNearTo now.lookahead.cursor used →
     StopsPart before after at_definition at (stop_with refusal.Memory used)
@@ -284,11 +284,11 @@ definition_halts before after pending left at now used d near located_tokens is 
     (halts 0 definition_items pending [] left at now used d near located_tokens is profile at_source [] functions
     refl)
 
-too_much_stops : (first second third after : Representation) (at now brace : Position) (number parameters : ℕ)
+too_much_stops : (first second third after : Representation) (at now brace : UnreadPosition) (number parameters : ℕ)
     (d : Diagnostic)
     (used : ℕ) → IsNearTo brace.lookahead.cursor used → Derives 0 header_items [] [] [] at now →
     (b : AddsBlock second third now brace) →
-    AppendsAll first second (BeginFunction number parameters ∷ []) → is_fault (next_at brace).token ≡ false →
+    AppendsAll first second (BeginFunction number parameters ∷ []) → is_lexical_error (next_at brace).token ≡ false →
     is_punctuator punctuator.CloseCurly (next_at brace).token ≡ true → IsTooMuch third (next_at brace).line d →
     StopsPart first after at_definition at (stop_with (refusal.Source d) used)
 too_much_stops first second third after at now brace number parameters d used near h b told sound closed much
@@ -314,11 +314,11 @@ too_much_stops first second third after at now brace number parameters d used ne
     (s.passes t.rest (told_goes brace t.rest t.shows) profile at_source [] functions refl)
     (record { stops = stop; told = λ device. absurd (cc) }))
 
-pub too_much_refused : (used : ℕ) (first second third after : Representation) (at now brace : Position)
+pub too_much_refused : (used : ℕ) (first second third after : Representation) (at now brace : UnreadPosition)
     (number parameters : ℕ)
     (f : ParseFault) (denied : Type 0) → IsNearTo brace.lookahead.cursor used →
     Derives 0 header_items [] [] [] at now → AddsBlock second third now brace →
-    AppendsAll first second (BeginFunction number parameters ∷ []) → is_fault (next_at brace).token ≡ false →
+    AppendsAll first second (BeginFunction number parameters ∷ []) → is_lexical_error (next_at brace).token ≡ false →
     is_punctuator punctuator.CloseCurly (next_at brace).token ≡ true →
     RefusesEnd third (next_at brace).line denied f →
     Refused (StopsPart first after at_definition at) denied used f
@@ -338,13 +338,13 @@ too_much_refused used first second third after at now brace number parameters f 
 
 -- The closing brace itself is always there, but the token after it may be a lexical error. The builder was told the
 -- function.
-brace_stops : (first second third fourth : Representation) (at now brace ended : Position)
+brace_stops : (first second third fourth : Representation) (at now brace ended : UnreadPosition)
     (number parameters variables : ℕ)
     (d : Stop) →
     Derives 0 header_items [] [] [] at now → AddsBlock second third now brace →
     IsSame number parameters variables (scope_at brace) → IsEnded brace ended →
     AppendsAll first second (BeginFunction number parameters ∷ []) → ClosesFunction third fourth variables →
-    is_fault (next_at brace).token ≡ false →
+    is_lexical_error (next_at brace).token ≡ false →
     FailsItem (Exactly punctuator.CloseCurly) ended d → StopsPart first fourth at_definition at d
 brace_stops first second third fourth at now brace ended number parameters variables d h b same s told c sound fails
     located_tokens is profile functions k =
@@ -371,12 +371,12 @@ brace_stops first second third fourth at now brace ended number parameters varia
     (telling_inside fourth profile _ d (λ device. told_alone fourth profile (functions ++ f ∷ []) all)
     (fails 1 t.rest (tokens_ended brace ended s ∙ t.shows) profile (Close ∷ at_source) [] (functions ++ f ∷ []) refl))))
 
-pub brace_refused : (used : ℕ) (first second third fourth : Representation) (at now brace ended : Position)
+pub brace_refused : (used : ℕ) (first second third fourth : Representation) (at now brace ended : UnreadPosition)
     (number parameters variables : ℕ) (f : ParseFault) (more : Type 0) →
     Derives 0 header_items [] [] [] at now → AddsBlock second third now brace →
     IsSame number parameters variables (scope_at brace) → IsEnded brace ended →
     AppendsAll first second (BeginFunction number parameters ∷ []) → ClosesFunction third fourth variables →
-    is_fault (next_at brace).token ≡ false →
+    is_lexical_error (next_at brace).token ≡ false →
     Refused (FailsItem (Exactly punctuator.CloseCurly) ended) ⊥ used f →
     Refused (StopsPart first fourth at_definition at) more used f
 brace_refused used first second third fourth at now brace ended number parameters variables f more h b same s told c
@@ -386,7 +386,7 @@ brace_refused used first second third fourth at now brace ended number parameter
     sound) (λ never. absurd never)
 
 -- A closing brace is no lexical error.
-pub closing_sound : (t : Token) → is_punctuator punctuator.CloseCurly t ≡ true → is_fault t ≡ false
+pub closing_sound : (t : Token) → is_punctuator punctuator.CloseCurly t ≡ true → is_lexical_error t ≡ false
 closing_sound (token.Punctuator m) is = refl
 closing_sound (token.Name name) is = refl
 closing_sound (token.Keyword word) is = refl

@@ -12,12 +12,12 @@ use Rattle.grammar.specs.Actions.{body_actions, expr_actions}
 use Rattle.grammar.specs.Building.{Appends, AppendsAll, Representation}
 use Rattle.grammar.specs.Compiled.{diagnostic}
 use Rattle.grammar.specs.Derivation.{ABody, AnExpr}
-use Rattle.grammar.specs.Faults.{levels}
-use Rattle.grammar.specs.Grammar.{Block, Decide, DecideElse, Declarations, ElsePart, Empty, Exactly, Item, Make, Part, Repeat, Close, Statement, Statements, is_fault, is_punctuator, is_keyword}
+use Rattle.grammar.specs.Faults.{nested_count}
+use Rattle.grammar.specs.Grammar.{Block, Decide, DecideElse, Declarations, ElsePart, Empty, Exactly, Item, Make, Part, Repeat, Close, Statement, Statements, is_lexical_error, is_punctuator, is_keyword}
 use Rattle.grammar.specs.Nesting.{body_nesting, nesting}
 use Rattle.grammar.specs.Resolved.{InBody, InExpr}
 use Rattle.grammar.specs.Tree.{Body, IfElseStatement, Done, Expr, IfStatement, While, join}
-use Rattle.parser.specs.ScopedCursors.{Position, next_at}
+use Rattle.parser.specs.ScopedCursors.{UnreadPosition, next_at}
 use Rattle.parser.specs.Room.{room}
 use Rattle.parser.specs.Stopping.{Stop, stop_with}
 use Rattle.parser.specs.Segment.{Derives, DerivesItem, FailsAt, FailsItem, GoesPast, StopsAt}
@@ -30,17 +30,17 @@ use Rattle.parser.proofs.Forms.{BeginsBlock, begins_block, behind_if, behind_whi
 use Rattle.parser.proofs.Joining.{actions_join, join_narrow, join_numbered}
 use Rattle.parser.proofs.Parts.{free_below, free_of, make_stands, punctuator_past, punctuator_stops, punctuator_too_deep, part_stands, close_stands, word_past, word_stops, word_too_deep}
 use Rattle.parser.proofs.Rules.{choose_makes, decide_makes, empty_makes, repeat_makes}
-use Rattle.grammar.proofs.StandingLaws.{appends_both, appends_none}
+use Rattle.grammar.proofs.RepresentationLaws.{appends_both, appends_none}
 use Rattle.grammar.proofs.Joins.{join_done, join_assoc}
 use Rattle.tokens.specs.Cursors.{IsNearTo}
 
 -- a level is open below these items
-deeper : (depth : ℕ) (stack : List Item) → levels stack ≡ depth → levels stack + 1 ≡ depth + 1
+deeper : (depth : ℕ) (stack : List Item) → nested_count stack ≡ depth → nested_count stack + 1 ≡ depth + 1
 deeper depth stack same = ap (λ n. n + 1) same
 
 -- Blocks.
 
-braces_past : (at now : Position) (depth : ℕ) (b : Body) → is_fault (next_at at).token ≡ false →
+braces_past : (at now : UnreadPosition) (depth : ℕ) (b : Body) → is_lexical_error (next_at at).token ≡ false →
     is_punctuator punctuator.OpenCurly (next_at at).token ≡ true → depth < 64 → GoesPast at now →
     Derives depth (Part Statement ∷ []) in_braces (ABody b ∷ []) (ABody b ∷ []) at now
 braces_past at now depth b sound is shallow goes =
@@ -52,7 +52,7 @@ braces_past at now depth b sound is shallow goes =
     (punctuator_past at now depth Block punctuator.OpenCurly in_braces (ABody b ∷ []) sound begins.chosen is
     (free_below depth Block (next_at at) shallow) goes) (λ stack same. same)
 
-block_fails : (at : Position) (depth : ℕ) (b : Body) → is_fault (next_at at).token ≡ false →
+block_fails : (at : UnreadPosition) (depth : ℕ) (b : Body) → is_lexical_error (next_at at).token ≡ false →
     is_punctuator punctuator.OpenCurly (next_at at).token ≡ true → (d : Stop) →
     FailsAt depth (Part Block ∷ []) (ABody b ∷ []) at d → FailsAt depth (Part Statement ∷ []) (ABody b ∷ []) at d
 block_fails at depth b sound is d fails =
@@ -61,8 +61,8 @@ block_fails at depth b sound is d fails =
     (part_stands at depth Statement (Part Block ∷ []) (ABody b ∷ []) sound begins.statement
     (free_of depth Statement (next_at at) begins.shallow)) (λ stack same. same) fails
 
-pub block_too_deep : (at : Position) (used : ℕ) (near : IsNearTo at.lookahead.cursor used) (depth : ℕ) →
-    is_fault (next_at at).token ≡ false → is_punctuator punctuator.OpenCurly (next_at at).token ≡ true → 64 ≤ depth →
+pub block_too_deep : (at : UnreadPosition) (used : ℕ) (near : IsNearTo at.lookahead.cursor used) (depth : ℕ) →
+    is_lexical_error (next_at at).token ≡ false → is_punctuator punctuator.OpenCurly (next_at at).token ≡ true → 64 ≤ depth →
     FailsBody depth (Part Statement ∷ []) at
     (stop_with (refusal.Source (diagnostic (next_at at).line code.NestedTooDeeply)) used)
 block_too_deep at used near depth sound is deep b =
@@ -71,7 +71,7 @@ block_too_deep at used near depth sound is deep b =
     (punctuator_too_deep at used near depth Block punctuator.OpenCurly in_braces (ABody b ∷ []) sound begins.chosen
     is begins.opened deep)
 
-pub brace_stops : (at : Position) (depth : ℕ) → is_fault (next_at at).token ≡ false →
+pub brace_stops : (at : UnreadPosition) (depth : ℕ) → is_lexical_error (next_at at).token ≡ false →
     is_punctuator punctuator.OpenCurly (next_at at).token ≡ true → depth < 64 → (d : Stop) → StopsAt at d →
     FailsBody depth (Part Statement ∷ []) at d
 brace_stops at depth sound is shallow d stop b =
@@ -80,7 +80,7 @@ brace_stops at depth sound is shallow d stop b =
     (punctuator_stops at d depth Block punctuator.OpenCurly in_braces (ABody b ∷ []) sound begins.chosen is
     (free_below depth Block (next_at at) shallow) stop)
 
-pub declarations_fail : (at now : Position) (depth : ℕ) → is_fault (next_at at).token ≡ false →
+pub declarations_fail : (at now : UnreadPosition) (depth : ℕ) → is_lexical_error (next_at at).token ≡ false →
     is_punctuator punctuator.OpenCurly (next_at at).token ≡ true → depth < 64 → GoesPast at now → (d : Stop) →
     ((n : ℕ) → FailsAt n (Part Declarations ∷ []) [] now d) → FailsBody depth (Part Statement ∷ []) at d
 declarations_fail at now depth sound is shallow goes d fails b =
@@ -88,7 +88,7 @@ declarations_fail at now depth sound is shallow goes d fails b =
     (Part Statements ∷ Exactly punctuator.CloseCurly ∷ Close ∷ []) (ABody b ∷ []) [] (ABody b ∷ []) at now d
     (braces_past at now depth b sound is shallow goes) (deeper depth) (fails (depth + 1))
 
-declarations_past : (at now later : Position) (depth : ℕ) (b : Body) → is_fault (next_at at).token ≡ false →
+declarations_past : (at now later : UnreadPosition) (depth : ℕ) (b : Body) → is_lexical_error (next_at at).token ≡ false →
     is_punctuator punctuator.OpenCurly (next_at at).token ≡ true → depth < 64 → GoesPast at now →
     ((n : ℕ) → Derives n (Part Declarations ∷ []) [] [] [] now later) →
     Derives depth (Part Statement ∷ []) (Part Statements ∷ Exactly punctuator.CloseCurly ∷ Close ∷ []) (ABody b ∷ [])
@@ -98,7 +98,7 @@ declarations_past at now later depth b sound is shallow goes declared =
     (Part Statements ∷ Exactly punctuator.CloseCurly ∷ Close ∷ []) (ABody b ∷ []) [] [] (ABody b ∷ []) at now later
     (braces_past at now depth b sound is shallow goes) (declared (depth + 1)) (deeper depth)
 
-pub within_fails : (at now later : Position) (depth : ℕ) → is_fault (next_at at).token ≡ false →
+pub within_fails : (at now later : UnreadPosition) (depth : ℕ) → is_lexical_error (next_at at).token ≡ false →
     is_punctuator punctuator.OpenCurly (next_at at).token ≡ true → depth < 64 → GoesPast at now →
     ((n : ℕ) → Derives n (Part Declarations ∷ []) [] [] [] now later) → (d : Stop) →
     FailsBody (depth + 1) (Part Statements ∷ []) later d → FailsBody depth (Part Statement ∷ []) at d
@@ -107,8 +107,8 @@ within_fails at now later depth sound is shallow goes declared d fails b =
     (Exactly punctuator.CloseCurly ∷ Close ∷ []) (ABody b ∷ []) (ABody b ∷ []) [] at later d
     (declarations_past at now later depth b sound is shallow goes declared) (deeper depth) (fails b)
 
-within_past : (at now later behind : Position) (before after : Representation) (depth : ℕ) (b : Body) →
-    is_fault (next_at at).token ≡ false → is_punctuator punctuator.OpenCurly (next_at at).token ≡ true → depth < 64 →
+within_past : (at now later behind : UnreadPosition) (before after : Representation) (depth : ℕ) (b : Body) →
+    is_lexical_error (next_at at).token ≡ false → is_punctuator punctuator.OpenCurly (next_at at).token ≡ true → depth < 64 →
     GoesPast at now →
     ((n : ℕ) → Derives n (Part Declarations ∷ []) [] [] [] now later) →
     (h : AddsBody before after (depth + 1) (Part Statements ∷ []) [] later behind) →
@@ -120,8 +120,8 @@ within_past at now later behind before after depth b sound is shallow goes decla
     behind
     (declarations_past at now later depth b sound is shallow goes declared) (h.derives b) (deeper depth)
 
-pub brace_fails : (at now later behind : Position) (before after : Representation) (depth : ℕ) →
-    is_fault (next_at at).token ≡ false → is_punctuator punctuator.OpenCurly (next_at at).token ≡ true → depth < 64 →
+pub brace_fails : (at now later behind : UnreadPosition) (before after : Representation) (depth : ℕ) →
+    is_lexical_error (next_at at).token ≡ false → is_punctuator punctuator.OpenCurly (next_at at).token ≡ true → depth < 64 →
     GoesPast at now →
     ((n : ℕ) → Derives n (Part Declarations ∷ []) [] [] [] now later) →
     AddsBody before after (depth + 1) (Part Statements ∷ []) [] later behind → (d : Stop) →
@@ -132,12 +132,12 @@ brace_fails at now later behind before after depth sound is shallow goes declare
     (within_past at now later behind before after depth b sound is shallow goes declared h) (deeper depth)
     (fails (depth + 1))
 
-pub block_adds : (at now later behind there : Position) (before after : Representation) (depth : ℕ) →
-    is_fault (next_at at).token ≡ false → is_punctuator punctuator.OpenCurly (next_at at).token ≡ true → depth < 64 →
+pub block_adds : (at now later behind there : UnreadPosition) (before after : Representation) (depth : ℕ) →
+    is_lexical_error (next_at at).token ≡ false → is_punctuator punctuator.OpenCurly (next_at at).token ≡ true → depth < 64 →
     GoesPast at now →
     ((n : ℕ) → Derives n (Part Declarations ∷ []) [] [] [] now later) →
     AddsBody before after (depth + 1) (Part Statements ∷ []) [] later behind →
-    DerivesItem (Exactly punctuator.CloseCurly) [] [] behind there → is_fault (next_at there).token ≡ false →
+    DerivesItem (Exactly punctuator.CloseCurly) [] [] behind there → is_lexical_error (next_at there).token ≡ false →
     AddsBody before after depth (Part Statement ∷ []) [] at there
 block_adds at now later behind there before after depth sound is shallow goes declared h closed sound_behind = record {
   tree = h.tree;
@@ -157,20 +157,20 @@ block_adds at now later behind there before after depth sound is shallow goes de
 -- The condition of an `if` or a `while`, and its first statement.
 
 -- an `if` or a `while` goes on after its keyword
-abbrev pub Conditioned : ℕ → List Item → Position → Position → Type 0
+abbrev pub Conditioned : ℕ → List Item → UnreadPosition → UnreadPosition → Type 0
 Conditioned depth items at now =
     (b : Body) →
     Derives depth (Part Statement ∷ []) (in_brackets ++ (Make Empty ∷ Part Statement ∷ items)) (ABody b ∷ [])
     (ABody b ∷ []) at now
 
-pub if_past : (at now : Position) (depth : ℕ) → is_fault (next_at at).token ≡ false →
+pub if_past : (at now : UnreadPosition) (depth : ℕ) → is_lexical_error (next_at at).token ≡ false →
     is_keyword keyword.If (next_at at).token ≡ true → depth < 64 → GoesPast at now →
     Conditioned depth (Part ElsePart ∷ Close ∷ []) at now
 if_past at now depth sound is shallow goes b =
     word_past at now depth Statement keyword.If (in_brackets ++ behind_if) (ABody b ∷ []) sound (if_chosen _ is) is
     (free_below depth Statement (next_at at) shallow) goes
 
-pub while_past : (at now : Position) (depth : ℕ) → is_fault (next_at at).token ≡ false →
+pub while_past : (at now : UnreadPosition) (depth : ℕ) → is_lexical_error (next_at at).token ≡ false →
     is_keyword keyword.While (next_at at).token ≡ true → depth < 64 → GoesPast at now →
     Conditioned depth (Make Repeat ∷ Close ∷ []) at now
 while_past at now depth sound is shallow goes b =
@@ -178,14 +178,14 @@ while_past at now depth sound is shallow goes b =
     (while_chosen _ is)
     is (free_below depth Statement (next_at at) shallow) goes
 
-pub if_stops : (at : Position) (depth : ℕ) → is_fault (next_at at).token ≡ false →
+pub if_stops : (at : UnreadPosition) (depth : ℕ) → is_lexical_error (next_at at).token ≡ false →
     is_keyword keyword.If (next_at at).token ≡ true → depth < 64 → (d : Stop) → StopsAt at d →
     FailsBody depth (Part Statement ∷ []) at d
 if_stops at depth sound is shallow d stop b =
     word_stops at d depth Statement keyword.If (in_brackets ++ behind_if) (ABody b ∷ []) sound (if_chosen _ is) is
     (free_below depth Statement (next_at at) shallow) stop
 
-pub while_stops : (at : Position) (depth : ℕ) → is_fault (next_at at).token ≡ false →
+pub while_stops : (at : UnreadPosition) (depth : ℕ) → is_lexical_error (next_at at).token ≡ false →
     is_keyword keyword.While (next_at at).token ≡ true → depth < 64 → (d : Stop) → StopsAt at d →
     FailsBody depth (Part Statement ∷ []) at d
 while_stops at depth sound is shallow d stop b =
@@ -193,8 +193,8 @@ while_stops at depth sound is shallow d stop b =
     is
     (free_below depth Statement (next_at at) shallow) stop
 
-pub if_too_deep : (at : Position) (used : ℕ) (near : IsNearTo at.lookahead.cursor used) (depth : ℕ) →
-    is_fault (next_at at).token ≡ false → is_keyword keyword.If (next_at at).token ≡ true → 64 ≤ depth →
+pub if_too_deep : (at : UnreadPosition) (used : ℕ) (near : IsNearTo at.lookahead.cursor used) (depth : ℕ) →
+    is_lexical_error (next_at at).token ≡ false → is_keyword keyword.If (next_at at).token ≡ true → 64 ≤ depth →
     FailsBody depth (Part Statement ∷ []) at
     (stop_with (refusal.Source (diagnostic (next_at at).line code.NestedTooDeeply)) used)
 if_too_deep at used near depth sound is deep b =
@@ -202,8 +202,8 @@ if_too_deep at used near depth sound is deep b =
     (if_chosen _ is)
     is (if_enters _ is) deep
 
-pub while_too_deep : (at : Position) (used : ℕ) (near : IsNearTo at.lookahead.cursor used) (depth : ℕ) →
-    is_fault (next_at at).token ≡ false → is_keyword keyword.While (next_at at).token ≡ true → 64 ≤ depth →
+pub while_too_deep : (at : UnreadPosition) (used : ℕ) (near : IsNearTo at.lookahead.cursor used) (depth : ℕ) →
+    is_lexical_error (next_at at).token ≡ false → is_keyword keyword.While (next_at at).token ≡ true → 64 ≤ depth →
     FailsBody depth (Part Statement ∷ []) at
     (stop_with (refusal.Source (diagnostic (next_at at).line code.NestedTooDeeply)) used)
 while_too_deep at used near depth sound is deep b =
@@ -212,9 +212,9 @@ while_too_deep at used near depth sound is deep b =
 
 -- the items after the first statement keep one level open
 abbrev pub ClosesOne : List Item → Type 0
-ClosesOne items = (stack : List Item) → levels (items ++ stack) ≡ levels stack + 1
+ClosesOne items = (stack : List Item) → nested_count (items ++ stack) ≡ nested_count stack + 1
 
-pub test_fails : (at now : Position) (depth : ℕ) (items : List Item) → ClosesOne items →
+pub test_fails : (at now : UnreadPosition) (depth : ℕ) (items : List Item) → ClosesOne items →
     Conditioned depth items at now →
     (d : Stop) → FailsAt (depth + 1) in_brackets [] now d → FailsBody depth (Part Statement ∷ []) at d
 test_fails at now depth items closes begun d fails b =
@@ -223,9 +223,9 @@ test_fails at now depth items closes begun d fails b =
     (λ stack same. closes stack ∙ deeper depth stack same) fails
 
 -- the condition, and an empty body after it
-test_past : (at now later : Position) (before after : Representation) (depth : ℕ) (items : List Item) (b : Body) →
+test_past : (at now later : UnreadPosition) (before after : Representation) (depth : ℕ) (items : List Item) (b : Body) →
     ClosesOne items → Conditioned depth items at now →
-    (c : AddsExpr before after (depth + 1) 1 in_brackets [] now later) → is_fault (next_at later).token ≡ false →
+    (c : AddsExpr before after (depth + 1) 1 in_brackets [] now later) → is_lexical_error (next_at later).token ≡ false →
     Derives depth (Part Statement ∷ []) (Part Statement ∷ items) (ABody b ∷ [])
     (ABody Done ∷ AnExpr c.tree ∷ ABody b ∷ []) at later
 test_past at now later before after depth items b closes begun c sound =
@@ -237,10 +237,10 @@ test_past at now later before after depth items b closes begun c sound =
     (make_stands later (depth + 1) Empty [] (ABody Done ∷ []) sound empty_makes)
     (λ stack same. closes stack ∙ deeper depth stack same)
 
-pub first_fails : (at now later : Position) (before after : Representation) (depth : ℕ) (items : List Item) →
+pub first_fails : (at now later : UnreadPosition) (before after : Representation) (depth : ℕ) (items : List Item) →
     ClosesOne items →
     Conditioned depth items at now →
-    AddsExpr before after (depth + 1) 1 in_brackets [] now later → is_fault (next_at later).token ≡ false → (d : Stop) →
+    AddsExpr before after (depth + 1) 1 in_brackets [] now later → is_lexical_error (next_at later).token ≡ false → (d : Stop) →
     FailsBody (depth + 1) (Part Statement ∷ []) later d → FailsBody depth (Part Statement ∷ []) at d
 first_fails at now later before after depth items closes begun c sound d fails b =
     fails_behind depth (depth + 1) (Part Statement ∷ []) (Part Statement ∷ []) items (ABody b ∷ []) (ABody Done ∷ [])
@@ -248,10 +248,10 @@ first_fails at now later before after depth items closes begun c sound d fails b
     (test_past at now later before after depth items b closes begun c sound)
     (λ stack same. closes stack ∙ deeper depth stack same) (fails Done)
 
-first_past : (at now later behind : Position) (before after inside first : Representation) (depth : ℕ)
+first_past : (at now later behind : UnreadPosition) (before after inside first : Representation) (depth : ℕ)
     (items : List Item)
     (b : Body) → ClosesOne items → Conditioned depth items at now →
-    (c : AddsExpr before after (depth + 1) 1 in_brackets [] now later) → is_fault (next_at later).token ≡ false →
+    (c : AddsExpr before after (depth + 1) 1 in_brackets [] now later) → is_lexical_error (next_at later).token ≡ false →
     (s : AddsBody inside first (depth + 1) (Part Statement ∷ []) [] later behind) →
     Derives depth (Part Statement ∷ []) items (ABody b ∷ []) (before_else s.tree c.tree b) at behind
 first_past at now later behind before after inside first depth items b closes begun c sound s =
@@ -265,9 +265,9 @@ first_past at now later behind before after inside first depth items b closes be
 pub if_closes : ClosesOne (Part ElsePart ∷ Close ∷ [])
 if_closes stack = refl
 
-pub second_fails : (at now later behind : Position) (before after inside first : Representation) (depth : ℕ) →
+pub second_fails : (at now later behind : UnreadPosition) (before after inside first : Representation) (depth : ℕ) →
     Conditioned depth (Part ElsePart ∷ Close ∷ []) at now →
-    AddsExpr before after (depth + 1) 1 in_brackets [] now later → is_fault (next_at later).token ≡ false →
+    AddsExpr before after (depth + 1) 1 in_brackets [] now later → is_lexical_error (next_at later).token ≡ false →
     AddsBody inside first (depth + 1) (Part Statement ∷ []) [] later behind →
     (d : Stop) → FailsElse (depth + 1) behind d → FailsBody depth (Part Statement ∷ []) at d
 second_fails at now later behind before after inside first depth begun c sound s d fails b =
@@ -291,12 +291,12 @@ decided_actions : (c : Expr) (s : Body) (t : Option Body) →
 decided_actions c s None = refl
 decided_actions c s (Some t) = refl
 
-pub branch_adds : (at now later behind there : Position) (before m1 m2 m3 m4 after : Representation) (depth : ℕ) →
+pub branch_adds : (at now later behind there : UnreadPosition) (before m1 m2 m3 m4 after : Representation) (depth : ℕ) →
     depth < 64 →
     Conditioned depth (Part ElsePart ∷ Close ∷ []) at now →
-    AddsExpr before m1 (depth + 1) 1 in_brackets [] now later → is_fault (next_at later).token ≡ false →
+    AddsExpr before m1 (depth + 1) 1 in_brackets [] now later → is_lexical_error (next_at later).token ≡ false →
     Appends m1 m2 IfTest → AddsBody m2 m3 (depth + 1) (Part Statement ∷ []) [] later behind →
-    AddsElse m3 m4 (depth + 1) behind there → is_fault (next_at there).token ≡ false → Appends m4 after EndIf →
+    AddsElse m3 m4 (depth + 1) behind there → is_lexical_error (next_at there).token ≡ false → Appends m4 after EndIf →
     AddsBody before after depth (Part Statement ∷ []) [] at there
 branch_adds at now later behind there before m1 m2 m3 m4 after depth shallow begun c sound tested s e sound_behind ended
     =
@@ -326,7 +326,7 @@ branch_adds at now later behind there before m1 m2 m3 m4 after depth shallow beg
 
 -- Second branches.
 
-pub no_else_adds : (at : Position) (before : Representation) (depth : ℕ) → is_fault (next_at at).token ≡ false →
+pub no_else_adds : (at : UnreadPosition) (before : Representation) (depth : ℕ) → is_lexical_error (next_at at).token ≡ false →
     is_keyword keyword.Else (next_at at).token ≡ false → AddsElse before before depth at at
 no_else_adds at before depth sound other = record {
   tree = None;
@@ -342,15 +342,15 @@ no_else_adds at before depth sound other = record {
       (decide_makes s c b)) (λ stack same. same);
 }
 
-pub else_stops : (at : Position) (depth : ℕ) → is_fault (next_at at).token ≡ false →
+pub else_stops : (at : UnreadPosition) (depth : ℕ) → is_lexical_error (next_at at).token ≡ false →
     is_keyword keyword.Else (next_at at).token ≡ true → (d : Stop) → StopsAt at d → FailsElse depth at d
 else_stops at depth sound is d stop s c b =
     word_stops at d depth ElsePart keyword.Else (Make Empty ∷ Part Statement ∷ Make DecideElse ∷ []) (before_else s c b)
     sound (else_chosen _ is) is (free_of depth ElsePart (next_at at) (λ after. refl)) stop
 
 -- the keyword and an empty body after it; the token that follows is no lexical error
-else_past : (at now : Position) (depth : ℕ) (s : Body) (c : Expr) (b : Body) → is_fault (next_at at).token ≡ false →
-    is_keyword keyword.Else (next_at at).token ≡ true → GoesPast at now → is_fault (next_at now).token ≡ false →
+else_past : (at now : UnreadPosition) (depth : ℕ) (s : Body) (c : Expr) (b : Body) → is_lexical_error (next_at at).token ≡ false →
+    is_keyword keyword.Else (next_at at).token ≡ true → GoesPast at now → is_lexical_error (next_at now).token ≡ false →
     Derives depth (Part ElsePart ∷ []) (Part Statement ∷ Make DecideElse ∷ []) (before_else s c b)
     (ABody Done ∷ before_else s c b) at now
 else_past at now depth s c b sound is goes sound_behind =
@@ -361,8 +361,8 @@ else_past at now depth s c b sound is goes sound_behind =
     sound (else_chosen _ is) is (free_of depth ElsePart (next_at at) (λ after. refl)) goes)
     (make_stands now depth Empty [] (ABody Done ∷ []) sound_behind empty_makes) (λ stack same. same)
 
-pub else_fails : (at now : Position) (depth : ℕ) → is_fault (next_at at).token ≡ false →
-    is_keyword keyword.Else (next_at at).token ≡ true → GoesPast at now → is_fault (next_at now).token ≡ false →
+pub else_fails : (at now : UnreadPosition) (depth : ℕ) → is_lexical_error (next_at at).token ≡ false →
+    is_keyword keyword.Else (next_at at).token ≡ true → GoesPast at now → is_lexical_error (next_at now).token ≡ false →
     (d : Stop) →
     FailsBody depth (Part Statement ∷ []) now d → FailsElse depth at d
 else_fails at now depth sound is goes sound_behind d fails s c b =
@@ -370,11 +370,11 @@ else_fails at now depth sound is goes sound_behind d fails s c b =
     (ABody Done ∷ []) (before_else s c b) at now d
     (else_past at now depth s c b sound is goes sound_behind) (λ stack same. same) (fails Done)
 
-pub else_adds : (at now there : Position) (before mid after : Representation) (depth : ℕ) →
-    is_fault (next_at at).token ≡ false →
-    is_keyword keyword.Else (next_at at).token ≡ true → GoesPast at now → is_fault (next_at now).token ≡ false →
+pub else_adds : (at now there : UnreadPosition) (before mid after : Representation) (depth : ℕ) →
+    is_lexical_error (next_at at).token ≡ false →
+    is_keyword keyword.Else (next_at at).token ≡ true → GoesPast at now → is_lexical_error (next_at now).token ≡ false →
     Appends before mid BetweenBranches → AddsBody mid after depth (Part Statement ∷ []) [] now there →
-    is_fault (next_at there).token ≡ false → AddsElse before after depth at there
+    is_lexical_error (next_at there).token ≡ false → AddsElse before after depth at there
 else_adds at now there before mid after depth sound is goes sound_behind told t sound_there = record {
   tree = Some t.tree;
   numbered = t.numbered;
@@ -396,12 +396,12 @@ else_adds at now there before mid after depth sound is goes sound_behind told t 
 pub while_closes : ClosesOne (Make Repeat ∷ Close ∷ [])
 while_closes stack = refl
 
-pub repetition_adds : (at now later there : Position) (before m1 m2 m3 m4 after : Representation) (depth : ℕ) →
+pub repetition_adds : (at now later there : UnreadPosition) (before m1 m2 m3 m4 after : Representation) (depth : ℕ) →
     depth < 64 →
     Conditioned depth (Make Repeat ∷ Close ∷ []) at now →
     Appends before m1 BeginWhile → AddsExpr m1 m2 (depth + 1) 1 in_brackets [] now later →
-    is_fault (next_at later).token ≡ false → Appends m2 m3 WhileTest →
-    AddsBody m3 m4 (depth + 1) (Part Statement ∷ []) [] later there → is_fault (next_at there).token ≡ false →
+    is_lexical_error (next_at later).token ≡ false → Appends m2 m3 WhileTest →
+    AddsBody m3 m4 (depth + 1) (Part Statement ∷ []) [] later there → is_lexical_error (next_at there).token ≡ false →
     Appends m4 after EndWhile → AddsBody before after depth (Part Statement ∷ []) [] at there
 repetition_adds at now later there before m1 m2 m3 m4 after depth shallow begun told c sound tested s sound_behind ended
     =
@@ -427,7 +427,7 @@ repetition_adds at now later there before m1 m2 m3 m4 after depth shallow begun 
 
 -- Statements, one after another.
 
-pub statements_begin : (at : Position) (before : Representation) (depth : ℕ) →
+pub statements_begin : (at : UnreadPosition) (before : Representation) (depth : ℕ) →
     AddsBody before before depth (Part Statements ∷ []) (Part Statements ∷ []) at at
 statements_begin at before depth = record {
   tree = Done;
@@ -441,8 +441,8 @@ statements_begin at before depth = record {
       (stay at depth (Part Statements ∷ []) (ABody b ∷ []));
 }
 
-more_past : (at now : Position) (before mid : Representation) (depth : ℕ) (b : Body) →
-    is_fault (next_at now).token ≡ false →
+more_past : (at now : UnreadPosition) (before mid : Representation) (depth : ℕ) (b : Body) →
+    is_lexical_error (next_at now).token ≡ false →
     is_punctuator punctuator.CloseCurly (next_at now).token ≡ false →
     (h : AddsBody before mid depth (Part Statements ∷ []) (Part Statements ∷ []) at now) →
     Derives depth (Part Statements ∷ []) (Part Statement ∷ Part Statements ∷ []) (ABody b ∷ [])
@@ -454,8 +454,8 @@ more_past at now before mid depth b sound other h =
     (part_stands now depth Statements (Part Statement ∷ Part Statements ∷ []) (ABody (join b h.tree) ∷ []) sound
     (more_chosen _ other) (free_of depth Statements (next_at now) (λ after. refl))) (λ stack same. same)
 
-pub statements_more : (at now there : Position) (before mid after : Representation) (depth : ℕ) →
-    is_fault (next_at now).token ≡ false → is_punctuator punctuator.CloseCurly (next_at now).token ≡ false →
+pub statements_more : (at now there : UnreadPosition) (before mid after : Representation) (depth : ℕ) →
+    is_lexical_error (next_at now).token ≡ false → is_punctuator punctuator.CloseCurly (next_at now).token ≡ false →
     AddsBody before mid depth (Part Statements ∷ []) (Part Statements ∷ []) at now →
     AddsBody mid after depth (Part Statement ∷ []) [] now there →
     AddsBody before after depth (Part Statements ∷ []) (Part Statements ∷ []) at there
@@ -474,8 +474,8 @@ statements_more at now there before mid after depth sound other h s = record {
       (more_past at now before mid depth b sound other h) (s.derives (join b h.tree)) (λ stack same. same));
 }
 
-pub statements_fail : (at now : Position) (before mid : Representation) (depth : ℕ) →
-    is_fault (next_at now).token ≡ false →
+pub statements_fail : (at now : UnreadPosition) (before mid : Representation) (depth : ℕ) →
+    is_lexical_error (next_at now).token ≡ false →
     is_punctuator punctuator.CloseCurly (next_at now).token ≡ false →
     AddsBody before mid depth (Part Statements ∷ []) (Part Statements ∷ []) at now → (d : Stop) →
     FailsBody depth (Part Statement ∷ []) now d → FailsBody depth (Part Statements ∷ []) at d
@@ -484,8 +484,8 @@ statements_fail at now before mid depth sound other h d fails b =
     (ABody (join b h.tree) ∷ []) [] at now d
     (more_past at now before mid depth b sound other h) (λ stack same. same) (fails (join b h.tree))
 
-pub statements_end : (at now : Position) (before after : Representation) (depth : ℕ) →
-    is_fault (next_at now).token ≡ false →
+pub statements_end : (at now : UnreadPosition) (before after : Representation) (depth : ℕ) →
+    is_lexical_error (next_at now).token ≡ false →
     is_punctuator punctuator.CloseCurly (next_at now).token ≡ true →
     AddsBody before after depth (Part Statements ∷ []) (Part Statements ∷ []) at now →
     AddsBody before after depth (Part Statements ∷ []) [] at now

@@ -10,9 +10,9 @@ use Rattle.tokens.specs.declared.located_tokens.Token.TheVariants as token
 use Rattle.grammar.specs.declared.actions.Action.{Action}
 use Rattle.grammar.specs.Actions.{function_actions}
 use Rattle.grammar.specs.Compiled.{enough_steps}
-use Rattle.grammar.specs.Derivation.{Definition, State, Value, constant_matched, constant_value, definition_of, is_end, last_body, matched, name_matched, name_of_token, next_token, replaced, derived, initial_state, state, stack_step, stepped}
+use Rattle.grammar.specs.Derivation.{Definition, State, PartialTree, constant_matched, constant_value, definition_of, is_end, last_body, matched, name_matched, name_of_token, next_token, replaced, derived, initial_state, state, stack_step, stepped}
 use Rattle.grammar.specs.Faults.{definitions_actions}
-use Rattle.grammar.specs.Grammar.{AConstant, AName, AKeyword, AnEnd, Close, Define, Exactly, Item, Make, Part, Production, Role, is_fault}
+use Rattle.grammar.specs.Grammar.{AConstant, AName, AKeyword, AnEnd, Close, Define, Exactly, Item, Make, Part, Production, Role, is_lexical_error}
 use Rattle.grammar.specs.Need.{built, built_in, built_of, ends_by, has_ahead, is_behind_brace}
 use Rattle.grammar.specs.Scope.{Scope}
 use Rattle.grammar.proofs.Verdicts.{IsRest, run_rests}
@@ -33,7 +33,7 @@ not_end (token.Punctuator m) e = refl
 not_end (token.Fault lexical_error) e = refl
 not_end token.End e = absurd (cc)
 
-fault_is_last : (t : Token) → is_fault t ≡ true → is_last t ≡ true
+fault_is_last : (t : Token) → is_lexical_error t ≡ true → is_last t ≡ true
 fault_is_last (token.Name name) e = absurd (cc)
 fault_is_last (token.Keyword w) e = absurd (cc)
 fault_is_last (token.Constant value) e = absurd (cc)
@@ -170,23 +170,23 @@ abbrev Keeps : List Definition → Option State → Type 0
 Keeps functions None = Unit {0}
 Keeps functions (Some t) = t.functions ≡ functions ++ []
 
-matched_keeps : (fits : Bool) (stack : List Item) (rest : List LocatedToken) (values : List Value) (scope : Scope)
+matched_keeps : (fits : Bool) (stack : List Item) (rest : List LocatedToken) (values : List PartialTree) (scope : Scope)
     (functions : List Definition) → Keeps functions (matched fits (state stack rest values scope functions))
 matched_keeps true stack rest values scope functions = sym (append-nil functions)
 matched_keeps false stack rest values scope functions = tt
 
-name_keeps : (role : Role) (name : Option (List ℕ)) (stack : List Item) (rest : List LocatedToken) (values : List Value)
+name_keeps : (role : Role) (name : Option (List ℕ)) (stack : List Item) (rest : List LocatedToken) (values : List PartialTree)
     (scope : Scope) (functions : List Definition) →
     Keeps functions (name_matched role name (state stack rest values scope functions))
 name_keeps role (Some name) stack rest values scope functions = sym (append-nil functions)
 name_keeps role None stack rest values scope functions = tt
 
-constant_keeps : (value : Option ℕ) (stack : List Item) (rest : List LocatedToken) (values : List Value) (scope : Scope)
+constant_keeps : (value : Option ℕ) (stack : List Item) (rest : List LocatedToken) (values : List PartialTree) (scope : Scope)
     (functions : List Definition) → Keeps functions (constant_matched value (state stack rest values scope functions))
 constant_keeps (Some value) stack rest values scope functions = sym (append-nil functions)
 constant_keeps None stack rest values scope functions = tt
 
-replaced_keeps : (items : Production) (stack : List Item) (rest : List LocatedToken) (values : List Value)
+replaced_keeps : (items : Production) (stack : List Item) (rest : List LocatedToken) (values : List PartialTree)
     (scope : Scope) (functions : List Definition) →
     Keeps functions (replaced items (state stack rest values scope functions))
 replaced_keeps (Some items) stack rest values scope functions = sym (append-nil functions)
@@ -202,10 +202,10 @@ kept false (Some t) s h = h
 plain : (count : ℕ) (s : State) → built_of count s.stack s ≡ [] → Keeps s.functions (stack_step s.stack s) →
     Defines count s
 plain count s none keeps =
-    record { more = []; functions = kept (is_fault (next_token s.rest)) _ s keeps; built = inl none }
+    record { more = []; functions = kept (is_lexical_error (next_token s.rest)) _ s keeps; built = inl none }
 
 -- a lexical error has nothing after it
-behind_fault : (count place : ℕ) (rest : List LocatedToken) → IsCut place rest → is_fault (next_token rest) ≡ true →
+behind_fault : (count place : ℕ) (rest : List LocatedToken) → IsCut place rest → is_lexical_error (next_token rest) ≡ true →
     is_behind_brace count rest ≡ false
 behind_fault count place [] cut e = refl
 behind_fault count place (x ∷ rest) cut e =
@@ -213,9 +213,9 @@ behind_fault count place (x ∷ rest) cut e =
     rw alone refl
 
 -- one does
-defined_there : (count place : ℕ) (stack : List Item) (rest : List LocatedToken) (values : List Value) (scope : Scope)
+defined_there : (count place : ℕ) (stack : List Item) (rest : List LocatedToken) (values : List PartialTree) (scope : Scope)
     (functions : List Definition) → IsCut place rest →
-    (fault behind : Bool) → is_fault (next_token rest) ≡ fault → is_behind_brace count rest ≡ behind →
+    (fault behind : Bool) → is_lexical_error (next_token rest) ≡ fault → is_behind_brace count rest ≡ behind →
     Defines count (state (Make Define ∷ stack) rest values scope functions)
 defined_there count place stack rest values scope functions cut true behind e f =
     let none : is_behind_brace count rest ≡ false = behind_fault count place rest cut e in
@@ -230,11 +230,11 @@ defined_there count place stack rest values scope functions cut false true e f =
 defined_there count place stack rest values scope functions cut false false e f =
     record { more = definition_of scope (last_body values) ∷ []; functions = rw e refl; built = inr (rw f refl, f) }
 
-defines : (count place : ℕ) (stack : List Item) (rest : List LocatedToken) (values : List Value) (scope : Scope)
+defines : (count place : ℕ) (stack : List Item) (rest : List LocatedToken) (values : List PartialTree) (scope : Scope)
     (functions : List Definition) → IsCut place rest → Defines count (state stack rest values scope functions)
 defines count place [] rest values scope functions cut = plain count (state [] rest values scope functions) refl tt
 defines count place (Make Define ∷ stack) rest values scope functions cut =
-    defined_there count place stack rest values scope functions cut (is_fault (next_token rest))
+    defined_there count place stack rest values scope functions cut (is_lexical_error (next_token rest))
     (is_behind_brace count rest) refl refl
 defines count place (Make rule ∷ stack) rest values scope functions cut =
     plain count (state (Make rule ∷ stack) rest values scope functions) refl refl

@@ -15,13 +15,13 @@ use Rattle.grammar.specs.Building.{Representation, AppendsAll, MayFollow}
 use Rattle.grammar.specs.Compiled.{diagnostic}
 use Rattle.grammar.specs.Derivation.{ACall, AnExpr}
 use Rattle.grammar.specs.Following.{InCall, open_count}
-use Rattle.grammar.specs.Grammar.{AName, Arguments, Called, Exactly, Expression, Invoke, Item, Make, MoreArguments, Part, Pass, Primary, Close, choice, is_fault, is_punctuator}
+use Rattle.grammar.specs.Grammar.{AName, Arguments, Called, Exactly, Expression, Invoke, Item, Make, MoreArguments, Part, AddArgument, Primary, Close, choice, is_lexical_error, is_punctuator}
 use Rattle.grammar.specs.Nesting.{args_nesting, nesting}
 use Rattle.grammar.specs.Resolved.{InArgs, InExpr, IsCallable}
 use Rattle.grammar.specs.Tree.{Args, Argument, Call, Expr, NoMore, add_argument}
 use Rattle.grammar.proofs.FollowingLaws.{act, args_lead, pushed}
-use Rattle.grammar.proofs.StandingLaws.{stands_then, appends_both, may_first}
-use Rattle.parser.specs.ScopedCursors.{Position, after_at, next_at}
+use Rattle.grammar.proofs.RepresentationLaws.{stands_then, appends_both, may_first}
+use Rattle.parser.specs.ScopedCursors.{UnreadPosition, after_at, next_at}
 use Rattle.parser.specs.Room.{HasRoom, room}
 use Rattle.parser.specs.Stopping.{stop_with}
 use Rattle.parser.specs.Segment.{Derives, DerivesItem, FailsAt, FailsItem, Refused}
@@ -29,7 +29,7 @@ use Rattle.parser.proofs.Segments.{exit_item, fails_behind, joined, refused_map,
 use Rattle.parser.specs.Expressions.{AddsArgs, AddsExpr, FailsArgs}
 use Rattle.parser.proofs.Parts.{MakesOnly, make_stands, punctuator_is}
 use Rattle.parser.proofs.Productions.{Chooses, EntersLevel, chosen, chosen_within, item_done, makes_and_closes, punctuator_sound, name_too_deep}
-use Rattle.parser.proofs.TellingLaws.{all_follow, next_follows, room_behind, room_behind_args}
+use Rattle.parser.proofs.ReportingLaws.{all_follow, next_follows, room_behind, room_behind_args}
 use Rattle.parser.proofs.OperandLaws.{IsNamed, after_name, named_sound, tree_follows}
 use Rattle.tokens.specs.Cursors.{IsNearTo}
 
@@ -55,7 +55,7 @@ args_narrow (Argument a rest) e n h k =
     omega arith
 
 pass_makes : (callee : Callee) (args : Args) (e : Expr) →
-    MakesOnly Pass (AnExpr e ∷ ACall callee args ∷ []) (ACall callee (add_argument args e) ∷ [])
+    MakesOnly AddArgument (AnExpr e ∷ ACall callee args ∷ []) (ACall callee (add_argument args e) ∷ [])
 pass_makes callee args e =
     record {
       makes = λ values. refl;
@@ -64,7 +64,7 @@ pass_makes callee args e =
       defines = λ values scope. refl;
     }
 
-none_stand : (at : Position) (depth : ℕ) (callee : Callee) →
+none_stand : (at : UnreadPosition) (depth : ℕ) (callee : Callee) →
     is_punctuator punctuator.CloseRound (next_at at).token ≡ true →
     Derives depth (Part Arguments ∷ []) [] (ACall callee NoMore ∷ []) (ACall callee NoMore ∷ []) at at
 none_stand at depth callee fits =
@@ -76,7 +76,7 @@ none_stand at depth callee fits =
     (λ after more. refl)
 
 -- there are none
-pub no_arguments : (before : Representation) (at : Position) (depth : ℕ) →
+pub no_arguments : (before : Representation) (at : UnreadPosition) (depth : ℕ) →
     is_punctuator punctuator.CloseRound (next_at at).token ≡ true →
     AddsArgs before before depth (Part Arguments ∷ []) [] at at
 no_arguments before at depth fits = record {
@@ -88,46 +88,46 @@ no_arguments before at depth fits = record {
 }
 
 first_choice : (t after : Token) → is_punctuator punctuator.CloseRound t ≡ false →
-    choice Arguments t after ≡ Some (Part Expression ∷ Make Pass ∷ Part MoreArguments ∷ [])
+    choice Arguments t after ≡ Some (Part Expression ∷ Make AddArgument ∷ Part MoreArguments ∷ [])
 first_choice (token.Punctuator punctuator.CloseRound) after other = absurd (cc)
 first_choice t after other = refl
 
-first_stands : (at : Position) (depth : ℕ) (callee : Callee) → is_fault (next_at at).token ≡ false →
+first_stands : (at : UnreadPosition) (depth : ℕ) (callee : Callee) → is_lexical_error (next_at at).token ≡ false →
     is_punctuator punctuator.CloseRound (next_at at).token ≡ false →
-    Derives depth (Part Arguments ∷ []) (Part Expression ∷ Make Pass ∷ Part MoreArguments ∷ [])
+    Derives depth (Part Arguments ∷ []) (Part Expression ∷ Make AddArgument ∷ Part MoreArguments ∷ [])
     (ACall callee NoMore ∷ []) (ACall callee NoMore ∷ []) at at
 first_stands at depth callee sound other =
-    chosen at depth Arguments (Part Expression ∷ Make Pass ∷ Part MoreArguments ∷ []) (ACall callee NoMore ∷ [])
+    chosen at depth Arguments (Part Expression ∷ Make AddArgument ∷ Part MoreArguments ∷ []) (ACall callee NoMore ∷ [])
     (record { sound = sound; is = λ after more. first_choice (next_at at).token after other }) (λ after more. refl)
 
-pub first_refused : (used : ℕ) (at : Position) (depth : ℕ) (denied : Type 0) (f : ParseFault) →
-    is_fault (next_at at).token ≡ false → is_punctuator punctuator.CloseRound (next_at at).token ≡ false →
+pub first_refused : (used : ℕ) (at : UnreadPosition) (depth : ℕ) (denied : Type 0) (f : ParseFault) →
+    is_lexical_error (next_at at).token ≡ false → is_punctuator punctuator.CloseRound (next_at at).token ≡ false →
     Refused (FailsAt depth (Part Expression ∷ []) [] at) denied used f → Refused (FailsArgs depth at) denied used f
 first_refused used at depth denied f sound other =
     refused_map used (FailsAt depth (Part Expression ∷ []) [] at) (FailsArgs depth at) denied denied f
     (λ d h callee. fails_behind depth depth (Part Arguments ∷ []) (Part Expression ∷ [])
-    (Make Pass ∷ Part MoreArguments ∷ []) (ACall callee NoMore ∷ []) [] (ACall callee NoMore ∷ []) at at d
+    (Make AddArgument ∷ Part MoreArguments ∷ []) (ACall callee NoMore ∷ []) [] (ACall callee NoMore ∷ []) at at d
     (first_stands at depth callee sound other) (λ stack same. same) h) (λ same. same)
 
 -- an argument follows those so far
-passed : (at now there : Position) (depth : ℕ) (callee : Callee) (args : Args) (front : List Item) (e : Expr) →
-    Derives depth front (Part Expression ∷ Make Pass ∷ Part MoreArguments ∷ []) (ACall callee NoMore ∷ [])
+passed : (at now there : UnreadPosition) (depth : ℕ) (callee : Callee) (args : Args) (front : List Item) (e : Expr) →
+    Derives depth front (Part Expression ∷ Make AddArgument ∷ Part MoreArguments ∷ []) (ACall callee NoMore ∷ [])
     (ACall callee args ∷ []) at now →
-    Derives depth (Part Expression ∷ []) [] [] (AnExpr e ∷ []) now there → is_fault (next_at there).token ≡ false →
+    Derives depth (Part Expression ∷ []) [] [] (AnExpr e ∷ []) now there → is_lexical_error (next_at there).token ≡ false →
     Derives depth front (Part MoreArguments ∷ []) (ACall callee NoMore ∷ []) (ACall callee (add_argument args e) ∷ [])
     at there
 passed at now there depth callee args front e a b sound =
-    joined depth depth front (Make Pass ∷ []) [] (Part MoreArguments ∷ []) (ACall callee NoMore ∷ [])
+    joined depth depth front (Make AddArgument ∷ []) [] (Part MoreArguments ∷ []) (ACall callee NoMore ∷ [])
     (AnExpr e ∷ ACall callee args ∷ []) (ACall callee (add_argument args e) ∷ []) [] at there there
-    (joined depth depth front (Part Expression ∷ []) [] (Make Pass ∷ Part MoreArguments ∷ [])
+    (joined depth depth front (Part Expression ∷ []) [] (Make AddArgument ∷ Part MoreArguments ∷ [])
     (ACall callee NoMore ∷ []) [] (AnExpr e ∷ []) (ACall callee args ∷ []) at now there a b (λ stack same. same))
-    (make_stands there depth Pass (AnExpr e ∷ ACall callee args ∷ []) (ACall callee (add_argument args e) ∷ []) sound
+    (make_stands there depth AddArgument (AnExpr e ∷ ACall callee args ∷ []) (ACall callee (add_argument args e) ∷ []) sound
     (pass_makes callee args e)) (λ stack same. same)
 
-pub first_adds : (before after : Representation) (at there : Position) (depth : ℕ) →
-    is_fault (next_at at).token ≡ false →
+pub first_adds : (before after : Representation) (at there : UnreadPosition) (depth : ℕ) →
+    is_lexical_error (next_at at).token ≡ false →
     is_punctuator punctuator.CloseRound (next_at at).token ≡ false →
-    AddsExpr before after depth 1 (Part Expression ∷ []) [] at there → is_fault (next_at there).token ≡ false →
+    AddsExpr before after depth 1 (Part Expression ∷ []) [] at there → is_lexical_error (next_at there).token ≡ false →
     AddsArgs before after depth (Part Arguments ∷ []) (Part MoreArguments ∷ []) at there
 first_adds before after at there depth sound other h behind = record {
   tree = Argument h.tree NoMore;
@@ -141,28 +141,28 @@ first_adds before after at there depth sound other h behind = record {
 
 comma_choice : (t after : Token) → is_punctuator punctuator.Comma t ≡ true →
     choice MoreArguments t after ≡
-    Some (Exactly punctuator.Comma ∷ Part Expression ∷ Make Pass ∷ Part MoreArguments ∷ [])
+    Some (Exactly punctuator.Comma ∷ Part Expression ∷ Make AddArgument ∷ Part MoreArguments ∷ [])
 comma_choice t after fits = rw (punctuator_is punctuator.Comma t fits) refl
 
-comma_stands : (before mid : Representation) (at now : Position) (depth : ℕ)
+comma_stands : (before mid : Representation) (at now : UnreadPosition) (depth : ℕ)
     (h : AddsArgs before mid depth (Part Arguments ∷ []) (Part MoreArguments ∷ []) at now) (callee : Callee) →
     is_punctuator punctuator.Comma (next_at now).token ≡ true →
     Derives depth (Part Arguments ∷ [])
-    (Exactly punctuator.Comma ∷ Part Expression ∷ Make Pass ∷ Part MoreArguments ∷ []) (ACall callee NoMore ∷ [])
+    (Exactly punctuator.Comma ∷ Part Expression ∷ Make AddArgument ∷ Part MoreArguments ∷ []) (ACall callee NoMore ∷ [])
     (ACall callee h.tree ∷ []) at now
 comma_stands before mid at now depth h callee fits =
     joined depth depth (Part Arguments ∷ []) (Part MoreArguments ∷ [])
-    (Exactly punctuator.Comma ∷ Part Expression ∷ Make Pass ∷ Part MoreArguments ∷ []) [] (ACall callee NoMore ∷ [])
+    (Exactly punctuator.Comma ∷ Part Expression ∷ Make AddArgument ∷ Part MoreArguments ∷ []) [] (ACall callee NoMore ∷ [])
     (ACall callee h.tree ∷ []) (ACall callee h.tree ∷ []) [] at now now
     (h.derives callee)
-    (chosen now depth MoreArguments (Exactly punctuator.Comma ∷ Part Expression ∷ Make Pass ∷ Part MoreArguments ∷ [])
+    (chosen now depth MoreArguments (Exactly punctuator.Comma ∷ Part Expression ∷ Make AddArgument ∷ Part MoreArguments ∷ [])
     (ACall callee h.tree ∷ [])
     (record {
       sound = punctuator_sound punctuator.Comma (next_at now).token fits;
       is = λ after more. comma_choice (next_at now).token after fits;
     }) (λ after more. refl)) (λ stack same. same)
 
-pub comma_refused : (used : ℕ) (before mid : Representation) (at now : Position) (depth : ℕ) (more : Type 0)
+pub comma_refused : (used : ℕ) (before mid : Representation) (at now : UnreadPosition) (depth : ℕ) (more : Type 0)
     (f : ParseFault) →
     AddsArgs before mid depth (Part Arguments ∷ []) (Part MoreArguments ∷ []) at now →
     is_punctuator punctuator.Comma (next_at now).token ≡ true →
@@ -170,22 +170,22 @@ pub comma_refused : (used : ℕ) (before mid : Representation) (at now : Positio
 comma_refused used before mid at now depth more f h fits =
     refused_map used (FailsItem (Exactly punctuator.Comma) now) (FailsArgs depth at) ⊥ more f
     (λ d k callee. fails_behind depth depth (Part Arguments ∷ []) (Exactly punctuator.Comma ∷ [])
-    (Part Expression ∷ Make Pass ∷ Part MoreArguments ∷ []) (ACall callee NoMore ∷ []) [] (ACall callee h.tree ∷ []) at
+    (Part Expression ∷ Make AddArgument ∷ Part MoreArguments ∷ []) (ACall callee NoMore ∷ []) [] (ACall callee h.tree ∷ []) at
     now d
     (comma_stands before mid at now depth h callee fits) (λ stack same. same) (k depth)) (λ never. absurd never)
 
-comma_past : (before mid : Representation) (at now next : Position) (depth : ℕ)
+comma_past : (before mid : Representation) (at now next : UnreadPosition) (depth : ℕ)
     (h : AddsArgs before mid depth (Part Arguments ∷ []) (Part MoreArguments ∷ []) at now) (callee : Callee) →
     is_punctuator punctuator.Comma (next_at now).token ≡ true → DerivesItem (Exactly punctuator.Comma) [] [] now next →
-    Derives depth (Part Arguments ∷ []) (Part Expression ∷ Make Pass ∷ Part MoreArguments ∷ [])
+    Derives depth (Part Arguments ∷ []) (Part Expression ∷ Make AddArgument ∷ Part MoreArguments ∷ [])
     (ACall callee NoMore ∷ []) (ACall callee h.tree ∷ []) at next
 comma_past before mid at now next depth h callee fits sign =
     item_done depth depth (Part Arguments ∷ []) (Exactly punctuator.Comma)
-    (Part Expression ∷ Make Pass ∷ Part MoreArguments ∷ []) (ACall callee NoMore ∷ []) [] (ACall callee h.tree ∷ []) at
+    (Part Expression ∷ Make AddArgument ∷ Part MoreArguments ∷ []) (ACall callee NoMore ∷ []) [] (ACall callee h.tree ∷ []) at
     now next
     (comma_stands before mid at now depth h callee fits) (sign depth) (λ stack same. same)
 
-pub argument_refused : (used : ℕ) (before mid : Representation) (at now next : Position) (depth : ℕ) (denied : Type 0)
+pub argument_refused : (used : ℕ) (before mid : Representation) (at now next : UnreadPosition) (depth : ℕ) (denied : Type 0)
     (f : ParseFault) → AddsArgs before mid depth (Part Arguments ∷ []) (Part MoreArguments ∷ []) at now →
     is_punctuator punctuator.Comma (next_at now).token ≡ true → DerivesItem (Exactly punctuator.Comma) [] [] now next →
     Refused (FailsAt depth (Part Expression ∷ []) [] next) denied used f →
@@ -193,13 +193,13 @@ pub argument_refused : (used : ℕ) (before mid : Representation) (at now next :
 argument_refused used before mid at now next depth denied f h fits sign =
     refused_map used (FailsAt depth (Part Expression ∷ []) [] next) (FailsArgs depth at) denied denied f
     (λ d k callee. fails_behind depth depth (Part Arguments ∷ []) (Part Expression ∷ [])
-    (Make Pass ∷ Part MoreArguments ∷ []) (ACall callee NoMore ∷ []) [] (ACall callee h.tree ∷ []) at next d
+    (Make AddArgument ∷ Part MoreArguments ∷ []) (ACall callee NoMore ∷ []) [] (ACall callee h.tree ∷ []) at next d
     (comma_past before mid at now next depth h callee fits sign) (λ stack same. same) k) (λ same. same)
 
-pub argument_adds : (before mid after : Representation) (at now next there : Position) (depth : ℕ) →
+pub argument_adds : (before mid after : Representation) (at now next there : UnreadPosition) (depth : ℕ) →
     AddsArgs before mid depth (Part Arguments ∷ []) (Part MoreArguments ∷ []) at now →
     is_punctuator punctuator.Comma (next_at now).token ≡ true → DerivesItem (Exactly punctuator.Comma) [] [] now next →
-    AddsExpr mid after depth 1 (Part Expression ∷ []) [] next there → is_fault (next_at there).token ≡ false →
+    AddsExpr mid after depth 1 (Part Expression ∷ []) [] next there → is_lexical_error (next_at there).token ≡ false →
     AddsArgs before after depth (Part Arguments ∷ []) (Part MoreArguments ∷ []) at there
 argument_adds before mid after at now next there depth h fits sign e sound = record {
   tree = add_argument h.tree e.tree;
@@ -216,9 +216,9 @@ end_choice : (t after : Token) → is_punctuator punctuator.Comma t ≡ false �
 end_choice (token.Punctuator punctuator.Comma) after other = absurd (cc)
 end_choice t after other = refl
 
-pub arguments_end : (before after : Representation) (at there : Position) (depth : ℕ) →
+pub arguments_end : (before after : Representation) (at there : UnreadPosition) (depth : ℕ) →
     AddsArgs before after depth (Part Arguments ∷ []) (Part MoreArguments ∷ []) at there →
-    is_fault (next_at there).token ≡ false → is_punctuator punctuator.Comma (next_at there).token ≡ false →
+    is_lexical_error (next_at there).token ≡ false → is_punctuator punctuator.Comma (next_at there).token ≡ false →
     AddsArgs before after depth (Part Arguments ∷ []) [] at there
 arguments_end before after at there depth h sound other = record {
   tree = h.tree;
@@ -233,7 +233,7 @@ arguments_end before after at there depth h sound other = record {
       (λ behind more. refl)) (λ stack same. same);
 }
 
-pub next_argument_room : (before now : Representation) (at there : Position) (depth : ℕ) (front pending : List Item) →
+pub next_argument_room : (before now : Representation) (at there : UnreadPosition) (depth : ℕ) (front pending : List Item) →
     HasRoom before (room depth 1) → AddsArgs before now depth front pending at there → HasRoom now (room depth 1)
 next_argument_room before now at there depth front pending h a =
     let few : open_count (h.outer ∷ h.opened) + room depth 1 ≤ 200 = h.few in
@@ -244,7 +244,7 @@ next_argument_room before now at there depth front pending h a =
 
 -- Calls.
 
-call_chooses : (at : Position) → IsNamed (next_at at).token → is_punctuator punctuator.OpenRound (after_at at) ≡ true →
+call_chooses : (at : UnreadPosition) → IsNamed (next_at at).token → is_punctuator punctuator.OpenRound (after_at at) ≡ true →
     Chooses at Primary
     (AName Called ∷ Exactly punctuator.OpenRound ∷ Part Arguments ∷ Exactly punctuator.CloseRound ∷ Make Invoke ∷
     Close ∷ [])
@@ -256,14 +256,14 @@ call_chooses at n fits = record {
       (n.is, after_name at after n more, t) refl;
 }
 
-call_enters : (at : Position) → IsNamed (next_at at).token → is_punctuator punctuator.OpenRound (after_at at) ≡ true →
+call_enters : (at : UnreadPosition) → IsNamed (next_at at).token → is_punctuator punctuator.OpenRound (after_at at) ≡ true →
     EntersLevel at Primary
 call_enters at n fits after more =
     let t : after_at at ≡ token.Punctuator punctuator.OpenRound =
     punctuator_is punctuator.OpenRound (after_at at) fits in
     rw (n.is, after_name at after n more, t) refl
 
-pub call_too_deep : (at : Position) (used : ℕ) (near : IsNearTo at.lookahead.cursor used) (depth : ℕ) →
+pub call_too_deep : (at : UnreadPosition) (used : ℕ) (near : IsNearTo at.lookahead.cursor used) (depth : ℕ) →
     IsNamed (next_at at).token → is_punctuator punctuator.OpenRound (after_at at) ≡ true → 64 ≤ depth →
     FailsAt depth (Part Primary ∷ []) [] at
     (stop_with (refusal.Source (diagnostic (next_at at).line code.NestedTooDeeply)) used)
@@ -273,12 +273,12 @@ call_too_deep at used near depth n fits deep =
     (call_chooses at n fits) (call_enters at n fits) (rw n.is refl) deep
 
 -- what a call was found to be, and up to where
-pub record IsCall (at : Position) (depth : ℕ) : Type 0 where
+pub record IsCall (at : UnreadPosition) (depth : ℕ) : Type 0 where
   pub named : IsNamed (next_at at).token
   pub fits : is_punctuator punctuator.OpenRound (after_at at) ≡ true
   pub shallow : depth < 64
 
-call_stands : (at : Position) (depth : ℕ) → IsCall at depth →
+call_stands : (at : UnreadPosition) (depth : ℕ) → IsCall at depth →
     Derives depth (Part Primary ∷ [])
     (AName Called ∷ Exactly punctuator.OpenRound ∷ Part Arguments ∷ Exactly punctuator.CloseRound ∷ Make Invoke ∷
     Close ∷ []) [] [] at at
@@ -287,7 +287,7 @@ call_stands at depth c =
     (AName Called ∷ Exactly punctuator.OpenRound ∷ Part Arguments ∷ Exactly punctuator.CloseRound ∷ Make Invoke ∷
     Close ∷ []) (call_chooses at c.named c.fits) c.shallow
 
-pub callee_refused : (used : ℕ) (at : Position) (depth : ℕ) (more : Type 0) (f : ParseFault) → IsCall at depth →
+pub callee_refused : (used : ℕ) (at : UnreadPosition) (depth : ℕ) (more : Type 0) (f : ParseFault) → IsCall at depth →
     Refused (FailsItem (AName Called) at) ⊥ used f → Refused (FailsAt depth (Part Primary ∷ []) [] at) more used f
 callee_refused used at depth more f c =
     exit_item used depth (depth + 1) (Part Primary ∷ []) (AName Called)
@@ -295,7 +295,7 @@ callee_refused used at depth more f c =
     at more f
     (call_stands at depth c) (λ stack same. ap (λ n. n + 1) same)
 
-callee_past : (at now : Position) (depth : ℕ) (callee : Callee) → IsCall at depth →
+callee_past : (at now : UnreadPosition) (depth : ℕ) (callee : Callee) → IsCall at depth →
     DerivesItem (AName Called) [] (ACall callee NoMore ∷ []) at now →
     Derives depth (Part Primary ∷ [])
     (Exactly punctuator.OpenRound ∷ Part Arguments ∷ Exactly punctuator.CloseRound ∷ Make Invoke ∷ Close ∷ []) []
@@ -307,7 +307,7 @@ callee_past at now depth callee c item =
     (call_stands at depth c) (item (depth + 1)) (λ stack same. ap (λ n. n + 1) same)
 
 -- the builder was refused memory after the name
-pub callee_halts : (used : ℕ) (at now : Position) (depth : ℕ) (callee : Callee) → IsCall at depth →
+pub callee_halts : (used : ℕ) (at now : UnreadPosition) (depth : ℕ) (callee : Callee) → IsCall at depth →
     DerivesItem (AName Called) [] (ACall callee NoMore ∷ []) at now → IsNearTo now.lookahead.cursor used →
     FailsAt depth (Part Primary ∷ []) [] at (stop_with refusal.Memory used)
 callee_halts used at now depth callee c item near =
@@ -316,7 +316,7 @@ callee_halts used at now depth callee c item near =
     (ACall callee NoMore ∷ []) at now used
     (callee_past at now depth callee c item) near
 
-pub call_open_refused : (used : ℕ) (at now : Position) (depth : ℕ) (callee : Callee) (more : Type 0) (f : ParseFault) →
+pub call_open_refused : (used : ℕ) (at now : UnreadPosition) (depth : ℕ) (callee : Callee) (more : Type 0) (f : ParseFault) →
     IsCall at depth → DerivesItem (AName Called) [] (ACall callee NoMore ∷ []) at now →
     Refused (FailsItem (Exactly punctuator.OpenRound) now) ⊥ used f →
     Refused (FailsAt depth (Part Primary ∷ []) [] at) more used f
@@ -326,7 +326,7 @@ call_open_refused used at now depth callee more f c item =
     more f
     (callee_past at now depth callee c item) (λ stack same. ap (λ n. n + 1) same)
 
-call_open_past : (at now inner : Position) (depth : ℕ) (callee : Callee) → IsCall at depth →
+call_open_past : (at now inner : UnreadPosition) (depth : ℕ) (callee : Callee) → IsCall at depth →
     DerivesItem (AName Called) [] (ACall callee NoMore ∷ []) at now →
     DerivesItem (Exactly punctuator.OpenRound) [] [] now inner →
     Derives depth (Part Primary ∷ []) (Part Arguments ∷ Exactly punctuator.CloseRound ∷ Make Invoke ∷ Close ∷ []) []
@@ -337,7 +337,7 @@ call_open_past at now inner depth callee c item bracket =
     inner
     (callee_past at now depth callee c item) (bracket (depth + 1)) (λ stack same. ap (λ n. n + 1) same)
 
-pub arguments_refused : (used : ℕ) (at now inner : Position) (depth : ℕ) (callee : Callee) (denied : Type 0)
+pub arguments_refused : (used : ℕ) (at now inner : UnreadPosition) (depth : ℕ) (callee : Callee) (denied : Type 0)
     (f : ParseFault) → IsCall at depth → DerivesItem (AName Called) [] (ACall callee NoMore ∷ []) at now →
     DerivesItem (Exactly punctuator.OpenRound) [] [] now inner → Refused (FailsArgs (depth + 1) inner) denied used f →
     Refused (FailsAt depth (Part Primary ∷ []) [] at) denied used f
@@ -348,7 +348,7 @@ arguments_refused used at now inner depth callee denied f c item bracket =
     (call_open_past at now inner depth callee c item bracket) (λ stack same. ap (λ n. n + 1) same) (h callee))
     (λ same. same)
 
-arguments_past : (before after : Representation) (at now inner behind : Position) (depth : ℕ) (callee : Callee) →
+arguments_past : (before after : Representation) (at now inner behind : UnreadPosition) (depth : ℕ) (callee : Callee) →
     IsCall at depth → DerivesItem (AName Called) [] (ACall callee NoMore ∷ []) at now →
     DerivesItem (Exactly punctuator.OpenRound) [] [] now inner →
     (h : AddsArgs before after (depth + 1) (Part Arguments ∷ []) [] inner behind) →
@@ -360,7 +360,7 @@ arguments_past before after at now inner behind depth callee c item bracket h =
     [] at inner behind
     (call_open_past at now inner depth callee c item bracket) (h.derives callee) (λ stack same. ap (λ n. n + 1) same)
 
-pub call_close_refused : (used : ℕ) (before after : Representation) (at now inner behind : Position) (depth : ℕ)
+pub call_close_refused : (used : ℕ) (before after : Representation) (at now inner behind : UnreadPosition) (depth : ℕ)
     (callee : Callee)
     (more : Type 0) (f : ParseFault) → IsCall at depth →
     DerivesItem (AName Called) [] (ACall callee NoMore ∷ []) at now →
@@ -383,13 +383,13 @@ invoke_makes callee args =
       defines = λ values scope. refl;
     }
 
-pub call_adds : (before begun mid after : Representation) (at now inner behind there : Position) (depth : ℕ)
+pub call_adds : (before begun mid after : Representation) (at now inner behind there : UnreadPosition) (depth : ℕ)
     (callee : Callee) →
     IsCall at depth → DerivesItem (AName Called) [] (ACall callee NoMore ∷ []) at now →
     DerivesItem (Exactly punctuator.OpenRound) [] [] now inner →
     AddsArgs begun mid (depth + 1) (Part Arguments ∷ []) [] inner behind →
     DerivesItem (Exactly punctuator.CloseRound) [] [] behind there →
-    IsCallable 64 callee → is_fault (next_at there).token ≡ false → AppendsAll before begun (BeginCall ∷ []) →
+    IsCallable 64 callee → is_lexical_error (next_at there).token ≡ false → AppendsAll before begun (BeginCall ∷ []) →
     AppendsAll mid after (EndCall callee ∷ []) → AddsExpr before after depth 11 (Part Primary ∷ []) [] at there
 call_adds before begun mid after at now inner behind there depth callee c item bracket h close numbered sound first last
     =

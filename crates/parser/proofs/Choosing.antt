@@ -11,11 +11,11 @@ use Rattle.grammar.specs.declared.diagnostics.ParseFault.TheVariants as refusal
 use Rattle.grammar.specs.Building.{Representation}
 use Rattle.grammar.specs.Compiled.{diagnostic}
 use Rattle.grammar.specs.Derivation.{next_token}
-use Rattle.grammar.specs.Faults.{misfit_code}
-use Rattle.grammar.specs.Grammar.{Item, AName, AKeyword, Defined, Exactly, External, FunctionBlock, Head, More, ParameterTypes, Parameters, Part, Source, Symbol, Types, choice, is_fault, is_punctuator, is_keyword, enters}
+use Rattle.grammar.specs.Faults.{unexpected_token_code}
+use Rattle.grammar.specs.Grammar.{Item, AName, AKeyword, Defined, Exactly, External, FunctionBlock, Head, More, ParameterTypes, Parameters, Part, Source, Symbol, Types, choice, is_lexical_error, is_punctuator, is_keyword, enters}
 use Rattle.grammar.proofs.Firsts.{no_part}
 use Rattle.grammar.proofs.Steps.{part}
-use Rattle.parser.specs.ScopedCursors.{Position, after_at, next_at, scope_at}
+use Rattle.parser.specs.ScopedCursors.{UnreadPosition, after_at, next_at, scope_at}
 use Rattle.parser.specs.Stopping.{stop_with}
 use Rattle.parser.specs.Segment.{Derives, DerivesItem, FailsAt, FailsItem, Refused}
 use Rattle.parser.proofs.Parts.{word_is}
@@ -26,7 +26,7 @@ use Rattle.tokens.specs.Cursors.{IsNearTo}
 
 -- a symbol that enters no level was replaced
 symbol_leads : (symbol : Symbol) (items : List Item) (located_token : LocatedToken) (tail : List LocatedToken)
-    (at : Position) → is_fault located_token.token ≡ false →
+    (at : UnreadPosition) → is_lexical_error located_token.token ≡ false →
     choice symbol located_token.token (next_token tail) ≡ Some items →
     enters symbol located_token.token (next_token tail) ≡ false →
     Leads 0 (Part symbol ∷ []) items [] [] (scope_at at) (scope_at at) (located_token ∷ tail) (located_token ∷ tail)
@@ -40,7 +40,7 @@ abbrev pub typed_items : List Item
 typed_items = AKeyword keyword.Type ∷ Part Types ∷ Part Head ∷ at_source
 
 -- a type word begins a file's part
-pub source_typed : (before : Representation) (at : Position) → is_keyword keyword.Type (next_at at).token ≡ true →
+pub source_typed : (before : Representation) (at : UnreadPosition) → is_keyword keyword.Type (next_at at).token ≡ true →
     ReadsOn before before at_source typed_items at at
 source_typed before at is =
     let same : (next_at at).token ≡ token.Keyword keyword.Type = word_is keyword.Type (next_at at).token is in
@@ -49,7 +49,7 @@ source_typed before at is =
     (λ tail b. symbol_leads Source typed_items (next_at at) tail at (rw same refl) (rw same refl) refl))
 
 -- so does a function's name
-pub source_named : (before : Representation) (at : Position) (name : List ℕ) → (next_at at).token ≡ token.Name name →
+pub source_named : (before : Representation) (at : UnreadPosition) (name : List ℕ) → (next_at at).token ≡ token.Name name →
     ReadsOn before before at_source at_definition at at
 source_named before at name same =
     segment_advances before (Part Source ∷ []) at_definition [] at at refl
@@ -67,11 +67,11 @@ source_none (token.Punctuator m) after end type name = refl
 source_none (token.Constant value) after end type name = refl
 source_none (token.Fault lexical_error) after end type name = refl
 
-pub source_misfits : (before : Representation) (at : Position) (used : ℕ) (near : IsNearTo at.lookahead.cursor used) →
-    is_fault (next_at at).token ≡ false → ((next_at at).token ≡ token.End → ⊥) →
+pub source_misfits : (before : Representation) (at : UnreadPosition) (used : ℕ) (near : IsNearTo at.lookahead.cursor used) →
+    is_lexical_error (next_at at).token ≡ false → ((next_at at).token ≡ token.End → ⊥) →
     is_keyword keyword.Type (next_at at).token ≡ false → ((name : List ℕ) → (next_at at).token ≡ token.Name name → ⊥) →
     StopsPart before before at_source at
-    (stop_with (refusal.Source (diagnostic (next_at at).line (misfit_code (next_at at).token))) used)
+    (stop_with (refusal.Source (diagnostic (next_at at).line (unexpected_token_code (next_at at).token))) used)
 source_misfits before at used near sound end type name =
     reading_fails_at_next before before at_source at _ used near
     (λ tail profile functions. no_part profile Source [] (next_at at ∷ tail) [] (scope_at at) functions sound
@@ -82,17 +82,17 @@ source_misfits before at used near sound end type name =
 abbrev pub at_head : List Item
 at_head = Part Head ∷ at_source
 
-pub type_word : (before : Representation) (at now : Position) → DerivesItem (AKeyword keyword.Type) [] [] at now →
+pub type_word : (before : Representation) (at now : UnreadPosition) → DerivesItem (AKeyword keyword.Type) [] [] at now →
     ReadsOn before before typed_items (Part Types ∷ at_head) at now
 type_word before at now d =
     segment_advances before (AKeyword keyword.Type ∷ []) [] (Part Types ∷ at_head) at now refl (d 0)
 
-pub more_types : (before : Representation) (at now : Position) → Derives 0 (Part Types ∷ []) [] [] [] at now →
+pub more_types : (before : Representation) (at now : UnreadPosition) → Derives 0 (Part Types ∷ []) [] [] [] at now →
     ReadsOn before before (Part Types ∷ at_head) at_head at now
 more_types before at now d = segment_advances before (Part Types ∷ []) [] at_head at now refl d
 
 -- up to the head
-pub typed_head : (before : Representation) (at now behind : Position) →
+pub typed_head : (before : Representation) (at now behind : UnreadPosition) →
     is_keyword keyword.Type (next_at at).token ≡ true →
     DerivesItem (AKeyword keyword.Type) [] [] at now → Derives 0 (Part Types ∷ []) [] [] [] now behind →
     ReadsOn before before at_source at_head at behind
@@ -101,7 +101,7 @@ typed_head before at now behind is d e =
     (advances_then before before before at_source typed_items (Part Types ∷ at_head) at at now
     (source_typed before at is) (type_word before at now d)) (more_types before now behind e)
 
-pub word_refused : (used : ℕ) (before : Representation) (at : Position) (f : ParseFault) (more : Type 0) →
+pub word_refused : (used : ℕ) (before : Representation) (at : UnreadPosition) (f : ParseFault) (more : Type 0) →
     is_keyword keyword.Type (next_at at).token ≡ true → Refused (FailsItem (AKeyword keyword.Type) at) ⊥ used f →
     Refused (StopsPart before before at_source at) more used f
 word_refused used before at f more is =
@@ -110,7 +110,7 @@ word_refused used before at f more is =
     (segment_stops before (AKeyword keyword.Type ∷ []) (Part Types ∷ at_head) at d refl (fails 0)))
     (λ never. absurd never)
 
-pub types_refused : (used : ℕ) (before : Representation) (at now : Position) (f : ParseFault) (more : Type 0) →
+pub types_refused : (used : ℕ) (before : Representation) (at now : UnreadPosition) (f : ParseFault) (more : Type 0) →
     is_keyword keyword.Type (next_at at).token ≡ true → DerivesItem (AKeyword keyword.Type) [] [] at now →
     Refused (λ d. (depth : ℕ) → FailsAt depth (Part Types ∷ []) [] now d) ⊥ used f →
     Refused (StopsPart before before at_source at) more used f
@@ -142,7 +142,7 @@ definition_head =
     Part ParameterTypes ∷ Part FunctionBlock ∷ []
 
 -- a name and a bracket begin a function
-pub head_defined : (before : Representation) (at : Position) (name : List ℕ) → (next_at at).token ≡ token.Name name →
+pub head_defined : (before : Representation) (at : UnreadPosition) (name : List ℕ) → (next_at at).token ≡ token.Name name →
     is_punctuator punctuator.OpenRound (after_at at) ≡ true → ReadsOn before before at_head at_definition at at
 head_defined before at name same is =
     segment_advances before (Part Head ∷ []) definition_head at_source at at refl
@@ -162,7 +162,7 @@ choose_external name token.End other = refl
 choose_external name (token.Fault lexical_error) other = refl
 
 -- any other name an external
-pub head_external : (before : Representation) (at : Position) (name : List ℕ) → (next_at at).token ≡ token.Name name →
+pub head_external : (before : Representation) (at : UnreadPosition) (name : List ℕ) → (next_at at).token ≡ token.Name name →
     is_punctuator punctuator.OpenRound (after_at at) ≡ false →
     ReadsOn before before at_head (external_items ++ at_source) at at
 head_external before at name same other =
@@ -180,17 +180,17 @@ head_none (token.Punctuator m) after name = refl
 head_none (token.Constant value) after name = refl
 head_none (token.Fault lexical_error) after name = refl
 
-pub head_misfits : (before : Representation) (at : Position) (used : ℕ) (near : IsNearTo at.lookahead.cursor used) →
-    is_fault (next_at at).token ≡ false → ((name : List ℕ) → (next_at at).token ≡ token.Name name → ⊥) →
+pub head_misfits : (before : Representation) (at : UnreadPosition) (used : ℕ) (near : IsNearTo at.lookahead.cursor used) →
+    is_lexical_error (next_at at).token ≡ false → ((name : List ℕ) → (next_at at).token ≡ token.Name name → ⊥) →
     StopsPart before before at_head at
-    (stop_with (refusal.Source (diagnostic (next_at at).line (misfit_code (next_at at).token))) used)
+    (stop_with (refusal.Source (diagnostic (next_at at).line (unexpected_token_code (next_at at).token))) used)
 head_misfits before at used near sound name =
     reading_fails_at_next before before at_head at _ used near
     (λ tail profile functions. no_part profile Head at_source (next_at at ∷ tail) [] (scope_at at) functions sound
     (head_none (next_at at).token _ name) refl)
 
 -- externals were declared
-pub externals_read : (before : Representation) (at now : Position) (name : List ℕ) →
+pub externals_read : (before : Representation) (at now : UnreadPosition) (name : List ℕ) →
     (next_at at).token ≡ token.Name name →
     is_punctuator punctuator.OpenRound (after_at at) ≡ false → Derives 0 external_items [] [] [] at now →
     ReadsOn before before at_head at_source at now
@@ -198,7 +198,7 @@ externals_read before at now name same other d =
     advances_then before before before at_head (external_items ++ at_source) at_source at at now
     (head_external before at name same other) (segment_advances before external_items [] at_source at now refl d)
 
-pub externals_refused : (used : ℕ) (before : Representation) (at : Position) (name : List ℕ) (f : ParseFault)
+pub externals_refused : (used : ℕ) (before : Representation) (at : UnreadPosition) (name : List ℕ) (f : ParseFault)
     (more : Type 0) →
     (next_at at).token ≡ token.Name name → is_punctuator punctuator.OpenRound (after_at at) ≡ false →
     Refused (λ d. (depth : ℕ) → FailsAt depth external_items [] at d) ⊥ used f →
@@ -211,13 +211,13 @@ externals_refused used before at name f more same other =
     (λ never. absurd never)
 
 -- a function was read after what leads to it
-pub function_read : (before after : Representation) (front : List Item) (at there : Position) →
+pub function_read : (before after : Representation) (front : List Item) (at there : UnreadPosition) →
     ReadsOn before before front at_definition at at → ReadsOn before after at_definition at_source at there →
     ReadsOn before after front at_source at there
 function_read before after front at there a b =
     advances_then before before after front at_definition at_source at at there a b
 
-pub function_refused : (used : ℕ) (before after : Representation) (front : List Item) (at : Position) (f : ParseFault)
+pub function_refused : (used : ℕ) (before after : Representation) (front : List Item) (at : UnreadPosition) (f : ParseFault)
     (denied : Type 0) → ReadsOn before before front at_definition at at →
     Refused (StopsPart before after at_definition at) denied used f →
     Refused (StopsPart before after front at) denied used f

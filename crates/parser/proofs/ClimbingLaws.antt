@@ -14,17 +14,17 @@ use Rattle.arith.specs.declared.operators.Op.TheVariants as op
 use Rattle.grammar.specs.declared.actions.Action.TheVariants.{ApplyBinop}
 use Rattle.grammar.specs.Actions.{expr_actions, middle}
 use Rattle.grammar.specs.Building.{Representation}
-use Rattle.grammar.specs.Derivation.{AnExpr, Value}
-use Rattle.grammar.specs.Faults.{levels}
+use Rattle.grammar.specs.Derivation.{AnExpr, PartialTree}
+use Rattle.grammar.specs.Faults.{nested_count}
 use Rattle.grammar.specs.Following.{AValue, open_count}
-use Rattle.grammar.specs.Grammar.{Item, Level, Part, Tail, Unary, choice, is_fault}
+use Rattle.grammar.specs.Grammar.{Item, Level, Part, Tail, Unary, choice, is_lexical_error}
 use Rattle.grammar.specs.Nesting.{nesting, right_side}
 use Rattle.grammar.specs.Operators.{binary_of, if_at, operator_at, operator_of}
 use Rattle.grammar.specs.Laws.Climbing.{if_from, operator_from}
 use Rattle.grammar.specs.Tree.{Binary}
 use Rattle.grammar.proofs.FollowingLaws.{expr_leads, origin_of}
-use Rattle.grammar.proofs.StandingLaws.{stands_then, appends_both}
-use Rattle.parser.specs.ScopedCursors.{Position, next_at}
+use Rattle.grammar.proofs.RepresentationLaws.{stands_then, appends_both}
+use Rattle.parser.specs.ScopedCursors.{UnreadPosition, next_at}
 use Rattle.parser.specs.Room.{HasLeftSide, HasRoom, room}
 use Rattle.parser.specs.Segment.{Derives, FailsAt, Refused}
 use Rattle.parser.proofs.Segments.{exit, fails_behind, joined, refused_map, stay}
@@ -149,7 +149,7 @@ none_at n l (token.Fault lexical_error) none tighter = refl
 -- Going down to the operand.
 
 -- one segment after another
-one_then : (depth : ℕ) (front mid pending : List Item) (taken between left : List Value) (at now there : Position) →
+one_then : (depth : ℕ) (front mid pending : List Item) (taken between left : List PartialTree) (at now there : UnreadPosition) →
     Derives depth front mid taken between at now → Derives depth mid pending between left now there →
     Derives depth front pending taken left at there
 one_then depth front mid pending taken between left at now there a b =
@@ -164,8 +164,8 @@ abbrev pub tails : (count n : ℕ) → List Item
 tails zero n = []
 tails (suc count) n = Part (Tail (n + count)) ∷ tails count n
 
-tails_open : (count n : ℕ) (stack : List Item) (depth : ℕ) → levels stack ≡ depth →
-    levels (tails count n ++ stack) ≡ depth
+tails_open : (count n : ℕ) (stack : List Item) (depth : ℕ) → nested_count stack ≡ depth →
+    nested_count (tails count n ++ stack) ≡ depth
 tails_open zero n stack depth same = same
 tails_open (suc count) n stack depth same = tails_open count n stack depth same
 
@@ -182,19 +182,19 @@ last_choice n t after last = let test : nat_lt n 11 ≡ false = above n last in 
     above : (n : ℕ) → 10 < n → nat_lt n 11 ≡ false
     above n last = grind (arith, nat_tests)
 
-level_stands : (at : Position) (depth n : ℕ) → n ≤ 10 → is_fault (next_at at).token ≡ false →
+level_stands : (at : UnreadPosition) (depth n : ℕ) → n ≤ 10 → is_lexical_error (next_at at).token ≡ false →
     Derives depth (Part (Level n) ∷ []) (Part (Level (n + 1)) ∷ Part (Tail n) ∷ []) [] [] at at
 level_stands at depth n small sound =
     chosen at depth (Level n) (Part (Level (n + 1)) ∷ Part (Tail n) ∷ []) []
     (record { sound = sound; is = λ after more. level_choice n (next_at at).token after small }) (λ after more. refl)
 
-last_stands : (at : Position) (depth n : ℕ) → 10 < n → is_fault (next_at at).token ≡ false →
+last_stands : (at : UnreadPosition) (depth n : ℕ) → 10 < n → is_lexical_error (next_at at).token ≡ false →
     Derives depth (Part (Level n) ∷ []) (Part Unary ∷ []) [] [] at at
 last_stands at depth n last sound =
     chosen at depth (Level n) (Part Unary ∷ []) []
     (record { sound = sound; is = λ after more. last_choice n (next_at at).token after last }) (λ after more. refl)
 
-descends : (at : Position) (depth n count : ℕ) → n + count ≤ 11 → is_fault (next_at at).token ≡ false →
+descends : (at : UnreadPosition) (depth n count : ℕ) → n + count ≤ 11 → is_lexical_error (next_at at).token ≡ false →
     Derives depth (Part (Level n) ∷ []) (Part (Level (n + count)) ∷ tails count n) [] [] at at
 descends at depth n zero small sound =
     let same : n ≡ n + 0 = omega arith in
@@ -211,7 +211,7 @@ descends at depth n (suc count) small sound =
     further
 
 -- a level goes down to an operand, with the tails of all levels from it on below
-reaches : (at : Position) (depth n : ℕ) → is_fault (next_at at).token ≡ false →
+reaches : (at : UnreadPosition) (depth n : ℕ) → is_lexical_error (next_at at).token ≡ false →
     Derives depth (Part (Level n) ∷ []) (Part Unary ∷ tails (11 - n) n) [] [] at at
 reaches at depth n sound = by (nat_le n 11) refl
   where
@@ -242,16 +242,16 @@ no_operator n (token.Constant value) after none = refl
 no_operator n token.End after none = refl
 no_operator n (token.Fault lexical_error) after none = refl
 
-tail_ends : (at : Position) (depth n : ℕ) (trees : List Value) → operator_at n (next_at at).token ≡ None →
-    is_fault (next_at at).token ≡ false →
+tail_ends : (at : UnreadPosition) (depth n : ℕ) (trees : List PartialTree) → operator_at n (next_at at).token ≡ None →
+    is_lexical_error (next_at at).token ≡ false →
     Derives depth (Part (Tail n) ∷ []) [] trees trees at at
 tail_ends at depth n trees none sound =
     chosen at depth (Tail n) [] trees
     (record { sound = sound; is = λ after more. no_operator n (next_at at).token after none }) (λ after more. refl)
 
 -- the tails of the levels at which no operator follows end
-drops : (at : Position) (depth n kept count : ℕ) (trees : List Value) → kept ≤ count →
-    operator_from (n + kept) (next_at at).token ≡ None → is_fault (next_at at).token ≡ false →
+drops : (at : UnreadPosition) (depth n kept count : ℕ) (trees : List PartialTree) → kept ≤ count →
+    operator_from (n + kept) (next_at at).token ≡ None → is_lexical_error (next_at at).token ≡ false →
     Derives depth (tails count n) (tails kept n) trees trees at at
 drops at depth n kept zero trees less none sound =
     let same : 0 ≡ kept = omega arith in
@@ -282,14 +282,14 @@ drops at depth n kept (suc count) trees less none sound =
 
 -- An expression of the operators from level n on was read so far. The tails of some levels wait, and no operator that
 -- is tighter than these follows.
-pub record Climbs (before after : Representation) (depth n : ℕ) (here there : Position) : Type 0 where
+pub record Climbs (before after : Representation) (depth n : ℕ) (here there : UnreadPosition) : Type 0 where
   pub count : ℕ
   pub none : operator_from (n + count) (next_at there).token ≡ None
   pub adds : AddsExpr before after depth n (Part (Level n) ∷ []) (tails count n) here there
 
 -- an operand was read
-pub climbs_first : (before after : Representation) (at there : Position) (depth n : ℕ) →
-    is_fault (next_at at).token ≡ false →
+pub climbs_first : (before after : Representation) (at there : UnreadPosition) (depth n : ℕ) →
+    is_lexical_error (next_at at).token ≡ false →
     AddsExpr before after depth 11 (Part Unary ∷ []) [] at there → Climbs before after depth n at there
 climbs_first before after at there depth n sound h = record {
   count = 11 - n;
@@ -306,15 +306,15 @@ climbs_first before after at there depth n sound h = record {
   };
 }
 
-pub first_stops : (used : ℕ) (at : Position) (depth n : ℕ) (denied : Type 0) (f : ParseFault) →
-    is_fault (next_at at).token ≡ false →
+pub first_stops : (used : ℕ) (at : UnreadPosition) (depth n : ℕ) (denied : Type 0) (f : ParseFault) →
+    is_lexical_error (next_at at).token ≡ false →
     Refused (FailsAt depth (Part Unary ∷ []) [] at) denied used f →
     Refused (FailsAt depth (Part (Level n) ∷ []) [] at) denied used f
 first_stops used at depth n denied f sound =
     exit used depth depth (Part (Level n) ∷ []) (Part Unary ∷ []) (tails (11 - n) n) [] [] [] at at denied denied f
     (reaches at depth n sound) (λ stack same. tails_open (11 - n) n stack depth same) (λ same. same)
 
-operator_sound : (t : Token) (b : AnOperator) → operator_of t ≡ Some b → is_fault t ≡ false
+operator_sound : (t : Token) (b : AnOperator) → operator_of t ≡ Some b → is_lexical_error t ≡ false
 operator_sound (token.Punctuator m) b is = refl
 operator_sound (token.Name name) b is = refl
 operator_sound (token.Keyword word) b is = refl
@@ -323,7 +323,7 @@ operator_sound token.End b is = refl
 operator_sound (token.Fault lexical_error) b is = absurd (cc)
 
 -- the tails of the levels tighter than an operator that follows end
-drops_to : (at : Position) (depth n count : ℕ) (b : AnOperator) (trees : List Value) →
+drops_to : (at : UnreadPosition) (depth n count : ℕ) (b : AnOperator) (trees : List PartialTree) →
     operator_of (next_at at).token ≡ Some b → n ≤ b.level → operator_from (n + count) (next_at at).token ≡ None →
     Derives depth (tails count n) (Part (Tail b.level) ∷ tails (b.level - n) n) trees trees at at
 drops_to at depth n count b trees is from none =
@@ -337,7 +337,7 @@ drops_to at depth n count b trees is from none =
     none_behind : (t : Token) (b : AnOperator) (n : ℕ) → operator_of t ≡ Some b → b.level < n → operator_from n t ≡ None
     none_behind t b n is past = rw is (rw (looser n b.level past) refl)
 
-climbed : (before mid : Representation) (at now : Position) (depth n : ℕ) (b : AnOperator)
+climbed : (before mid : Representation) (at now : UnreadPosition) (depth n : ℕ) (b : AnOperator)
     (h : Climbs before mid depth n at now)
     → operator_from n (next_at now).token ≡ Some b →
     Derives depth (Part (Level n) ∷ []) (Part (Tail b.level) ∷ tails (b.level - n) n) [] (AnExpr h.adds.tree ∷ []) at
@@ -349,7 +349,7 @@ climbed before mid at now depth n b h is =
     h.adds.derives (drops_to now depth n h.count b (AnExpr h.adds.tree ∷ []) f.0 f.1 h.none)
 
 -- an operator and its right side were read
-pub climbs_on : (before mid after : Representation) (at now there : Position) (depth n : ℕ) (b : AnOperator) →
+pub climbs_on : (before mid after : Representation) (at now there : UnreadPosition) (depth n : ℕ) (b : AnOperator) →
     Climbs before mid depth n at now → operator_from n (next_at now).token ≡ Some b →
     AddsOperand mid after depth b.level b.op now there → operator_from (b.level + 1) (next_at there).token ≡ None →
     Climbs before after depth n at there
@@ -391,7 +391,7 @@ climbs_on before mid after at now there depth n b h is r none = record {
         max left right ≤ room depth n
     wide_enough n l left right from small less = omega arith
 
-pub climb_refused : (used : ℕ) (before mid : Representation) (at now : Position) (depth n : ℕ) (b : AnOperator)
+pub climb_refused : (used : ℕ) (before mid : Representation) (at now : UnreadPosition) (depth n : ℕ) (b : AnOperator)
     (denied : Type 0)
     (f : ParseFault) → Climbs before mid depth n at now →
     operator_from n (next_at now).token ≡ Some b → Refused (FailsOperand depth b.level now) denied used f →
@@ -404,8 +404,8 @@ climb_refused used before mid at now depth n b denied f h is =
     (fails h.adds.tree)) (λ same. same)
 
 -- no further operator follows, and all tails end
-pub climbs_end : (before after : Representation) (at there : Position) (depth n : ℕ) →
-    operator_from n (next_at there).token ≡ None → is_fault (next_at there).token ≡ false →
+pub climbs_end : (before after : Representation) (at there : UnreadPosition) (depth n : ℕ) →
+    operator_from n (next_at there).token ≡ None → is_lexical_error (next_at there).token ≡ false →
     Climbs before after depth n at there → AddsExpr before after depth n (Part (Level n) ∷ []) [] at there
 climbs_end before after at there depth n none sound h = record {
   tree = h.adds.tree;
@@ -422,7 +422,7 @@ climbs_end before after at there depth n none sound h = record {
 }
 
 -- the left side of a further operator
-pub left_open : (before now : Representation) (at there : Position) (depth n : ℕ) (b : AnOperator) →
+pub left_open : (before now : Representation) (at there : UnreadPosition) (depth n : ℕ) (b : AnOperator) →
     HasRoom before (room depth n) → Climbs before now depth n at there →
     operator_from n (next_at there).token ≡ Some b → HasLeftSide now (room depth b.level)
 left_open before now at there depth n b h c is = record {

@@ -10,7 +10,7 @@ use Rattle.grammar.specs.Profile.{Profile}
 use Rattle.grammar.specs.Resolved.{InBody}
 use Rattle.grammar.specs.Tree.{Body}
 use Rattle.grammar.proofs.FollowingLaws.{KeepsFunction, body_leads, definition_leads, follow_one, function_begins, function_finishes, keeps_function, leads_to}
-use Rattle.grammar.proofs.StandingLaws.{may_follow, stands_then}
+use Rattle.grammar.proofs.RepresentationLaws.{may_follow, stands_then}
 use Rattle.parser.specs.Room.{HasStatementRoom, room}
 use Rattle.parser.specs.Progress.{ClosesFunction, MayEnd}
 

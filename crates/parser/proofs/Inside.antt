@@ -12,11 +12,11 @@ use Rattle.grammar.specs.declared.diagnostics.ParseFault.TheVariants as refusal
 use Rattle.grammar.specs.Building.{Representation}
 use Rattle.grammar.specs.Compiled.{diagnostic}
 use Rattle.grammar.specs.Derivation.{ABody, Definition, state}
-use Rattle.grammar.specs.Faults.{fault, levels, misfit_code, only_if}
-use Rattle.grammar.specs.Grammar.{Item, Declarations, Define, Empty, Exactly, FunctionBlock, Make, Part, Close, Statements, choice, is_fault, is_punctuator}
+use Rattle.grammar.specs.Faults.{fault, nested_count, unexpected_token_code, only_if}
+use Rattle.grammar.specs.Grammar.{Item, Declarations, Define, Empty, Exactly, FunctionBlock, Make, Part, Close, Statements, choice, is_lexical_error, is_punctuator}
 use Rattle.grammar.specs.Laws.{KeepsFunction}
-use Rattle.grammar.specs.Laws.Parsing.{Passes}
-use Rattle.grammar.specs.NameLimits.{most_levels}
+use Rattle.grammar.specs.Laws.Parsing.{DerivesWithoutFault}
+use Rattle.grammar.specs.NameLimits.{most_nested}
 use Rattle.grammar.specs.Profile.{first_profile}
 use Rattle.grammar.specs.Scope.{Scope}
 use Rattle.grammar.specs.Tree.{Done}
@@ -24,7 +24,7 @@ use Rattle.grammar.proofs.Firsts.{no_part}
 use Rattle.grammar.proofs.Keeping.{inner_keeps}
 use Rattle.grammar.proofs.Runs.{then}
 use Rattle.grammar.proofs.Steps.{make, punctuator as punctuator_step, part}
-use Rattle.parser.specs.ScopedCursors.{MayContinue, Position, next_at, position_of, scope_at}
+use Rattle.parser.specs.ScopedCursors.{MayContinue, UnreadPosition, next_at, position_of, scope_at}
 use Rattle.parser.specs.Stopping.{Stop, stop_with}
 use Rattle.parser.specs.Segment.{Derives, FailsAt, GoesPast, StopsAt}
 use Rattle.parser.proofs.Parts.{punctuator_is}
@@ -45,8 +45,8 @@ not_open token.End after other = refl
 not_open (token.Fault lexical_error) after other = refl
 
 first_level : (opened : Bool) (n : ℕ) (rest : List LocatedToken) → n ≡ 0 →
-    only_if opened (only_if (nat_le most_levels n) (fault rest code.NestedTooDeeply ∷ [])) ≡ []
-unfolding most_levels
+    only_if opened (only_if (nat_le most_nested n) (fault rest code.NestedTooDeeply ∷ [])) ≡ []
+unfolding most_nested
 first_level false n rest e = refl
 first_level true n rest e = rw e refl
 
@@ -60,33 +60,33 @@ brace_leads located_token is known rest = record {
       then profile _ _ _
       (part profile FunctionBlock (Exactly punctuator.OpenCurly ∷ Make Empty ∷ inside_items) stack
       (located_token ∷ rest) values known functions (rw at refl) (rw at refl)
-      (first_level _ (levels stack) (located_token ∷ rest) depths))
+      (first_level _ (nested_count stack) (located_token ∷ rest) depths))
       (punctuator_step profile punctuator.OpenCurly (Make Empty ∷ (inside_items ++ stack)) (located_token ∷ rest)
       values known functions (rw at refl) is);
 }
 
-empty_leads : (located_token : LocatedToken) → is_fault located_token.token ≡ false →
+empty_leads : (located_token : LocatedToken) → is_lexical_error located_token.token ≡ false →
     (known : Scope) (rest : List LocatedToken) →
     Leads 0 (Make Empty ∷ inside_items) inside_items [] (ABody Done ∷ []) known known (located_token ∷ rest)
     (located_token ∷ rest)
 empty_leads located_token sound known rest = record {
   passes = λ profile stack values functions depths.
       subst
-      (λ (fs : List Definition). Passes profile
+      (λ (fs : List Definition). DerivesWithoutFault profile
       (state (Make Empty ∷ (inside_items ++ stack)) (located_token ∷ rest) values known functions)
       (state (inside_items ++ stack) (located_token ∷ rest) (ABody Done ∷ values) known fs))
       (append-nil functions)
       (make profile Empty (inside_items ++ stack) (located_token ∷ rest) values known functions sound refl);
 }
 
-pub brace_misfits : (at : Position) (used : ℕ) (near : IsNearTo at.lookahead.cursor used) →
-    is_fault (next_at at).token ≡ false → is_punctuator punctuator.OpenCurly (next_at at).token ≡ false →
+pub brace_misfits : (at : UnreadPosition) (used : ℕ) (near : IsNearTo at.lookahead.cursor used) →
+    is_lexical_error (next_at at).token ≡ false → is_punctuator punctuator.OpenCurly (next_at at).token ≡ false →
     FailsAt 0 (Part FunctionBlock ∷ []) [] at
-    (stop_with (refusal.Source (diagnostic (next_at at).line (misfit_code (next_at at).token))) used)
+    (stop_with (refusal.Source (diagnostic (next_at at).line (unexpected_token_code (next_at at).token))) used)
 brace_misfits at used near sound other =
     fails_at_next 0 (Part FunctionBlock ∷ []) [] at _ used near (λ tail b profile stack values functions depths.
     no_part profile FunctionBlock stack (next_at at ∷ tail) values (scope_at at) functions sound
-    (not_open (next_at at).token _ other) (first_level _ (levels stack) (next_at at ∷ tail) depths))
+    (not_open (next_at at).token _ other) (first_level _ (nested_count stack) (next_at at ∷ tail) depths))
 
 pub brace_stops : (cursor : Cursor) (known : Scope) (more : Option (List ℕ)) →
     is_punctuator punctuator.OpenCurly cursor.next.token ≡ true → (d : Stop) →
@@ -97,8 +97,8 @@ brace_stops cursor known more is d stop =
     (λ rest b. brace_leads cursor.next is known rest) stop
 
 -- after the opening brace
-pub block_opened : (cursor : Cursor) (known : Scope) (more : Option (List ℕ)) (now : Position) →
-    is_punctuator punctuator.OpenCurly cursor.next.token ≡ true → is_fault (next_at now).token ≡ false →
+pub block_opened : (cursor : Cursor) (known : Scope) (more : Option (List ℕ)) (now : UnreadPosition) →
+    is_punctuator punctuator.OpenCurly cursor.next.token ≡ true → is_lexical_error (next_at now).token ≡ false →
     GoesPast (position_of (record { cursor = cursor; scope = known }) more) now →
     Derives 0 (Part FunctionBlock ∷ []) inside_items [] (ABody Done ∷ [])
     (position_of (record { cursor = cursor; scope = known }) more) now
@@ -111,7 +111,7 @@ block_opened cursor known more now is sound goes =
     (λ tail b. empty_leads (next_at now) sound (scope_at now) tail)) (λ stack same. same)
 
 -- after the declarations
-pub block_declared : (at now then : Position) →
+pub block_declared : (at now then : UnreadPosition) →
     Derives 0 (Part FunctionBlock ∷ []) inside_items [] (ABody Done ∷ []) at now →
     Derives 1 (Part Declarations ∷ []) [] [] [] now then →
     Derives 0 (Part FunctionBlock ∷ []) (Part Statements ∷ at_brace) [] (ABody Done ∷ []) at then
@@ -120,32 +120,32 @@ block_declared at now then a b =
     (ABody Done ∷ []) at now then a b (λ stack same. ap (λ n. n + 1) same)
 
 -- the tokens that a position may have: the two that were read, and no more
-abbrev some_tokens : Position → List LocatedToken
+abbrev some_tokens : UnreadPosition → List LocatedToken
 some_tokens at = followed_by at.lookahead.cursor.next (followed_by at.lookahead.cursor.after [])
 
-some_goes : (at : Position) → MayContinue at (some_tokens at)
+some_goes : (at : UnreadPosition) → MayContinue at (some_tokens at)
 some_goes at = record { behind = []; is = refl }
 
 -- declarations and statements keep the function that is being defined
-kept_between : (before after : Representation) (now mid there : Position) →
+kept_between : (before after : Representation) (now mid there : UnreadPosition) →
     Derives 1 (Part Declarations ∷ []) [] [] [] now mid →
     AddsBody before after 1 (Part Statements ∷ []) [] mid there → KeepsFunction (scope_at now) (scope_at there)
 kept_between before after now mid there d s =
     let rest : List LocatedToken = some_tokens there in
     let goes : MayContinue there rest = some_goes there in
     let end : List Item = Exactly punctuator.CloseCurly ∷ Close ∷ [] in
-    let first : Passes first_profile
+    let first : DerivesWithoutFault first_profile
     (state (Part Declarations ∷ Part Statements ∷ Make Define ∷ end)
     (d.consumed ++ ((s.derives Done).consumed ++ rest)) (ABody Done ∷ []) (scope_at now) [])
     (state (Part Statements ∷ Make Define ∷ end) ((s.derives Done).consumed ++ rest) (ABody Done ∷ [])
     (scope_at mid) []) =
     d.passes ((s.derives Done).consumed ++ rest) ((s.derives Done).follows rest goes) first_profile
     (Part Statements ∷ Make Define ∷ end) (ABody Done ∷ []) [] refl in
-    let second : Passes first_profile
+    let second : DerivesWithoutFault first_profile
     (state (Part Statements ∷ Make Define ∷ end) ((s.derives Done).consumed ++ rest) (ABody Done ∷ []) (scope_at mid)
     []) (state (Make Define ∷ end) rest (ABody s.tree ∷ []) (scope_at there) []) =
     (s.derives Done).passes rest goes first_profile (Make Define ∷ end) [] [] refl in
-    let whole : Passes first_profile
+    let whole : DerivesWithoutFault first_profile
     (state (Part Declarations ∷ Part Statements ∷ Make Define ∷ end)
     (d.consumed ++ ((s.derives Done).consumed ++ rest)) (ABody Done ∷ []) (scope_at now) [])
     (state (Make Define ∷ end) rest (ABody s.tree ∷ []) (scope_at there) []) =
@@ -154,7 +154,7 @@ kept_between before after now mid there d s =
     (ABody s.tree ∷ []) (scope_at now) (scope_at there) [] refl whole.leads
 
 -- the block was read up to its closing brace
-pub block_adds : (before after : Representation) (at now mid there : Position) → scope_at now ≡ scope_at at →
+pub block_adds : (before after : Representation) (at now mid there : UnreadPosition) → scope_at now ≡ scope_at at →
     Derives 0 (Part FunctionBlock ∷ []) inside_items [] (ABody Done ∷ []) at now →
     Derives 1 (Part Declarations ∷ []) [] [] [] now mid → AddsBody before after 1 (Part Statements ∷ []) [] mid there →
     is_punctuator punctuator.CloseCurly (next_at there).token ≡ true → AddsBlock before after at there

@@ -10,23 +10,23 @@ use Rattle.grammar.specs.declared.diagnostics.Code.{Code}
 use Rattle.grammar.specs.declared.diagnostics.ParseFault.{ParseFault}
 use Rattle.grammar.specs.declared.diagnostics.ParseFault.TheVariants as refusal
 use Rattle.grammar.specs.Compiled.{diagnostic}
-use Rattle.grammar.specs.Derivation.{Value, name_of_token, name_tree}
-use Rattle.grammar.specs.Faults.{misfit_code}
-use Rattle.grammar.specs.Grammar.{Exactly, AKeyword, AName, Role, is_punctuator, is_keyword, is_fault}
+use Rattle.grammar.specs.Derivation.{PartialTree, name_of_token, name_tree}
+use Rattle.grammar.specs.Faults.{unexpected_token_code}
+use Rattle.grammar.specs.Grammar.{Exactly, AKeyword, AName, Role, is_punctuator, is_keyword, is_lexical_error}
 use Rattle.grammar.specs.Laws.Naming.{LearnsName, RefusesName}
 use Rattle.grammar.specs.Scope.{Scope}
 use Rattle.grammar.proofs.Firsts.{name_fails, no_punctuator, no_name, no_word}
 use Rattle.grammar.proofs.Steps.{punctuator, name, word}
 use Rattle.parser.specs.declared.roles.Declared.{Declared}
 use Rattle.parser.specs.declared.roles.Declared.TheVariants as kind
-use Rattle.parser.specs.ScopedCursors.{Position, position_of, next_at, scope_at}
+use Rattle.parser.specs.ScopedCursors.{UnreadPosition, position_of, next_at, scope_at}
 use Rattle.parser.specs.Roles.{role_of}
 use Rattle.parser.specs.Stopping.{Stop, stop_with}
 use Rattle.parser.specs.Segment.{DerivesItem, FailsItem, GoesPast, IsNoName, Refused, StopsAt}
 use Rattle.parser.proofs.Segments.{Leads, fails_at_next, past, stops}
 
 punctuator_leads : (located_token : LocatedToken) (m : Punctuator) (depth : ℕ) (known : Scope)
-    (rest : List LocatedToken) → is_fault located_token.token ≡ false → is_punctuator m located_token.token ≡ true →
+    (rest : List LocatedToken) → is_lexical_error located_token.token ≡ false → is_punctuator m located_token.token ≡ true →
     Leads depth (Exactly m ∷ []) [] [] [] known known (located_token ∷ rest) rest
 punctuator_leads located_token m depth known rest sound fits =
     record {
@@ -35,9 +35,9 @@ punctuator_leads located_token m depth known rest sound fits =
           functions sound fits;
     }
 
-pub punctuator_derives : (cursor : Cursor) (known : Scope) (more : Option (List ℕ)) (there : Position) (m : Punctuator)
+pub punctuator_derives : (cursor : Cursor) (known : Scope) (more : Option (List ℕ)) (there : UnreadPosition) (m : Punctuator)
     →
-    is_fault cursor.next.token ≡ false → is_punctuator m cursor.next.token ≡ true →
+    is_lexical_error cursor.next.token ≡ false → is_punctuator m cursor.next.token ≡ true →
     GoesPast (position_of (record { cursor = cursor; scope = known }) more) there →
     DerivesItem (Exactly m) [] [] (position_of (record { cursor = cursor; scope = known }) more) there
 punctuator_derives cursor known more there m sound fits goes depth =
@@ -45,24 +45,24 @@ punctuator_derives cursor known more there m sound fits goes depth =
     (λ rest b. punctuator_leads cursor.next m depth known rest sound fits)
 
 pub punctuator_stops : (cursor : Cursor) (known : Scope) (more : Option (List ℕ)) (m : Punctuator) →
-    is_fault cursor.next.token ≡ false → is_punctuator m cursor.next.token ≡ true → (d : Stop) →
+    is_lexical_error cursor.next.token ≡ false → is_punctuator m cursor.next.token ≡ true → (d : Stop) →
     StopsAt (position_of (record { cursor = cursor; scope = known }) more) d →
     FailsItem (Exactly m) (position_of (record { cursor = cursor; scope = known }) more) d
 punctuator_stops cursor known more m sound fits d stop depth =
     stops cursor known known more d depth (Exactly m ∷ []) [] [] []
     (λ rest b. punctuator_leads cursor.next m depth known rest sound fits) stop
 
-pub punctuator_misfits : {n : ℕ} (at : Position) (m : Punctuator) → IsNearTo at.lookahead.cursor n →
-    is_fault (next_at at).token ≡ false → is_punctuator m (next_at at).token ≡ false →
+pub punctuator_misfits : {n : ℕ} (at : UnreadPosition) (m : Punctuator) → IsNearTo at.lookahead.cursor n →
+    is_lexical_error (next_at at).token ≡ false → is_punctuator m (next_at at).token ≡ false →
     FailsItem (Exactly m) at
-    (stop_with (refusal.Source (diagnostic (next_at at).line (misfit_code (next_at at).token))) n)
+    (stop_with (refusal.Source (diagnostic (next_at at).line (unexpected_token_code (next_at at).token))) n)
 punctuator_misfits at m near sound misses depth =
     fails_at_next depth (Exactly m ∷ []) [] at _ _ near
     (λ tail b profile stack values functions depths. no_punctuator profile m stack (next_at at ∷ tail) values
     (scope_at at) functions sound misses)
 
 word_leads : (located_token : LocatedToken) (w : Keyword) (depth : ℕ) (known : Scope) (rest : List LocatedToken) →
-    is_fault located_token.token ≡ false → is_keyword w located_token.token ≡ true →
+    is_lexical_error located_token.token ≡ false → is_keyword w located_token.token ≡ true →
     Leads depth (AKeyword w ∷ []) [] [] [] known known (located_token ∷ rest) rest
 word_leads located_token w depth known rest sound fits =
     record {
@@ -71,8 +71,8 @@ word_leads located_token w depth known rest sound fits =
           sound fits;
     }
 
-pub word_derives : (cursor : Cursor) (known : Scope) (more : Option (List ℕ)) (there : Position) (w : Keyword) →
-    is_fault cursor.next.token ≡ false → is_keyword w cursor.next.token ≡ true →
+pub word_derives : (cursor : Cursor) (known : Scope) (more : Option (List ℕ)) (there : UnreadPosition) (w : Keyword) →
+    is_lexical_error cursor.next.token ≡ false → is_keyword w cursor.next.token ≡ true →
     GoesPast (position_of (record { cursor = cursor; scope = known }) more) there →
     DerivesItem (AKeyword w) [] [] (position_of (record { cursor = cursor; scope = known }) more) there
 word_derives cursor known more there w sound fits goes depth =
@@ -80,17 +80,17 @@ word_derives cursor known more there w sound fits goes depth =
     (λ rest b. word_leads cursor.next w depth known rest sound fits)
 
 pub word_stops : (cursor : Cursor) (known : Scope) (more : Option (List ℕ)) (w : Keyword) →
-    is_fault cursor.next.token ≡ false → is_keyword w cursor.next.token ≡ true → (d : Stop) →
+    is_lexical_error cursor.next.token ≡ false → is_keyword w cursor.next.token ≡ true → (d : Stop) →
     StopsAt (position_of (record { cursor = cursor; scope = known }) more) d →
     FailsItem (AKeyword w) (position_of (record { cursor = cursor; scope = known }) more) d
 word_stops cursor known more w sound fits d stop depth =
     stops cursor known known more d depth (AKeyword w ∷ []) [] [] []
     (λ rest b. word_leads cursor.next w depth known rest sound fits) stop
 
-pub word_misfits : {n : ℕ} (at : Position) (w : Keyword) → IsNearTo at.lookahead.cursor n →
-    is_fault (next_at at).token ≡ false → is_keyword w (next_at at).token ≡ false →
+pub word_misfits : {n : ℕ} (at : UnreadPosition) (w : Keyword) → IsNearTo at.lookahead.cursor n →
+    is_lexical_error (next_at at).token ≡ false → is_keyword w (next_at at).token ≡ false →
     FailsItem (AKeyword w) at
-    (stop_with (refusal.Source (diagnostic (next_at at).line (misfit_code (next_at at).token))) n)
+    (stop_with (refusal.Source (diagnostic (next_at at).line (unexpected_token_code (next_at at).token))) n)
 word_misfits at w near sound misses depth =
     fails_at_next depth (AKeyword w ∷ []) [] at _ _ near
     (λ tail b profile stack values functions depths. no_word profile w stack (next_at at ∷ tail) values
@@ -111,8 +111,8 @@ name_leads located_token role bytes depth known learnt rest is knows = record {
 }
 
 -- a name was matched in its role
-pub name_derives : (cursor : Cursor) (known learnt : Scope) (more : Option (List ℕ)) (there : Position) (role : Role)
-    (bytes : List ℕ) (left : List Value) → cursor.next.token ≡ token.Name bytes →
+pub name_derives : (cursor : Cursor) (known learnt : Scope) (more : Option (List ℕ)) (there : UnreadPosition) (role : Role)
+    (bytes : List ℕ) (left : List PartialTree) → cursor.next.token ≡ token.Name bytes →
     LearnsName role bytes cursor.next.line known learnt → left ≡ name_tree role bytes known →
     GoesPast (position_of (record { cursor = cursor; scope = learnt }) more) there →
     DerivesItem (AName role) [] left (position_of (record { cursor = cursor; scope = known }) more) there
@@ -132,7 +132,7 @@ name_stops cursor known learnt more role bytes is knows d stop depth =
     (λ rest b. name_leads cursor.next role bytes depth known learnt rest is knows) stop
 
 -- the name has a fault in its role
-pub name_refused : {n : ℕ} (at : Position) (role : Role) (bytes : List ℕ) (c : Code) → IsNearTo at.lookahead.cursor n →
+pub name_refused : {n : ℕ} (at : UnreadPosition) (role : Role) (bytes : List ℕ) (c : Code) → IsNearTo at.lookahead.cursor n →
     (next_at at).token ≡ token.Name bytes → RefusesName role bytes (scope_at at) c →
     FailsItem (AName role) at (stop_with (refusal.Source (diagnostic (next_at at).line c)) n)
 name_refused at role bytes c near is fails depth =
@@ -141,12 +141,12 @@ name_refused at role bytes c near is fails depth =
     (scope_at at) functions (rw is refl) (rw is refl) (fails (next_at at ∷ tail)))
 
 -- there is no name
-pub name_misfits : (n : ℕ) (at : Position) (role : Role) (f : ParseFault) → IsNearTo at.lookahead.cursor n →
+pub name_misfits : (n : ℕ) (at : UnreadPosition) (role : Role) (f : ParseFault) → IsNearTo at.lookahead.cursor n →
     IsNoName (next_at at) f → Refused (FailsItem (AName role) at) ⊥ n f
 name_misfits n at role f near none = rw none.is (fails)
   where
     fails : FailsItem (AName role) at
-        (stop_with (refusal.Source (diagnostic (next_at at).line (misfit_code (next_at at).token))) n)
+        (stop_with (refusal.Source (diagnostic (next_at at).line (unexpected_token_code (next_at at).token))) n)
     fails depth =
         fails_at_next depth (AName role ∷ []) [] at _ _ near
         (λ tail b profile stack values functions depths. no_name profile role stack (next_at at ∷ tail) values

@@ -9,7 +9,7 @@ use Rattle.grammar.specs.Profile.{Profile}
 use Rattle.grammar.specs.Building.{Representation}
 use Rattle.parser.specs.declared.parser.Parser.{Parser}
 use Rattle.parser.specs.Advancing.{IsReady, HasStayedOrAdvanced, HasAdvanced}
-use Rattle.parser.specs.ParsedFiles.{IsFile, ParseIsRefused}
+use Rattle.parser.specs.ParsedFiles.{ParsesToFile, ParseIsRefused}
 use Rattle.parser.specs.Parsers.{ParserKept}
 use Rattle.parser.proofs.Advances.{kept_then, on, on_then, stays_ready}
 
@@ -41,7 +41,7 @@ went_then a b c h i = record {
 -- What is said of a builder as a parser left it is true of it when the parser is gone.
 pub file_left : {B : Type 0} →
     (stands : B → Representation) (before : Representation) (last left : B) (told : Option (List ℕ))
-    (names : Pools) → last ≡ left → IsFile before (stands left) told names → IsFile before (stands last) told names
+    (names : Pools) → last ≡ left → ParsesToFile before (stands left) told names → ParsesToFile before (stands last) told names
 file_left stands before last left told names same h = rw same h
 
 pub refused_left : (before after left : Representation) (denied : Type 0) (told to_come : Option (List ℕ))

@@ -5,14 +5,14 @@ pub mod Items
 pub mod Names
 pub mod Parts
 pub mod ListLaws
-pub mod HeadingLaws
+pub mod HeaderLaws
 pub mod Growing
 pub mod Tests
 pub mod Depths
 pub mod StrictEnds
-pub mod TellingLaws
+pub mod ReportingLaws
 pub mod Productions
-pub mod SignLaws
+pub mod UnaryOpLaws
 pub mod OperandLaws
 pub mod NameLaws
 pub mod OperatorLaws

@@ -6,12 +6,12 @@ use Rattle.tokens.specs.declared.located_tokens.Token.{Token}
 use Rattle.tokens.specs.declared.located_tokens.Token.TheVariants as token
 use Rattle.tokens.specs.declared.located_tokens.Keyword.TheVariants as keyword
 use Rattle.grammar.specs.declared.diagnostics.ParseFault.{ParseFault}
-use Rattle.grammar.specs.Faults.{levels}
-use Rattle.grammar.specs.Grammar.{Item, AName, AKeyword, Exactly, More, Part, Role, Symbol, Types, is_fault, is_punctuator, is_keyword, enters}
+use Rattle.grammar.specs.Faults.{nested_count}
+use Rattle.grammar.specs.Grammar.{Item, AName, AKeyword, Exactly, More, Part, Role, Symbol, Types, is_lexical_error, is_punctuator, is_keyword, enters}
 use Rattle.parser.specs.declared.roles.Declared.{Declared}
 use Rattle.parser.specs.declared.roles.Declared.TheVariants as kind
 use Rattle.parser.specs.Matching.{Matches}
-use Rattle.parser.specs.ScopedCursors.{Position, ScopedCursor, next_at}
+use Rattle.parser.specs.ScopedCursors.{UnreadPosition, ScopedCursor, next_at}
 use Rattle.parser.specs.Roles.{role_of}
 use Rattle.parser.specs.Segment.{Derives, DerivesItem, FailsAt, Refused}
 use Rattle.parser.proofs.Parts.{Chooses, free_of, part_stands}
@@ -23,7 +23,7 @@ pub record Gives (symbol : Symbol) (next : Token) (items : List Item) : Type 0 w
   pub chosen : Chooses symbol next items
   pub plain : (after : Token) → enters symbol next after ≡ false
 
-pub replaces : (at : Position) (depth : ℕ) (symbol : Symbol) (items : List Item) → is_fault (next_at at).token ≡ false →
+pub replaces : (at : UnreadPosition) (depth : ℕ) (symbol : Symbol) (items : List Item) → is_lexical_error (next_at at).token ≡ false →
     Gives symbol (next_at at).token items →
     Derives depth (Part symbol ∷ []) items [] [] at at
 replaces at depth symbol items sound gives =
@@ -72,25 +72,25 @@ declarations_end kind.Locals t h other = record { chosen = λ after. refl; plain
 -- Segments, over items that open no level.
 
 abbrev pub AreLevel : List Item → Type 0
-AreLevel below = (stack : List Item) → levels (below ++ stack) ≡ levels stack
+AreLevel below = (stack : List Item) → nested_count (below ++ stack) ≡ nested_count stack
 
 -- one segment after another, with items left below it
-pub goes_on : (depth : ℕ) (front mid pending below : List Item) (at now there : Position) → AreLevel below →
+pub goes_on : (depth : ℕ) (front mid pending below : List Item) (at now there : UnreadPosition) → AreLevel below →
     Derives depth front (mid ++ below) [] [] at now → Derives depth mid pending [] [] now there →
     Derives depth front (pending ++ below) [] [] at there
 goes_on depth front mid pending below at now there level a b =
     joined depth depth front mid pending below [] [] [] [] at now there a b (λ stack same. level stack ∙ same)
 
 -- after a segment the symbol in front is replaced
-pub opens_on : (depth : ℕ) (front : List Item) (symbol : Symbol) (items : List Item) (at now : Position) →
-    is_fault (next_at now).token ≡ false → Gives symbol (next_at now).token items →
+pub opens_on : (depth : ℕ) (front : List Item) (symbol : Symbol) (items : List Item) (at now : UnreadPosition) →
+    is_lexical_error (next_at now).token ≡ false → Gives symbol (next_at now).token items →
     Derives depth front (Part symbol ∷ []) [] [] at now → Derives depth front (items ++ []) [] [] at now
 opens_on depth front symbol items at now sound gives a =
     goes_on depth front (Part symbol ∷ []) items [] at now now (λ stack. refl) a
     (replaces now depth symbol items sound gives)
 
 -- a refusal after a segment
-pub leaves : (used : ℕ) (front mid below : List Item) (at now : Position) (f : ParseFault) → AreLevel below →
+pub leaves : (used : ℕ) (front mid below : List Item) (at now : UnreadPosition) (f : ParseFault) → AreLevel below →
     ((depth : ℕ) → Derives depth front (mid ++ below) [] [] at now) →
     Refused (λ d. (depth : ℕ) → FailsAt depth mid [] now d) ⊥ used f →
     Refused (λ d. (depth : ℕ) → FailsAt depth front [] at d) ⊥ used f
@@ -101,7 +101,7 @@ leaves used front mid below at now f level a =
     (λ stack same. level stack ∙ same) (fails depth)) (λ same. same)
 
 -- after a comma of a list
-pub more_behind : (depth : ℕ) (role : Role) (at now there : Position) → is_fault (next_at now).token ≡ false →
+pub more_behind : (depth : ℕ) (role : Role) (at now there : UnreadPosition) → is_lexical_error (next_at now).token ≡ false →
     is_punctuator punctuator.Comma (next_at now).token ≡ true →
     Derives depth (Part (More role) ∷ []) (Part (More role) ∷ []) [] [] at now →
     Derives depth (Exactly punctuator.Comma ∷ []) [] [] [] now there →
@@ -113,18 +113,18 @@ more_behind depth role at now there sound is a b =
     at now sound (names_more role (next_at now).token is) a) b
 
 -- from these items to those, however many levels are open
-abbrev pub Goes : List Item → List Item → Position → Position → Type 0
+abbrev pub Goes : List Item → List Item → UnreadPosition → UnreadPosition → Type 0
 Goes front pending at there = (depth : ℕ) → Derives depth front pending [] [] at there
 
 -- the first item
-pub starts : (item : Item) (below : List Item) (at there : Position) → AreLevel below →
+pub starts : (item : Item) (below : List Item) (at there : UnreadPosition) → AreLevel below →
     DerivesItem item [] [] at there →
     Goes (item ∷ below) below at there
 starts item below at there level b depth =
     goes_on depth (item ∷ below) (item ∷ []) [] below at at there level (stay at depth (item ∷ below) []) (b depth)
 
 -- the next item
-pub item_on : (front : List Item) (item : Item) (below : List Item) (at now there : Position) → AreLevel below →
+pub item_on : (front : List Item) (item : Item) (below : List Item) (at now there : UnreadPosition) → AreLevel below →
     Goes front (item ∷ below) at now → DerivesItem item [] [] now there →
     Goes front below at there
 item_on front item below at now there level a b depth =
@@ -140,13 +140,13 @@ handed_on (Err e) front mid at now there a b = leaves _ front mid [] at.position
 
 -- Lists of names, and declarations.
 
-pub name_first : (declared : Declared) (at there : Position) → DerivesItem (AName (role_of declared)) [] [] at there →
+pub name_first : (declared : Declared) (at there : UnreadPosition) → DerivesItem (AName (role_of declared)) [] [] at there →
     Goes (names_items declared) (Part (More (role_of declared)) ∷ Exactly punctuator.Semicolon ∷ []) at there
 name_first declared at there b =
     starts (AName (role_of declared)) (Part (More (role_of declared)) ∷ Exactly punctuator.Semicolon ∷ []) at there
     (λ stack. refl) b
 
-pub names_then : (declared : Declared) (at now there : Position) → DerivesItem (AName (role_of declared)) [] [] at now →
+pub names_then : (declared : Declared) (at now there : UnreadPosition) → DerivesItem (AName (role_of declared)) [] [] at now →
     DerivesItem (Part (More (role_of declared))) [] [] now there →
     Goes (names_items declared) (Exactly punctuator.Semicolon ∷ []) at there
 names_then declared at now there a b =
@@ -154,12 +154,12 @@ names_then declared at now there a b =
     (λ stack. refl)
     (name_first declared at now a) b
 
-pub type_first : (declared : Declared) (at there : Position) → DerivesItem (AKeyword keyword.Type) [] [] at there →
+pub type_first : (declared : Declared) (at there : UnreadPosition) → DerivesItem (AKeyword keyword.Type) [] [] at there →
     Goes (declaration_items declared) (Part Types ∷ names_items declared) at there
 type_first declared at there b =
     starts (AKeyword keyword.Type) (Part Types ∷ names_items declared) at there (λ stack. refl) b
 
-pub types_then : (declared : Declared) (at now there : Position) → DerivesItem (AKeyword keyword.Type) [] [] at now →
+pub types_then : (declared : Declared) (at now there : UnreadPosition) → DerivesItem (AKeyword keyword.Type) [] [] at now →
     DerivesItem (Part Types) [] [] now there → Goes (declaration_items declared) (names_items declared) at there
 types_then declared at now there a b =
     item_on (declaration_items declared) (Part Types) (names_items declared) at now there (λ stack. refl)

@@ -3,39 +3,39 @@ use Rattle.std.proofs.Common.{◌≡◌, ℕ, zero, suc, List, [], ◌∷◌, �
 use Rattle.std.specs.Prelude.{Some}
 use Rattle.tokens.specs.Tokens.{followed_by}
 use Rattle.tokens.specs.declared.located_tokens.LocatedToken.{LocatedToken}
-use Rattle.grammar.specs.Derivation.{state, State, Value, Definition, name_of_token, next_token, line_at, name_tree, derived, stepped}
-use Rattle.grammar.specs.Grammar.{AName, Role, is_fault}
-use Rattle.grammar.specs.Laws.Parsing.{Passes}
+use Rattle.grammar.specs.Derivation.{state, State, PartialTree, Definition, name_of_token, next_token, line_at, name_tree, derived, stepped}
+use Rattle.grammar.specs.Grammar.{AName, Role, is_lexical_error}
+use Rattle.grammar.specs.Laws.Parsing.{DerivesWithoutFault}
 use Rattle.grammar.specs.Profile.{first_profile}
 use Rattle.grammar.specs.Scope.{Scope, scope_after_name}
-use Rattle.parser.specs.ScopedCursors.{MayContinue, Position, next_at, scope_at}
+use Rattle.parser.specs.ScopedCursors.{MayContinue, UnreadPosition, next_at, scope_at}
 use Rattle.parser.specs.Segment.{Derives, DerivesItem}
 use Rattle.parser.proofs.OperandLaws.{IsNamed, named_found, named_goes_on, named_sound}
 
-done : (b : Bool) (rest : List LocatedToken) (values : List Value) (scope : Scope) (functions : List Definition) →
-    is_fault (next_token rest) ≡ b →
+done : (b : Bool) (rest : List LocatedToken) (values : List PartialTree) (scope : Scope) (functions : List Definition) →
+    is_lexical_error (next_token rest) ≡ b →
     stepped (state [] rest values scope functions) ≡ state [] rest values scope functions
 done true rest values scope functions is = rw is refl
 done false rest values scope functions is = rw is refl
 
-stays_done : (n : ℕ) (rest : List LocatedToken) (values : List Value) (scope : Scope) (functions : List Definition) →
+stays_done : (n : ℕ) (rest : List LocatedToken) (values : List PartialTree) (scope : Scope) (functions : List Definition) →
     derived n (state [] rest values scope functions) ≡ state [] rest values scope functions
 stays_done zero rest values scope functions = refl
 stays_done (suc n) rest values scope functions =
-    ap (λ (s : State). derived n s) (done (is_fault (next_token rest)) rest values scope functions refl) ∙
+    ap (λ (s : State). derived n s) (done (is_lexical_error (next_token rest)) rest values scope functions refl) ∙
     stays_done n rest values scope functions
 
-name_steps : (role : Role) (bytes : List ℕ) (rest : List LocatedToken) (values : List Value) (scope : Scope)
+name_steps : (role : Role) (bytes : List ℕ) (rest : List LocatedToken) (values : List PartialTree) (scope : Scope)
     (functions : List Definition) →
-    is_fault (next_token rest) ≡ false → name_of_token (next_token rest) ≡ Some bytes →
+    is_lexical_error (next_token rest) ≡ false → name_of_token (next_token rest) ≡ Some bytes →
     stepped (state (AName role ∷ []) rest values scope functions) ≡
     state [] (drop 1 rest) (name_tree role bytes scope ++ values) (scope_after_name role bytes (line_at rest) scope)
     functions
 name_steps role bytes rest values scope functions sound fits = rw (sound, fits) refl
 
-name_runs : (n : ℕ) (role : Role) (bytes : List ℕ) (rest others : List LocatedToken) (values left : List Value)
+name_runs : (n : ℕ) (role : Role) (bytes : List ℕ) (rest others : List LocatedToken) (values left : List PartialTree)
     (scope learnt : Scope) (functions : List Definition) →
-    is_fault (next_token rest) ≡ false → name_of_token (next_token rest) ≡ Some bytes →
+    is_lexical_error (next_token rest) ≡ false → name_of_token (next_token rest) ≡ Some bytes →
     derived n (state (AName role ∷ []) rest values scope functions) ≡ state [] others left learnt functions →
     others ≡ drop 1 rest
 name_runs zero role bytes rest others values left scope learnt functions sound fits e =
@@ -52,22 +52,22 @@ first_of : (x : LocatedToken) (xs ys : List LocatedToken) (y : LocatedToken) →
 first_of x xs ys y e = cc
 
 -- the fewest tokens that a position may have
-abbrev fewest : Position → List LocatedToken
+abbrev fewest : UnreadPosition → List LocatedToken
 fewest at = followed_by (next_at at) (followed_by at.lookahead.cursor.after [])
 
-pub behind_name_is : (at there : Position) (role : Role) (left : List Value) → IsNamed (next_at at).token →
+pub behind_name_is : (at there : UnreadPosition) (role : Role) (left : List PartialTree) → IsNamed (next_at at).token →
     DerivesItem (AName role) [] left at there → next_at there ≡ at.lookahead.cursor.after
 behind_name_is at there role left n item =
     let d : Derives 0 (AName role ∷ []) [] [] left at there = item 0 in
     let g : MayContinue there (fewest there) = record { behind = []; is = refl } in
     let f : MayContinue at (d.consumed ++ fewest there) = d.follows (fewest there) g in
-    let p : Passes first_profile (state (AName role ∷ []) (d.consumed ++ fewest there) [] (scope_at at) [])
+    let p : DerivesWithoutFault first_profile (state (AName role ∷ []) (d.consumed ++ fewest there) [] (scope_at at) [])
     (state [] (fewest there) (left ++ []) (scope_at there) []) =
     d.passes (fewest there) g first_profile [] [] [] refl in
     let whole : d.consumed ++ fewest there ≡ next_at at ∷ followed_by at.lookahead.cursor.after f.behind =
     f.is ∙ rw (named_goes_on (next_at at).token n) refl in
-    let sound : is_fault (next_token (d.consumed ++ fewest there)) ≡ false =
-    ap (λ (ls : List LocatedToken). is_fault (next_token ls)) whole ∙ named_sound (next_at at).token n in
+    let sound : is_lexical_error (next_token (d.consumed ++ fewest there)) ≡ false =
+    ap (λ (ls : List LocatedToken). is_lexical_error (next_token ls)) whole ∙ named_sound (next_at at).token n in
     let found : name_of_token (next_token (d.consumed ++ fewest there)) ≡ Some n.name =
     ap (λ (ls : List LocatedToken). name_of_token (next_token ls)) whole ∙ named_found (next_at at).token n in
     let rest : fewest there ≡ drop 1 (d.consumed ++ fewest there) =

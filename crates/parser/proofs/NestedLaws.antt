@@ -11,10 +11,10 @@ use Rattle.grammar.specs.declared.diagnostics.ParseFault.TheVariants as refusal
 use Rattle.grammar.specs.Building.{Representation}
 use Rattle.grammar.specs.Compiled.{diagnostic}
 use Rattle.grammar.specs.Derivation.{AnExpr}
-use Rattle.grammar.specs.Faults.{misfit_code}
-use Rattle.grammar.specs.Grammar.{Exactly, Expression, Part, Primary, Close, Unary, choice, is_fault, is_punctuator, enters}
+use Rattle.grammar.specs.Faults.{unexpected_token_code}
+use Rattle.grammar.specs.Grammar.{Exactly, Expression, Part, Primary, Close, Unary, choice, is_lexical_error, is_punctuator, enters}
 use Rattle.grammar.specs.Nesting.{nesting}
-use Rattle.parser.specs.ScopedCursors.{Position, next_at}
+use Rattle.parser.specs.ScopedCursors.{UnreadPosition, next_at}
 use Rattle.parser.specs.Room.{HasRoom, room}
 use Rattle.parser.specs.Stopping.{stop_with}
 use Rattle.parser.specs.Segment.{Derives, DerivesItem, FailsAt, FailsItem, GoesPast, Refused, StopsAt}
@@ -27,12 +27,12 @@ use Rattle.parser.specs.Expressions.{AddsExpr}
 use Rattle.parser.specs.UnaryOps.{unary_punctuator, increment_punctuator}
 use Rattle.parser.proofs.Parts.{punctuator_is, close_stands}
 use Rattle.parser.proofs.Productions.{Chooses, EntersLevel, chosen, chosen_within, item_done, punctuator_ends, punctuator_past, punctuator_sound, punctuator_too_deep, none_chosen}
-use Rattle.parser.proofs.TellingLaws.{room_within}
+use Rattle.parser.proofs.ReportingLaws.{room_within}
 use Rattle.tokens.specs.Cursors.{IsNearTo}
 
 -- Brackets.
 
-open_chooses : (at : Position) → is_punctuator punctuator.OpenRound (next_at at).token ≡ true →
+open_chooses : (at : UnreadPosition) → is_punctuator punctuator.OpenRound (next_at at).token ≡ true →
     Chooses at Primary (Exactly punctuator.OpenRound ∷ Part Expression ∷ Exactly punctuator.CloseRound ∷ Close ∷ [])
 open_chooses at fits = record {
   sound = punctuator_sound punctuator.OpenRound (next_at at).token fits;
@@ -41,13 +41,13 @@ open_chooses at fits = record {
       token.Punctuator punctuator.OpenRound = punctuator_is punctuator.OpenRound (next_at at).token fits in rw t refl;
 }
 
-open_enters : (at : Position) → is_punctuator punctuator.OpenRound (next_at at).token ≡ true → EntersLevel at Primary
+open_enters : (at : UnreadPosition) → is_punctuator punctuator.OpenRound (next_at at).token ≡ true → EntersLevel at Primary
 open_enters at fits after more =
     let t : (next_at at).token ≡ token.Punctuator punctuator.OpenRound =
     punctuator_is punctuator.OpenRound (next_at at).token fits in
     rw t refl
 
-pub bracket_too_deep : (at : Position) (used : ℕ) (near : IsNearTo at.lookahead.cursor used) (depth : ℕ) →
+pub bracket_too_deep : (at : UnreadPosition) (used : ℕ) (near : IsNearTo at.lookahead.cursor used) (depth : ℕ) →
     is_punctuator punctuator.OpenRound (next_at at).token ≡ true → 64 ≤ depth →
     FailsAt depth (Part Primary ∷ []) [] at
     (stop_with (refusal.Source (diagnostic (next_at at).line code.NestedTooDeeply)) used)
@@ -56,7 +56,7 @@ bracket_too_deep at used near depth fits deep =
     (Part Expression ∷ Exactly punctuator.CloseRound ∷ Close ∷ []) (open_chooses at fits) (open_enters at fits) fits
     deep
 
-open_stands : (at : Position) (depth : ℕ) → is_punctuator punctuator.OpenRound (next_at at).token ≡ true → depth < 64 →
+open_stands : (at : UnreadPosition) (depth : ℕ) → is_punctuator punctuator.OpenRound (next_at at).token ≡ true → depth < 64 →
     Derives depth (Part Primary ∷ [])
     (Exactly punctuator.OpenRound ∷ Part Expression ∷ Exactly punctuator.CloseRound ∷ Close ∷ []) [] [] at at
 open_stands at depth fits shallow =
@@ -64,7 +64,7 @@ open_stands at depth fits shallow =
     (Exactly punctuator.OpenRound ∷ Part Expression ∷ Exactly punctuator.CloseRound ∷ Close ∷ [])
     (open_chooses at fits) shallow
 
-pub open_ends : (used : ℕ) (at : Position) (depth : ℕ) (more : Type 0) (f : ParseFault) →
+pub open_ends : (used : ℕ) (at : UnreadPosition) (depth : ℕ) (more : Type 0) (f : ParseFault) →
     is_punctuator punctuator.OpenRound (next_at at).token ≡ true → depth < 64 →
     Refused (StopsAt at) ⊥ used f → Refused (FailsAt depth (Part Primary ∷ []) [] at) more used f
 open_ends used at depth more f fits shallow stop =
@@ -73,7 +73,7 @@ open_ends used at depth more f fits shallow stop =
     (open_stands at depth fits shallow) (λ stack same. ap (λ n. n + 1) same)
     (punctuator_ends used at punctuator.OpenRound f fits stop)
 
-open_past : (at now : Position) (depth : ℕ) → is_punctuator punctuator.OpenRound (next_at at).token ≡ true →
+open_past : (at now : UnreadPosition) (depth : ℕ) → is_punctuator punctuator.OpenRound (next_at at).token ≡ true →
     depth < 64 →
     GoesPast at now →
     Derives depth (Part Primary ∷ []) (Part Expression ∷ Exactly punctuator.CloseRound ∷ Close ∷ []) [] [] at now
@@ -83,7 +83,7 @@ open_past at now depth fits shallow goes =
     (open_stands at depth fits shallow) (punctuator_past at now punctuator.OpenRound fits goes (depth + 1))
     (λ stack same. ap (λ n. n + 1) same)
 
-pub inside_refused : (used : ℕ) (at now : Position) (depth : ℕ) (denied : Type 0) (f : ParseFault) →
+pub inside_refused : (used : ℕ) (at now : UnreadPosition) (depth : ℕ) (denied : Type 0) (f : ParseFault) →
     is_punctuator punctuator.OpenRound (next_at at).token ≡ true → depth < 64 → GoesPast at now →
     Refused (FailsAt (depth + 1) (Part Expression ∷ []) [] now) denied used f →
     Refused (FailsAt depth (Part Primary ∷ []) [] at) denied used f
@@ -92,7 +92,7 @@ inside_refused used at now depth denied f fits shallow goes =
     [] [] [] at now denied denied f
     (open_past at now depth fits shallow goes) (λ stack same. ap (λ n. n + 1) same) (λ same. same)
 
-inside_past : (before after : Representation) (at now behind : Position) (depth : ℕ) →
+inside_past : (before after : Representation) (at now behind : UnreadPosition) (depth : ℕ) →
     is_punctuator punctuator.OpenRound (next_at at).token ≡ true → depth < 64 → GoesPast at now →
     (h : AddsExpr before after (depth + 1) 1 (Part Expression ∷ []) [] now behind) →
     Derives depth (Part Primary ∷ []) (Exactly punctuator.CloseRound ∷ Close ∷ []) [] (AnExpr h.tree ∷ []) at behind
@@ -101,7 +101,7 @@ inside_past before after at now behind depth fits shallow goes h =
     [] [] (AnExpr h.tree ∷ []) [] at now behind
     (open_past at now depth fits shallow goes) h.derives (λ stack same. ap (λ n. n + 1) same)
 
-pub close_refused : (used : ℕ) (before after : Representation) (at now behind : Position) (depth : ℕ) (more : Type 0)
+pub close_refused : (used : ℕ) (before after : Representation) (at now behind : UnreadPosition) (depth : ℕ) (more : Type 0)
     (f : ParseFault) → is_punctuator punctuator.OpenRound (next_at at).token ≡ true → depth < 64 → GoesPast at now →
     AddsExpr before after (depth + 1) 1 (Part Expression ∷ []) [] now behind →
     Refused (FailsItem (Exactly punctuator.CloseRound) behind) ⊥ used f →
@@ -111,10 +111,10 @@ close_refused used before after at now behind depth more f fits shallow goes h =
     (AnExpr h.tree ∷ []) at behind more f
     (inside_past before after at now behind depth fits shallow goes h) (λ stack same. ap (λ n. n + 1) same)
 
-pub bracket_adds : (before after : Representation) (at now behind there : Position) (depth : ℕ) →
+pub bracket_adds : (before after : Representation) (at now behind there : UnreadPosition) (depth : ℕ) →
     is_punctuator punctuator.OpenRound (next_at at).token ≡ true → depth < 64 → GoesPast at now →
     AddsExpr before after (depth + 1) 1 (Part Expression ∷ []) [] now behind →
-    DerivesItem (Exactly punctuator.CloseRound) [] [] behind there → is_fault (next_at there).token ≡ false →
+    DerivesItem (Exactly punctuator.CloseRound) [] [] behind there → is_lexical_error (next_at there).token ≡ false →
     AddsExpr before after depth 11 (Part Primary ∷ []) [] at there
 bracket_adds before after at now behind there depth fits shallow goes h close sound = record {
   tree = h.tree;
@@ -180,7 +180,7 @@ primary_enters t after signs = refl
 
 -- the next token is no unary operator
 pub record NoOperator (t : Token) : Type 0 where
-  pub sound : is_fault t ≡ false
+  pub sound : is_lexical_error t ≡ false
   pub signs : (s : UnaryOp) → is_punctuator (unary_punctuator s) t ≡ false
   pub steps : (s : IncrementOp) → is_punctuator (increment_punctuator s) t ≡ false
 
@@ -190,21 +190,21 @@ no_punctuator m (token.Punctuator n) none = absurd (none n refl)
 no_punctuator m t none = refl
 
 -- a token that is no punctuator is none
-pub plain_operand : (t : Token) → is_fault t ≡ false → ((n : Punctuator) → t ≡ token.Punctuator n → ⊥) → NoOperator t
+pub plain_operand : (t : Token) → is_lexical_error t ≡ false → ((n : Punctuator) → t ≡ token.Punctuator n → ⊥) → NoOperator t
 plain_operand t sound none = record {
   sound = sound;
   signs = λ s. no_punctuator (unary_punctuator s) t none;
   steps = λ s. no_punctuator (increment_punctuator s) t none;
 }
 
-primary_stands : (at : Position) (depth : ℕ) → NoOperator (next_at at).token →
+primary_stands : (at : UnreadPosition) (depth : ℕ) → NoOperator (next_at at).token →
     Derives depth (Part Unary ∷ []) (Part Primary ∷ []) [] [] at at
 primary_stands at depth n =
     chosen at depth Unary (Part Primary ∷ []) []
     (record { sound = n.sound; is = λ after more. primary_choice (next_at at).token after n.signs n.steps })
     (λ after more. primary_enters (next_at at).token after n.signs)
 
-pub primary_refused : (used : ℕ) (at : Position) (depth : ℕ) (denied : Type 0) (f : ParseFault) →
+pub primary_refused : (used : ℕ) (at : UnreadPosition) (depth : ℕ) (denied : Type 0) (f : ParseFault) →
     NoOperator (next_at at).token →
     Refused (FailsAt depth (Part Primary ∷ []) [] at) denied used f →
     Refused (FailsAt depth (Part Unary ∷ []) [] at) denied used f
@@ -212,7 +212,7 @@ primary_refused used at depth denied f n =
     exit used depth depth (Part Unary ∷ []) (Part Primary ∷ []) [] [] [] [] at at denied denied f
     (primary_stands at depth n) (λ stack same. same) (λ same. same)
 
-pub primary_adds : (before after : Representation) (at there : Position) (depth : ℕ) → NoOperator (next_at at).token →
+pub primary_adds : (before after : Representation) (at there : UnreadPosition) (depth : ℕ) → NoOperator (next_at at).token →
     AddsExpr before after depth 11 (Part Primary ∷ []) [] at there →
     AddsExpr before after depth 11 (Part Unary ∷ []) [] at there
 primary_adds before after at there depth n h = record {
@@ -246,10 +246,10 @@ no_primary_enters (token.Punctuator punctuator.OpenRound) after n =
     absurd (cc)
 no_primary_enters t after n = refl
 
-pub primary_misfits : (at : Position) (used : ℕ) (near : IsNearTo at.lookahead.cursor used) (depth : ℕ) →
-    is_fault (next_at at).token ≡ false → NoPrimary (next_at at).token →
+pub primary_misfits : (at : UnreadPosition) (used : ℕ) (near : IsNearTo at.lookahead.cursor used) (depth : ℕ) →
+    is_lexical_error (next_at at).token ≡ false → NoPrimary (next_at at).token →
     FailsAt depth (Part Primary ∷ []) [] at
-    (stop_with (refusal.Source (diagnostic (next_at at).line (misfit_code (next_at at).token))) used)
+    (stop_with (refusal.Source (diagnostic (next_at at).line (unexpected_token_code (next_at at).token))) used)
 primary_misfits at used near depth sound n =
     none_chosen at used near depth Primary sound (λ after more. no_primary (next_at at).token after n)
     (λ after more. no_primary_enters (next_at at).token after n)

@@ -6,12 +6,12 @@ use Rattle.grammar.specs.declared.actions.Action.TheVariants.{BeginWhile, Chop, 
 use Rattle.grammar.specs.declared.actions.Action.TheVariants.{WhileTest}
 use Rattle.grammar.specs.Actions.{body_actions, expr_actions}
 use Rattle.grammar.specs.Building.{Appends, AppendsAll, MayFollow, Representation, LeavesOpen}
-use Rattle.grammar.specs.Following.{AValue, BeforeTest, InBranch, InElse, InTurn, Number, Open, Opened, Origin, open_weight, follow, is_number, may_take_statement, open_count, statement_done}
+use Rattle.grammar.specs.Following.{AValue, BeforeTest, InBranch, InElse, InLoopBody, Number, Open, Opened, ValueCategory, open_weight, follow, is_number, may_take_statement, open_count, statement_done}
 use Rattle.grammar.specs.Nesting.{body_nesting, nesting}
 use Rattle.grammar.specs.Resolved.{InBody, InExpr}
 use Rattle.grammar.specs.Tree.{ExpressionStatement, Body, IfElseStatement, Done, Expr, Return, IfStatement, While}
 use Rattle.grammar.proofs.FollowingLaws.{Leads, act, also, behind_body, body_leads, chop_settles, done_settles, expr_leads, inside, origin_of, settled, settled_count, settled_place}
-use Rattle.grammar.proofs.StandingLaws.{may_follow, stands_then}
+use Rattle.grammar.proofs.RepresentationLaws.{may_follow, stands_then}
 use Rattle.parser.specs.Room.{HasStatementRoom, HasRoom}
 use Rattle.parser.specs.Branches.{HasInside, IsElseNumbered, else_actions, else_nesting}
 
@@ -136,7 +136,7 @@ may_end a inner returned before n ends h =
     (ends h.opened ∙ done_settles returned h.opened h.position)
     (omega (arith, settled_count returned h.opened, h.few))
 
-pub may_chop : (origin : Origin) (before : Representation) (n : ℕ) → HasInside (AValue origin) before n →
+pub may_chop : (origin : ValueCategory) (before : Representation) (n : ℕ) → HasInside (AValue origin) before n →
     MayFollow before Chop
 may_chop origin before n h =
     may_follow before (AValue origin ∷ h.opened) (settled false h.opened) Chop h.stands
@@ -219,18 +219,18 @@ test_stands before now n c h numbered narrow added =
 pub may_test : (before now : Representation) (n : ℕ) (c : Expr) → HasInside BeforeTest before n → InExpr 64 64 64 c →
     nesting c ≤ n → AppendsAll before now (expr_actions c) → MayFollow now WhileTest
 may_test before now n c h numbered narrow added =
-    may_follow now (AValue (origin_of c) ∷ BeforeTest ∷ h.opened) (InTurn ∷ h.opened) WhileTest
+    may_follow now (AValue (origin_of c) ∷ BeforeTest ∷ h.opened) (InLoopBody ∷ h.opened) WhileTest
     (test_stands before now n c h numbered narrow added) refl (omega (arith, h.few))
 
 pub turn_begun : (before mid now : Representation) (n : ℕ) (c : Expr) → HasInside BeforeTest before n →
     InExpr 64 64 64 c →
     nesting c ≤ n → AppendsAll before mid (expr_actions c) → Appends mid now WhileTest →
-    HasInside InTurn now n
+    HasInside InLoopBody now n
 turn_begun before mid now n c h numbered narrow added tested = record {
   opened = h.opened;
   position = h.position;
-  stands = stands_then mid now (WhileTest ∷ []) (AValue (origin_of c) ∷ BeforeTest ∷ h.opened) (InTurn ∷ h.opened)
+  stands = stands_then mid now (WhileTest ∷ []) (AValue (origin_of c) ∷ BeforeTest ∷ h.opened) (InLoopBody ∷ h.opened)
       tested (test_stands before mid n c h numbered narrow added)
-      (act WhileTest (AValue (origin_of c) ∷ BeforeTest ∷ h.opened) (InTurn ∷ h.opened) refl (omega (arith, h.few))).is;
+      (act WhileTest (AValue (origin_of c) ∷ BeforeTest ∷ h.opened) (InLoopBody ∷ h.opened) refl (omega (arith, h.few))).is;
   few = h.few;
 }

@@ -15,14 +15,14 @@ use Rattle.grammar.specs.Actions.{expr_actions}
 use Rattle.grammar.specs.Building.{Representation, AppendsAll, MayFollow, MayFollowAll}
 use Rattle.grammar.specs.Derivation.{AnExpr, AVariable, constant_value, name_of_token}
 use Rattle.grammar.specs.Following.{AValue, Number, open_count}
-use Rattle.grammar.specs.Grammar.{AConstant, AName, Exactly, Fetch, Make, Mentioned, Part, Primary, PrefixIncrement, PostfixIncrement, Unary, choice, is_fault, is_punctuator, enters}
+use Rattle.grammar.specs.Grammar.{AConstant, AName, Exactly, Fetch, Make, Mentioned, Part, Primary, PrefixIncrement, PostfixIncrement, Unary, choice, is_lexical_error, is_punctuator, enters}
 use Rattle.grammar.specs.Nesting.{nesting}
 use Rattle.grammar.specs.Resolved.{InExpr, IsVariable}
 use Rattle.grammar.specs.Scope.{Scope}
 use Rattle.grammar.specs.Tree.{Expr, Assign, Constant, Postfix, Variable}
 use Rattle.grammar.proofs.FollowingLaws.{act, expr_leads, origin_of}
 use Rattle.grammar.proofs.Steps.{constant}
-use Rattle.parser.specs.ScopedCursors.{Position, after_at, next_at, scope_at}
+use Rattle.parser.specs.ScopedCursors.{UnreadPosition, after_at, next_at, scope_at}
 use Rattle.parser.specs.Room.{HasRoom}
 use Rattle.parser.specs.Stopping.{stop_with}
 use Rattle.parser.specs.Segment.{Derives, DerivesItem, FailsItem, GoesPast, Refused, StopsAt}
@@ -33,8 +33,8 @@ use Rattle.parser.specs.Expressions.{AddsExpr}
 use Rattle.parser.specs.UnaryOps.{increment_punctuator, increment_store_op}
 use Rattle.parser.proofs.Parts.{MakesOnly, make_stands, punctuator_is}
 use Rattle.parser.proofs.Productions.{Chooses, EntersNone, chosen, item_done, item_exit, punctuator_ends, punctuator_past, punctuator_sound}
-use Rattle.parser.proofs.TellingLaws.{all_follow}
-use Rattle.grammar.proofs.StandingLaws.{appends_both, may_first}
+use Rattle.parser.proofs.ReportingLaws.{all_follow}
+use Rattle.grammar.proofs.RepresentationLaws.{appends_both, may_first}
 use Rattle.tokens.specs.Cursors.{IsNearTo}
 
 -- Names.
@@ -54,24 +54,24 @@ is_named (token.Fault lexical_error) h = absurd (cc)
 pub named_goes_on : (t : Token) → IsNamed t → is_last t ≡ false
 named_goes_on t n = rw n.is refl
 
-pub named_sound : (t : Token) → IsNamed t → is_fault t ≡ false
+pub named_sound : (t : Token) → IsNamed t → is_lexical_error t ≡ false
 named_sound t n = rw n.is refl
 
 pub named_found : (t : Token) (n : IsNamed t) → name_of_token t ≡ Some n.name
 named_found t n = rw n.is refl
 
 -- the token after a name
-pub after_name : (at : Position) (after : Token) → IsNamed (next_at at).token →
+pub after_name : (at : UnreadPosition) (after : Token) → IsNamed (next_at at).token →
     (is_last (next_at at).token ≡ false → after ≡ after_at at) → after ≡ after_at at
 after_name at after n more = more (named_goes_on (next_at at).token n)
 
 -- Constants.
 
-constant_chooses : (at : Position) (value : ℕ) → (next_at at).token ≡ token.Constant value →
+constant_chooses : (at : UnreadPosition) (value : ℕ) → (next_at at).token ≡ token.Constant value →
     Chooses at Primary (AConstant ∷ [])
 constant_chooses at value is = record { sound = rw is refl; is = λ after more. rw is refl }
 
-constant_enters : (at : Position) (value : ℕ) → (next_at at).token ≡ token.Constant value → EntersNone at Primary
+constant_enters : (at : UnreadPosition) (value : ℕ) → (next_at at).token ≡ token.Constant value → EntersNone at Primary
 constant_enters at value is after more = rw is refl
 
 constant_leads : (located_token : LocatedToken) (value : ℕ) → located_token.token ≡ token.Constant value →
@@ -79,24 +79,24 @@ constant_leads : (located_token : LocatedToken) (value : ℕ) → located_token.
     Leads depth (AConstant ∷ []) [] [] (AnExpr (Constant (pos value)) ∷ []) known known (located_token ∷ rest) rest
 constant_leads located_token value is depth known rest = record {
   passes = λ profile stack values functions depths.
-      let sound : is_fault located_token.token ≡ false = rw is refl in
+      let sound : is_lexical_error located_token.token ≡ false = rw is refl in
       let found : constant_value located_token.token ≡ Some value = rw is refl in
       constant profile value stack (located_token ∷ rest) values known functions sound found;
 }
 
-constant_past : (at there : Position) (value : ℕ) → (next_at at).token ≡ token.Constant value → GoesPast at there →
+constant_past : (at there : UnreadPosition) (value : ℕ) → (next_at at).token ≡ token.Constant value → GoesPast at there →
     DerivesItem AConstant [] (AnExpr (Constant (pos value)) ∷ []) at there
 constant_past at there value is goes depth =
     past at.lookahead.cursor (scope_at at) (scope_at at) at.to_come there depth (AConstant ∷ []) [] []
     (AnExpr (Constant (pos value)) ∷ []) goes
     (λ rest b. constant_leads (next_at at) value is depth (scope_at at) rest)
 
-constant_stands : (at : Position) (value : ℕ) → (next_at at).token ≡ token.Constant value → (depth : ℕ) →
+constant_stands : (at : UnreadPosition) (value : ℕ) → (next_at at).token ≡ token.Constant value → (depth : ℕ) →
     Derives depth (Part Primary ∷ []) (AConstant ∷ []) [] [] at at
 constant_stands at value is depth =
     chosen at depth Primary (AConstant ∷ []) [] (constant_chooses at value is) (constant_enters at value is)
 
-pub constant_ends : (used : ℕ) (at : Position) (value : ℕ) (more : Type 0) (f : ParseFault) →
+pub constant_ends : (used : ℕ) (at : UnreadPosition) (value : ℕ) (more : Type 0) (f : ParseFault) →
     (next_at at).token ≡ token.Constant value → Refused (StopsAt at) ⊥ used f →
     Refused (FailsItem (Part Primary) at) more used f
 constant_ends used at value more f is stop =
@@ -106,7 +106,7 @@ constant_ends used at value more f is stop =
     (AnExpr (Constant (pos value)) ∷ []) (λ rest b. constant_leads (next_at at) value is depth (scope_at at) rest) s)
     (λ same. same) stop)
 
-pub constant_adds : (before after : Representation) (at there : Position) (value : ℕ) →
+pub constant_adds : (before after : Representation) (at there : UnreadPosition) (value : ℕ) →
     (next_at at).token ≡ token.Constant value → GoesPast at there →
     AppendsAll before after (PushConstant (pos value) ∷ []) → (depth : ℕ) →
     AddsExpr before after depth 11 (Part Primary ∷ []) [] at there
@@ -151,15 +151,15 @@ name_enters : (name : List ℕ) (after : Token) → is_punctuator punctuator.Ope
 name_enters name (token.Punctuator punctuator.OpenRound) call = absurd (cc)
 name_enters name after call = refl
 
-name_enters_none : (at : Position) → IsNamed (next_at at).token →
+name_enters_none : (at : UnreadPosition) → IsNamed (next_at at).token →
     is_punctuator punctuator.OpenRound (after_at at) ≡ false → EntersNone at Primary
 name_enters_none at n call after more = rw (n.is, after_name at after n more) (name_enters n.name (after_at at) call)
 
 -- it isn't followed by ++ or --
-abbrev pub NoStep : Position → Type 0
+abbrev pub NoStep : UnreadPosition → Type 0
 NoStep at = (s : IncrementOp) → is_punctuator (increment_punctuator s) (after_at at) ≡ false
 
-fetch_chooses : (at : Position) → IsNamed (next_at at).token →
+fetch_chooses : (at : UnreadPosition) → IsNamed (next_at at).token →
     is_punctuator punctuator.OpenRound (after_at at) ≡ false →
     NoStep at → Chooses at Primary (AName Mentioned ∷ Make Fetch ∷ [])
 fetch_chooses at n call none = record {
@@ -169,14 +169,14 @@ fetch_chooses at n call none = record {
       (fetch_choice n.name (after_at at) call (none step.Increment) (none step.Decrement));
 }
 
-fetch_stands : (at : Position) → IsNamed (next_at at).token → is_punctuator punctuator.OpenRound (after_at at) ≡ false →
+fetch_stands : (at : UnreadPosition) → IsNamed (next_at at).token → is_punctuator punctuator.OpenRound (after_at at) ≡ false →
     NoStep at → (depth : ℕ) →
     Derives depth (Part Primary ∷ []) (AName Mentioned ∷ Make Fetch ∷ []) [] [] at at
 fetch_stands at n call none depth =
     chosen at depth Primary (AName Mentioned ∷ Make Fetch ∷ []) [] (fetch_chooses at n call none)
     (name_enters_none at n call)
 
-pub fetch_ends : (used : ℕ) (at : Position) (more : Type 0) (f : ParseFault) → IsNamed (next_at at).token →
+pub fetch_ends : (used : ℕ) (at : UnreadPosition) (more : Type 0) (f : ParseFault) → IsNamed (next_at at).token →
     is_punctuator punctuator.OpenRound (after_at at) ≡ false → NoStep at →
     Refused (FailsItem (AName Mentioned) at) ⊥ used f → Refused (FailsItem (Part Primary) at) more used f
 fetch_ends used at more f n call none =
@@ -192,10 +192,10 @@ fetch_makes v =
       defines = λ values scope. refl;
     }
 
-pub fetch_adds : (before after : Representation) (at there : Position) (v : Var) → IsNamed (next_at at).token →
+pub fetch_adds : (before after : Representation) (at there : UnreadPosition) (v : Var) → IsNamed (next_at at).token →
     is_punctuator punctuator.OpenRound (after_at at) ≡ false → NoStep at →
     DerivesItem (AName Mentioned) [] (AVariable v ∷ []) at there → IsVariable 64 64 v →
-    is_fault (next_at there).token ≡ false → AppendsAll before after (FetchVariable v ∷ []) → (depth : ℕ) →
+    is_lexical_error (next_at there).token ≡ false → AppendsAll before after (FetchVariable v ∷ []) → (depth : ℕ) →
     AddsExpr before after depth 11 (Part Primary ∷ []) [] at there
 fetch_adds before after at there v n call none item numbered sound told depth = record {
   tree = Variable v;
@@ -225,7 +225,7 @@ behind_enters : (name : List ℕ) (s : IncrementOp) →
 behind_enters name step.Increment = refl
 behind_enters name step.Decrement = refl
 
-behind_chooses : (at : Position) (s : IncrementOp) → IsNamed (next_at at).token →
+behind_chooses : (at : UnreadPosition) (s : IncrementOp) → IsNamed (next_at at).token →
     is_punctuator (increment_punctuator s) (after_at at) ≡ true →
     Chooses at Primary
     (AName Mentioned ∷ Exactly (increment_punctuator s) ∷ Make (PostfixIncrement (increment_store_op s)) ∷ [])
@@ -237,14 +237,14 @@ behind_chooses at s n fits = record {
       (n.is, after_name at after n more, t) (behind_choice n.name s);
 }
 
-behind_enters_none : (at : Position) (s : IncrementOp) → IsNamed (next_at at).token →
+behind_enters_none : (at : UnreadPosition) (s : IncrementOp) → IsNamed (next_at at).token →
     is_punctuator (increment_punctuator s) (after_at at) ≡ true → EntersNone at Primary
 behind_enters_none at s n fits after more =
     let t : after_at at ≡ token.Punctuator (increment_punctuator s) =
     punctuator_is (increment_punctuator s) (after_at at) fits in
     rw (n.is, after_name at after n more, t) (behind_enters n.name s)
 
-behind_stands : (at : Position) (s : IncrementOp) → IsNamed (next_at at).token →
+behind_stands : (at : UnreadPosition) (s : IncrementOp) → IsNamed (next_at at).token →
     is_punctuator (increment_punctuator s) (after_at at) ≡ true → (depth : ℕ) →
     Derives depth (Part Primary ∷ [])
     (AName Mentioned ∷ Exactly (increment_punctuator s) ∷ Make (PostfixIncrement (increment_store_op s)) ∷ []) [] [] at
@@ -254,7 +254,7 @@ behind_stands at s n fits depth =
     (AName Mentioned ∷ Exactly (increment_punctuator s) ∷ Make (PostfixIncrement (increment_store_op s)) ∷ []) []
     (behind_chooses at s n fits) (behind_enters_none at s n fits)
 
-pub behind_name_ends : (used : ℕ) (at : Position) (s : IncrementOp) (more : Type 0) (f : ParseFault) →
+pub behind_name_ends : (used : ℕ) (at : UnreadPosition) (s : IncrementOp) (more : Type 0) (f : ParseFault) →
     IsNamed (next_at at).token → is_punctuator (increment_punctuator s) (after_at at) ≡ true →
     Refused (FailsItem (AName Mentioned) at) ⊥ used f → Refused (FailsItem (Part Primary) at) more used f
 behind_name_ends used at s more f n fits =
@@ -262,7 +262,7 @@ behind_name_ends used at s more f n fits =
     (Exactly (increment_punctuator s) ∷ Make (PostfixIncrement (increment_store_op s)) ∷ []) [] at at more f
     (behind_stands at s n fits) (λ depth stack same. same)
 
-behind_past_name : (at now : Position) (s : IncrementOp) (v : Var) → IsNamed (next_at at).token →
+behind_past_name : (at now : UnreadPosition) (s : IncrementOp) (v : Var) → IsNamed (next_at at).token →
     is_punctuator (increment_punctuator s) (after_at at) ≡ true →
     DerivesItem (AName Mentioned) [] (AVariable v ∷ []) at now → (depth : ℕ) →
     Derives depth (Part Primary ∷ [])
@@ -275,7 +275,7 @@ behind_past_name at now s v n fits item depth =
     (behind_stands at s n fits depth) (item depth) (λ stack same. same)
 
 -- the builder was refused memory after the name
-pub behind_halts : (used : ℕ) (at now : Position) (s : IncrementOp) (v : Var) → IsNamed (next_at at).token →
+pub behind_halts : (used : ℕ) (at now : UnreadPosition) (s : IncrementOp) (v : Var) → IsNamed (next_at at).token →
     is_punctuator (increment_punctuator s) (after_at at) ≡ true →
     DerivesItem (AName Mentioned) [] (AVariable v ∷ []) at now →
     IsNearTo now.lookahead.cursor used → FailsItem (Part Primary) at (stop_with refusal.Memory used)
@@ -284,7 +284,7 @@ behind_halts used at now s v n fits item near depth =
     (Exactly (increment_punctuator s) ∷ Make (PostfixIncrement (increment_store_op s)) ∷ []) []
     (AVariable v ∷ []) at now used (behind_past_name at now s v n fits item depth) near
 
-pub behind_punctuator_ends : (used : ℕ) (at now : Position) (s : IncrementOp) (v : Var) (more : Type 0) (f : ParseFault)
+pub behind_punctuator_ends : (used : ℕ) (at now : UnreadPosition) (s : IncrementOp) (v : Var) (more : Type 0) (f : ParseFault)
     →
     IsNamed (next_at at).token → is_punctuator (increment_punctuator s) (after_at at) ≡ true →
     DerivesItem (AName Mentioned) [] (AVariable v ∷ []) at now →
@@ -304,11 +304,11 @@ behind_makes o v =
       defines = λ values scope. refl;
     }
 
-pub behind_adds : (before a b c after : Representation) (at now there : Position) (s : IncrementOp) (v : Var) →
+pub behind_adds : (before a b c after : Representation) (at now there : UnreadPosition) (s : IncrementOp) (v : Var) →
     IsNamed (next_at at).token → is_punctuator (increment_punctuator s) (after_at at) ≡ true →
     DerivesItem (AName Mentioned) [] (AVariable v ∷ []) at now →
     DerivesItem (Exactly (increment_punctuator s)) [] [] now there → IsVariable 64 64 v →
-    is_fault (next_at there).token ≡ false →
+    is_lexical_error (next_at there).token ≡ false →
     AppendsAll before a (FetchVariable v ∷ []) → AppendsAll a b (PushConstant (pos 1) ∷ []) →
     AppendsAll b c (StoreVariable v (increment_store_op s) ∷ []) → AppendsAll c after (Chop ∷ []) → (depth : ℕ) →
     AddsExpr before after depth 11 (Part Primary ∷ []) [] at there
@@ -347,7 +347,7 @@ before_enters : (s : IncrementOp) (after : Token) →
 before_enters step.Increment after = refl
 before_enters step.Decrement after = refl
 
-before_stands : (at : Position) (s : IncrementOp) → is_punctuator (increment_punctuator s) (next_at at).token ≡ true →
+before_stands : (at : UnreadPosition) (s : IncrementOp) → is_punctuator (increment_punctuator s) (next_at at).token ≡ true →
     (depth : ℕ) →
     Derives depth (Part Unary ∷ [])
     (Exactly (increment_punctuator s) ∷ AName Mentioned ∷ Make (PrefixIncrement (increment_store_op s)) ∷ []) [] [] at
@@ -362,7 +362,7 @@ before_stands at s fits depth =
       is = λ after more. rw t (before_choice s after);
     }) (λ after more. rw t (before_enters s after))
 
-pub before_punctuator_ends : (used : ℕ) (at : Position) (s : IncrementOp) (more : Type 0) (f : ParseFault) →
+pub before_punctuator_ends : (used : ℕ) (at : UnreadPosition) (s : IncrementOp) (more : Type 0) (f : ParseFault) →
     is_punctuator (increment_punctuator s) (next_at at).token ≡ true → Refused (StopsAt at) ⊥ used f →
     Refused (FailsItem (Part Unary) at) more used f
 before_punctuator_ends used at s more f fits stop =
@@ -371,7 +371,7 @@ before_punctuator_ends used at s more f fits stop =
     [] at at more f (before_stands at s fits) (λ depth stack same. same)
     (punctuator_ends used at (increment_punctuator s) f fits stop)
 
-before_past_punctuator : (at now : Position) (s : IncrementOp) →
+before_past_punctuator : (at now : UnreadPosition) (s : IncrementOp) →
     is_punctuator (increment_punctuator s) (next_at at).token ≡ true →
     GoesPast at now → (depth : ℕ) →
     Derives depth (Part Unary ∷ []) (AName Mentioned ∷ Make (PrefixIncrement (increment_store_op s)) ∷ []) [] [] at now
@@ -381,7 +381,7 @@ before_past_punctuator at now s fits goes depth =
     (before_stands at s fits depth) (punctuator_past at now (increment_punctuator s) fits goes depth)
     (λ stack same. same)
 
-pub before_name_ends : (used : ℕ) (at now : Position) (s : IncrementOp) (more : Type 0) (f : ParseFault) →
+pub before_name_ends : (used : ℕ) (at now : UnreadPosition) (s : IncrementOp) (more : Type 0) (f : ParseFault) →
     is_punctuator (increment_punctuator s) (next_at at).token ≡ true → GoesPast at now →
     Refused (FailsItem (AName Mentioned) now) ⊥ used f → Refused (FailsItem (Part Unary) at) more used f
 before_name_ends used at now s more f fits goes =
@@ -398,10 +398,10 @@ before_makes o v =
       defines = λ values scope. refl;
     }
 
-pub before_adds : (before a after : Representation) (at now there : Position) (s : IncrementOp) (v : Var) →
+pub before_adds : (before a after : Representation) (at now there : UnreadPosition) (s : IncrementOp) (v : Var) →
     is_punctuator (increment_punctuator s) (next_at at).token ≡ true → GoesPast at now →
     DerivesItem (AName Mentioned) [] (AVariable v ∷ []) now there → IsVariable 64 64 v →
-    is_fault (next_at there).token ≡ false →
+    is_lexical_error (next_at there).token ≡ false →
     AppendsAll before a (PushConstant (pos 1) ∷ []) → AppendsAll a after (StoreVariable v (increment_store_op s) ∷ []) →
     (depth : ℕ) → AddsExpr before after depth 11 (Part Unary ∷ []) [] at there
 before_adds before a after at now there s v fits goes item numbered sound first last depth = record {

@@ -13,8 +13,8 @@ use Rattle.grammar.specs.declared.actions.Action.TheVariants.{ApplyBinop, LogicM
 use Rattle.grammar.specs.Actions.{expr_actions, middle}
 use Rattle.grammar.specs.Building.{Representation, AppendsAll, MayFollow, MayFollowAll}
 use Rattle.grammar.specs.Derivation.{AnExpr}
-use Rattle.grammar.specs.Following.{Open, AValue, BeforeRight, Computed, Opened, Origin, open_count}
-use Rattle.grammar.specs.Grammar.{Exactly, Level, Make, Operate, Part, Tail, choice, is_fault, is_punctuator}
+use Rattle.grammar.specs.Following.{Open, AValue, BeforeRight, Computed, Opened, ValueCategory, open_count}
+use Rattle.grammar.specs.Grammar.{Exactly, Level, Make, Operate, Part, Tail, choice, is_lexical_error, is_punctuator}
 use Rattle.grammar.specs.Nesting.{nesting, right_side}
 use Rattle.arith.specs.Op.{is_logic}
 use Rattle.grammar.specs.Operators.{if_at, operator_at}
@@ -22,15 +22,15 @@ use Rattle.grammar.specs.declared.operators.BinaryOperator.{BinaryOperator as An
 use Rattle.grammar.specs.Resolved.{InExpr}
 use Rattle.grammar.specs.Tree.{Binary, Expr}
 use Rattle.grammar.proofs.FollowingLaws.{Leads, act, chain, expr_leads, logic_itself, origin_of}
-use Rattle.parser.specs.ScopedCursors.{Position, next_at}
+use Rattle.parser.specs.ScopedCursors.{UnreadPosition, next_at}
 use Rattle.parser.specs.Room.{HasLeftSide, HasRoom, room}
 use Rattle.parser.specs.Segment.{Derives, FailsAt, FailsItem, GoesPast, Refused, StopsAt}
 use Rattle.parser.proofs.Segments.{fails_behind, joined, refused_map}
 use Rattle.parser.specs.Expressions.{AddsExpr, AddsOperand, FailsOperand}
 use Rattle.parser.proofs.Parts.{MakesOnly, make_stands}
 use Rattle.parser.proofs.Productions.{chosen, item_done, punctuator_ends, punctuator_past, punctuator_sound, same_self}
-use Rattle.parser.proofs.TellingLaws.{all_follow, room_behind}
-use Rattle.grammar.proofs.StandingLaws.{appends_both, may_first, may_then}
+use Rattle.parser.proofs.ReportingLaws.{all_follow, room_behind}
+use Rattle.grammar.proofs.RepresentationLaws.{appends_both, may_first, may_then}
 
 -- An operator and its right side.
 
@@ -49,10 +49,10 @@ spells n o (token.Constant value) is = absurd (cc)
 spells n o token.End is = absurd (cc)
 spells n o (token.Fault lexical_error) is = absurd (cc)
 
-pub operator_sound : (n : ℕ) (o : Op) (t : Token) → operator_at n t ≡ Some o → is_fault t ≡ false
+pub operator_sound : (n : ℕ) (o : Op) (t : Token) → operator_at n t ≡ Some o → is_lexical_error t ≡ false
 operator_sound n o t is = let s : SpellsOperator n o t = spells n o t is in rw s.is refl
 
-operator_stands : (at : Position) (depth n : ℕ) (o : Op) (left : Expr) (s : SpellsOperator n o (next_at at).token) →
+operator_stands : (at : UnreadPosition) (depth n : ℕ) (o : Op) (left : Expr) (s : SpellsOperator n o (next_at at).token) →
     Derives depth (Part (Tail n) ∷ []) (Exactly s.m ∷ Part (Level (n + 1)) ∷ Make (Operate o) ∷ Part (Tail n) ∷ [])
     (AnExpr left ∷ []) (AnExpr left ∷ []) at at
 operator_stands at depth n o left s =
@@ -61,7 +61,7 @@ operator_stands at depth n o left s =
     (record { sound = punctuator_sound s.m (next_at at).token s.fits; is = λ after more. s.choice_is after })
     (λ after more. refl)
 
-pub operator_ends : (used : ℕ) (at : Position) (depth n : ℕ) (o : Op) (more : Type 0) (f : ParseFault) →
+pub operator_ends : (used : ℕ) (at : UnreadPosition) (depth n : ℕ) (o : Op) (more : Type 0) (f : ParseFault) →
     operator_at n (next_at at).token ≡ Some o → Refused (StopsAt at) ⊥ used f →
     Refused (FailsOperand depth n at) more used f
 operator_ends used at depth n o more f is stop = ended (spells n o (next_at at).token is) f stop
@@ -75,7 +75,7 @@ operator_ends used at depth n o more f is stop = ended (spells n o (next_at at).
         (operator_stands at depth n o left s) (λ stack same. same) (h depth)) (λ never. absurd never)
         (punctuator_ends used at s.m f s.fits stop)
 
-operator_past : (at now : Position) (depth n : ℕ) (o : Op) (left : Expr) → operator_at n (next_at at).token ≡ Some o →
+operator_past : (at now : UnreadPosition) (depth n : ℕ) (o : Op) (left : Expr) → operator_at n (next_at at).token ≡ Some o →
     GoesPast at now →
     Derives depth (Part (Tail n) ∷ []) (Part (Level (n + 1)) ∷ Make (Operate o) ∷ Part (Tail n) ∷ []) (AnExpr left ∷ [])
     (AnExpr left ∷ []) at now
@@ -85,7 +85,7 @@ operator_past at now depth n o left is goes =
     (Part (Level (n + 1)) ∷ Make (Operate o) ∷ Part (Tail n) ∷ []) (AnExpr left ∷ []) [] (AnExpr left ∷ []) at at now
     (operator_stands at depth n o left s) (punctuator_past at now s.m s.fits goes depth) (λ stack same. same)
 
-pub right_refused : (used : ℕ) (at now : Position) (depth n : ℕ) (o : Op) (denied : Type 0) (f : ParseFault) →
+pub right_refused : (used : ℕ) (at now : UnreadPosition) (depth n : ℕ) (o : Op) (denied : Type 0) (f : ParseFault) →
     operator_at n (next_at at).token ≡ Some o → GoesPast at now →
     Refused (FailsAt depth (Part (Level (n + 1)) ∷ []) [] now) denied used f →
     Refused (FailsOperand depth n at) denied used f
@@ -169,15 +169,15 @@ right_room depth n o t is = by_logic (is_logic o) refl
     by_logic false e = let side : right_side o ≡ 0 = rw e refl in omega arith
 
 -- what is open at the beginning of the right side
-abbrev right_open : (o : Op) (logic : Bool) (origin : Origin) → Open
+abbrev right_open : (o : Op) (logic : Bool) (origin : ValueCategory) → Open
 right_open o true origin = BeforeRight o
 right_open o false origin = AValue origin
 
-abbrev right_below : (logic : Bool) (origin : Origin) (opened : Opened) → Opened
+abbrev right_below : (logic : Bool) (origin : ValueCategory) (opened : Opened) → Opened
 right_below true origin opened = AValue origin ∷ opened
 right_below false origin opened = opened
 
-middle_leads : (o : Op) (logic : Bool) → is_logic o ≡ logic → (origin : Origin) (outer : Open) (opened : Opened) →
+middle_leads : (o : Op) (logic : Bool) → is_logic o ≡ logic → (origin : ValueCategory) (outer : Open) (opened : Opened) →
     open_count (outer ∷ opened) + right_side o ≤ 200 →
     Leads (middle o) (AValue origin ∷ outer ∷ opened)
     (right_open o logic origin ∷ right_below logic origin (outer ∷ opened))
@@ -188,13 +188,13 @@ middle_leads o true is origin outer opened small =
     (rw is refl) (omega arith))
 middle_leads o false is origin outer opened small = rw is (record { is = refl })
 
-right_counts : (o : Op) (logic : Bool) → is_logic o ≡ logic → (origin : Origin) (outer : Open) (opened : Opened) →
+right_counts : (o : Op) (logic : Bool) → is_logic o ≡ logic → (origin : ValueCategory) (outer : Open) (opened : Opened) →
     open_count (right_open o logic origin ∷ right_below logic origin (outer ∷ opened)) ≡
     right_side o + open_count (outer ∷ opened)
 right_counts o true is origin outer opened = let side : right_side o ≡ 1 = rw is refl in omega arith
 right_counts o false is origin outer opened = let side : right_side o ≡ 0 = rw is refl in omega arith
 
-apply_leads : (o : Op) (logic : Bool) → is_logic o ≡ logic → (origin right : Origin) (outer : Open) (opened : Opened) →
+apply_leads : (o : Op) (logic : Bool) → is_logic o ≡ logic → (origin right : ValueCategory) (outer : Open) (opened : Opened) →
     open_count (outer ∷ opened) ≤ 200 →
     Leads (ApplyBinop o ∷ []) (AValue right ∷ right_open o logic origin ∷ right_below logic origin (outer ∷ opened))
     (AValue Computed ∷ outer ∷ opened)
@@ -247,10 +247,10 @@ apply_follows before told now depth n o t e is h first numbered narrow second =
     (all_follow before (AValue h.origin ∷ h.outer ∷ h.opened) (AValue Computed ∷ h.outer ∷ h.opened)
     (middle o ++ (expr_actions e ++ ApplyBinop o ∷ [])) h.stands leads)))
 
-pub operand_adds : (before told mid after : Representation) (at now there : Position) (depth n : ℕ) (o : Op) →
+pub operand_adds : (before told mid after : Representation) (at now there : UnreadPosition) (depth n : ℕ) (o : Op) →
     operator_at n (next_at at).token ≡ Some o → GoesPast at now →
     AppendsAll before told (middle o) → AddsExpr told mid depth (n + 1) (Part (Level (n + 1)) ∷ []) [] now there →
-    AppendsAll mid after (ApplyBinop o ∷ []) → is_fault (next_at there).token ≡ false →
+    AppendsAll mid after (ApplyBinop o ∷ []) → is_lexical_error (next_at there).token ≡ false →
     AddsOperand before after depth n o at there
 operand_adds before told mid after at now there depth n o is goes first h last sound = record {
   right = h.tree;

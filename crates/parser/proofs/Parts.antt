@@ -13,17 +13,17 @@ use denote.Enum.Bare.{same_true}
 use Rattle.grammar.specs.declared.diagnostics.Code.TheVariants as code
 use Rattle.grammar.specs.declared.diagnostics.ParseFault.TheVariants as refusal
 use Rattle.grammar.specs.Compiled.{diagnostic}
-use Rattle.grammar.specs.Derivation.{State, Value, Definition, scope_after_action, functions_defined, trees_after, next_token, state}
-use Rattle.grammar.specs.Faults.{fault, item_faults, level_faults, levels, only_if}
-use Rattle.grammar.specs.Grammar.{AKeyword, Exactly, Item, Make, Part, SemanticAction, Close, Symbol, choice, is_fault, is_punctuator, is_keyword, enters}
-use Rattle.grammar.specs.Laws.Parsing.{Passes}
-use Rattle.grammar.specs.NameLimits.{most_levels}
+use Rattle.grammar.specs.Derivation.{State, PartialTree, Definition, scope_after_action, functions_defined, trees_after, next_token, state}
+use Rattle.grammar.specs.Faults.{fault, item_faults, nesting_faults, nested_count, only_if}
+use Rattle.grammar.specs.Grammar.{AKeyword, Exactly, Item, Make, Part, SemanticAction, Close, Symbol, choice, is_lexical_error, is_punctuator, is_keyword, enters}
+use Rattle.grammar.specs.Laws.Parsing.{DerivesWithoutFault}
+use Rattle.grammar.specs.NameLimits.{most_nested}
 use Rattle.grammar.specs.Profile.{Profile}
 use Rattle.grammar.specs.Scope.{Scope, no_names}
 use Rattle.grammar.proofs.Firsts.{too_deep, too_deep_word}
 use Rattle.grammar.proofs.Runs.{then}
 use Rattle.grammar.proofs.Steps.{make, punctuator, part, close, word}
-use Rattle.parser.specs.ScopedCursors.{Position, next_at, scope_at}
+use Rattle.parser.specs.ScopedCursors.{UnreadPosition, next_at, scope_at}
 use Rattle.parser.specs.Stopping.{Stop, stop_with}
 use Rattle.parser.specs.Segment.{Derives, FailsAt, GoesPast, StopsAt}
 use Rattle.parser.proofs.Segments.{Leads, fails_at_next, past, stand, stops}
@@ -52,13 +52,13 @@ word_is w (token.Fault lexical_error) is = absurd (cc)
 -- with `depth` levels open the symbol enters none beyond the last
 abbrev pub IsFree : ℕ → Symbol → LocatedToken → Type 0
 IsFree depth symbol located_token =
-    (stack : List Item) (rest : List LocatedToken) → levels stack ≡ depth →
-    level_faults symbol (state stack (located_token ∷ rest) [] no_names []) ≡ []
+    (stack : List Item) (rest : List LocatedToken) → nested_count stack ≡ depth →
+    nesting_faults symbol (state stack (located_token ∷ rest) [] no_names []) ≡ []
 
 -- while a level is left there is no fault
 pub within : (opened : Bool) (n : ℕ) (rest : List LocatedToken) → n < 64 →
-    only_if opened (only_if (nat_le most_levels n) (fault rest code.NestedTooDeeply ∷ [])) ≡ []
-unfolding most_levels
+    only_if opened (only_if (nat_le most_nested n) (fault rest code.NestedTooDeeply ∷ [])) ≡ []
+unfolding most_nested
 within false n rest small = refl
 within true n rest small = let test : nat_le 64 n ≡ false = below n small in rw test refl
   where
@@ -67,9 +67,9 @@ within true n rest small = let test : nat_le 64 n ≡ false = below n small in r
 
 -- a level beyond the last one is a fault
 pub beyond : (opened : Bool) (n : ℕ) (rest : List LocatedToken) → opened ≡ true → 64 ≤ n →
-    only_if opened (only_if (nat_le most_levels n) (fault rest code.NestedTooDeeply ∷ [])) ≡
+    only_if opened (only_if (nat_le most_nested n) (fault rest code.NestedTooDeeply ∷ [])) ≡
     fault rest code.NestedTooDeeply ∷ []
-unfolding most_levels
+unfolding most_nested
 beyond opened n rest is large = rw (is, above n large) refl
   where
     above : (n : ℕ) → 64 ≤ n → nat_le 64 n ≡ true
@@ -78,7 +78,7 @@ beyond opened n rest is large = rw (is, above n large) refl
 pub free_below : (depth : ℕ) (symbol : Symbol) (located_token : LocatedToken) → depth < 64 →
     IsFree depth symbol located_token
 free_below depth symbol located_token small stack rest depths =
-    within (enters symbol located_token.token (next_token rest)) (levels stack) (located_token ∷ rest) (rw depths small)
+    within (enters symbol located_token.token (next_token rest)) (nested_count stack) (located_token ∷ rest) (rw depths small)
 
 pub free_of : (depth : ℕ) (symbol : Symbol) (located_token : LocatedToken) →
     ((after : Token) → enters symbol located_token.token after ≡ false) → IsFree depth symbol located_token
@@ -90,8 +90,8 @@ free_of depth symbol located_token none stack rest depths = rw (none (next_token
 abbrev pub Chooses : Symbol → Token → List Item → Type 0
 Chooses symbol t items = (after : Token) → choice symbol t after ≡ Some items
 
-part_leads : (located_token : LocatedToken) (depth : ℕ) (symbol : Symbol) (items : List Item) (trees : List Value)
-    (known : Scope) (rest : List LocatedToken) → is_fault located_token.token ≡ false →
+part_leads : (located_token : LocatedToken) (depth : ℕ) (symbol : Symbol) (items : List Item) (trees : List PartialTree)
+    (known : Scope) (rest : List LocatedToken) → is_lexical_error located_token.token ≡ false →
     Chooses symbol located_token.token items → IsFree depth symbol located_token →
     Leads depth (Part symbol ∷ []) items trees trees known known (located_token ∷ rest) (located_token ∷ rest)
 part_leads located_token depth symbol items trees known rest sound chosen free = record {
@@ -100,15 +100,15 @@ part_leads located_token depth symbol items trees known rest sound chosen free =
       sound (chosen (next_token rest)) (free stack rest depths);
 }
 
-pub part_stands : (at : Position) (depth : ℕ) (symbol : Symbol) (items : List Item) (trees : List Value) →
-    is_fault (next_at at).token ≡ false → Chooses symbol (next_at at).token items →
+pub part_stands : (at : UnreadPosition) (depth : ℕ) (symbol : Symbol) (items : List Item) (trees : List PartialTree) →
+    is_lexical_error (next_at at).token ≡ false → Chooses symbol (next_at at).token items →
     IsFree depth symbol (next_at at) → Derives depth (Part symbol ∷ []) items trees trees at at
 part_stands at depth symbol items trees sound chosen free =
     stand at depth (Part symbol ∷ []) items trees trees
     (λ tail b. part_leads (next_at at) depth symbol items trees (scope_at at) tail sound chosen free)
 
 word_leads : (located_token : LocatedToken) (depth : ℕ) (symbol : Symbol) (w : Keyword) (items : List Item)
-    (trees : List Value) (known : Scope) (rest : List LocatedToken) → is_fault located_token.token ≡ false →
+    (trees : List PartialTree) (known : Scope) (rest : List LocatedToken) → is_lexical_error located_token.token ≡ false →
     Chooses symbol located_token.token (AKeyword w ∷ items) → is_keyword w located_token.token ≡ true →
     IsFree depth symbol located_token →
     Leads depth (Part symbol ∷ []) items trees trees known known (located_token ∷ rest) rest
@@ -120,9 +120,9 @@ word_leads located_token depth symbol w items trees known rest sound chosen fits
       (word profile w _ (located_token ∷ rest) _ known functions sound fits);
 }
 
-pub word_past : (at there : Position) (depth : ℕ) (symbol : Symbol) (w : Keyword) (items : List Item)
-    (trees : List Value) →
-    is_fault (next_at at).token ≡ false →
+pub word_past : (at there : UnreadPosition) (depth : ℕ) (symbol : Symbol) (w : Keyword) (items : List Item)
+    (trees : List PartialTree) →
+    is_lexical_error (next_at at).token ≡ false →
     Chooses symbol (next_at at).token (AKeyword w ∷ items) → is_keyword w (next_at at).token ≡ true →
     IsFree depth symbol (next_at at) → GoesPast at there →
     Derives depth (Part symbol ∷ []) items trees trees at there
@@ -131,8 +131,8 @@ word_past at there depth symbol w items trees sound chosen fits free goes =
     goes
     (λ rest b. word_leads (next_at at) depth symbol w items trees (scope_at at) rest sound chosen fits free)
 
-pub word_stops : (at : Position) (d : Stop) (depth : ℕ) (symbol : Symbol) (w : Keyword) (items : List Item)
-    (trees : List Value) → is_fault (next_at at).token ≡ false →
+pub word_stops : (at : UnreadPosition) (d : Stop) (depth : ℕ) (symbol : Symbol) (w : Keyword) (items : List Item)
+    (trees : List PartialTree) → is_lexical_error (next_at at).token ≡ false →
     Chooses symbol (next_at at).token (AKeyword w ∷ items) → is_keyword w (next_at at).token ≡ true →
     IsFree depth symbol (next_at at) → StopsAt at d →
     FailsAt depth (Part symbol ∷ []) trees at d
@@ -141,7 +141,7 @@ word_stops at d depth symbol w items trees sound chosen fits free stop =
     (λ rest b. word_leads (next_at at) depth symbol w items trees (scope_at at) rest sound chosen fits free) stop
 
 punctuator_leads : (located_token : LocatedToken) (depth : ℕ) (symbol : Symbol) (m : Punctuator) (items : List Item)
-    (trees : List Value) (known : Scope) (rest : List LocatedToken) → is_fault located_token.token ≡ false →
+    (trees : List PartialTree) (known : Scope) (rest : List LocatedToken) → is_lexical_error located_token.token ≡ false →
     Chooses symbol located_token.token (Exactly m ∷ items) → is_punctuator m located_token.token ≡ true →
     IsFree depth symbol located_token →
     Leads depth (Part symbol ∷ []) items trees trees known known (located_token ∷ rest) rest
@@ -153,8 +153,8 @@ punctuator_leads located_token depth symbol m items trees known rest sound chose
       (punctuator profile m _ (located_token ∷ rest) _ known functions sound fits);
 }
 
-pub punctuator_past : (at there : Position) (depth : ℕ) (symbol : Symbol) (m : Punctuator) (items : List Item)
-    (trees : List Value) → is_fault (next_at at).token ≡ false →
+pub punctuator_past : (at there : UnreadPosition) (depth : ℕ) (symbol : Symbol) (m : Punctuator) (items : List Item)
+    (trees : List PartialTree) → is_lexical_error (next_at at).token ≡ false →
     Chooses symbol (next_at at).token (Exactly m ∷ items) → is_punctuator m (next_at at).token ≡ true →
     IsFree depth symbol (next_at at) → GoesPast at there →
     Derives depth (Part symbol ∷ []) items trees trees at there
@@ -163,8 +163,8 @@ punctuator_past at there depth symbol m items trees sound chosen fits free goes 
     goes
     (λ rest b. punctuator_leads (next_at at) depth symbol m items trees (scope_at at) rest sound chosen fits free)
 
-pub punctuator_stops : (at : Position) (d : Stop) (depth : ℕ) (symbol : Symbol) (m : Punctuator) (items : List Item)
-    (trees : List Value) → is_fault (next_at at).token ≡ false →
+pub punctuator_stops : (at : UnreadPosition) (d : Stop) (depth : ℕ) (symbol : Symbol) (m : Punctuator) (items : List Item)
+    (trees : List PartialTree) → is_lexical_error (next_at at).token ≡ false →
     Chooses symbol (next_at at).token (Exactly m ∷ items) → is_punctuator m (next_at at).token ≡ true →
     IsFree depth symbol (next_at at) → StopsAt at d →
     FailsAt depth (Part symbol ∷ []) trees at d
@@ -174,8 +174,8 @@ punctuator_stops at d depth symbol m items trees sound chosen fits free stop =
 
 -- A level beyond the last one.
 
-pub word_too_deep : (at : Position) (n : ℕ) (near : IsNearTo at.lookahead.cursor n) (depth : ℕ) (symbol : Symbol)
-    (w : Keyword) (items : List Item) (trees : List Value) → is_fault (next_at at).token ≡ false →
+pub word_too_deep : (at : UnreadPosition) (n : ℕ) (near : IsNearTo at.lookahead.cursor n) (depth : ℕ) (symbol : Symbol)
+    (w : Keyword) (items : List Item) (trees : List PartialTree) → is_lexical_error (next_at at).token ≡ false →
     Chooses symbol (next_at at).token (AKeyword w ∷ items) → is_keyword w (next_at at).token ≡ true →
     ((after : Token) → enters symbol (next_at at).token after ≡ true) → 64 ≤ depth →
     FailsAt depth (Part symbol ∷ []) trees at
@@ -185,11 +185,11 @@ word_too_deep at n near depth symbol w items trees sound chosen fits opened deep
     too_deep_word profile symbol w items stack (next_at at) tail _ (scope_at at) functions sound
     (chosen (next_token tail))
     fits
-    (beyond (enters symbol (next_at at).token (next_token tail)) (levels stack) (next_at at ∷ tail)
+    (beyond (enters symbol (next_at at).token (next_token tail)) (nested_count stack) (next_at at ∷ tail)
     (opened (next_token tail)) (rw depths deep)))
 
-pub punctuator_too_deep : (at : Position) (n : ℕ) (near : IsNearTo at.lookahead.cursor n) (depth : ℕ) (symbol : Symbol)
-    (m : Punctuator) (items : List Item) (trees : List Value) → is_fault (next_at at).token ≡ false →
+pub punctuator_too_deep : (at : UnreadPosition) (n : ℕ) (near : IsNearTo at.lookahead.cursor n) (depth : ℕ) (symbol : Symbol)
+    (m : Punctuator) (items : List Item) (trees : List PartialTree) → is_lexical_error (next_at at).token ≡ false →
     Chooses symbol (next_at at).token (Exactly m ∷ items) → is_punctuator m (next_at at).token ≡ true →
     ((after : Token) → enters symbol (next_at at).token after ≡ true) → 64 ≤ depth →
     FailsAt depth (Part symbol ∷ []) trees at
@@ -198,22 +198,22 @@ punctuator_too_deep at n near depth symbol m items trees sound chosen fits opene
     fails_at_next depth (Part symbol ∷ []) trees at _ n near (λ tail b profile stack values functions depths.
     too_deep profile symbol m items stack (next_at at) tail _ (scope_at at) functions sound (chosen (next_token tail))
     fits
-    (beyond (enters symbol (next_at at).token (next_token tail)) (levels stack) (next_at at ∷ tail)
+    (beyond (enters symbol (next_at at).token (next_token tail)) (nested_count stack) (next_at at ∷ tail)
     (opened (next_token tail)) (rw depths deep)))
 
 -- Trees.
 
 -- a semantic action that makes these trees of those, and nothing else
-pub record MakesOnly (rule : SemanticAction) (taken left : List Value) : Type 0 where
-  pub makes : (values : List Value) → trees_after rule (taken ++ values) ≡ left ++ values
+pub record MakesOnly (rule : SemanticAction) (taken left : List PartialTree) : Type 0 where
+  pub makes : (values : List PartialTree) → trees_after rule (taken ++ values) ≡ left ++ values
   pub learns : (scope : Scope) → scope_after_action rule scope ≡ scope
-  pub defines : (values : List Value) (scope : Scope) → functions_defined rule values scope ≡ []
-  pub clean : (profile : Profile) (stack : List Item) (rest : List LocatedToken) (values : List Value) (scope : Scope)
+  pub defines : (values : List PartialTree) (scope : Scope) → functions_defined rule values scope ≡ []
+  pub clean : (profile : Profile) (stack : List Item) (rest : List LocatedToken) (values : List PartialTree) (scope : Scope)
       (functions : List Definition) →
       item_faults profile (Make rule) (state stack rest values scope functions) ≡ []
 
-pub make_leads : (located_token : LocatedToken) (depth : ℕ) (rule : SemanticAction) (taken left : List Value)
-    (known : Scope) (rest : List LocatedToken) → is_fault located_token.token ≡ false → MakesOnly rule taken left →
+pub make_leads : (located_token : LocatedToken) (depth : ℕ) (rule : SemanticAction) (taken left : List PartialTree)
+    (known : Scope) (rest : List LocatedToken) → is_lexical_error located_token.token ≡ false → MakesOnly rule taken left →
     Leads depth (Make rule ∷ []) [] taken left known known (located_token ∷ rest) (located_token ∷ rest)
 make_leads located_token depth rule taken left known rest sound m = record {
   passes = λ profile stack values functions depths.
@@ -222,20 +222,20 @@ make_leads located_token depth rule taken left known rest sound m = record {
       state stack (located_token ∷ rest) (left ++ values) known functions =
       rw (m.makes values, m.learns known, m.defines (taken ++ values) known, append-nil functions) refl in
       subst
-      (λ (t : State). Passes profile
+      (λ (t : State). DerivesWithoutFault profile
       (state (Make rule ∷ stack) (located_token ∷ rest) (taken ++ values) known functions) t) same
       (make profile rule stack (located_token ∷ rest) (taken ++ values) known functions sound
       (m.clean profile stack (located_token ∷ rest) (taken ++ values) known functions));
 }
 
-pub make_stands : (at : Position) (depth : ℕ) (rule : SemanticAction) (taken left : List Value) →
-    is_fault (next_at at).token ≡ false → MakesOnly rule taken left → Derives depth (Make rule ∷ []) [] taken left at at
+pub make_stands : (at : UnreadPosition) (depth : ℕ) (rule : SemanticAction) (taken left : List PartialTree) →
+    is_lexical_error (next_at at).token ≡ false → MakesOnly rule taken left → Derives depth (Make rule ∷ []) [] taken left at at
 make_stands at depth rule taken left sound m =
     stand at depth (Make rule ∷ []) [] taken left
     (λ tail b. make_leads (next_at at) depth rule taken left (scope_at at) tail sound m)
 
-close_leads : (located_token : LocatedToken) (depth : ℕ) (trees : List Value) (known : Scope) (rest : List LocatedToken)
-    → is_fault located_token.token ≡ false →
+close_leads : (located_token : LocatedToken) (depth : ℕ) (trees : List PartialTree) (known : Scope) (rest : List LocatedToken)
+    → is_lexical_error located_token.token ≡ false →
     Leads depth (Close ∷ []) [] trees trees known known (located_token ∷ rest) (located_token ∷ rest)
 close_leads located_token depth trees known rest sound =
     record {
@@ -243,7 +243,7 @@ close_leads located_token depth trees known rest sound =
           λ profile stack values functions depths. close profile stack (located_token ∷ rest) _ known functions sound;
     }
 
-pub close_stands : (at : Position) (depth : ℕ) (trees : List Value) → is_fault (next_at at).token ≡ false →
+pub close_stands : (at : UnreadPosition) (depth : ℕ) (trees : List PartialTree) → is_lexical_error (next_at at).token ≡ false →
     Derives depth (Close ∷ []) [] trees trees at at
 close_stands at depth trees sound =
     stand at depth (Close ∷ []) [] trees trees (λ tail b. close_leads (next_at at) depth trees (scope_at at) tail sound)

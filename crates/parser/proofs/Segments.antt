@@ -10,17 +10,17 @@ use Rattle.grammar.specs.declared.diagnostics.Diagnostic.{Diagnostic}
 use Rattle.grammar.specs.declared.diagnostics.ParseFault.{ParseFault}
 use Rattle.grammar.specs.declared.diagnostics.ParseFault.TheVariants as refusal
 use Rattle.grammar.specs.Compiled.{diagnostic}
-use Rattle.grammar.specs.Derivation.{State, derived, state, Value, Definition, next_token, line_at}
-use Rattle.grammar.specs.Faults.{misfit_code, levels}
-use Rattle.grammar.specs.Grammar.{Item, is_fault}
-use Rattle.grammar.specs.Laws.Parsing.{Fails, IsFault, Passes}
+use Rattle.grammar.specs.Derivation.{State, derived, state, PartialTree, Definition, next_token, line_at}
+use Rattle.grammar.specs.Faults.{unexpected_token_code, nested_count}
+use Rattle.grammar.specs.Grammar.{Item, is_lexical_error}
+use Rattle.grammar.specs.Laws.Parsing.{Fails, IsFault, DerivesWithoutFault}
 use Rattle.grammar.specs.Profile.{Profile}
 use Rattle.grammar.specs.Scope.{Scope, no_names}
 use Rattle.grammar.proofs.Runs.{then, back, here, later, derived-add}
 use Rattle.grammar.proofs.Firsts.{at_fault, at_rest, run_keeps}
 use Rattle.tokens.proofs.ReadingLemmas.{open-within}
 use Rattle.parser.proofs.StrictEnds.{reach_limited}
-use Rattle.parser.specs.ScopedCursors.{Lookahead, Position, position_of, MayContinue, tokens_at, next_at, after_at, scope_at}
+use Rattle.parser.specs.ScopedCursors.{Lookahead, UnreadPosition, position_of, MayContinue, tokens_at, next_at, after_at, scope_at}
 use Rattle.parser.specs.Stopping.{IfSource, NoFaultBefore, Stop, Stops, StopsInside, most_taken, stop_with}
 use Rattle.parser.specs.Segment.{Derives, FailsAt, FailsItem, GoesPast, HasLexicalError, Refused, StopsAt, StopsAtFirst, TakesTokens}
 
@@ -37,7 +37,7 @@ pub record Begins (r : Cursor) (located_tokens : List LocatedToken) : Type 0 whe
   pub is : located_tokens ≡ r.next ∷ tail
   pub behind : IsBehind r tail
 
-pub next_behind : (at : Position) (tail : List LocatedToken) → IsBehind at.lookahead.cursor tail →
+pub next_behind : (at : UnreadPosition) (tail : List LocatedToken) → IsBehind at.lookahead.cursor tail →
     is_last (next_at at).token ≡ false → next_token tail ≡ after_at at
 next_behind at tail b more = ap next_token (b.is more)
 
@@ -45,7 +45,7 @@ next_behind at tail b more = ap next_token (b.is more)
 abbrev until_last : Token → List LocatedToken → List LocatedToken
 until_last t others = cond (is_last t) [] others
 
-pub goes_begins : (at : Position) (rest : List LocatedToken) → MayContinue at rest → Begins at.lookahead.cursor rest
+pub goes_begins : (at : UnreadPosition) (rest : List LocatedToken) → MayContinue at rest → Begins at.lookahead.cursor rest
 goes_begins at rest g = record {
   tail = until_last (next_at at).token (followed_by at.lookahead.cursor.after g.behind);
   is = g.is;
@@ -61,29 +61,29 @@ goes_told position None located_tokens e = absurd (cc)
 goes_told position (Some bytes) located_tokens e = record { behind = _; is = sym (some_same _ _ e) }
 
 -- tokens that are known are such as the position may have
-pub told_goes : (at : Position) (located_tokens : List LocatedToken) → tokens_at at ≡ Some located_tokens →
+pub told_goes : (at : UnreadPosition) (located_tokens : List LocatedToken) → tokens_at at ≡ Some located_tokens →
     MayContinue at located_tokens
 told_goes at located_tokens e =
     let g : MayContinue (position_of at.lookahead at.to_come) located_tokens =
     goes_told at.lookahead at.to_come located_tokens e in
     record { behind = g.behind; is = g.is }
 
-pub told_begins : (at : Position) (located_tokens : List LocatedToken) → tokens_at at ≡ Some located_tokens →
+pub told_begins : (at : UnreadPosition) (located_tokens : List LocatedToken) → tokens_at at ≡ Some located_tokens →
     Begins at.lookahead.cursor located_tokens
 told_begins at located_tokens e = goes_begins at located_tokens (told_goes at located_tokens e)
 
 -- Steps of the derivation.
 
 -- these items in front, with these trees on top and these names known, pass to those, whatever is below and after
-pub record Leads (depth : ℕ) (front pending : List Item) (taken left : List Value) (known learnt : Scope)
+pub record Leads (depth : ℕ) (front pending : List Item) (taken left : List PartialTree) (known learnt : Scope)
     (located_tokens rest : List LocatedToken) : Type 0 where
-  pub passes : (profile : Profile) (stack : List Item) (values : List Value) (functions : List Definition) →
-      levels stack ≡ depth →
-      Passes profile (state (front ++ stack) located_tokens (taken ++ values) known functions)
+  pub passes : (profile : Profile) (stack : List Item) (values : List PartialTree) (functions : List Definition) →
+      nested_count stack ≡ depth →
+      DerivesWithoutFault profile (state (front ++ stack) located_tokens (taken ++ values) known functions)
       (state (pending ++ stack) rest (left ++ values) learnt functions)
 
 -- no token is passed
-pub stand : (at : Position) (depth : ℕ) (front pending : List Item) (taken left : List Value) →
+pub stand : (at : UnreadPosition) (depth : ℕ) (front pending : List Item) (taken left : List PartialTree) →
     ((tail : List LocatedToken) → IsBehind at.lookahead.cursor tail →
     Leads depth front pending taken left (scope_at at) (scope_at at) (next_at at ∷ tail) (next_at at ∷ tail)) →
     Derives depth front pending taken left at at
@@ -94,23 +94,23 @@ stand at depth front pending taken left leads = record {
   passes = λ rest g profile stack values functions depths.
       let b : Begins at.lookahead.cursor rest = goes_begins at rest g in
       subst
-      (λ (ls : List LocatedToken). Passes profile
+      (λ (ls : List LocatedToken). DerivesWithoutFault profile
       (state (front ++ stack) ls (taken ++ values) (scope_at at) functions)
       (state (pending ++ stack) ls (left ++ values) (scope_at at) functions))
       (sym b.is) ((leads b.tail b.behind).passes profile stack values functions depths);
 }
 
 -- nothing happens
-pub stay : (at : Position) (depth : ℕ) (front : List Item) (taken : List Value) →
+pub stay : (at : UnreadPosition) (depth : ℕ) (front : List Item) (taken : List PartialTree) →
     Derives depth front front taken taken at at
 stay at depth front taken =
     stand at depth front front taken taken
     (λ tail b. record { passes = λ profile stack values functions depths. here profile _ })
 
-with_scope : Cursor → Scope → Option (List ℕ) → Position
+with_scope : Cursor → Scope → Option (List ℕ) → UnreadPosition
 with_scope cursor scope more = position_of (record { cursor = cursor; scope = scope }) more
 
-behind_past : (cursor : Cursor) (learnt : Scope) (more : Option (List ℕ)) (there : Position) →
+behind_past : (cursor : Cursor) (learnt : Scope) (more : Option (List ℕ)) (there : UnreadPosition) →
     GoesPast (position_of (record { cursor = cursor; scope = learnt }) more) there →
     (rest : List LocatedToken) → MayContinue there rest → IsBehind cursor rest
 behind_past cursor learnt more there goes rest g = record {
@@ -118,7 +118,7 @@ behind_past cursor learnt more there goes rest g = record {
   is = λ last. g.is ∙ rw goes.next refl;
 }
 
-follows_past : (cursor : Cursor) (known learnt : Scope) (more : Option (List ℕ)) (there : Position) →
+follows_past : (cursor : Cursor) (known learnt : Scope) (more : Option (List ℕ)) (there : UnreadPosition) →
     GoesPast (position_of (record { cursor = cursor; scope = learnt }) more) there →
     (rest : List LocatedToken) → MayContinue there rest →
     MayContinue (position_of (record { cursor = cursor; scope = known }) more) (cursor.next ∷ rest)
@@ -129,7 +129,7 @@ follows_past cursor known learnt more there goes rest g =
       is = rw last (ap (λ (ls : List LocatedToken). cursor.next ∷ ls) (g.is ∙ rw goes.next refl));
     }
 
-takes_past : (cursor : Cursor) (known learnt : Scope) (more : Option (List ℕ)) (there : Position) →
+takes_past : (cursor : Cursor) (known learnt : Scope) (more : Option (List ℕ)) (there : UnreadPosition) →
     GoesPast (position_of (record { cursor = cursor; scope = learnt }) more) there →
     (located_tokens : List LocatedToken) →
     tokens_at (position_of (record { cursor = cursor; scope = known }) more) ≡ Some located_tokens →
@@ -140,8 +140,8 @@ takes_past cursor known learnt more there goes located_tokens is =
     record { rest = b.tail; is = b.is; shows = goes.told cursor.next b.tail (is ∙ ap Some b.is) }
 
 -- one token is passed, after which these names are known
-pub past : (cursor : Cursor) (known learnt : Scope) (more : Option (List ℕ)) (there : Position) (depth : ℕ)
-    (front pending : List Item) (taken left : List Value) →
+pub past : (cursor : Cursor) (known learnt : Scope) (more : Option (List ℕ)) (there : UnreadPosition) (depth : ℕ)
+    (front pending : List Item) (taken left : List PartialTree) →
     GoesPast (position_of (record { cursor = cursor; scope = learnt }) more) there →
     ((rest : List LocatedToken) → IsBehind cursor rest →
     Leads depth front pending taken left known learnt (cursor.next ∷ rest) rest) →
@@ -153,7 +153,7 @@ past cursor known learnt more there depth front pending taken left goes leads = 
   passes = λ rest g profile stack values functions depths.
       let b : IsBehind cursor rest = behind_past cursor learnt more there goes rest g in
       subst
-      (λ (s : Scope). Passes profile
+      (λ (s : Scope). DerivesWithoutFault profile
       (state (front ++ stack) (cursor.next ∷ rest) (taken ++ values) known functions)
       (state (pending ++ stack) rest (left ++ values) s functions))
       (sym goes.scope) ((leads rest b).passes profile stack values functions depths);
@@ -183,13 +183,13 @@ stops_here profile s stop fails taken = record {
   taken = taken;
 }
 
-fails_back : (profile : Profile) (s t : State) (f : ParseFault) → Passes profile s t → IfSource f (Fails profile t) →
+fails_back : (profile : Profile) (s t : State) (f : ParseFault) → DerivesWithoutFault profile s t → IfSource f (Fails profile t) →
     IfSource f (Fails profile s)
 fails_back profile s t (refusal.Source d) p h = back profile s t d p h
 fails_back profile s t refusal.Device p h = tt
 fails_back profile s t refusal.Memory p h = tt
 
-pub none_back : (profile : Profile) (s t : State) (rest : List LocatedToken) → Passes profile s t →
+pub none_back : (profile : Profile) (s t : State) (rest : List LocatedToken) → DerivesWithoutFault profile s t →
     NoFaultBefore profile t rest → NoFaultBefore profile s rest
 none_back profile s t rest p h = record {
   each =
@@ -198,13 +198,13 @@ none_back profile s t rest p h = record {
 }
 
 -- the state n steps after a segment
-pub run_behind : (profile : Profile) (s t : State) (n : ℕ) (p : Passes profile s t) →
+pub run_behind : (profile : Profile) (s t : State) (n : ℕ) (p : DerivesWithoutFault profile s t) →
     derived (p.steps + n) s ≡ derived n t
 run_behind profile s t n p = derived-add p.steps n s ∙ ap (λ (v : State). derived n v) p.leads
 
 -- where it stops goes back along a segment without faults
 pub stops_back : (profile : Profile) (s t : State) (stop : Stop) (consumed : List LocatedToken) →
-    s.rest ≡ consumed ++ t.rest → Passes profile s t → Stops profile t stop → Stops profile s stop
+    s.rest ≡ consumed ++ t.rest → DerivesWithoutFault profile s t → Stops profile t stop → Stops profile s stop
 stops_back profile s t stop consumed is p h = record {
   passed = consumed ++ h.passed;
   rest = h.rest;
@@ -231,13 +231,13 @@ inside_here profile s stop fails few =
 
 -- the functions defined there are the same
 pub functions_back : (profile : Profile) (s t : State) (stop : Stop) (consumed : List LocatedToken)
-    (is : s.rest ≡ consumed ++ t.rest) (p : Passes profile s t) (h : Stops profile t stop) →
+    (is : s.rest ≡ consumed ++ t.rest) (p : DerivesWithoutFault profile s t) (h : Stops profile t stop) →
     (derived (stops_back profile s t stop consumed is p h).steps s).functions ≡ (derived h.steps t).functions
 unfolding stops_back
 functions_back profile s t stop consumed is p h = ap (λ (v : State). v.functions) (run_behind profile s t h.steps p)
 
 pub inside_back : (profile : Profile) (s t : State) (stop : Stop) (consumed : List LocatedToken) →
-    s.rest ≡ consumed ++ t.rest → t.functions ≡ s.functions → Passes profile s t →
+    s.rest ≡ consumed ++ t.rest → t.functions ≡ s.functions → DerivesWithoutFault profile s t →
     StopsInside profile t stop → StopsInside profile s stop
 inside_back profile s t stop consumed is same p h = record {
   stops = stops_back profile s t stop consumed is p h.stops;
@@ -251,7 +251,7 @@ reach_told_at : (next after : LocatedToken) (others located_tokens : List Locate
 reach_told_at next after others located_tokens true e is = rw (is, e) refl
 reach_told_at next after others located_tokens false e is = rw (is, e) refl
 
-pub reach_told : (at : Position) (located_tokens : List LocatedToken) → tokens_at at ≡ Some located_tokens →
+pub reach_told : (at : UnreadPosition) (located_tokens : List LocatedToken) → tokens_at at ≡ Some located_tokens →
     reach at.lookahead.cursor ≡ reach_of located_tokens
 reach_told at located_tokens is =
     let g : MayContinue at located_tokens = told_goes at located_tokens is in
@@ -259,17 +259,17 @@ reach_told at located_tokens is =
     (reach_told_at (next_at at) at.lookahead.cursor.after g.behind located_tokens (is_last (next_at at).token) refl
     g.is)
 
-pub near_told : (at : Position) (located_tokens : List LocatedToken) (used : ℕ) → tokens_at at ≡ Some located_tokens →
+pub near_told : (at : UnreadPosition) (located_tokens : List LocatedToken) (used : ℕ) → tokens_at at ≡ Some located_tokens →
     IsNearTo at.lookahead.cursor used → used ≤ reach_of located_tokens + 4096
 near_told at located_tokens used is near = subst (λ (k : ℕ). used ≤ k + 4096) (reach_told at located_tokens is) near
 
 -- the first fault is at the next token
-pub fails_at_next : (depth : ℕ) (front : List Item) (taken : List Value) (at : Position) (d : Diagnostic) (n : ℕ)
+pub fails_at_next : (depth : ℕ) (front : List Item) (taken : List PartialTree) (at : UnreadPosition) (d : Diagnostic) (n : ℕ)
     →
     IsNearTo at.lookahead.cursor n →
     ((tail : List LocatedToken) → IsBehind at.lookahead.cursor tail →
-    (profile : Profile) (stack : List Item) (values : List Value) (functions : List Definition) →
-    levels stack ≡ depth →
+    (profile : Profile) (stack : List Item) (values : List PartialTree) (functions : List Definition) →
+    nested_count stack ≡ depth →
     Fails profile (state (front ++ stack) (next_at at ∷ tail) (taken ++ values) (scope_at at) functions) d) →
     FailsAt depth front taken at (stop_with (refusal.Source d) n)
 fails_at_next depth front taken at d n near fails located_tokens is profile stack values functions depths =
@@ -282,7 +282,7 @@ fails_at_next depth front taken at d n near fails located_tokens is profile stac
 
 -- the token after the one that was passed is a lexical error, or the device failed
 pub stops : (cursor : Cursor) (known learnt : Scope) (more : Option (List ℕ)) (d : Stop) (depth : ℕ)
-    (front pending : List Item) (taken left : List Value) →
+    (front pending : List Item) (taken left : List PartialTree) →
     ((rest : List LocatedToken) → IsBehind cursor rest →
     Leads depth front pending taken left known learnt (cursor.next ∷ rest) rest) →
     StopsAt (position_of (record { cursor = cursor; scope = learnt }) more) d →
@@ -307,13 +307,13 @@ stops cursor known learnt more d depth front pending taken left leads stop locat
     lexical_error_fails refusal.Device tail others behind h = tt
     lexical_error_fails refusal.Memory tail others behind h = tt
     lexical_error_fails (refusal.Source e) tail others behind h =
-        let same : e ≡ diagnostic (line_at tail) (misfit_code (next_token tail)) = h.is ∙ rw behind refl in
-        let lexical_error : is_fault (next_token tail) ≡ true = rw behind h.lexical_error in
+        let same : e ≡ diagnostic (line_at tail) (unexpected_token_code (next_token tail)) = h.is ∙ rw behind refl in
+        let lexical_error : is_lexical_error (next_token tail) ≡ true = rw behind h.lexical_error in
         rw same (at_fault profile _ tail _ learnt functions lexical_error)
 
 -- Segments one after another.
 
-takes_join : (first second located_tokens : List LocatedToken) (between there : Position)
+takes_join : (first second located_tokens : List LocatedToken) (between there : UnreadPosition)
     (t : TakesTokens first located_tokens between) → TakesTokens second t.rest there →
     TakesTokens (first ++ second) located_tokens there
 takes_join first second located_tokens between there t u = record {
@@ -323,11 +323,11 @@ takes_join first second located_tokens between there t u = record {
 }
 
 -- the second over more items and trees
-pub joined : (depth inner : ℕ) (front mid pending below : List Item) (taken between left under : List Value)
-    (at now there : Position) →
+pub joined : (depth inner : ℕ) (front mid pending below : List Item) (taken between left under : List PartialTree)
+    (at now there : UnreadPosition) →
     Derives depth front (mid ++ below) taken (between ++ under) at now →
     Derives inner mid pending between left now there →
-    ((stack : List Item) → levels stack ≡ depth → levels (below ++ stack) ≡ inner) →
+    ((stack : List Item) → nested_count stack ≡ depth → nested_count (below ++ stack) ≡ inner) →
     Derives depth front (pending ++ below) taken (left ++ under) at there
 joined depth inner front mid pending below taken between left under at now there a b opens = record {
   consumed = a.consumed ++ b.consumed;
@@ -351,7 +351,7 @@ joined depth inner front mid pending below taken between left under at now there
 }
 
 -- a fault after a segment
-pub fails_then : (depth : ℕ) (front mid : List Item) (taken between : List Value) (at now : Position) (d : Stop) →
+pub fails_then : (depth : ℕ) (front mid : List Item) (taken between : List PartialTree) (at now : UnreadPosition) (d : Stop) →
     Derives depth front mid taken between at now → FailsAt depth mid between now d →
     FailsAt depth front taken at d
 fails_then depth front mid taken between at now d a fails located_tokens is profile stack values functions depths
@@ -363,9 +363,9 @@ fails_then depth front mid taken between at now d a fails located_tokens is prof
     (fails t.rest t.shows profile stack values functions depths))
 
 -- the same fault, over more items and trees
-pub under_more : (depth inner : ℕ) (front below : List Item) (taken beneath : List Value) (at : Position)
+pub under_more : (depth inner : ℕ) (front below : List Item) (taken beneath : List PartialTree) (at : UnreadPosition)
     (d : Stop) →
-    ((stack : List Item) → levels stack ≡ depth → levels (below ++ stack) ≡ inner) →
+    ((stack : List Item) → nested_count stack ≡ depth → nested_count (below ++ stack) ≡ inner) →
     FailsAt inner front taken at d → FailsAt depth (front ++ below) (taken ++ beneath) at d
 under_more depth inner front below taken beneath at d opens fails located_tokens is profile stack values functions
     depths =
@@ -373,11 +373,11 @@ under_more depth inner front below taken beneath at d opens fails located_tokens
     (fails located_tokens is profile (below ++ stack) (beneath ++ values) functions (opens stack depths))
 
 -- a fault after a segment, over more items and trees
-pub fails_behind : (depth inner : ℕ) (front mid below : List Item) (taken between under : List Value)
-    (at now : Position)
+pub fails_behind : (depth inner : ℕ) (front mid below : List Item) (taken between under : List PartialTree)
+    (at now : UnreadPosition)
     (d : Stop) →
     Derives depth front (mid ++ below) taken (between ++ under) at now →
-    ((stack : List Item) → levels stack ≡ depth → levels (below ++ stack) ≡ inner) →
+    ((stack : List Item) → nested_count stack ≡ depth → nested_count (below ++ stack) ≡ inner) →
     FailsAt inner mid between now d → FailsAt depth front taken at d
 fails_behind depth inner front mid below taken between under at now d a opens fails =
     fails_then depth front (mid ++ below) taken (between ++ under) at now d a
@@ -386,14 +386,14 @@ fails_behind depth inner front mid below taken between under at now d a opens fa
 -- A builder was refused memory.
 
 -- at this position
-pub halts_here : (depth : ℕ) (front : List Item) (taken : List Value) (at : Position) (n : ℕ) →
+pub halts_here : (depth : ℕ) (front : List Item) (taken : List PartialTree) (at : UnreadPosition) (n : ℕ) →
     IsNearTo at.lookahead.cursor n → FailsAt depth front taken at (stop_with refusal.Memory n)
 halts_here depth front taken at n near located_tokens is profile stack values functions depths =
     inside_here profile (state (front ++ stack) located_tokens (taken ++ values) (scope_at at) functions)
     (stop_with refusal.Memory n) tt (near_told at located_tokens n is near)
 
 -- after a segment
-pub halts : (depth : ℕ) (front mid : List Item) (taken between : List Value) (at now : Position) (n : ℕ) →
+pub halts : (depth : ℕ) (front mid : List Item) (taken between : List PartialTree) (at now : UnreadPosition) (n : ℕ) →
     Derives depth front mid taken between at now → IsNearTo now.lookahead.cursor n →
     FailsAt depth front taken at (stop_with refusal.Memory n)
 halts depth front mid taken between at now n d near =
@@ -409,11 +409,11 @@ refused_map n P Q denied more refusal.Device each memory h = each (stop_with ref
 refused_map n P Q denied more refusal.Memory each memory h = (memory h.0, each (stop_with refusal.Memory n) h.1)
 
 -- a refusal of a callee after a segment is one of the caller's
-pub exit : (n : ℕ) (depth inner : ℕ) (front mid below : List Item) (taken between under : List Value)
-    (at now : Position)
+pub exit : (n : ℕ) (depth inner : ℕ) (front mid below : List Item) (taken between under : List PartialTree)
+    (at now : UnreadPosition)
     (denied more : Type 0) (f : ParseFault) →
     Derives depth front (mid ++ below) taken (between ++ under) at now →
-    ((stack : List Item) → levels stack ≡ depth → levels (below ++ stack) ≡ inner) →
+    ((stack : List Item) → nested_count stack ≡ depth → nested_count (below ++ stack) ≡ inner) →
     (denied → more) → Refused (FailsAt inner mid between now) denied n f →
     Refused (FailsAt depth front taken at) more n f
 exit n depth inner front mid below taken between under at now denied more f a opens memory =
@@ -423,9 +423,9 @@ exit n depth inner front mid below taken between under at now denied more f a op
 
 -- of one that matches an item
 pub exit_item : (n : ℕ) (depth inner : ℕ) (front : List Item) (item : Item) (below : List Item)
-    (taken under : List Value) (at now : Position) (more : Type 0) (f : ParseFault) →
+    (taken under : List PartialTree) (at now : UnreadPosition) (more : Type 0) (f : ParseFault) →
     Derives depth front (item ∷ below) taken under at now →
-    ((stack : List Item) → levels stack ≡ depth → levels (below ++ stack) ≡ inner) →
+    ((stack : List Item) → nested_count stack ≡ depth → nested_count (below ++ stack) ≡ inner) →
     Refused (FailsItem item now) ⊥ n f → Refused (FailsAt depth front taken at) more n f
 exit_item n depth inner front item below taken under at now more f a opens =
     refused_map n (FailsItem item now) (FailsAt depth front taken at) ⊥ more f
@@ -460,8 +460,8 @@ no_opening (Some bytes) told' h =
 pub opens_at_lexical_error : (cursor : Cursor) (told told' : Option (List ℕ)) →
     shown cursor told' ≡ option_map tokens told → told' ≡ option_map (drop (bytes_taken cursor)) told → IsNear cursor →
     bytes_taken cursor ≤ 1048577 →
-    is_fault cursor.next.token ≡ true →
-    StopsAtFirst told told' (refusal.Source (diagnostic cursor.next.line (misfit_code cursor.next.token)))
+    is_lexical_error cursor.next.token ≡ true →
+    StopsAtFirst told told' (refusal.Source (diagnostic cursor.next.line (unexpected_token_code cursor.next.token)))
 opens_at_lexical_error cursor told told' shows took near limited lexical_error = record {
   taken = bytes_taken cursor;
   took = λ bytes e. took ∙ rw e refl;
@@ -476,5 +476,5 @@ opens_at_lexical_error cursor told told' shows took near limited lexical_error =
   };
 }
   where
-    at : Position
+    at : UnreadPosition
     at = position_of (record { cursor = cursor; scope = no_names }) told'

@@ -7,9 +7,9 @@ use Rattle.grammar.specs.declared.actions.Action.TheVariants.{GiveBack as Return
 use Rattle.grammar.specs.Actions.{expr_actions}
 use Rattle.grammar.specs.Building.{Appends, Representation}
 use Rattle.grammar.specs.Derivation.{ABody, AnExpr}
-use Rattle.grammar.specs.Grammar.{Back, Evaluate, Exactly, Expression, GiveBack, Make, Part, Statement, Zero, is_fault, is_punctuator, is_keyword}
+use Rattle.grammar.specs.Grammar.{Back, Evaluate, Exactly, Expression, GiveBack, Make, Part, Statement, Zero, is_lexical_error, is_punctuator, is_keyword}
 use Rattle.grammar.specs.Tree.{ExpressionStatement, Body, Constant, Done, Return, join}
-use Rattle.parser.specs.ScopedCursors.{Position, next_at}
+use Rattle.parser.specs.ScopedCursors.{UnreadPosition, next_at}
 use Rattle.parser.specs.Stopping.{Stop}
 use Rattle.parser.specs.Segment.{Derives, DerivesItem, FailsAt, FailsItem, GoesPast, StopsAt}
 use Rattle.parser.proofs.Segments.{fails_behind, joined, stay}
@@ -19,26 +19,26 @@ use Rattle.parser.specs.Statements.{AddsBody, FailsBody}
 use Rattle.parser.proofs.Forms.{Evaluates, empty_chosen, empty_shallow, evaluates, return_chosen, return_shallow, value_chosen, zero_chosen}
 use Rattle.parser.proofs.Parts.{free_of, make_stands, part_stands, word_past, word_stops}
 use Rattle.parser.proofs.Rules.{evaluate_makes, give_back_makes, zero_makes}
-use Rattle.grammar.proofs.StandingLaws.{appends_both, appends_none}
+use Rattle.grammar.proofs.RepresentationLaws.{appends_both, appends_none}
 use Rattle.grammar.proofs.Joins.{join_done}
 
 -- An empty statement.
 
-empty_stands : (at : Position) (depth : ℕ) (b : Body) → is_fault (next_at at).token ≡ false →
+empty_stands : (at : UnreadPosition) (depth : ℕ) (b : Body) → is_lexical_error (next_at at).token ≡ false →
     is_punctuator punctuator.Semicolon (next_at at).token ≡ true →
     Derives depth (Part Statement ∷ []) (Exactly punctuator.Semicolon ∷ []) (ABody b ∷ []) (ABody b ∷ []) at at
 empty_stands at depth b sound is =
     part_stands at depth Statement (Exactly punctuator.Semicolon ∷ []) (ABody b ∷ []) sound (empty_chosen _ is)
     (free_of depth Statement (next_at at) (empty_shallow _ is))
 
-pub empty_fails : (at : Position) (depth : ℕ) → is_fault (next_at at).token ≡ false →
+pub empty_fails : (at : UnreadPosition) (depth : ℕ) → is_lexical_error (next_at at).token ≡ false →
     is_punctuator punctuator.Semicolon (next_at at).token ≡ true → (d : Stop) →
     FailsItem (Exactly punctuator.Semicolon) at d → FailsBody depth (Part Statement ∷ []) at d
 empty_fails at depth sound is d fails b =
     fails_behind depth depth (Part Statement ∷ []) (Exactly punctuator.Semicolon ∷ []) [] (ABody b ∷ []) []
     (ABody b ∷ []) at at d (empty_stands at depth b sound is) (λ stack same. same) (fails depth)
 
-pub empty_adds : (at there : Position) (before : Representation) (depth : ℕ) → is_fault (next_at at).token ≡ false →
+pub empty_adds : (at there : UnreadPosition) (before : Representation) (depth : ℕ) → is_lexical_error (next_at at).token ≡ false →
     is_punctuator punctuator.Semicolon (next_at at).token ≡ true →
     DerivesItem (Exactly punctuator.Semicolon) [] [] at there →
     AddsBody before before depth (Part Statement ∷ []) [] at there
@@ -57,7 +57,7 @@ empty_adds at there before depth sound is matched = record {
 
 -- An expression statement.
 
-evaluation_stands : (at : Position) (depth : ℕ) (b : Body) → is_fault (next_at at).token ≡ false →
+evaluation_stands : (at : UnreadPosition) (depth : ℕ) (b : Body) → is_lexical_error (next_at at).token ≡ false →
     begins_statement (next_at at).token ≡ false →
     Derives depth (Part Statement ∷ []) (Part Expression ∷ Exactly punctuator.Semicolon ∷ Make Evaluate ∷ [])
     (ABody b ∷ []) (ABody b ∷ []) at at
@@ -66,7 +66,7 @@ evaluation_stands at depth b sound plain =
     part_stands at depth Statement (Part Expression ∷ Exactly punctuator.Semicolon ∷ Make Evaluate ∷ []) (ABody b ∷ [])
     sound e.chosen (free_of depth Statement (next_at at) e.shallow)
 
-pub value_fails : (at : Position) (depth : ℕ) → is_fault (next_at at).token ≡ false →
+pub value_fails : (at : UnreadPosition) (depth : ℕ) → is_lexical_error (next_at at).token ≡ false →
     begins_statement (next_at at).token ≡ false → (d : Stop) →
     FailsAt depth (Part Expression ∷ []) [] at d → FailsBody depth (Part Statement ∷ []) at d
 value_fails at depth sound plain d fails b =
@@ -74,8 +74,8 @@ value_fails at depth sound plain d fails b =
     (Exactly punctuator.Semicolon ∷ Make Evaluate ∷ []) (ABody b ∷ []) [] (ABody b ∷ []) at at d
     (evaluation_stands at depth b sound plain) (λ stack same. same) fails
 
-value_past : (at now : Position) (before after : Representation) (depth : ℕ) (b : Body) →
-    is_fault (next_at at).token ≡ false →
+value_past : (at now : UnreadPosition) (before after : Representation) (depth : ℕ) (b : Body) →
+    is_lexical_error (next_at at).token ≡ false →
     begins_statement (next_at at).token ≡ false →
     (h : AddsExpr before after depth 1 (Part Expression ∷ []) [] at now) →
     Derives depth (Part Statement ∷ []) (Exactly punctuator.Semicolon ∷ Make Evaluate ∷ []) (ABody b ∷ [])
@@ -85,8 +85,8 @@ value_past at now before after depth b sound plain h =
     (Exactly punctuator.Semicolon ∷ Make Evaluate ∷ []) (ABody b ∷ []) [] (AnExpr h.tree ∷ []) (ABody b ∷ []) at at now
     (evaluation_stands at depth b sound plain) h.derives (λ stack same. same)
 
-pub semicolon_fails : (at now : Position) (before after : Representation) (depth : ℕ) →
-    is_fault (next_at at).token ≡ false →
+pub semicolon_fails : (at now : UnreadPosition) (before after : Representation) (depth : ℕ) →
+    is_lexical_error (next_at at).token ≡ false →
     begins_statement (next_at at).token ≡ false →
     AddsExpr before after depth 1 (Part Expression ∷ []) [] at now → (d : Stop) →
     FailsItem (Exactly punctuator.Semicolon) now d → FailsBody depth (Part Statement ∷ []) at d
@@ -95,10 +95,10 @@ semicolon_fails at now before after depth sound plain h d fails b =
     (ABody b ∷ []) [] (AnExpr h.tree ∷ ABody b ∷ []) at now d
     (value_past at now before after depth b sound plain h) (λ stack same. same) (fails depth)
 
-pub evaluation_adds : (at now there : Position) (before mid after : Representation) (depth : ℕ) →
-    is_fault (next_at at).token ≡ false → begins_statement (next_at at).token ≡ false →
+pub evaluation_adds : (at now there : UnreadPosition) (before mid after : Representation) (depth : ℕ) →
+    is_lexical_error (next_at at).token ≡ false → begins_statement (next_at at).token ≡ false →
     AddsExpr before mid depth 1 (Part Expression ∷ []) [] at now →
-    DerivesItem (Exactly punctuator.Semicolon) [] [] now there → is_fault (next_at there).token ≡ false →
+    DerivesItem (Exactly punctuator.Semicolon) [] [] now there → is_lexical_error (next_at there).token ≡ false →
     Appends mid after Chop →
     AddsBody before after depth (Part Statement ∷ []) [] at there
 evaluation_adds at now there before mid after depth sound plain h matched sound_behind chops = record {
@@ -119,7 +119,7 @@ evaluation_adds at now there before mid after depth sound plain h matched sound_
 
 -- What a return returns.
 
-pub zero_adds : (at : Position) (before after : Representation) (depth : ℕ) → is_fault (next_at at).token ≡ false →
+pub zero_adds : (at : UnreadPosition) (before after : Representation) (depth : ℕ) → is_lexical_error (next_at at).token ≡ false →
     is_punctuator punctuator.Semicolon (next_at at).token ≡ true → Appends before after (PushConstant (pos 0)) →
     AddsExpr before after depth 1 (Part Back ∷ []) [] at at
 zero_adds at before after depth sound is pushed = record {
@@ -134,22 +134,22 @@ zero_adds at before after depth sound is pushed = record {
       (make_stands at depth Zero [] (AnExpr (Constant (pos 0)) ∷ []) sound zero_makes) (λ stack same. same);
 }
 
-back_stands : (at : Position) (depth : ℕ) → is_fault (next_at at).token ≡ false →
+back_stands : (at : UnreadPosition) (depth : ℕ) → is_lexical_error (next_at at).token ≡ false →
     is_punctuator punctuator.Semicolon (next_at at).token ≡ false →
     Derives depth (Part Back ∷ []) (Part Expression ∷ []) [] [] at at
 back_stands at depth sound other =
     part_stands at depth Back (Part Expression ∷ []) [] sound (value_chosen _ other)
     (free_of depth Back (next_at at) (λ after. refl))
 
-pub back_fails : (at : Position) (depth : ℕ) → is_fault (next_at at).token ≡ false →
+pub back_fails : (at : UnreadPosition) (depth : ℕ) → is_lexical_error (next_at at).token ≡ false →
     is_punctuator punctuator.Semicolon (next_at at).token ≡ false → (d : Stop) →
     FailsAt depth (Part Expression ∷ []) [] at d → FailsAt depth (Part Back ∷ []) [] at d
 back_fails at depth sound other d fails =
     fails_behind depth depth (Part Back ∷ []) (Part Expression ∷ []) [] [] [] [] at at d
     (back_stands at depth sound other) (λ stack same. same) fails
 
-pub back_adds : (at there : Position) (before after : Representation) (depth : ℕ) →
-    is_fault (next_at at).token ≡ false →
+pub back_adds : (at there : UnreadPosition) (before after : Representation) (depth : ℕ) →
+    is_lexical_error (next_at at).token ≡ false →
     is_punctuator punctuator.Semicolon (next_at at).token ≡ false →
     AddsExpr before after depth 1 (Part Expression ∷ []) [] at there →
     AddsExpr before after depth 1 (Part Back ∷ []) [] at there
@@ -164,7 +164,7 @@ back_adds at there before after depth sound other h = record {
 
 -- Returns.
 
-return_past : (at now : Position) (depth : ℕ) (b : Body) → is_fault (next_at at).token ≡ false →
+return_past : (at now : UnreadPosition) (depth : ℕ) (b : Body) → is_lexical_error (next_at at).token ≡ false →
     is_keyword keyword.Return (next_at at).token ≡ true → GoesPast at now →
     Derives depth (Part Statement ∷ []) (Part Back ∷ Exactly punctuator.Semicolon ∷ Make GiveBack ∷ []) (ABody b ∷ [])
     (ABody b ∷ []) at now
@@ -172,14 +172,14 @@ return_past at now depth b sound is goes =
     word_past at now depth Statement keyword.Return (Part Back ∷ Exactly punctuator.Semicolon ∷ Make GiveBack ∷ [])
     (ABody b ∷ []) sound (return_chosen _ is) is (free_of depth Statement (next_at at) (return_shallow _ is)) goes
 
-pub return_stops : (at : Position) (depth : ℕ) → is_fault (next_at at).token ≡ false →
+pub return_stops : (at : UnreadPosition) (depth : ℕ) → is_lexical_error (next_at at).token ≡ false →
     is_keyword keyword.Return (next_at at).token ≡ true → (d : Stop) → StopsAt at d →
     FailsBody depth (Part Statement ∷ []) at d
 return_stops at depth sound is d stop b =
     word_stops at d depth Statement keyword.Return (Part Back ∷ Exactly punctuator.Semicolon ∷ Make GiveBack ∷ [])
     (ABody b ∷ []) sound (return_chosen _ is) is (free_of depth Statement (next_at at) (return_shallow _ is)) stop
 
-pub given_fails : (at now : Position) (depth : ℕ) → is_fault (next_at at).token ≡ false →
+pub given_fails : (at now : UnreadPosition) (depth : ℕ) → is_lexical_error (next_at at).token ≡ false →
     is_keyword keyword.Return (next_at at).token ≡ true → GoesPast at now → (d : Stop) →
     FailsAt depth (Part Back ∷ []) [] now d → FailsBody depth (Part Statement ∷ []) at d
 given_fails at now depth sound is goes d fails b =
@@ -187,8 +187,8 @@ given_fails at now depth sound is goes d fails b =
     (ABody b ∷ []) [] (ABody b ∷ []) at now d
     (return_past at now depth b sound is goes) (λ stack same. same) fails
 
-given_past : (at now later : Position) (before after : Representation) (depth : ℕ) (b : Body) →
-    is_fault (next_at at).token ≡ false → is_keyword keyword.Return (next_at at).token ≡ true → GoesPast at now →
+given_past : (at now later : UnreadPosition) (before after : Representation) (depth : ℕ) (b : Body) →
+    is_lexical_error (next_at at).token ≡ false → is_keyword keyword.Return (next_at at).token ≡ true → GoesPast at now →
     (h : AddsExpr before after depth 1 (Part Back ∷ []) [] now later) →
     Derives depth (Part Statement ∷ []) (Exactly punctuator.Semicolon ∷ Make GiveBack ∷ []) (ABody b ∷ [])
     (AnExpr h.tree ∷ ABody b ∷ []) at later
@@ -197,8 +197,8 @@ given_past at now later before after depth b sound is goes h =
     (ABody b ∷ []) [] (AnExpr h.tree ∷ []) (ABody b ∷ []) at now later
     (return_past at now depth b sound is goes) h.derives (λ stack same. same)
 
-pub return_unended : (at now later : Position) (before after : Representation) (depth : ℕ) →
-    is_fault (next_at at).token ≡ false →
+pub return_unended : (at now later : UnreadPosition) (before after : Representation) (depth : ℕ) →
+    is_lexical_error (next_at at).token ≡ false →
     is_keyword keyword.Return (next_at at).token ≡ true → GoesPast at now →
     AddsExpr before after depth 1 (Part Back ∷ []) [] now later → (d : Stop) →
     FailsItem (Exactly punctuator.Semicolon) later d → FailsBody depth (Part Statement ∷ []) at d
@@ -207,10 +207,10 @@ return_unended at now later before after depth sound is goes h d fails b =
     (ABody b ∷ []) [] (AnExpr h.tree ∷ ABody b ∷ []) at later d
     (given_past at now later before after depth b sound is goes h) (λ stack same. same) (fails depth)
 
-pub return_adds : (at now later there : Position) (before mid after : Representation) (depth : ℕ) →
-    is_fault (next_at at).token ≡ false → is_keyword keyword.Return (next_at at).token ≡ true → GoesPast at now →
+pub return_adds : (at now later there : UnreadPosition) (before mid after : Representation) (depth : ℕ) →
+    is_lexical_error (next_at at).token ≡ false → is_keyword keyword.Return (next_at at).token ≡ true → GoesPast at now →
     AddsExpr before mid depth 1 (Part Back ∷ []) [] now later →
-    DerivesItem (Exactly punctuator.Semicolon) [] [] later there → is_fault (next_at there).token ≡ false →
+    DerivesItem (Exactly punctuator.Semicolon) [] [] later there → is_lexical_error (next_at there).token ≡ false →
     Appends mid after Returns →
     AddsBody before after depth (Part Statement ∷ []) [] at there
 return_adds at now later there before mid after depth sound is goes h matched sound_behind returns = record {
@@ -230,27 +230,27 @@ return_adds at now later there before mid after depth sound is goes h matched so
 
 -- Conditions.
 
-bracket_past : (at now : Position) (depth : ℕ) → DerivesItem (Exactly punctuator.OpenRound) [] [] at now →
+bracket_past : (at now : UnreadPosition) (depth : ℕ) → DerivesItem (Exactly punctuator.OpenRound) [] [] at now →
     Derives depth in_brackets (Part Expression ∷ Exactly punctuator.CloseRound ∷ []) [] [] at now
 bracket_past at now depth opened =
     joined depth depth in_brackets (Exactly punctuator.OpenRound ∷ []) []
     (Part Expression ∷ Exactly punctuator.CloseRound ∷ []) [] [] [] [] at at now (stay at depth in_brackets [])
     (opened depth) (λ stack same. same)
 
-pub bracket_fails : (at : Position) (depth : ℕ) (d : Stop) → FailsItem (Exactly punctuator.OpenRound) at d →
+pub bracket_fails : (at : UnreadPosition) (depth : ℕ) (d : Stop) → FailsItem (Exactly punctuator.OpenRound) at d →
     FailsAt depth in_brackets [] at d
 bracket_fails at depth d fails =
     fails_behind depth depth in_brackets (Exactly punctuator.OpenRound ∷ [])
     (Part Expression ∷ Exactly punctuator.CloseRound ∷ []) [] [] [] at at d (stay at depth in_brackets [])
     (λ stack same. same) (fails depth)
 
-pub condition_fails : (at now : Position) (depth : ℕ) → DerivesItem (Exactly punctuator.OpenRound) [] [] at now →
+pub condition_fails : (at now : UnreadPosition) (depth : ℕ) → DerivesItem (Exactly punctuator.OpenRound) [] [] at now →
     (d : Stop) → FailsAt depth (Part Expression ∷ []) [] now d → FailsAt depth in_brackets [] at d
 condition_fails at now depth opened d fails =
     fails_behind depth depth in_brackets (Part Expression ∷ []) (Exactly punctuator.CloseRound ∷ []) [] [] [] at now d
     (bracket_past at now depth opened) (λ stack same. same) fails
 
-condition_past : (at now later : Position) (before after : Representation) (depth : ℕ) →
+condition_past : (at now later : UnreadPosition) (before after : Representation) (depth : ℕ) →
     DerivesItem (Exactly punctuator.OpenRound) [] [] at now →
     (h : AddsExpr before after depth 1 (Part Expression ∷ []) [] now later) →
     Derives depth in_brackets (Exactly punctuator.CloseRound ∷ []) [] (AnExpr h.tree ∷ []) at later
@@ -258,7 +258,7 @@ condition_past at now later before after depth opened h =
     joined depth depth in_brackets (Part Expression ∷ []) [] (Exactly punctuator.CloseRound ∷ []) [] []
     (AnExpr h.tree ∷ []) [] at now later (bracket_past at now depth opened) h.derives (λ stack same. same)
 
-pub condition_unended : (at now later : Position) (before after : Representation) (depth : ℕ) →
+pub condition_unended : (at now later : UnreadPosition) (before after : Representation) (depth : ℕ) →
     DerivesItem (Exactly punctuator.OpenRound) [] [] at now →
     AddsExpr before after depth 1 (Part Expression ∷ []) [] now later →
     (d : Stop) → FailsItem (Exactly punctuator.CloseRound) later d → FailsAt depth in_brackets [] at d
@@ -266,7 +266,7 @@ condition_unended at now later before after depth opened h d fails =
     fails_behind depth depth in_brackets (Exactly punctuator.CloseRound ∷ []) [] [] [] (AnExpr h.tree ∷ []) at later d
     (condition_past at now later before after depth opened h) (λ stack same. same) (fails depth)
 
-pub condition_adds : (at now later there : Position) (before after : Representation) (depth : ℕ) →
+pub condition_adds : (at now later there : UnreadPosition) (before after : Representation) (depth : ℕ) →
     DerivesItem (Exactly punctuator.OpenRound) [] [] at now →
     AddsExpr before after depth 1 (Part Expression ∷ []) [] now later →
     DerivesItem (Exactly punctuator.CloseRound) [] [] later there →

@@ -3,13 +3,13 @@ use Rattle.std.proofs.Common.{◌≡◌, ℕ, zero, suc, ◌+◌, ◌<◌, ◌�
 use Rattle.tokens.specs.Ends.{AllEndBy}
 use Rattle.tokens.specs.Cursors.{reach_of}
 use Rattle.tokens.specs.Source.{source}
-use Rattle.tokens.specs.Front.{Front, Nothing, Space, Unclosed, Lexeme, front}
-use Rattle.tokens.specs.Tokens.{Ahead, ahead_after, at_end, last_located_token, is_last, tokens_within, tokens_of_front, located_tokens, ahead_of_source, tokens}
+use Rattle.tokens.specs.InputElement.{InputElement, Nothing, Space, Unclosed, Lexeme, input_element}
+use Rattle.tokens.specs.Tokens.{UnreadSource, ahead_after, at_end, last_located_token, is_last, tokens_within, tokens_of_element, located_tokens, ahead_of_source, tokens}
 use Rattle.tokens.specs.declared.located_tokens.LexicalError.TheVariants.{CommentNotClosed}
 use Rattle.tokens.specs.declared.located_tokens.Token.TheVariants as variant
 use Rattle.tokens.specs.declared.located_tokens.LocatedToken.{LocatedToken}
-use Rattle.tokens.proofs.EndLemmas.{IsInside, tokens_within-by, front-inside, over, place-inside}
-use Rattle.tokens.proofs.LocatedTokensLemmas.{IsPiece, front-is_piece, here}
+use Rattle.tokens.proofs.EndLemmas.{IsInside, tokens_within-by, input_element-inside, over, place-inside}
+use Rattle.tokens.proofs.LocatedTokensLemmas.{IsPiece, input_element-is_piece, here}
 use Rattle.tokens.proofs.TakenLemmas.{place-ahead_after}
 use Rattle.grammar.specs.Derivation.{is_end}
 
@@ -27,7 +27,7 @@ cut_sooner p q (x ∷ xs) h r = (omega (arith, h, r.0), ((λ other. omega (arith
 -- The last token.
 
 -- the source's end
-closing_end : (place line : ℕ) (end : Ahead) → place ≤ end.offset →
+closing_end : (place line : ℕ) (end : UnreadSource) → place ≤ end.offset →
     IsCut place (last_located_token variant.End line end ∷ [])
 closing_end place line end h = by end.too_long
   where
@@ -36,7 +36,7 @@ closing_end place line end h = by end.too_long
     by false = (h, ((λ other. absurd (cc)), ((λ last. refl), tt)))
 
 -- a comment that is open there, of which something was passed
-closing_open : (place line : ℕ) (end : Ahead) → place < end.offset →
+closing_open : (place line : ℕ) (end : UnreadSource) → place < end.offset →
     IsCut place (last_located_token (variant.Fault CommentNotClosed) line end ∷ [])
 closing_open place line end h = by end.too_long
   where
@@ -54,10 +54,10 @@ cut_strictly zero line place bytes t = tt
 cut_strictly (suc n) line place [] t =
     closing_end place line (at_end (here line place [] t)) (place-ahead_after 0 (here line place [] t))
 cut_strictly (suc n) line place (b ∷ bytes) t =
-    by (front (b ∷ bytes)) (front-inside (b ∷ bytes)) (front-is_piece (b ∷ bytes)) (λ count.
+    by (input_element (b ∷ bytes)) (input_element-inside (b ∷ bytes)) (input_element-is_piece (b ∷ bytes)) (λ count.
     let p = ahead_after count a in cut_strictly n p.line p.offset p.bytes p.too_long)
   where
-    a : Ahead
+    a : UnreadSource
     a = here line place (b ∷ bytes) t
 
     end_is : (at_end a).offset ≡ place + length (b ∷ bytes)
@@ -70,9 +70,9 @@ cut_strictly (suc n) line place (b ∷ bytes) t =
     alone : (last : Bool) (xs : List LocatedToken) → last ≡ true → cond last [] xs ≡ []
     alone last xs e = rw e refl
 
-    by : (f : Front) → IsInside (b ∷ bytes) f → IsPiece f →
+    by : (f : InputElement) → IsInside (b ∷ bytes) f → IsPiece f →
         ((count : ℕ) → IsCut (ahead_after count a).offset (tokens_within n (ahead_after count a))) →
-        IsCut place (tokens_of_front f a (tokens_within n))
+        IsCut place (tokens_of_element f a (tokens_within n))
     by Nothing i p h = closing_end place line (at_end a) (omega (arith, end_is))
     by Unclosed i p h = closing_open place line (at_end a) (omega (arith, end_is))
     by (Space count) i p h = cut_sooner _ _ _ (place-ahead_after count a) (h count)

@@ -2,10 +2,10 @@
 use Rattle.std.proofs.Common.{ℕ, ◌+◌, ◌<◌, ◌≤◌, List, [], refl, false, arith}
 use Rattle.grammar.specs.declared.actions.Action.TheVariants.{BeginWhile, ElsePart, EndIf, EndWhile, IfTest, WhileTest}
 use Rattle.grammar.specs.Building.{Appends, MayFollow, Representation}
-use Rattle.grammar.specs.Following.{AValue, BeforeTest, InBranch, InElse, InTurn}
+use Rattle.grammar.specs.Following.{AValue, BeforeTest, InBranch, InElse, InLoopBody}
 use Rattle.grammar.specs.Grammar.{Item}
 use Rattle.grammar.proofs.FollowingLaws.{origin_of}
-use Rattle.parser.specs.ScopedCursors.{Position}
+use Rattle.parser.specs.ScopedCursors.{UnreadPosition}
 use Rattle.parser.specs.Room.{HasStatementRoom, HasRoom, room}
 use Rattle.parser.specs.Branches.{AddsElse, HasInside}
 use Rattle.parser.specs.Expressions.{AddsExpr}
@@ -33,7 +33,7 @@ room_in_brackets before depth shallow h =
     place_room before (room depth 1) (room (depth + 1) 1) (omega (arith, room_deeper depth shallow)) h
 
 -- After statements there is the same room.
-pub place_kept : (before now : Representation) (depth : ℕ) (front pending : List Item) (at there : Position) →
+pub place_kept : (before now : Representation) (depth : ℕ) (front pending : List Item) (at there : UnreadPosition) →
     HasStatementRoom before (room depth 1) → AddsBody before now depth front pending at there →
     HasStatementRoom now (room depth 1)
 place_kept before now depth front pending at there h s =
@@ -41,20 +41,20 @@ place_kept before now depth front pending at there h s =
 
 -- Branches.
 
-condition_inside : (before mid : Representation) (depth : ℕ) (front : List Item) (at there : Position) → depth < 64 →
+condition_inside : (before mid : Representation) (depth : ℕ) (front : List Item) (at there : UnreadPosition) → depth < 64 →
     HasStatementRoom before (room depth 1) → (c : AddsExpr before mid (depth + 1) 1 front [] at there) →
     HasInside (AValue (origin_of c.tree)) mid (room depth 1)
 condition_inside before mid depth front at there shallow h c =
     value_inside before mid (room depth 1) c.tree h c.numbered (omega (arith, c.narrow, room_deeper depth shallow))
     c.added
 
-pub may_test_if : (before mid : Representation) (depth : ℕ) (front : List Item) (at there : Position) → depth < 64 →
+pub may_test_if : (before mid : Representation) (depth : ℕ) (front : List Item) (at there : UnreadPosition) → depth < 64 →
     HasStatementRoom before (room depth 1) → AddsExpr before mid (depth + 1) 1 front [] at there → MayFollow mid IfTest
 may_test_if before mid depth front at there shallow h c =
     may_turn IfTest (AValue (origin_of c.tree)) InBranch mid (room depth 1) (λ o is. rw is refl)
     (omega (arith, room_deeper depth shallow)) (condition_inside before mid depth front at there shallow h c)
 
-pub branch_open : (before mid now : Representation) (depth : ℕ) (front : List Item) (at there : Position) → depth < 64 →
+pub branch_open : (before mid now : Representation) (depth : ℕ) (front : List Item) (at there : UnreadPosition) → depth < 64 →
     HasStatementRoom before (room depth 1) → AddsExpr before mid (depth + 1) 1 front [] at there →
     Appends mid now IfTest → HasInside InBranch now (room (depth + 1) 1)
 branch_open before mid now depth front at there shallow h c told =
@@ -65,14 +65,14 @@ branch_open before mid now depth front at there shallow h c told =
 pub branch_place : (before : Representation) (n : ℕ) → HasInside InBranch before n → HasStatementRoom before n
 branch_place before n h = inside_place InBranch before n (λ o. refl) h
 
-pub branch_kept : (before now : Representation) (depth : ℕ) (front : List Item) (at there : Position) →
+pub branch_kept : (before now : Representation) (depth : ℕ) (front : List Item) (at there : UnreadPosition) →
     HasInside InBranch before (room depth 1) → AddsBody before now depth front [] at there →
     HasInside InBranch now (room depth 1)
 branch_kept before now depth front at there h s =
     inside_behind InBranch before now (room depth 1) s.tree (λ o. refl) (λ returned o. refl) h s.numbered s.narrow
     s.added
 
-pub may_end_branch : (before now : Representation) (depth : ℕ) (at there : Position) →
+pub may_end_branch : (before now : Representation) (depth : ℕ) (at there : UnreadPosition) →
     HasInside InBranch before (room depth 1) →
     AddsElse before now depth at there → MayFollow now EndIf
 may_end_branch before now depth at there h e = may_end_if before now (room depth 1) e.tree h e.numbered e.narrow e.added
@@ -100,23 +100,23 @@ loop_open before now depth shallow h told =
 pub loop_room : (before : Representation) (n : ℕ) → HasInside BeforeTest before n → HasRoom before n
 loop_room before n h = inside_room BeforeTest before n h
 
-pub may_test_loop : (before mid : Representation) (depth : ℕ) (front : List Item) (at there : Position) →
+pub may_test_loop : (before mid : Representation) (depth : ℕ) (front : List Item) (at there : UnreadPosition) →
     HasInside BeforeTest before (room depth 1) → AddsExpr before mid depth 1 front [] at there → MayFollow mid WhileTest
 may_test_loop before mid depth front at there h c =
     may_test before mid (room depth 1) c.tree h c.numbered c.narrow c.added
 
-pub turn_open : (before mid now : Representation) (depth : ℕ) (front : List Item) (at there : Position) →
+pub turn_open : (before mid now : Representation) (depth : ℕ) (front : List Item) (at there : UnreadPosition) →
     HasInside BeforeTest before (room depth 1) → AddsExpr before mid depth 1 front [] at there →
-    Appends mid now WhileTest → HasInside InTurn now (room depth 1)
+    Appends mid now WhileTest → HasInside InLoopBody now (room depth 1)
 turn_open before mid now depth front at there h c told =
     turn_begun before mid now (room depth 1) c.tree h c.numbered c.narrow c.added told
 
-pub turn_place : (before : Representation) (n : ℕ) → HasInside InTurn before n → HasStatementRoom before n
-turn_place before n h = inside_place InTurn before n (λ o. refl) h
+pub turn_place : (before : Representation) (n : ℕ) → HasInside InLoopBody before n → HasStatementRoom before n
+turn_place before n h = inside_place InLoopBody before n (λ o. refl) h
 
-pub may_end_loop : (before now : Representation) (depth : ℕ) (front : List Item) (at there : Position) →
-    HasInside InTurn before (room depth 1) → AddsBody before now depth front [] at there → MayFollow now EndWhile
+pub may_end_loop : (before now : Representation) (depth : ℕ) (front : List Item) (at there : UnreadPosition) →
+    HasInside InLoopBody before (room depth 1) → AddsBody before now depth front [] at there → MayFollow now EndWhile
 may_end_loop before now depth front at there h s =
-    may_end EndWhile InTurn false now (room depth 1) (λ o. refl)
-    (inside_behind InTurn before now (room depth 1) s.tree (λ o. refl) (λ returned o. refl) h s.numbered s.narrow
+    may_end EndWhile InLoopBody false now (room depth 1) (λ o. refl)
+    (inside_behind InLoopBody before now (room depth 1) s.tree (λ o. refl) (λ returned o. refl) h s.numbered s.narrow
     s.added)

@@ -17,11 +17,11 @@ use Rattle.grammar.specs.declared.actions.Action.{Action}
 use Rattle.grammar.specs.Building.{Representation, LeavesOpen}
 use Rattle.grammar.specs.Compiled.{compiled, compiled_tokens, diagnostic, last_line, main_name, resolved}
 use Rattle.grammar.specs.Derivation.{derived, initial_state, Definition, is_end, next_token, line_at, state}
-use Rattle.grammar.specs.Faults.{misfit_code}
-use Rattle.grammar.specs.Grammar.{AnEnd, Source, is_fault}
+use Rattle.grammar.specs.Faults.{unexpected_token_code}
+use Rattle.grammar.specs.Grammar.{AnEnd, Source, is_lexical_error}
 use Rattle.grammar.specs.Laws.Naming.{line_of_undefined}
 use Rattle.grammar.specs.Need.{built, need}
-use Rattle.grammar.specs.Laws.Parsing.{Passes}
+use Rattle.grammar.specs.Laws.Parsing.{DerivesWithoutFault}
 use Rattle.grammar.specs.Pools.{Pools}
 use Rattle.grammar.specs.Profile.{Profile}
 use Rattle.grammar.specs.Scope.{Scope, function_number, no_names}
@@ -33,12 +33,12 @@ use Rattle.grammar.proofs.Steps.{last, part}
 use Rattle.grammar.proofs.Verdicts.{clean_verdict, fault_verdict}
 use Rattle.grammar.specs.Laws.Finished.{IsFinished, PassesAll}
 use Rattle.grammar.proofs.FileLaws.{finished, undefined, without_main}
-use Rattle.parser.specs.ScopedCursors.{MayContinue, Position, next_at, scope_at, tokens_at}
+use Rattle.parser.specs.ScopedCursors.{MayContinue, UnreadPosition, next_at, scope_at, tokens_at}
 use Rattle.parser.specs.Stopping.{NoFaultBefore, Stop, Stops, stop_with}
 use Rattle.parser.specs.Segment.{Refused, StopsFirst, StopsAtFirst, TakesTokens}
 use Rattle.parser.proofs.Segments.{functions_here, near_told, none_back, none_before, stops_here, told_goes}
-use Rattle.parser.specs.ParsedFiles.{BuildsAhead, FailsBytes, HasBuilt, LeavesUndecided, IsFile, IsNew, ParseIsRefused, StopsTaking, TakesNoMore, TakesUpTo}
-use Rattle.parser.specs.Progress.{ADefinition, AMain, IsComplete, HasTold, Lacks, ReadsOn, StopsPart, StopsTelling, at_source}
+use Rattle.parser.specs.ParsedFiles.{BuildsAhead, FailsBytes, HasBuilt, LeavesUndecided, ParsesToFile, IsNew, ParseIsRefused, StopsTaking, TakesNoMore, TakesUpTo}
+use Rattle.parser.specs.Progress.{ADefinition, AMain, IsComplete, HasReported, LacksDefinition, ReadsOn, StopsPart, StopsTelling, at_source}
 use Rattle.parser.proofs.Built.{IsAmongDefined, built_by_stop}
 
 end_is : (t : Token) → is_end t ≡ true → t ≡ token.End
@@ -51,20 +51,20 @@ end_is (token.Fault lexical_error) is = absurd (cc)
 
 -- The end is the only token from there on.
 
-ends_alone : (at : Position) (rest : List LocatedToken) → is_end (next_at at).token ≡ true → MayContinue at rest →
+ends_alone : (at : UnreadPosition) (rest : List LocatedToken) → is_end (next_at at).token ≡ true → MayContinue at rest →
     rest ≡ next_at at ∷ []
 ends_alone at rest is g =
     let last : is_last (next_at at).token ≡ true = rw (end_is (next_at at).token is) refl in
     g.is ∙ rw last refl
 
-goes_alone : (at : Position) → is_end (next_at at).token ≡ true → MayContinue at (next_at at ∷ [])
+goes_alone : (at : UnreadPosition) → is_end (next_at at).token ≡ true → MayContinue at (next_at at ∷ [])
 goes_alone at is =
     let last : is_last (next_at at).token ≡ true = rw (end_is (next_at at).token is) refl in
     record { behind = []; is = rw last refl }
 
 end_steps : (profile : Profile) (next : LocatedToken) (scope : Scope) (functions : List Definition) →
     is_end next.token ≡ true →
-    Passes profile (state at_source (next ∷ []) [] scope functions) (state [] [] [] scope functions)
+    DerivesWithoutFault profile (state at_source (next ∷ []) [] scope functions) (state [] [] [] scope functions)
 end_steps profile next scope functions is =
     let at : next.token ≡ token.End = end_is next.token is in
     then profile _ _ _
@@ -77,29 +77,29 @@ last_line_is (located_token ∷ []) next = refl
 last_line_is (located_token ∷ other ∷ consumed) next = last_line_is (other ∷ consumed) next
 
 -- A parse from the start of a file to its end.
-pub record IsWhole (before after : Representation) (told : Option (List ℕ)) (at there : Position) : Type 0 where
+pub record IsWhole (before after : Representation) (told : Option (List ℕ)) (at there : UnreadPosition) : Type 0 where
   pub reads : ReadsOn before after at_source at_source at there
   pub nothing : scope_at at ≡ no_names
   pub tells : tokens_at at ≡ option_map tokens told
   pub ends : is_end (next_at there).token ≡ true
 
-abbrev all_of : (before after : Representation) (told : Option (List ℕ)) (at there : Position) →
+abbrev all_of : (before after : Representation) (told : Option (List ℕ)) (at there : UnreadPosition) →
     IsWhole before after told at there → List LocatedToken
 all_of before after told at there w = w.reads.consumed ++ next_at there ∷ []
 
-passes_all : (before after : Representation) (told : Option (List ℕ)) (at there : Position)
+passes_all : (before after : Representation) (told : Option (List ℕ)) (at there : UnreadPosition)
     (w : IsWhole before after told at there) (profile : Profile) → before profile [] →
     PassesAll profile (all_of before after told at there w) (scope_at there) w.reads.more
 passes_all before after told at there w profile h =
     then profile _ _ _
     (subst
-    (λ (s : Scope). Passes profile (state at_source (w.reads.consumed ++ next_at there ∷ []) [] s [])
+    (λ (s : Scope). DerivesWithoutFault profile (state at_source (w.reads.consumed ++ next_at there ∷ []) [] s [])
     (state at_source (next_at there ∷ []) [] (scope_at there) w.reads.more)) w.nothing
     (w.reads.passes (next_at there ∷ []) (goes_alone there w.ends) profile [] h))
     (end_steps profile (next_at there) (scope_at there) w.reads.more w.ends)
 
 -- if the device's bytes are known, their tokens are those
-tokens_all : (before after : Representation) (told : Option (List ℕ)) (at there : Position)
+tokens_all : (before after : Representation) (told : Option (List ℕ)) (at there : UnreadPosition)
     (w : IsWhole before after told at there) (bytes : List ℕ) → told ≡ Some bytes →
     tokens bytes ≡ all_of before after told at there w
 tokens_all before after told at there w bytes is =
@@ -109,7 +109,7 @@ tokens_all before after told at there w bytes is =
     ap (λ (ls : List LocatedToken). w.reads.consumed ++ ls)
     (ends_alone there t.rest w.ends (told_goes there t.rest t.shows))
 
-resolved_all : (before after : Representation) (told : Option (List ℕ)) (at there : Position)
+resolved_all : (before after : Representation) (told : Option (List ℕ)) (at there : UnreadPosition)
     (w : IsWhole before after told at there) (profile : Profile) → before profile [] →
     compiled_tokens profile (all_of before after told at there w) ≡
     resolved (all_of before after told at there w) (scope_at there) w.reads.more
@@ -124,11 +124,11 @@ unfolding compiled
 compiled_as profile bytes located_tokens verdict same is = rw same is
 
 -- all functions are defined, and main is among them
-pub whole_file : (before after : Representation) (told : Option (List ℕ)) (at there : Position) (names : Pools) →
+pub whole_file : (before after : Representation) (told : Option (List ℕ)) (at there : UnreadPosition) (names : Pools) →
     IsNew before →
     IsWhole before after told at there → IsComplete (scope_at there) →
     names ≡ record { externals = (scope_at there).externals; functions = (scope_at there).functions } →
-    LeavesOpen after [] → IsFile before after told names
+    LeavesOpen after [] → ParsesToFile before after told names
 whole_file before after told at there names new w complete same closed =
     let f : IsFinished new.profile (all_of before after told at there w) (scope_at there) w.reads.more =
     finished new.profile (all_of before after told at there w) (scope_at there) w.reads.more
@@ -149,7 +149,7 @@ whole_file before after told at there names new w complete same closed =
 
 -- What is lacking is the file's fault.
 
-lacks_definition : (before after : Representation) (told : Option (List ℕ)) (at there : Position) (line : ℕ) →
+lacks_definition : (before after : Representation) (told : Option (List ℕ)) (at there : UnreadPosition) (line : ℕ) →
     IsWhole before after told at there → line_of_undefined 0 (scope_at there).lines (scope_at there).begun ≡ Some line →
     FailsBytes before told (diagnostic line code.FunctionNotDefined)
 lacks_definition before after told at there line w is bytes shows profile h =
@@ -158,7 +158,7 @@ lacks_definition before after told at there line w is bytes shows profile h =
     (undefined profile (all_of before after told at there w) (scope_at there) w.reads.more line
     (passes_all before after told at there w profile h) is)
 
-lacks_main : (before after : Representation) (told : Option (List ℕ)) (at there : Position) →
+lacks_main : (before after : Representation) (told : Option (List ℕ)) (at there : UnreadPosition) →
     IsWhole before after told at there →
     line_of_undefined 0 (scope_at there).lines (scope_at there).begun ≡ None →
     is_some (function_number main_name (scope_at there)) ≡ false →
@@ -170,8 +170,8 @@ lacks_main before after told at there w defined none bytes shows profile h =
     (passes_all before after told at there w profile h) defined none
     ∙ ap (λ (n : ℕ). Err (diagnostic n code.NoMainFunction)) (last_line_is w.reads.consumed (next_at there)))
 
-pub lacking : (before after : Representation) (told to_come : Option (List ℕ)) (at there : Position) (f : ParseFault)
-    (denied : Type 0) → IsWhole before after told at there → Lacks there.lookahead f →
+pub lacking : (before after : Representation) (told to_come : Option (List ℕ)) (at there : UnreadPosition) (f : ParseFault)
+    (denied : Type 0) → IsWhole before after told at there → LacksDefinition there.lookahead f →
     ParseIsRefused before after denied told to_come f
 lacking before after told to_come at there f denied w (ADefinition line is same) =
     rw same (lacks_definition before after told at there line w is)
@@ -180,7 +180,7 @@ lacking before after told to_come at there f denied w (AMain defined none same) 
 
 -- If the parse stops, the file's first fault is there.
 
-stops_bytes : (before after : Representation) (told : Option (List ℕ)) (at : Position) (d : Diagnostic) (used : ℕ) →
+stops_bytes : (before after : Representation) (told : Option (List ℕ)) (at : UnreadPosition) (d : Diagnostic) (used : ℕ) →
     scope_at at ≡ no_names → tokens_at at ≡ option_map tokens told →
     StopsPart before after at_source at (stop_with (refusal.Source d) used) → FailsBytes before told d
 stops_bytes before after told at d used nothing tells stops bytes shows profile h =
@@ -191,8 +191,8 @@ stops_bytes before after told at d used nothing tells stops bytes shows profile 
 first_fails : (before : Representation) (told told' : Option (List ℕ)) (d : Diagnostic) →
     StopsAtFirst told told' (refusal.Source d) → FailsBytes before told d
 first_fails before told told' d stops bytes shows profile h =
-    let s : (is_fault (next_token (tokens bytes)) ≡ true) ×
-    (d ≡ diagnostic (line_at (tokens bytes)) (misfit_code (next_token (tokens bytes)))) =
+    let s : (is_lexical_error (next_token (tokens bytes)) ≡ true) ×
+    (d ≡ diagnostic (line_at (tokens bytes)) (unexpected_token_code (next_token (tokens bytes)))) =
     stops.refused.lexical_error (tokens bytes) (ap (option_map tokens) shows) in
     compiled_as profile bytes (tokens bytes) (Err d) refl
     (fault_verdict profile (tokens bytes) d (rw s.1 (at_fault profile at_source (tokens bytes) [] no_names [] s.0)))
@@ -236,7 +236,7 @@ leaves_open profile bytes to_come used passed rest is none took limited taken =
       limited = limited;
     }
 
-stops_reading : (before after : Representation) (told : Option (List ℕ)) (at : Position) (stop : Stop) →
+stops_reading : (before after : Representation) (told : Option (List ℕ)) (at : UnreadPosition) (stop : Stop) →
     scope_at at ≡ no_names →
     tokens_at at ≡ option_map tokens told → StopsPart before after at_source at stop →
     (bytes : List ℕ) → told ≡ Some bytes → (profile : Profile) → before profile [] →
@@ -245,7 +245,7 @@ stops_reading before after told at stop nothing tells stops bytes shows profile 
     subst (λ (known : Scope). Stops profile (state at_source (tokens bytes) [] known []) stop) nothing
     (stops (tokens bytes) (tells ∙ ap (option_map tokens) shows) profile [] h).stops
 
-pub stops_taking : (used : ℕ) (before after : Representation) (told to_come : Option (List ℕ)) (at : Position)
+pub stops_taking : (used : ℕ) (before after : Representation) (told to_come : Option (List ℕ)) (at : UnreadPosition)
     (f : ParseFault)
     (denied : Type 0) → scope_at at ≡ no_names → tokens_at at ≡ option_map tokens told →
     HasTaken used told to_come → Refused (StopsPart before after at_source at) denied used f →
@@ -284,17 +284,17 @@ first_taking before told to_come refusal.Device stops = λ bytes shows profile s
 first_taking before told to_come refusal.Memory stops = absurd stops.refused.0
 
 -- a file that was read to its end
-pub whole_takes : (used : ℕ) (before after : Representation) (told to_come : Option (List ℕ)) (at there : Position) →
+pub whole_takes : (used : ℕ) (before after : Representation) (told to_come : Option (List ℕ)) (at there : UnreadPosition) →
     IsWhole before after told at there → IsNearTo there.lookahead.cursor used → HasTaken used told to_come →
     TakesNoMore before told to_come 4096
 whole_takes used before after told to_come at there w near taken bytes shows profile h =
     let t : TakesTokens w.reads.consumed (tokens bytes) there =
     w.reads.told (tokens bytes) (w.tells ∙ ap (option_map tokens) shows) in
     let alone : t.rest ≡ next_at there ∷ [] = ends_alone there t.rest w.ends (told_goes there t.rest t.shows) in
-    let reached : Passes profile (state at_source (w.reads.consumed ++ t.rest) [] no_names [])
+    let reached : DerivesWithoutFault profile (state at_source (w.reads.consumed ++ t.rest) [] no_names [])
     (state at_source t.rest [] (scope_at there) w.reads.more) =
     subst
-    (λ (known : Scope). Passes profile (state at_source (w.reads.consumed ++ t.rest) [] known [])
+    (λ (known : Scope). DerivesWithoutFault profile (state at_source (w.reads.consumed ++ t.rest) [] known [])
     (state at_source t.rest [] (scope_at there) w.reads.more)) w.nothing
     (w.reads.passes t.rest (told_goes there t.rest t.shows) profile [] h) in
     let none : NoFaultBefore profile (initial_state (tokens bytes)) t.rest =
@@ -304,8 +304,8 @@ whole_takes used before after told to_come at there w near taken bytes shows pro
     takes_up_to profile bytes to_come used 4096 w.reads.consumed t.rest t.is none (taken.took bytes shows) taken.limited
     (near_told there t.rest used t.shows near)
 
-pub lacks_taking : (used : ℕ) (before after : Representation) (told to_come : Option (List ℕ)) (at there : Position)
-    (f : ParseFault) → IsWhole before after told at there → Lacks there.lookahead f →
+pub lacks_taking : (used : ℕ) (before after : Representation) (told to_come : Option (List ℕ)) (at there : UnreadPosition)
+    (f : ParseFault) → IsWhole before after told at there → LacksDefinition there.lookahead f →
     IsNearTo there.lookahead.cursor used → HasTaken used told to_come →
     StopsTaking before told to_come f
 lacks_taking used before after told to_come at there f w (ADefinition line is same) near taken =
@@ -318,7 +318,7 @@ lacks_taking used before after told to_come at there f w (AMain defined none sam
 builds_by : (after : Representation) (profile : Profile) (bytes : List ℕ) (to_come : Option (List ℕ)) (used : ℕ)
     (s : Stops profile (initial_state (tokens bytes)) (stop_with refusal.Device used)) →
     to_come ≡ Some (drop used bytes) →
-    HasTold after profile (derived s.steps (initial_state (tokens bytes))).functions →
+    HasReported after profile (derived s.steps (initial_state (tokens bytes))).functions →
     HasBuilt after profile bytes to_come
 builds_by after profile bytes to_come used s took told =
     let defined : IsAmongDefined bytes used s.steps =
@@ -333,7 +333,7 @@ builds_by after profile bytes to_come used s took told =
           append_assoc (built bytes used) defined.more told.more) told.stands;
     }
 
-stops_building : (used : ℕ) (before after : Representation) (told to_come : Option (List ℕ)) (at : Position) →
+stops_building : (used : ℕ) (before after : Representation) (told to_come : Option (List ℕ)) (at : UnreadPosition) →
     scope_at at ≡ no_names → tokens_at at ≡ option_map tokens told →
     HasTaken used told to_come → StopsPart before after at_source at (stop_with refusal.Device used) →
     BuildsAhead before after told to_come
@@ -346,7 +346,7 @@ stops_building used before after told to_come at nothing tells taken stops bytes
     builds_by after profile bytes to_come used s.stops (taken.took bytes shows) (s.told refl)
 
 -- what is said if the parse stops
-pub stopped : (used : ℕ) (before after : Representation) (told to_come : Option (List ℕ)) (at : Position)
+pub stopped : (used : ℕ) (before after : Representation) (told to_come : Option (List ℕ)) (at : UnreadPosition)
     (f : ParseFault)
     (denied : Type 0) → scope_at at ≡ no_names → tokens_at at ≡ option_map tokens told →
     HasTaken used told to_come → Refused (StopsPart before after at_source at) denied used f →
@@ -367,7 +367,7 @@ opening_builds before told to_come used taken stops bytes shows profile h =
   where
     first_told : (before : Representation) (profile : Profile) (bytes : List ℕ) (used : ℕ)
         (some : used ≤ undecided_reach_of (tokens bytes)) → before profile [] →
-        HasTold before profile
+        HasReported before profile
         (derived (stops_here profile (initial_state (tokens bytes)) (stop_with refusal.Device used) tt some).steps
         (initial_state (tokens bytes))).functions
     first_told before profile bytes used some h =

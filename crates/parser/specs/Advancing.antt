@@ -6,7 +6,7 @@ use Rattle.tokens.specs.Window.{TakesBytes}
 use Rattle.tokens.specs.declared.located_tokens.Punctuator.{Punctuator}
 use Rattle.tokens.specs.declared.located_tokens.Keyword.{Keyword}
 use Rattle.grammar.specs.declared.diagnostics.ParseFault.{ParseFault}
-use Rattle.grammar.specs.Grammar.{is_fault, is_punctuator, is_keyword}
+use Rattle.grammar.specs.Grammar.{is_lexical_error, is_punctuator, is_keyword}
 use Rattle.parser.specs.ScopedCursors.{ScopedCursor, taken_at, to_go, token_of}
 use Rattle.parser.specs.Segment.{account_after}
 
@@ -17,14 +17,14 @@ most_failures = 2 ^ 64 - 1
 -- A cursor that a scoped cursor can be made of: its next token is no lexical error, and no more bytes were taken than a
 -- window past the two tokens that it holds, and no more than the most.
 pub record IsReadable (cursor : Cursor) : Type 0 where
-  pub sound : is_fault cursor.next.token ≡ false
+  pub sound : is_lexical_error cursor.next.token ≡ false
   pub near : IsNear cursor
   pub limited : bytes_taken cursor ≤ most_taken_bytes
 
 -- A scoped cursor is ready for a call: its next token is no lexical error, no more bytes were taken than a window past
 -- the two tokens that it holds, and a further failure of the device can be counted.
 pub record IsReady (at : ScopedCursor) : Type 0 where
-  pub sound : is_fault (token_of at) ≡ false
+  pub sound : is_lexical_error (token_of at) ≡ false
   pub near : IsNear at.position.lookahead.cursor
   pub count : at.account.failures < most_failures
 

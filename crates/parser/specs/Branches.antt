@@ -7,7 +7,7 @@ use Rattle.grammar.specs.declared.actions.Action.{Action}
 use Rattle.grammar.specs.declared.actions.Action.TheVariants.{ElsePart as BetweenBranches}
 use Rattle.grammar.specs.Actions.{body_actions}
 use Rattle.grammar.specs.Building.{Representation, AppendsAll, LeavesOpen}
-use Rattle.grammar.specs.Derivation.{Value, ABody, AnExpr}
+use Rattle.grammar.specs.Derivation.{PartialTree, ABody, AnExpr}
 use Rattle.grammar.specs.Following.{Open, Opened, may_take_statement, open_count}
 use Rattle.grammar.specs.Grammar.{ElsePart, Part}
 use Rattle.grammar.specs.NameLimits.{most_open}
@@ -15,7 +15,7 @@ use Rattle.grammar.specs.Nesting.{body_nesting}
 use Rattle.grammar.specs.Resolved.{InBody}
 use Rattle.grammar.specs.Tree.{Body, IfElseStatement, Done, Expr, IfStatement, join}
 use Rattle.parser.specs.declared.parser.Parser.{Parser}
-use Rattle.parser.specs.ScopedCursors.{Position}
+use Rattle.parser.specs.ScopedCursors.{UnreadPosition}
 use Rattle.parser.specs.Room.{room}
 use Rattle.parser.specs.Parsers.{BreaksOffFrom}
 use Rattle.parser.specs.Segment.{Derives, FailsAt}
@@ -39,11 +39,11 @@ else_nesting None = 0
 else_nesting (Some t) = body_nesting t
 
 -- the trees of an `if` so far: its first branch, its condition, and the body that it is in
-abbrev pub before_else : Body → Expr → Body → List Value
+abbrev pub before_else : Body → Expr → Body → List PartialTree
 before_else s c body = ABody s ∷ AnExpr c ∷ ABody body ∷ []
 
 -- The second branch was read, or there is none, whatever the `if` is so far.
-pub record AddsElse (before after : Representation) (depth : ℕ) (here there : Position) : Type 0 where
+pub record AddsElse (before after : Representation) (depth : ℕ) (here there : UnreadPosition) : Type 0 where
   pub tree : Option Body
   pub numbered : IsElseNumbered tree
   pub narrow : else_nesting tree ≤ room depth 1
@@ -53,7 +53,7 @@ pub record AddsElse (before after : Representation) (depth : ℕ) (here there : 
       here there
 
 -- The first fault from there on, whatever the `if` is so far.
-abbrev pub FailsElse : ℕ → Position → Stop → Type 0
+abbrev pub FailsElse : ℕ → UnreadPosition → Stop → Type 0
 FailsElse depth here d =
     (s : Body) (c : Expr) (body : Body) → FailsAt depth (Part ElsePart ∷ []) (before_else s c body) here d
 

@@ -16,7 +16,7 @@ use Rattle.grammar.specs.Laws.Climbing.{operator_from}
 use Rattle.grammar.specs.Resolved.{InArgs, InExpr}
 use Rattle.grammar.specs.Tree.{Args, Binary, Expr, NoMore}
 use Rattle.parser.specs.declared.parser.Parser.{Parser}
-use Rattle.parser.specs.ScopedCursors.{Position, token_of}
+use Rattle.parser.specs.ScopedCursors.{UnreadPosition, token_of}
 use Rattle.parser.specs.Room.{room}
 use Rattle.parser.specs.Stopping.{Stop}
 use Rattle.parser.specs.Parsers.{BreaksOffFrom}
@@ -24,7 +24,7 @@ use Rattle.parser.specs.Segment.{Derives, FailsAt, FailsItem}
 
 -- An expression was read, by the items in front, of operators from `level` on, with `depth` levels of nesting open.
 pub record AddsExpr (before after : Representation) (depth level : ℕ) (front pending : List Item)
-    (here there : Position)
+    (here there : UnreadPosition)
     : Type 0 where
   pub tree : Expr
   pub numbered : InExpr MOST_NAMES MOST_NAMES MOST_NAMES tree
@@ -33,7 +33,7 @@ pub record AddsExpr (before after : Representation) (depth level : ℕ) (front p
   pub derives : Derives depth front pending [] (AnExpr tree ∷ []) here there
 
 -- One further operator was read with its right side, whatever its left side is.
-pub record AddsOperand (before after : Representation) (depth level : ℕ) (op : Op) (here there : Position) : Type 0
+pub record AddsOperand (before after : Representation) (depth level : ℕ) (op : Op) (here there : UnreadPosition) : Type 0
   where
     pub right : Expr
     pub numbered : InExpr MOST_NAMES MOST_NAMES MOST_NAMES right
@@ -44,11 +44,11 @@ pub record AddsOperand (before after : Representation) (depth level : ℕ) (op :
         (AnExpr (Binary op left right) ∷ []) here there
 
 -- The first fault from there on, whatever the left side is.
-abbrev pub FailsOperand : ℕ → ℕ → Position → Stop → Type 0
+abbrev pub FailsOperand : ℕ → ℕ → UnreadPosition → Stop → Type 0
 FailsOperand depth level here d = (left : Expr) → FailsAt depth (Part (Tail level) ∷ []) (AnExpr left ∷ []) here d
 
 -- The arguments of a call were read, whatever it calls.
-pub record AddsArgs (before after : Representation) (depth : ℕ) (front pending : List Item) (here there : Position) :
+pub record AddsArgs (before after : Representation) (depth : ℕ) (front pending : List Item) (here there : UnreadPosition) :
     Type 0 where
   pub tree : Args
   pub numbered : InArgs MOST_NAMES MOST_NAMES MOST_NAMES tree
@@ -57,7 +57,7 @@ pub record AddsArgs (before after : Representation) (depth : ℕ) (front pending
   pub derives : (callee : Callee) →
       Derives depth front pending (ACall callee NoMore ∷ []) (ACall callee tree ∷ []) here there
 
-abbrev pub FailsArgs : ℕ → Position → Stop → Type 0
+abbrev pub FailsArgs : ℕ → UnreadPosition → Stop → Type 0
 FailsArgs depth here d = (callee : Callee) → FailsAt depth (Part Arguments ∷ []) (ACall callee NoMore ∷ []) here d
 
 -- What the parse of an expression says, by its result.

@@ -29,7 +29,7 @@ AreNew before scope = IsNew before × (scope ≡ no_names)
 
 -- The names are those of a resolved file, and a builder that represented no action represents the file's actions, which
 -- leave nothing open, whether the device's bytes are known or not. If they are, the file is what they compile to.
-pub record IsFile (before after : Representation) (told : Option (List ℕ)) (names : Pools) : Type 0 where
+pub record ParsesToFile (before after : Representation) (told : Option (List ℕ)) (names : Pools) : Type 0 where
   pub file : File
   pub resolved : IsResolved file
   pub named : names ≡ pools_of file

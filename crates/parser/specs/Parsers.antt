@@ -5,7 +5,7 @@ use Rattle.grammar.specs.declared.diagnostics.ParseFault.{ParseFault}
 use Rattle.grammar.specs.declared.diagnostics.ParseFault.TheVariants as refusal
 use Rattle.grammar.specs.Building.{Representation, LeavesOpen}
 use Rattle.grammar.specs.Compiled.{diagnostic}
-use Rattle.grammar.specs.declared.name_limits.TheConstants.{MOST_LEVELS}
+use Rattle.grammar.specs.declared.name_limits.TheConstants.{MOST_NESTED}
 use Rattle.parser.specs.declared.parser.Parser.{Parser}
 use Rattle.parser.specs.Advancing.{IsReady, HasStayedOrAdvanced, Stopped, HasAdvanced}
 use Rattle.parser.specs.Growing.{BreaksOff}
@@ -15,7 +15,7 @@ use Rattle.parser.specs.Stopping.{Stop}
 
 -- the most levels are open, and the next token is refused for that
 pub record IsTooDeep {F B : Type 0} (at : Parser F B) (fault : ParseFault) : Type 0 where
-  pub deep : MOST_LEVELS ≤ at.depth
+  pub deep : MOST_NESTED ≤ at.depth
   pub is : fault ≡ refusal.Source (diagnostic (next_at at.tokens.position).line code.NestedTooDeeply)
 
 -- What a method needs: room in the builder for the operators from this level on, at the depth at which the parser is, a
@@ -69,7 +69,7 @@ BreaksOffFrom stops denied stands old new fault =
     BreaksOff stops denied (stands old.builder.now) (stands new.builder.now) (taken_at new.tokens.position) fault
 
 -- a call that reports to the builder alone: the cursor stays as it is
-pub record OnlyTells {F B : Type 0} (old new : Parser F B) : Type 0 where
+pub record OnlyReports {F B : Type 0} (old new : Parser F B) : Type 0 where
   pub tokens : new.tokens ≡ old.tokens
   pub depth : new.depth ≡ old.depth
   pub builder : new.builder.ghost_name ≡ old.builder.ghost_name

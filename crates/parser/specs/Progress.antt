@@ -23,20 +23,20 @@ use Rattle.grammar.specs.Laws.{KeepsFunction}
 use Rattle.grammar.specs.Laws.Naming.{line_of_undefined}
 use Rattle.grammar.specs.NameLimits.{most_open}
 use Rattle.grammar.specs.Nesting.{body_nesting}
-use Rattle.grammar.specs.Laws.Parsing.{Passes}
+use Rattle.grammar.specs.Laws.Parsing.{DerivesWithoutFault}
 use Rattle.grammar.specs.Profile.{Profile}
 use Rattle.grammar.specs.Resolved.{InBody}
 use Rattle.grammar.specs.Scope.{Scope, function_number}
 use Rattle.grammar.specs.Tree.{Body}
 use Rattle.parser.specs.Parsers.{BreaksOffFrom}
 use Rattle.parser.specs.declared.parser.Parser.{Parser}
-use Rattle.parser.specs.ScopedCursors.{MayContinue, Position, Lookahead, ScopedCursor, next_at, scope_at, taken_at, token_of, tokens_at}
+use Rattle.parser.specs.ScopedCursors.{MayContinue, UnreadPosition, Lookahead, ScopedCursor, next_at, scope_at, taken_at, token_of, tokens_at}
 use Rattle.parser.specs.Stopping.{Stop, Stops}
 use Rattle.parser.specs.Segment.{Derives, FailsAt, Refused, TakesTokens}
 
 -- From one position between functions to another the builder was told further functions, and the derivation, which goes
 -- from these items to those, defines them. It consumes the same tokens whether the device's bytes are known or not.
-pub record ReadsOn (before after : Representation) (front pending : List Item) (here there : Position) : Type 0 where
+pub record ReadsOn (before after : Representation) (front pending : List Item) (here there : UnreadPosition) : Type 0 where
   pub consumed : List LocatedToken
   pub more : List Definition
   pub told : (located_tokens : List LocatedToken) → tokens_at here ≡ Some located_tokens
@@ -45,21 +45,21 @@ pub record ReadsOn (before after : Representation) (front pending : List Item) (
   pub added : AppendsAll before after (definitions_actions more)
   pub passes : (rest : List LocatedToken) → MayContinue there rest → (profile : Profile) (functions : List Definition) →
       before profile (definitions_actions functions) →
-      Passes profile (state front (consumed ++ rest) [] (scope_at here) functions)
+      DerivesWithoutFault profile (state front (consumed ++ rest) [] (scope_at here) functions)
       (state pending rest [] (scope_at there) (functions ++ more))
 
 -- the builder represents the actions of these functions, and further ones
-pub record HasTold (after : Representation) (profile : Profile) (functions : List Definition) : Type 0 where
+pub record HasReported (after : Representation) (profile : Profile) (functions : List Definition) : Type 0 where
   pub more : List Action
   pub stands : after profile (definitions_actions functions ++ more)
 
 -- The derivation from s stops so. If the device failed, the builder was told the functions defined up to there.
 pub record StopsTelling (after : Representation) (profile : Profile) (s : State) (stop : Stop) : Type 0 where
   pub stops : Stops profile s stop
-  pub told : refusal.Device ≡ stop.fault → HasTold after profile (derived stops.steps s).functions
+  pub told : refusal.Device ≡ stop.fault → HasReported after profile (derived stops.steps s).functions
 
 -- if the tokens are known, the derivation from these items on stops so
-abbrev pub StopsPart : (before after : Representation) → List Item → Position → Stop → Type 0
+abbrev pub StopsPart : (before after : Representation) → List Item → UnreadPosition → Stop → Type 0
 StopsPart before after front here stop =
     (located_tokens : List LocatedToken) → tokens_at here ≡ Some located_tokens
     → (profile : Profile) (functions : List Definition) →
@@ -87,7 +87,7 @@ at_brace = Make Define ∷ Exactly punctuator.CloseCurly ∷ Close ∷ []
 
 -- A function's block was read up to its closing brace: the builder was told its statements, and the function that is
 -- being defined stayed the same.
-pub record AddsBlock (before after : Representation) (here there : Position) : Type 0 where
+pub record AddsBlock (before after : Representation) (here there : UnreadPosition) : Type 0 where
   pub tree : Body
   pub numbered : InBody MOST_NAMES MOST_NAMES MOST_NAMES tree
   pub narrow : body_nesting tree ≤ most_open
@@ -137,12 +137,12 @@ pub record IsComplete (scope : Scope) : Type 0 where
   pub main : is_some (function_number main_name scope) ≡ true
 
 -- A function is not defined, or else there is no main function.
-pub data Lacks (position : Lookahead) (fault : ParseFault) : Type 0 where
+pub data LacksDefinition (position : Lookahead) (fault : ParseFault) : Type 0 where
   ADefinition : (line : ℕ) → line_of_undefined 0 position.scope.lines position.scope.begun ≡ Some line →
-      fault ≡ refusal.Source (diagnostic line code.FunctionNotDefined) → Lacks position fault
+      fault ≡ refusal.Source (diagnostic line code.FunctionNotDefined) → LacksDefinition position fault
   AMain : line_of_undefined 0 position.scope.lines position.scope.begun ≡ None →
       is_some (function_number main_name position.scope) ≡ false →
-      fault ≡ refusal.Source (diagnostic position.cursor.next.line code.NoMainFunction) → Lacks position fault
+      fault ≡ refusal.Source (diagnostic position.cursor.next.line code.NoMainFunction) → LacksDefinition position fault
 
 -- What the parse of a file's parts says, by its result.
 

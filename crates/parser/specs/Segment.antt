@@ -2,7 +2,7 @@
 use Rattle.std.specs.Prelude.{ℕ, ◌≡◌, ◌<◌, ◌≤◌, List, [], ◌∷◌, ◌++◌, drop, length, true, false}
 use Rattle.std.specs.Prelude.{Option, Some, None, Result, Ok, Err}
 use Rattle.std.specs.Option.{option_map}
-use Rattle.tokens.specs.Feed.{Account, failed_again}
+use Rattle.tokens.specs.Feed.{FailureCount, failed_again}
 use Rattle.tokens.specs.WindowLimits.{most_taken_bytes}
 use Rattle.tokens.specs.Tokens.{is_last, tokens}
 use Rattle.tokens.specs.declared.located_tokens.LocatedToken.{LocatedToken}
@@ -12,52 +12,52 @@ use Rattle.grammar.specs.declared.diagnostics.ParseFault.{ParseFault}
 use Rattle.grammar.specs.declared.diagnostics.ParseFault.TheVariants as refusal
 use Rattle.grammar.specs.declared.name_limits.TheConstants.{MOST_NAMES}
 use Rattle.grammar.specs.Compiled.{diagnostic}
-use Rattle.grammar.specs.Derivation.{state, Value, Definition, line_at, name_of_token, next_token}
-use Rattle.grammar.specs.Faults.{levels, misfit_code}
-use Rattle.grammar.specs.Grammar.{Item, is_fault}
-use Rattle.grammar.specs.Laws.Parsing.{Passes}
+use Rattle.grammar.specs.Derivation.{state, PartialTree, Definition, line_at, name_of_token, next_token}
+use Rattle.grammar.specs.Faults.{nested_count, unexpected_token_code}
+use Rattle.grammar.specs.Grammar.{Item, is_lexical_error}
+use Rattle.grammar.specs.Laws.Parsing.{DerivesWithoutFault}
 use Rattle.grammar.specs.Profile.{Profile}
 use Rattle.parser.specs.Defining.{IsWithin}
-use Rattle.parser.specs.ScopedCursors.{Position, Lookahead, MayContinue, tokens_at, next_at, scope_at}
+use Rattle.parser.specs.ScopedCursors.{UnreadPosition, Lookahead, MayContinue, tokens_at, next_at, scope_at}
 use Rattle.parser.specs.Stopping.{IfSource, Stop, StopsInside, most_taken, stop_with}
 
 -- these tokens are those that a segment consumed, followed by those known at its end
-pub record TakesTokens (consumed located_tokens : List LocatedToken) (there : Position) : Type 0 where
+pub record TakesTokens (consumed located_tokens : List LocatedToken) (there : UnreadPosition) : Type 0 where
   pub rest : List LocatedToken
   pub is : located_tokens ≡ consumed ++ rest
   pub shows : tokens_at there ≡ Some rest
 
 -- From one position to another the derivation replaces these items in front by those, with `depth` levels open below
 -- them, and these trees by those. It consumes the same tokens whether the device's bytes are known or not.
-pub record Derives (depth : ℕ) (front pending : List Item) (taken left : List Value) (here there : Position) : Type 0
+pub record Derives (depth : ℕ) (front pending : List Item) (taken left : List PartialTree) (here there : UnreadPosition) : Type 0
   where
     pub consumed : List LocatedToken
     pub told : (located_tokens : List LocatedToken) → tokens_at here ≡ Some located_tokens
         → TakesTokens consumed located_tokens there
     pub follows : (rest : List LocatedToken) → MayContinue there rest → MayContinue here (consumed ++ rest)
     pub passes : (rest : List LocatedToken) → MayContinue there rest →
-        (profile : Profile) (stack : List Item) (values : List Value) (functions : List Definition) →
-        levels stack ≡ depth →
-        Passes profile (state (front ++ stack) (consumed ++ rest) (taken ++ values) (scope_at here) functions)
+        (profile : Profile) (stack : List Item) (values : List PartialTree) (functions : List Definition) →
+        nested_count stack ≡ depth →
+        DerivesWithoutFault profile (state (front ++ stack) (consumed ++ rest) (taken ++ values) (scope_at here) functions)
         (state (pending ++ stack) rest (left ++ values) (scope_at there) functions)
 
 -- if the tokens are known, the derivation from these items on stops so, with `depth` levels open, and before a further
 -- function is defined
-abbrev pub FailsAt : ℕ → List Item → List Value → Position → Stop → Type 0
+abbrev pub FailsAt : ℕ → List Item → List PartialTree → UnreadPosition → Stop → Type 0
 FailsAt depth front taken here stop =
     (located_tokens : List LocatedToken) → tokens_at here ≡ Some located_tokens →
-    (profile : Profile) (stack : List Item) (values : List Value) (functions : List Definition) → levels stack ≡ depth →
+    (profile : Profile) (stack : List Item) (values : List PartialTree) (functions : List Definition) → nested_count stack ≡ depth →
     StopsInside profile (state (front ++ stack) located_tokens (taken ++ values) (scope_at here) functions) stop
 
 -- one item was matched or replaced, however many levels are open
-abbrev pub DerivesItem : Item → List Item → List Value → Position → Position → Type 0
+abbrev pub DerivesItem : Item → List Item → List PartialTree → UnreadPosition → UnreadPosition → Type 0
 DerivesItem item pending left here there = (depth : ℕ) → Derives depth (item ∷ []) pending [] left here there
 
-abbrev pub FailsItem : Item → Position → Stop → Type 0
+abbrev pub FailsItem : Item → UnreadPosition → Stop → Type 0
 FailsItem item here stop = (depth : ℕ) → FailsAt depth (item ∷ []) [] here stop
 
 -- one token was passed, and no name became known
-pub record GoesPast (here there : Position) : Type 0 where
+pub record GoesPast (here there : UnreadPosition) : Type 0 where
   pub more : is_last (next_at here).token ≡ false
   pub next : next_at there ≡ here.lookahead.cursor.after
   pub told : (first : LocatedToken) (rest : List LocatedToken) → tokens_at here ≡ Some (first ∷ rest)
@@ -65,12 +65,12 @@ pub record GoesPast (here there : Position) : Type 0 where
   pub scope : scope_at there ≡ scope_at here
 
 -- the token after the next is a lexical error, which stops any derivation
-pub record HasLexicalError (here : Position) (d : Diagnostic) : Type 0 where
-  pub lexical_error : is_fault here.lookahead.cursor.after.token ≡ true
-  pub is : d ≡ diagnostic here.lookahead.cursor.after.line (misfit_code here.lookahead.cursor.after.token)
+pub record HasLexicalError (here : UnreadPosition) (d : Diagnostic) : Type 0 where
+  pub lexical_error : is_lexical_error here.lookahead.cursor.after.token ≡ true
+  pub is : d ≡ diagnostic here.lookahead.cursor.after.line (unexpected_token_code here.lookahead.cursor.after.token)
 
 -- the next token fits, and the one after it is a lexical error, or the device failed
-pub record StopsAt (here : Position) (stop : Stop) : Type 0 where
+pub record StopsAt (here : UnreadPosition) (stop : Stop) : Type 0 where
   pub more : is_last (next_at here).token ≡ false
   pub lexical_error : IfSource stop.fault (HasLexicalError here)
   pub taken : (next : LocatedToken) (others : List LocatedToken) → tokens_at here ≡ Some (next ∷ others) →
@@ -79,16 +79,16 @@ pub record StopsAt (here : Position) (stop : Stop) : Type 0 where
 -- the first token is a lexical error, or the device failed
 pub record StopsFirst (told : Option (List LocatedToken)) (stop : Stop) : Type 0 where
   pub lexical_error : (located_tokens : List LocatedToken) → told ≡ Some located_tokens → IfSource stop.fault (λ d.
-      (is_fault (next_token located_tokens) ≡ true)
-      × (d ≡ diagnostic (line_at located_tokens) (misfit_code (next_token located_tokens))))
+      (is_lexical_error (next_token located_tokens) ≡ true)
+      × (d ≡ diagnostic (line_at located_tokens) (unexpected_token_code (next_token located_tokens))))
   pub taken : (located_tokens : List LocatedToken) → told ≡ Some located_tokens
       → stop.taken ≤ most_taken stop.fault located_tokens
 
 -- the token is no name, and is refused for that
 pub record IsNoName (next : LocatedToken) (fault : ParseFault) : Type 0 where
-  pub sound : is_fault next.token ≡ false
+  pub sound : is_lexical_error next.token ≡ false
   pub other : name_of_token next.token ≡ None
-  pub is : fault ≡ refusal.Source (diagnostic next.line (misfit_code next.token))
+  pub is : fault ≡ refusal.Source (diagnostic next.line (unexpected_token_code next.token))
 
 -- the name was refused in its role, at the next token
 pub record NameIsRefused {T : Type 0} (answer : Result T Code) (next : LocatedToken) (fault : ParseFault) : Type 0 where
@@ -118,11 +118,11 @@ pub record StopsAtFirst (told told' : Option (List ℕ)) (fault : ParseFault) : 
   pub refused : Refused (StopsFirst (option_map tokens told)) ⊥ taken fault
 
 -- the account of the device after this refusal: one more read has failed if the device failed
-abbrev pub account_after : Account → ParseFault → Account
+abbrev pub account_after : FailureCount → ParseFault → FailureCount
 account_after account refusal.Device = failed_again account
 account_after account (refusal.Source d) = account
 account_after account refusal.Memory = account
 
-abbrev pub CountsRefusal : {A : Type 0} → Result A ParseFault → Account → Account → Type 0
+abbrev pub CountsRefusal : {A : Type 0} → Result A ParseFault → FailureCount → FailureCount → Type 0
 CountsRefusal (Ok x) before behind = behind ≡ before
 CountsRefusal (Err e) before behind = behind ≡ account_after before e

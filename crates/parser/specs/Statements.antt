@@ -14,13 +14,13 @@ use Rattle.grammar.specs.Resolved.{InBody}
 use Rattle.grammar.specs.Tree.{Body, join}
 use Rattle.parser.specs.Advancing.{IsNextPunctuator}
 use Rattle.parser.specs.declared.parser.Parser.{Parser}
-use Rattle.parser.specs.ScopedCursors.{Position}
+use Rattle.parser.specs.ScopedCursors.{UnreadPosition}
 use Rattle.parser.specs.Room.{room}
 use Rattle.parser.specs.Parsers.{BreaksOffFrom}
 use Rattle.parser.specs.Segment.{Derives, FailsAt}
 
 -- Statements were read, by the items in front, with `depth` levels of nesting open, whatever the body is so far.
-pub record AddsBody (before after : Representation) (depth : ℕ) (front pending : List Item) (here there : Position) :
+pub record AddsBody (before after : Representation) (depth : ℕ) (front pending : List Item) (here there : UnreadPosition) :
     Type 0 where
   pub tree : Body
   pub numbered : InBody MOST_NAMES MOST_NAMES MOST_NAMES tree
@@ -29,7 +29,7 @@ pub record AddsBody (before after : Representation) (depth : ℕ) (front pending
   pub derives : (body : Body) → Derives depth front pending (ABody body ∷ []) (ABody (join body tree) ∷ []) here there
 
 -- The first fault from there on, whatever the body is so far.
-abbrev pub FailsBody : ℕ → List Item → Position → Stop → Type 0
+abbrev pub FailsBody : ℕ → List Item → UnreadPosition → Stop → Type 0
 FailsBody depth front here d = (body : Body) → FailsAt depth front (ABody body ∷ []) here d
 
 -- What the parse of statements says by its result: they were read, or the derivation stops within them, as the refusal

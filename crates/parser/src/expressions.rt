@@ -47,7 +47,7 @@ impl<F: Feed, B: Build> Parser<'_, '_, '_, F, B> {
         ensures parses { Parses result B.denied B.stands 1 Expression self.old self.new }
         ensures kept { Proceeds result self.old self.new }
     {
-        self.check_level()?;
+        self.check_nesting()?;
         let var = self.tokens.expect_variable()?;
         self.tokens.advance()?;
         self.depth += 1;
@@ -95,7 +95,7 @@ impl<F: Feed, B: Build> Parser<'_, '_, '_, F, B> {
         ensures kept { Proceeds result self.old self.new }
     {
         self.tokens.advance()?;
-        tell_middle(self.builder, binary.op)?;
+        report_middle(self.builder, binary.op)?;
         self.levels(binary.level + 1)?;
         Ok(self.builder.act(Action::ApplyBinop(binary.op))?)
     }
@@ -142,7 +142,7 @@ impl<F: Feed, B: Build> Parser<'_, '_, '_, F, B> {
         ensures parses { Parses result B.denied B.stands 11 Unary self.old self.new }
         ensures kept { Proceeds result self.old self.new }
     {
-        self.check_level()?;
+        self.check_nesting()?;
         self.tokens.advance()?;
         sign.tell_before_operand(self.builder)?;
         self.depth += 1;
@@ -168,7 +168,7 @@ impl<F: Feed, B: Build> Parser<'_, '_, '_, F, B> {
             _ if is_punctuator(&self.tokens.peek().token, Punctuator::OpenRound) => {
                 self.bracketed()
             }
-            _ => Err(self.tokens.misfit()),
+            _ => Err(self.tokens.unexpected_token()),
         }
     }
 
@@ -180,7 +180,7 @@ impl<F: Feed, B: Build> Parser<'_, '_, '_, F, B> {
         ensures parses { Parses result B.denied B.stands 11 Primary self.old self.new }
         ensures kept { Proceeds result self.old self.new }
     {
-        self.check_level()?;
+        self.check_nesting()?;
         let callee = self.tokens.expect_callee()?;
         self.builder.act(Action::BeginCall)?;
         self.tokens.expect(Punctuator::OpenRound)?;
@@ -217,7 +217,7 @@ impl<F: Feed, B: Build> Parser<'_, '_, '_, F, B> {
         ensures parses { Parses result B.denied B.stands 11 Primary self.old self.new }
         ensures kept { Proceeds result self.old self.new }
     {
-        self.check_level()?;
+        self.check_nesting()?;
         self.tokens.advance()?;
         self.depth += 1;
         self.expression()?;
@@ -239,7 +239,7 @@ fn assignment_operator<F: Feed>(parser: &ScopedCursor<'_, '_, F>) -> Option<Stor
 }
 
 /// Reports to the builder what comes between the sides of `&&` or `||`, and nothing for other operators.
-fn tell_middle<B: Build>(build: &mut B, op: Op) -> Result<(), BuildFault>
+fn report_middle<B: Build>(build: &mut B, op: Op) -> Result<(), BuildFault>
     requires follow { MayFollowAll (B.stands build.old) (middle op) }
     ensures told { OnOk result (AppendsAll (B.stands build.old) (B.stands build.new) (middle op)) }
     ensures memory { Refuses result B.denied }

@@ -1,7 +1,7 @@
 //! Functions: their headers, blocks and ends.
 
 ghost use Rattle.parser.specs.Advancing.{Anywhere};
-ghost use Rattle.parser.specs.Parsers.{IsAtBlock, IsBetween, OnlyTells, Proceeds};
+ghost use Rattle.parser.specs.Parsers.{IsAtBlock, IsBetween, OnlyReports, Proceeds};
 ghost use Rattle.parser.specs.Progress.{EndsFunction, MayEnd, ParsesBlock, ReadsParts, at_definition};
 
 use crate::function_headers::function_header;
@@ -36,7 +36,7 @@ impl<F: Feed, B: Build> Parser<'_, '_, '_, F, B> {
         ensures kept { Proceeds result self.old self.new }
     {
         if !is_punctuator(&self.tokens.peek().token, Punctuator::OpenCurly) {
-            return Err(self.tokens.misfit());
+            return Err(self.tokens.unexpected_token());
         }
         self.tokens.advance()?;
         declarations(&mut self.tokens, Declared::Locals)?;
@@ -50,7 +50,7 @@ impl<F: Feed, B: Build> Parser<'_, '_, '_, F, B> {
     fn end_function(&mut self, variables: u8) -> Result<(), ParseFault>
         requires open { MayEnd (B.stands self.old.builder.now) variables }
         ensures ends { EndsFunction result B.denied B.stands variables self.old self.new }
-        ensures kept { OnlyTells self.old self.new }
+        ensures kept { OnlyReports self.old self.new }
     {
         self.builder.act(Action::PushConstant(0))?;
         self.builder.act(Action::GiveBack)?;

@@ -4,7 +4,7 @@ ghost use Rattle.std.specs.Prelude.{◌<◌, IfErr, OnOk};
 ghost use Rattle.parser.specs.Parsers.{IsTooDeep};
 
 use crate::scoped_cursor::ScopedCursor;
-use grammar::{Build, Code, MOST_LEVELS, ParseFault};
+use grammar::{Build, Code, MOST_NESTED, ParseFault};
 use tokens::Feed;
 
 /// Reads a file by its grammar: each production is a method, in the module of its part of the grammar.
@@ -23,11 +23,11 @@ pub struct Parser<'s, 'a, 'b, F: Feed, B: Build> {
 impl<F: Feed, B: Build> Parser<'_, '_, '_, F, B> {
     /// Refuses the next token if the most levels are open: it would open one more.
     #[inline(always)]
-    pub fn check_level(&self) -> Result<(), ParseFault>
-        ensures ok { OnOk result (self.now.depth < MOST_LEVELS) }
+    pub fn check_nesting(&self) -> Result<(), ParseFault>
+        ensures ok { OnOk result (self.now.depth < MOST_NESTED) }
         ensures refused { IfErr result (λ fault. IsTooDeep self.now fault) }
     {
-        if self.depth >= MOST_LEVELS {
+        if self.depth >= MOST_NESTED {
             return Err(self.tokens.refusal(Code::NestedTooDeeply));
         }
         Ok(())

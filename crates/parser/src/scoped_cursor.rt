@@ -8,8 +8,8 @@ ghost use Rattle.tokens.specs.declared.located_tokens.Token.TheVariants as token
 ghost use Rattle.tokens.specs.declared.located_tokens.Keyword.TheVariants as keyword;
 ghost use Rattle.grammar.specs.Compiled.{diagnostic, main_name};
 ghost use Rattle.grammar.specs.Derivation.{ACall, AVariable, name_of_token};
-ghost use Rattle.grammar.specs.Faults.{misfit_code};
-ghost use Rattle.grammar.specs.Grammar.{AKeyword, AName, AnEnd, Called, Defined, Exactly, Mentioned, is_fault};
+ghost use Rattle.grammar.specs.Faults.{unexpected_token_code};
+ghost use Rattle.grammar.specs.Grammar.{AKeyword, AName, AnEnd, Called, Defined, Exactly, Mentioned, is_lexical_error};
 ghost use Rattle.grammar.specs.Laws.Naming.{LearnsName, RefusesName, line_of_undefined};
 ghost use Rattle.grammar.specs.Resolved.{IsCallable, IsVariable};
 ghost use Rattle.grammar.specs.Scope.{end_definition, function_number};
@@ -41,7 +41,7 @@ impl<'s, 'a, F: Feed> Model for ScopedCursor<'s, 'a, F> {
     ghost use Rattle.std.specs.Prelude.{◌≡◌, ◌≤◌, false};
     ghost use Rattle.tokens.specs.Cursors.{beyond, bytes_taken};
     ghost use Rattle.tokens.specs.Window.{KnowsEnd};
-    ghost use Rattle.grammar.specs.Grammar.{is_fault};
+    ghost use Rattle.grammar.specs.Grammar.{is_lexical_error};
     ghost use Rattle.tokens.specs.WindowLimits.{most_taken_bytes};
     ghost use Rattle.parser.specs.ScopedCursors.{ScopedCursor, position_of};
 
@@ -53,7 +53,7 @@ impl<'s, 'a, F: Feed> Model for ScopedCursor<'s, 'a, F> {
       borrows = (p.scope.ghost_name, p.feed.ghost_name);
     } };
 
-    ghost invariant = { λ p. (is_fault p.cursor.next.token ≡ false)
+    ghost invariant = { λ p. (is_lexical_error p.cursor.next.token ≡ false)
         × KnowsEnd (beyond p.cursor) (F.device p.feed.now).ended × (bytes_taken p.cursor ≤ most_taken_bytes) };
 }
 
@@ -72,7 +72,7 @@ pub fn open_cursor<F: Feed>(feed: &mut F) -> Result<Cursor, ParseFault>
 {
     let cursor = Cursor::open(feed)?;
     if let Token::Fault(_) = cursor.peek().token {
-        return Err(misfit(cursor.peek()));
+        return Err(unexpected_token_at(cursor.peek()));
     }
     Ok(cursor)
 }
@@ -107,7 +107,7 @@ impl<'s, 'a, F: Feed> ScopedCursor<'s, 'a, F> {
     pub fn peek(&self) -> &LocatedToken
         ensures value { result.now ≡ next_at self.now.position }
         ensures fits { FitsToken result.now.token }
-        ensures sound { is_fault result.now.token ≡ false }
+        ensures sound { is_lexical_error result.now.token ≡ false }
     {
         self.cursor.peek()
     }
@@ -122,11 +122,11 @@ impl<'s, 'a, F: Feed> ScopedCursor<'s, 'a, F> {
     /// Returns the refusal of the next token, which doesn't fit.
     #[cold]
     #[inline(never)]
-    pub fn misfit(&self) -> ParseFault
+    pub fn unexpected_token(&self) -> ParseFault
         ensures { result ≡
-            ParseFault.Source (diagnostic (next_at self.now.position).line (misfit_code (token_of self.now))) }
+            ParseFault.Source (diagnostic (next_at self.now.position).line (unexpected_token_code (token_of self.now))) }
     {
-        misfit(self.cursor.peek())
+        unexpected_token_at(self.cursor.peek())
     }
 
     /// Returns the refusal of the next token for this fault.
@@ -151,7 +151,7 @@ impl<'s, 'a, F: Feed> ScopedCursor<'s, 'a, F> {
         ensures kept { Advances result self.old self.new }
     {
         if let Token::Fault(_) = self.cursor.after().token {
-            return Err(misfit(self.cursor.after()));
+            return Err(unexpected_token_at(self.cursor.after()));
         }
         self.cursor.advance(self.feed)?;
         Ok(())
@@ -165,7 +165,7 @@ impl<'s, 'a, F: Feed> ScopedCursor<'s, 'a, F> {
         ensures kept { Advances result self.old self.new }
     {
         if !is_punctuator(&self.peek().token, punctuator) {
-            return Err(self.misfit());
+            return Err(self.unexpected_token());
         }
         self.advance()?;
         Ok(())
@@ -179,7 +179,7 @@ impl<'s, 'a, F: Feed> ScopedCursor<'s, 'a, F> {
         ensures kept { Advances result self.old self.new }
     {
         if !is_keyword(&self.peek().token, Keyword::Type) {
-            return Err(self.misfit());
+            return Err(self.unexpected_token());
         }
         self.advance()?;
         Ok(())
@@ -299,14 +299,14 @@ impl<'s, 'a, F: Feed> ScopedCursor<'s, 'a, F> {
 /// Returns the name that the next token has to be.
 #[inline(always)]
 fn next_name(cursor: &Cursor) -> Result<&Name, ParseFault>
-    requires sound { is_fault cursor.now.next.token ≡ false }
+    requires sound { is_lexical_error cursor.now.next.token ≡ false }
     ensures found { IfOk result (λ next_name. cursor.now.next.token ≡ token.Name next_name.now) }
     ensures other { IfErr result (IsNoName cursor.now.next) }
 {
     let next = cursor.peek();
     match &next.token {
         Token::Name(name) => Ok(name),
-        _ => Err(misfit(next)),
+        _ => Err(unexpected_token_at(next)),
     }
 }
 
@@ -340,8 +340,8 @@ fn declare_in(scope: &mut Scope, name: &Name, declared: Declared) -> Result<(), 
 /// Returns the refusal of a token that doesn't fit.
 #[cold]
 #[inline(never)]
-fn misfit(located_token: &LocatedToken) -> ParseFault
-    ensures { result ≡ ParseFault.Source (diagnostic located_token.now.line (misfit_code located_token.now.token)) }
+fn unexpected_token_at(located_token: &LocatedToken) -> ParseFault
+    ensures { result ≡ ParseFault.Source (diagnostic located_token.now.line (unexpected_token_code located_token.now.token)) }
 {
     let code = match located_token.token {
         Token::Fault(lexical_error) => lexical_error_code(lexical_error),

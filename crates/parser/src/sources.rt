@@ -8,8 +8,8 @@ ghost use Rattle.parser.specs.Advancing.{Anywhere, IsNextKeyword};
 ghost use Rattle.parser.specs.Parsers.{IsBetween, MayProceed, Proceeds};
 ghost use Rattle.parser.specs.ScopedCursors.{pools_in, scope_of};
 ghost use Rattle.parser.specs.Segment.{CountsRefusal};
-ghost use Rattle.parser.specs.ParsedFiles.{AreNew, IsFile, IsNew, ParseIsRefused, TakesEnough};
-ghost use Rattle.parser.specs.Progress.{HasMore, IsComplete, Lacks, ReadsParts, ReadsSource, at_source};
+ghost use Rattle.parser.specs.ParsedFiles.{AreNew, ParsesToFile, IsNew, ParseIsRefused, TakesEnough};
+ghost use Rattle.parser.specs.Progress.{HasMore, IsComplete, LacksDefinition, ReadsParts, ReadsSource, at_source};
 
 use crate::function_headers::external_declaration;
 use crate::name_lists::type_words;
@@ -22,7 +22,7 @@ use tokens::{Feed, Keyword, Punctuator, Token};
 /// Reads a source from the device in one pass, reports its actions to the builder, and returns its names.
 ///
 /// The device gives its bytes in pieces of any size. The source ends before the first byte 26, or when the device has
-/// no more bytes; it is too long past 1,048,576 bytes. At most `MOST_LEVELS` levels may be open at once, which bounds
+/// no more bytes; it is too long past 1,048,576 bytes. At most `MOST_NESTED` levels may be open at once, which bounds
 /// the recursion. No more bytes are taken than decide the answer and a window of 4,096 bytes. A device that has given
 /// no byte has ended, and is not asked again.
 ///
@@ -38,7 +38,7 @@ use tokens::{Feed, Keyword, Punctuator, Token};
 pub fn parse<F: Feed, B: Build>(feed: &mut F, build: &mut B) -> Result<Pools, ParseFault>
     requires new { IsNew (B.stands build.old) }
     requires ready { MayRead (F.device feed.old) }
-    ensures file { IfOk result (λ pools. IsFile (B.stands build.old) (B.stands build.new) (F.device feed.old).to_come pools) }
+    ensures file { IfOk result (λ pools. ParsesToFile (B.stands build.old) (B.stands build.new) (F.device feed.old).to_come pools) }
     ensures refused { IfErr result (ParseIsRefused (B.stands build.old) (B.stands build.new) B.denied
         (F.device feed.old).to_come (F.device feed.new).to_come) }
     ensures taken { TakesEnough result (B.stands build.old) (F.device feed.old).to_come (F.device feed.new).to_come }
@@ -64,7 +64,7 @@ pub fn parse_into<F: Feed, B: Build>(
 ) -> Result<(), ParseFault>
     requires new { AreNew (B.stands build.old) scope.old }
     requires ready { MayRead (F.device feed.old) }
-    ensures file { OnOk result (IsFile (B.stands build.old) (B.stands build.new) (F.device feed.old).to_come
+    ensures file { OnOk result (ParsesToFile (B.stands build.old) (B.stands build.new) (F.device feed.old).to_come
         (pools_in scope.new)) }
     ensures refused { IfErr result (ParseIsRefused (B.stands build.old) (B.stands build.new) B.denied
         (F.device feed.old).to_come (F.device feed.new).to_come) }
@@ -119,7 +119,7 @@ impl<F: Feed, B: Build> Parser<'_, '_, '_, F, B> {
         } else if let Token::Name(_) = self.tokens.peek().token {
             self.function()?;
         } else {
-            return Err(self.tokens.misfit());
+            return Err(self.tokens.unexpected_token());
         }
         Ok(())
     }
@@ -147,7 +147,7 @@ impl<F: Feed, B: Build> Parser<'_, '_, '_, F, B> {
                 self.function()?;
             }
             Token::Name(_) => external_declaration(&mut self.tokens)?,
-            _ => return Err(self.tokens.misfit()),
+            _ => return Err(self.tokens.unexpected_token()),
         }
         Ok(())
     }
@@ -156,7 +156,7 @@ impl<F: Feed, B: Build> Parser<'_, '_, '_, F, B> {
 /// Refuses a file in which a function is missing: one that was mentioned, or else `main`.
 fn check_functions<F: Feed>(parser: &ScopedCursor<'_, '_, F>) -> Result<(), ParseFault>
     ensures complete { OnOk result (IsComplete (scope_of parser.now)) }
-    ensures lacks { IfErr result (Lacks parser.now.position.lookahead) }
+    ensures lacks { IfErr result (LacksDefinition parser.now.position.lookahead) }
 {
     if let Some(line) = parser.undefined_line() {
         return Err(ParseFault::Source(Diagnostic {

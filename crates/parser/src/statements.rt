@@ -58,7 +58,7 @@ impl<F: Feed, B: Build> Parser<'_, '_, '_, F, B> {
         ensures parses { ParsesBody result B.denied B.stands Statement self.old self.new }
         ensures kept { Proceeds result self.old self.new }
     {
-        self.check_level()?;
+        self.check_nesting()?;
         self.tokens.advance()?;
         declarations(&mut self.tokens, Declared::Locals)?;
         self.depth += 1;
@@ -75,7 +75,7 @@ impl<F: Feed, B: Build> Parser<'_, '_, '_, F, B> {
         ensures parses { ParsesBody result B.denied B.stands Statement self.old self.new }
         ensures kept { Proceeds result self.old self.new }
     {
-        self.check_level()?;
+        self.check_nesting()?;
         self.tokens.advance()?;
         self.depth += 1;
         self.condition()?;
@@ -109,7 +109,7 @@ impl<F: Feed, B: Build> Parser<'_, '_, '_, F, B> {
         ensures parses { ParsesBody result B.denied B.stands Statement self.old self.new }
         ensures kept { Proceeds result self.old self.new }
     {
-        self.check_level()?;
+        self.check_nesting()?;
         self.builder.act(Action::BeginWhile)?;
         self.tokens.advance()?;
         self.depth += 1;

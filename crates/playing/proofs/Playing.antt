@@ -6,8 +6,8 @@ use Rattle.std.proofs.lemmas.Bool.Decides.{nat_tests}
 use Rattle.std.proofs.lemmas.List.{get_or-map, length-map, map-append, map-set, take_more_set}
 use Rattle.std.proofs.lemmas.Option.{slice_get-get_or, slice_get-map}
 use Rattle.std.proofs.Math.Seq.{map-set_same}
-use Rattle.arena.specs.Field.{Field, is_alive, is_live, live_count}
-use Rattle.arena.specs.Arena.{Robot, Arena, robot_of, lives}
+use Rattle.arena.specs.Field.{Field, is_alive, is_live_at, live_count}
+use Rattle.arena.specs.Arena.{Robot, Arena, robot_of, is_live}
 use Rattle.arena.specs.Representing.{RepresentsField}
 use Rattle.arena.proofs.Represents.{body_at}
 use Rattle.code.specs.declared.want.Want.{Want}
@@ -20,7 +20,7 @@ use Rattle.engine.specs.Executables.{Executable}
 use Rattle.code.specs.Machine.{Machine, want_code}
 use Rattle.code.specs.ReachedMachines.{IsReached}
 use Rattle.code.proofs.Correct.{want_code_is_want}
-use Rattle.battles.specs.Battle.{Behaviour, Stage, first_above, granted, is_over, last_cycle, behaviour_at, stage_after, robot_turn, turns}
+use Rattle.battles.specs.Battle.{Behaviour, BattleState, first_passing, after_want, is_over, last_cycle, behaviour_at, state_after, robot_turn, turns}
 use Rattle.battles.specs.Carrying.{AreRobotsOf, EachIsAheadOf, IsRobotOf, Runner}
 use Rattle.battles.proofs.Cycles.{cycle_alone, cycle_updates, first_here, first_later, first_none, goes_on, over_if_few, stage_more}
 use Rattle.battles.proofs.Running.{at_end, end_at}
@@ -34,20 +34,20 @@ use Rattle.playing.specs.Played.{EndsAt, HavePlayed, HaveUpdated, codes_of, engi
 -- what a want makes of the field and of the machine
 granted_takes : (code : Program) (i : ℕ) (trace : List ℤ) (w : Want) (machine : Machine) (before after : Arena)
     (f : Field) → TakesTurn code i trace w machine before after → RepresentsField before f
-    → RepresentsField after (granted w i f trace).0 × IsReached machine code (granted w i f trace).1
-unfolding granted
+    → RepresentsField after (after_want w i f trace).0 × IsReached machine code (after_want w i f trace).1
+unfolding after_want
 granted_takes code i trace Quiet machine before after f (at, same) stands = (rw same stands, at)
 granted_takes code i trace Restart machine before after f (at, same) stands = (rw same stands, at)
 granted_takes code i trace (Ask intrinsic arguments) machine before after f takes stands =
     let taken = takes f stands in (taken.1, taken.0)
 
 -- a live robot and a dead one
-step_live : (r : Behaviour) (i : ℕ) (f : Field) (trace : List ℤ) → is_live f i ≡ true
-    → robot_turn r i f trace ≡ granted (r trace) i f trace
+step_live : (r : Behaviour) (i : ℕ) (f : Field) (trace : List ℤ) → is_live_at f i ≡ true
+    → robot_turn r i f trace ≡ after_want (r trace) i f trace
 unfolding robot_turn
 step_live r i f trace live = rw live refl
 
-step_dead : (r : Behaviour) (i : ℕ) (f : Field) (trace : List ℤ) → is_live f i ≡ false →
+step_dead : (r : Behaviour) (i : ℕ) (f : Field) (trace : List ℤ) → is_live_at f i ≡ false →
     robot_turn r i f trace ≡ (f, trace)
 unfolding robot_turn
 step_dead r i f trace dead = rw dead refl
@@ -61,9 +61,9 @@ wants_code r code trace is =
 
 -- a pilot's turn, of a live robot and of a dead one
 pub record HasTurned (i : ℕ) (code : Program) (old new : Machine) (before after : Arena) : Type 0 where
-  pub live : (f : Field) → RepresentsField before f → lives before i ≡ is_live f i
-  pub dead : lives before i ≡ false → (new ≡ old) × (after ≡ before)
-  pub lives : lives before i ≡ true → (trace : List ℤ) → IsReached old code trace
+  pub live : (f : Field) → RepresentsField before f → is_live before i ≡ is_live_at f i
+  pub dead : is_live before i ≡ false → (new ≡ old) × (after ≡ before)
+  pub lives : is_live before i ≡ true → (trace : List ℤ) → IsReached old code trace
       → TakesTurn code i trace (want_code code trace) new before after
 
 -- is the robot's step
@@ -71,7 +71,7 @@ turn_steps : (i : ℕ) (code : Program) (old new : Machine) (before after : Aren
     (trace : List ℤ) → HasTurned i code old new before after → IsRobotOf (plainly code) r → RepresentsField before f
     → IsReached old code trace
     → RepresentsField after (robot_turn r i f trace).0 × IsReached new code (robot_turn r i f trace).1
-turn_steps i code old new before after r f trace turned is stands at = elim (cases_Bool (lives before i)) [
+turn_steps i code old new before after r f trace turned is stands at = elim (cases_Bool (is_live before i)) [
   | inl live ↦
       let stepped = step_live r i f trace (sym (turned.live f stands) ∙ live) in
       let wanted = wants_code r code trace is in
@@ -97,58 +97,58 @@ has_stepped i code old new before after turned = record {
 }
 
 -- one cycle more, without an update
-pub cycle_plain : (robots : List Behaviour) (codes : List Program) (seats : List Pilot) (arena : Arena) (s : Stage)
+pub cycle_plain : (robots : List Behaviour) (codes : List Program) (seats : List Pilot) (arena : Arena) (s : BattleState)
     (n : ℕ) → (n + 1) % 15 ≢ 0
-    → HavePlayed codes seats arena (turns robots (length robots) (stage_after robots s n))
-    → HavePlayed codes seats arena (stage_after robots s (n + 1))
+    → HavePlayed codes seats arena (turns robots (length robots) (state_after robots s n))
+    → HavePlayed codes seats arena (state_after robots s (n + 1))
 cycle_plain robots codes seats arena s n plain played =
-    rw (stage_more robots s n, cycle_alone robots (n + 1) (stage_after robots s n) plain) played
+    rw (stage_more robots s n, cycle_alone robots (n + 1) (state_after robots s n) plain) played
 
 -- and with one
 pub cycle_due : (robots : List Behaviour) (codes : List Program) (seats : List Pilot) (before after : Arena)
-    (s : Stage) (n : ℕ) (decides : Bool) → (n + 1) % 15 ≡ 0
-    → HavePlayed codes seats before (turns robots (length robots) (stage_after robots s n))
-    → HaveUpdated (turns robots (length robots) (stage_after robots s n)).field after decides
-    → HavePlayed codes seats after (stage_after robots s (n + 1))
+    (s : BattleState) (n : ℕ) (decides : Bool) → (n + 1) % 15 ≡ 0
+    → HavePlayed codes seats before (turns robots (length robots) (state_after robots s n))
+    → HaveUpdated (turns robots (length robots) (state_after robots s n)).field after decides
+    → HavePlayed codes seats after (state_after robots s (n + 1))
 cycle_due robots codes seats before after s n decides due played updated =
-    rw (stage_more robots s n, cycle_updates robots (n + 1) (stage_after robots s n) due)
+    rw (stage_more robots s n, cycle_updates robots (n + 1) (state_after robots s n) due)
     (record { field = updated.stands; traces = played.traces })
 
-pub over_due : (robots : List Behaviour) (s : Stage) (n : ℕ) (arena : Arena) (decides : Bool) → (n + 1) % 15 ≡ 0
-    → HaveUpdated (turns robots (length robots) (stage_after robots s n)).field arena decides
-    → is_over (n + 1) (stage_after robots s (n + 1)) ≡ decides
+pub over_due : (robots : List Behaviour) (s : BattleState) (n : ℕ) (arena : Arena) (decides : Bool) → (n + 1) % 15 ≡ 0
+    → HaveUpdated (turns robots (length robots) (state_after robots s n)).field arena decides
+    → is_over (n + 1) (state_after robots s (n + 1)) ≡ decides
 over_due robots s n arena decides due updated =
-    over_if_few (n + 1) (stage_after robots s (n + 1)) due
-    ∙ ap (λ (t : Stage). nat_le (live_count t.field) 1)
-    (stage_more robots s n ∙ cycle_updates robots (n + 1) (stage_after robots s n) due)
+    over_if_few (n + 1) (state_after robots s (n + 1)) due
+    ∙ ap (λ (t : BattleState). nat_le (live_count t.field) 1)
+    (stage_more robots s n ∙ cycle_updates robots (n + 1) (state_after robots s n) due)
     ∙ sym updated.decided
 
 -- So a cycle was run, with an update or without one.
 pub run_due : (robots : List Behaviour) (codes : List Program) (seats others : List Pilot) (old before after : Arena)
-    (s : Stage) (n : ℕ) (decides : Bool) → (n + 1) % 15 ≡ 0
-    → (HavePlayed codes seats old (stage_after robots s n)
-    → HavePlayed codes others before (turns robots (length robots) (stage_after robots s n)))
+    (s : BattleState) (n : ℕ) (decides : Bool) → (n + 1) % 15 ≡ 0
+    → (HavePlayed codes seats old (state_after robots s n)
+    → HavePlayed codes others before (turns robots (length robots) (state_after robots s n)))
     → ((f : Field) → RepresentsField before f → HaveUpdated f after decides)
     → HaveRun codes robots s n seats old others after decides
 run_due robots codes seats others old before after s n decides due turned updates = λ played.
     let now = turned played in
-    let updated = updates (turns robots (length robots) (stage_after robots s n)).field now.field in (
+    let updated = updates (turns robots (length robots) (state_after robots s n)).field now.field in (
       cycle_due robots codes others before after s n decides due now updated,
       over_due robots s n after decides due updated,
     )
 
 pub run_plain : (robots : List Behaviour) (codes : List Program) (seats others : List Pilot) (old after : Arena)
-    (s : Stage) (n : ℕ) → (n + 1) % 15 ≢ 0
-    → (HavePlayed codes seats old (stage_after robots s n)
-    → HavePlayed codes others after (turns robots (length robots) (stage_after robots s n)))
+    (s : BattleState) (n : ℕ) → (n + 1) % 15 ≢ 0
+    → (HavePlayed codes seats old (state_after robots s n)
+    → HavePlayed codes others after (turns robots (length robots) (state_after robots s n)))
     → HaveRun codes robots s n seats old others after false
 run_plain robots codes seats others old after s n plain turned = λ played. (
   cycle_plain robots codes others after s n plain (turned played),
-  goes_on (n + 1) (stage_after robots s (n + 1)) plain,
+  goes_on (n + 1) (state_after robots s (n + 1)) plain,
 )
 
 -- The least of some numbers that passes, or the last of them: no number that passes is less.
-least : (passes : ℕ → Bool) (n count k : ℕ) → n < k → k ≤ n + count → passes k ≡ true → first_above passes n count ≤ k
+least : (passes : ℕ → Bool) (n count k : ℕ) → n < k → k ≤ n + count → passes k ≡ true → first_passing passes n count ≤ k
 least passes n zero k above within here = absurd (omega arith)
 least passes n (suc count) k above within here = elim (cases_Bool (passes (n + 1))) [
   | inl holds ↦ let now = first_here passes n count holds in omega (arith, now)
@@ -161,7 +161,7 @@ least passes n (suc count) k above within here = elim (cases_Bool (passes (n + 1
 
 -- it passes, or is the last
 passes_or_last : (passes : ℕ → Bool) (n count : ℕ) →
-    (passes (first_above passes n count) ≡ true) ⊎ (first_above passes n count ≡ n + count)
+    (passes (first_passing passes n count) ≡ true) ⊎ (first_passing passes n count ≡ n + count)
 passes_or_last passes n zero = inr (first_none passes n ∙ omega arith)
 passes_or_last passes n (suc count) = elim (cases_Bool (passes (n + 1))) [
   | inl holds ↦ inl (ap passes (first_here passes n count holds) ∙ holds)
@@ -173,7 +173,7 @@ passes_or_last passes n (suc count) = elim (cases_Bool (passes (n + 1))) [
       ]
 ]
 
-no_more : (passes : ℕ → Bool) (n count : ℕ) → first_above passes n count ≤ n + count
+no_more : (passes : ℕ → Bool) (n count : ℕ) → first_passing passes n count ≤ n + count
 no_more passes n zero = let none = first_none passes n in omega (arith, none)
 no_more passes n (suc count) = elim (cases_Bool (passes (n + 1))) [
   | inl holds ↦ let now = first_here passes n count holds in omega (arith, now)
@@ -183,7 +183,7 @@ no_more passes n (suc count) = elim (cases_Bool (passes (n + 1))) [
       omega (arith, later, rest)
 ]
 
-beyond : (passes : ℕ → Bool) (n count : ℕ) → 0 < count → n < first_above passes n count
+beyond : (passes : ℕ → Bool) (n count : ℕ) → 0 < count → n < first_passing passes n count
 beyond passes n zero some = absurd (omega arith)
 beyond passes n (suc zero) some = elim (cases_Bool (passes (n + 1))) [
   | inl holds ↦ let now = first_here passes n zero holds in omega (arith, now)
@@ -200,24 +200,24 @@ beyond passes n (suc (suc count)) some = elim (cases_Bool (passes (n + 1))) [
       omega (arith, later, rest)
 ]
 
-last_is : (robots : List Behaviour) (s : Stage) (limit : ℕ)
-    → last_cycle robots s limit ≡ first_above (λ n. is_over n (stage_after robots s n)) 0 limit
+last_is : (robots : List Behaviour) (s : BattleState) (limit : ℕ)
+    → last_cycle robots s limit ≡ first_passing (λ n. is_over n (state_after robots s n)) 0 limit
 unfolding last_cycle
 last_is robots s limit = refl
 
 -- no match goes past its limit
-pub last_within : (robots : List Behaviour) (s : Stage) (limit : ℕ) → last_cycle robots s limit ≤ limit
+pub last_within : (robots : List Behaviour) (s : BattleState) (limit : ℕ) → last_cycle robots s limit ≤ limit
 last_within robots s limit =
     let last = last_is robots s limit in
-    let most = no_more (λ n. is_over n (stage_after robots s n)) 0 limit in
+    let most = no_more (λ n. is_over n (state_after robots s n)) 0 limit in
     omega (arith, last, most)
 
 -- A match that has begun is over if its limit is 0.
-pub ends_begun : (robots : List Behaviour) (s : Stage) (limit : ℕ) → EndsAt (last_cycle robots s limit)
+pub ends_begun : (robots : List Behaviour) (s : BattleState) (limit : ℕ) → EndsAt (last_cycle robots s limit)
     (record { cycles = 0; is_over = nat_eq limit 0 })
 ends_begun robots s limit =
     let last = last_is robots s limit in
-    let most = no_more (λ n. is_over n (stage_after robots s n)) 0 limit in
+    let most = no_more (λ n. is_over n (state_after robots s n)) 0 limit in
     elim (cases_eq limit 0) [
       | inl none ↦ (
         λ over. omega (arith, last, most, none),
@@ -225,43 +225,43 @@ ends_begun robots s limit =
       )
       | inr some ↦ (
         λ over. absurd (true≢false (sym over ∙ grind (arith, nat_tests))),
-        λ on. let later = beyond (λ n. is_over n (stage_after robots s n)) 0 limit (omega arith) in
+        λ on. let later = beyond (λ n. is_over n (state_after robots s n)) 0 limit (omega arith) in
             omega (arith, last, later),
       )
     ]
 
 -- It is over after a further cycle that decides it, or that is the last of its limit.
-pub ends_decided : (robots : List Behaviour) (s : Stage) (n limit : ℕ) → n < limit → n < last_cycle robots s limit
-    → (is_over (n + 1) (stage_after robots s (n + 1)) ≡ true) ⊎ (n + 1 ≡ limit)
+pub ends_decided : (robots : List Behaviour) (s : BattleState) (n limit : ℕ) → n < limit → n < last_cycle robots s limit
+    → (is_over (n + 1) (state_after robots s (n + 1)) ≡ true) ⊎ (n + 1 ≡ limit)
     → EndsAt (last_cycle robots s limit) (record { cycles = n + 1; is_over = true })
 ends_decided robots s n limit within before ends =
     let last = last_is robots s limit in
     elim ends as (λ e. EndsAt (last_cycle robots s limit) (record { cycles = n + 1; is_over = true })) [
       | inl over ↦
-          let first = least (λ k. is_over k (stage_after robots s k)) 0 limit (n + 1) (omega arith) (omega arith) over
+          let first = least (λ k. is_over k (state_after robots s k)) 0 limit (n + 1) (omega arith) (omega arith) over
           in
           (λ is. omega (arith, last, first, before), λ on. absurd (true≢false on))
       | inr all ↦
-          let most = no_more (λ k. is_over k (stage_after robots s k)) 0 limit in
+          let most = no_more (λ k. is_over k (state_after robots s k)) 0 limit in
           (λ is. omega (arith, last, most, before, all), λ on. absurd (true≢false on))
     ]
 
 -- and else it goes on
-pub ends_later : (robots : List Behaviour) (s : Stage) (n limit : ℕ) → n < limit → n < last_cycle robots s limit
-    → is_over (n + 1) (stage_after robots s (n + 1)) ≡ false → n + 1 ≢ limit
+pub ends_later : (robots : List Behaviour) (s : BattleState) (n limit : ℕ) → n < limit → n < last_cycle robots s limit
+    → is_over (n + 1) (state_after robots s (n + 1)) ≡ false → n + 1 ≢ limit
     → EndsAt (last_cycle robots s limit) (record { cycles = n + 1; is_over = false })
 ends_later robots s n limit within before later less =
     let last = last_is robots s limit in
     let here : n + 1 ≢ last_cycle robots s limit = λ same.
-    elim (passes_or_last (λ k. is_over k (stage_after robots s k)) 0 limit) [
+    elim (passes_or_last (λ k. is_over k (state_after robots s k)) 0 limit) [
       | inl over ↦
-          true≢false (sym over ∙ ap (λ k. is_over k (stage_after robots s k)) (sym last ∙ sym same) ∙ later)
+          true≢false (sym over ∙ ap (λ k. is_over k (state_after robots s k)) (sym last ∙ sym same) ∙ later)
       | inr all ↦ less (same ∙ last ∙ all ∙ omega arith)
     ] in
     (λ over. absurd (true≢false (sym over)), λ on. omega (arith, before, here))
 
-pub ends_next : (robots : List Behaviour) (s : Stage) (n limit : ℕ) (decided ended : Bool) → n < limit
-    → n < last_cycle robots s limit → is_over (n + 1) (stage_after robots s (n + 1)) ≡ decided
+pub ends_next : (robots : List Behaviour) (s : BattleState) (n limit : ℕ) (decided ended : Bool) → n < limit
+    → n < last_cycle robots s limit → is_over (n + 1) (state_after robots s (n + 1)) ≡ decided
     → ended ≡ (decided || n + 1 == limit)
     → EndsAt (last_cycle robots s limit) (record { cycles = n + 1; is_over = ended })
 ends_next robots s n limit true ended within before over is =
@@ -276,7 +276,7 @@ ends_next robots s n limit false ended within before over is = elim (cases_eq (n
 ]
 
 -- A game has come further by a cycle.
-pub comes_on : (codes : List Program) (robots : List Behaviour) (s : Stage) (seats others : List Pilot)
+pub comes_on : (codes : List Program) (robots : List Behaviour) (s : BattleState) (seats others : List Pilot)
     (old new : Game) (decided : Bool) → old.ending.cycles < old.limit → old.ending.is_over ≡ false
     → new.ending.cycles ≡ old.ending.cycles + 1 → new.limit ≡ old.limit
     → new.ending.is_over ≡ (decided || old.ending.cycles + 1 == old.limit)
@@ -312,7 +312,7 @@ exe_here codes i code here = slice_get-map plainly codes i ∙ ap (option_map pl
 
 -- the robots so far have had their turns, and one more
 pub one_turned : (codes : List Program) (robots : List Behaviour) (seats : List Pilot) (i : ℕ) (none new : Pilot)
-    (before after : Arena) (s : Stage) → AreRobotsOf (exes_of codes) robots → codes_of seats ≡ codes
+    (before after : Arena) (s : BattleState) → AreRobotsOf (exes_of codes) robots → codes_of seats ≡ codes
     → i < length seats
     → HasTurned i (get_or seats i none).code (get_or seats i none).state new.state before after
     → HavePlayed codes seats before (turns robots i s) →
@@ -350,7 +350,7 @@ each_length (runner ∷ runners) (exe ∷ exes) (trace ∷ traces) each = ap suc
 each_length _ _ _ each = absurd each
 
 -- A pilot's machine is where the replies of its robot lead.
-pub seat_reached : (codes : List Program) (seats : List Pilot) (arena : Arena) (s : Stage) (i : ℕ) (none : Pilot)
+pub seat_reached : (codes : List Program) (seats : List Pilot) (arena : Arena) (s : BattleState) (i : ℕ) (none : Pilot)
     → codes_of seats ≡ codes → i < length seats → HavePlayed codes seats arena s
     → IsReached (get_or seats i none).state (get_or seats i none).code (get_or s.traces i [])
 seat_reached codes seats arena s i none same inside played =
@@ -390,14 +390,14 @@ pub robots_as_seats : (codes : List Program) (robots : List Behaviour) (seats : 
 robots_as_seats codes robots seats are same =
     robots_length (exes_of codes) robots are ∙ length-map codes plainly ∙ sym (ap length same) ∙ codes_length seats
 
-pub traces_as_seats : (codes : List Program) (seats : List Pilot) (arena : Arena) (s : Stage)
+pub traces_as_seats : (codes : List Program) (seats : List Pilot) (arena : Arena) (s : BattleState)
     → HavePlayed codes seats arena s → length s.traces ≡ length seats
 traces_as_seats codes seats arena s played =
     each_length (runners_of seats) (exes_of codes) s.traces played.traces ∙ length-map seats runner_of
 
 -- a robot of the field lives if it is alive
-pub lives_are : (g : Arena) (f : Field) (i : ℕ) → RepresentsField g f → lives g i ≡ is_live f i
-unfolding lives is_live is_alive robot_of
+pub lives_are : (g : Arena) (f : Field) (i : ℕ) → RepresentsField g f → is_live g i ≡ is_live_at f i
+unfolding is_live is_live_at is_alive robot_of
 lives_are g f i stands = ap (λ (b : Robot). nat_lt b.damage 100) (body_at g f i stands)
 
 -- what plain machines run has these codes, so their robots want what the files' trees want

@@ -1,7 +1,7 @@
 -- A match that is played cycle by cycle, by the definition of a battle.
 use Rattle.std.specs.Prelude.{◌≡◌, ◌⊎◌, ◌<◌, ◌≤◌, ◌+◌, ◌*◌, ◌/◌, ℕ, Bool, true, false, List}
 use Rattle.arena.specs.Arena.{Arena}
-use Rattle.battles.specs.Battle.{Behaviour, Stage, is_over, stage_after, update_cycles}
+use Rattle.battles.specs.Battle.{Behaviour, BattleState, is_over, state_after, update_cycles}
 use Rattle.code.specs.Generation.{Program}
 use Rattle.playing.specs.Pilot.{Pilot}
 use Rattle.playing.specs.Played.{HavePlayed, IsEndOf}
@@ -15,9 +15,9 @@ pub record Game : Type 0 where
 
 -- The pilots and the field are at the stage after the cycles that were played since the opening. The match is over
 -- exactly if its last cycle was played.
-pub record HasCome (codes : List Program) (robots : List Behaviour) (opening : Stage) (seats : List Pilot)
+pub record HasCome (codes : List Program) (robots : List Behaviour) (opening : BattleState) (seats : List Pilot)
     (game : Game) : Type 0 where
-  pub played : HavePlayed codes seats game.arena (stage_after robots opening game.ending.cycles)
+  pub played : HavePlayed codes seats game.arena (state_after robots opening game.ending.cycles)
   pub ends : IsEndOf robots opening game.limit game.ending
 
 -- one cycle more of the same match
@@ -37,9 +37,9 @@ EndsWell game = game.ending.is_over ≡ true
     → (game.ending.cycles ≡ game.limit) ⊎ (game.ending.cycles ≡ game.ending.cycles / update_cycles * update_cycles)
 
 -- the cycle after so many was run, which may decide the match
-abbrev pub HaveRun : List Program → List Behaviour → Stage → (before : ℕ) → List Pilot → Arena → List Pilot → Arena
+abbrev pub HaveRun : List Program → List Behaviour → BattleState → (before : ℕ) → List Pilot → Arena → List Pilot → Arena
     → Bool → Type 0
 HaveRun codes robots opening before seats arena seats' arena' decides =
-    HavePlayed codes seats arena (stage_after robots opening before)
-    → HavePlayed codes seats' arena' (stage_after robots opening (before + 1))
-    × (is_over (before + 1) (stage_after robots opening (before + 1)) ≡ decides)
+    HavePlayed codes seats arena (state_after robots opening before)
+    → HavePlayed codes seats' arena' (state_after robots opening (before + 1))
+    × (is_over (before + 1) (state_after robots opening (before + 1)) ≡ decides)

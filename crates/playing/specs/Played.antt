@@ -4,7 +4,7 @@ use Rattle.arena.specs.Field.{Field, live_count}
 use Rattle.arena.specs.Arena.{Arena}
 use Rattle.arena.specs.Moved.{moved}
 use Rattle.arena.specs.Representing.{RepresentsField}
-use Rattle.battles.specs.Battle.{Behaviour, Stage, battle, last_cycle}
+use Rattle.battles.specs.Battle.{Behaviour, BattleState, battle, last_cycle}
 use Rattle.battles.specs.Carrying.{Runner, HasReached}
 use Rattle.code.specs.Generation.{Program}
 use Rattle.code.specs.Machine.{Machine}
@@ -40,7 +40,7 @@ abbrev pub runners_of : List Pilot → List Runner
 runners_of seats = map runner_of seats
 
 -- the pilots and the field have reached a stage
-abbrev pub HavePlayed : List Program → List Pilot → Arena → Stage → Type 0
+abbrev pub HavePlayed : List Program → List Pilot → Arena → BattleState → Type 0
 HavePlayed codes seats arena stage = HasReached (runners_of seats) (exes_of codes) arena stage
 
 -- an update was done, which decides a match if it leaves at most one robot alive
@@ -53,7 +53,7 @@ abbrev pub EndsAt : ℕ → PlayEnd → Type 0
 EndsAt last ending = (ending.is_over ≡ true → ending.cycles ≡ last) × (ending.is_over ≡ false → ending.cycles < last)
 
 -- a match was played from an opening
-abbrev pub IsEndOf : List Behaviour → Stage → ℕ → PlayEnd → Type 0
+abbrev pub IsEndOf : List Behaviour → BattleState → ℕ → PlayEnd → Type 0
 IsEndOf robots opening limit ending = EndsAt (last_cycle robots opening limit) ending
 
 -- the battle of these robots was played

@@ -4,7 +4,7 @@ ghost use Rattle.std.specs.Prelude.{◌≡◌, ◌⊎◌, ◌==◌, ◌||◌, �
 ghost use Rattle.arena.specs.Field.{Field};
 ghost use Rattle.arena.specs.Arena.{most_updates};
 ghost use Rattle.arena.specs.Representing.{RepresentsField};
-ghost use Rattle.battles.specs.Battle.{Behaviour, Stage, opening, turns};
+ghost use Rattle.battles.specs.Battle.{Behaviour, BattleState, first_state, turns};
 ghost use Rattle.battles.specs.Carrying.{AreRobotsOf, EachIsAheadOf};
 ghost use Rattle.playing.specs.Games.{EndsWell, GoesOn, HasCome, HaveRun};
 ghost use Rattle.playing.specs.Played.{HavePlayed, HaveUpdated, IsPlayed, codes_of, exes_of, runners_of};
@@ -54,7 +54,7 @@ impl Game {
         requires most { length pilots.old ≤ MOST_ROBOTS }
         requires limit { limit ≤ MOST_CYCLES }
         ensures battle { (robots : List Behaviour) → AreRobotsOf (exes_of (codes_of pilots.old)) robots
-            → HasCome (codes_of pilots.old) robots (opening (length robots) seed number) pilots.new result }
+            → HasCome (codes_of pilots.old) robots (first_state (length robots) seed number) pilots.new result }
         ensures codes { codes_of pilots.new ≡ codes_of pilots.old }
         ensures manned { length result.arena.robots ≡ length pilots.new }
         ensures begins { result.ending.cycles ≡ 0 }
@@ -92,7 +92,7 @@ impl Game {
     pub fn cycle<W: Watcher>(&mut self, pilots: &mut [Pilot<'_>], watcher: &mut W)
         requires manned { length self.old.arena.robots ≡ length pilots.old }
         requires goes_on { self.old.ending.is_over ≡ false }
-        ensures battle { (robots : List Behaviour) (s : Stage) → AreRobotsOf (exes_of (codes_of pilots.old)) robots
+        ensures battle { (robots : List Behaviour) (s : BattleState) → AreRobotsOf (exes_of (codes_of pilots.old)) robots
             → HasCome (codes_of pilots.old) robots s pilots.old self.old
             → HasCome (codes_of pilots.old) robots s pilots.new self.new }
         ensures codes { codes_of pilots.new ≡ codes_of pilots.old }
@@ -154,7 +154,7 @@ fn run<W: Watcher>(game: &mut Game, pilots: &mut [Pilot<'_>], watcher: &mut W)
     requires manned { length game.old.arena.robots ≡ length pilots.old }
     requires begins { game.old.ending.cycles ≡ 0 }
     requires ends { EndsWell game.old }
-    ensures battle { (robots : List Behaviour) (s : Stage) → AreRobotsOf (exes_of (codes_of pilots.old)) robots
+    ensures battle { (robots : List Behaviour) (s : BattleState) → AreRobotsOf (exes_of (codes_of pilots.old)) robots
         → HasCome (codes_of pilots.old) robots s pilots.old game.old
         → HasCome (codes_of pilots.old) robots s pilots.new game.new }
     ensures limit { game.new.limit ≡ game.old.limit }
@@ -183,7 +183,7 @@ fn run_cycle<W: Watcher>(
     requires manned { length arena.old.robots ≡ length pilots.old }
     requires most { cycle ≤ MOST_CYCLES }
     requires updates { arena.old.updates < most_updates }
-    ensures battle { (robots : List Behaviour) (s : Stage) (before : ℕ) → cycle ≡ before + 1
+    ensures battle { (robots : List Behaviour) (s : BattleState) (before : ℕ) → cycle ≡ before + 1
         → AreRobotsOf (exes_of (codes_of pilots.old)) robots
         → HaveRun (codes_of pilots.old) robots s before pilots.old arena.old pilots.new arena.new result }
     ensures codes { codes_of pilots.new ≡ codes_of pilots.old }
@@ -199,7 +199,7 @@ fn run_cycle<W: Watcher>(
 fn turns<W: Watcher>(pilots: &mut [Pilot<'_>], arena: &mut Arena, watcher: &mut W, cycle: u32)
     requires manned { length arena.old.robots ≡ length pilots.old }
     requires cycle { cycle ≤ MOST_CYCLES }
-    ensures stage { (robots : List Behaviour) (s : Stage) → AreRobotsOf (exes_of (codes_of pilots.old)) robots
+    ensures stage { (robots : List Behaviour) (s : BattleState) → AreRobotsOf (exes_of (codes_of pilots.old)) robots
         → HavePlayed (codes_of pilots.old) pilots.old arena.old s
         → HavePlayed (codes_of pilots.old) pilots.new arena.new (turns robots (length robots) s) }
     ensures codes { codes_of pilots.new ≡ codes_of pilots.old }

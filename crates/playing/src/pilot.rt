@@ -1,9 +1,9 @@
 //! Pilots: a robot's program with the machine that runs it.
 
 ghost use Rattle.std.specs.Prelude.{◌≡◌, ◌==◌, ◌<◌, ◌≤◌, if◌then◌else◌, ℤ, List, [], IfOk, false, length, true};
-ghost use Rattle.arena.specs.Arena.{lives};
+ghost use Rattle.arena.specs.Arena.{is_live};
 ghost use Rattle.code.specs.Machine.{want_code};
-ghost use Rattle.code.specs.ReachedMachines.{FitsProgram, IsReached};
+ghost use Rattle.code.specs.ReachedMachines.{IsReachable, IsReached};
 ghost use Rattle.battles.specs.Pairing.{paired};
 ghost use Rattle.playing.specs.Pilot.{IsOfSameUpdate, TakesTurn};
 ghost use Rattle.playing.specs.Played.{codes_of};
@@ -23,14 +23,14 @@ pub struct Pilot<'a> {
 }
 
 impl<'a> Model for Pilot<'a> {
-    ghost use Rattle.code.specs.ReachedMachines.{FitsProgram};
+    ghost use Rattle.code.specs.ReachedMachines.{IsReachable};
     ghost use Rattle.playing.specs.Pilot.{Pilot};
 
     ghost Value = { Pilot };
 
     ghost view = { λ p. record { code = p.program.now; state = p.machine } };
 
-    ghost invariant = { λ p. FitsProgram p.machine p.program.now };
+    ghost invariant = { λ p. IsReachable p.machine p.program.now };
 }
 
 impl<'a> Pilot<'a> {
@@ -62,7 +62,7 @@ impl<'a> Pilot<'a> {
     /// Returns the machine.
     pub fn machine(&self) -> &Machine
         ensures state { result.now ≡ self.now.state }
-        ensures fits { FitsProgram result.now self.now.code }
+        ensures fits { IsReachable result.now self.now.code }
     {
         &self.machine
     }
@@ -72,8 +72,8 @@ impl<'a> Pilot<'a> {
         requires inside { turn.robot < length arena.old.robots }
         requires cycle { turn.cycle ≤ MOST_CYCLES }
         ensures program { self.new.code ≡ self.old.code }
-        ensures dead { lives arena.old turn.robot ≡ false → (self.new ≡ self.old) × (arena.new ≡ arena.old) }
-        ensures lives { lives arena.old turn.robot ≡ true → (trace : List ℤ)
+        ensures dead { is_live arena.old turn.robot ≡ false → (self.new ≡ self.old) × (arena.new ≡ arena.old) }
+        ensures lives { is_live arena.old turn.robot ≡ true → (trace : List ℤ)
             → IsReached self.old.state self.old.code trace
             → TakesTurn self.old.code turn.robot trace (want_code self.old.code trace) self.new.state
             arena.old arena.new }

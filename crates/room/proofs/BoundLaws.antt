@@ -9,11 +9,11 @@ use Rattle.grammar.specs.Profile.{Profile, IsProfile}
 use Rattle.grammar.specs.Resolved.{IsResolved}
 use Rattle.grammar.specs.Tree.{File}
 use Rattle.code.proofs.Bounds.{few_words, few_frames}
-use Rattle.parser.specs.ParsedFiles.{IsFile, ParseIsRefused, TakesEnough}
+use Rattle.parser.specs.ParsedFiles.{ParsesToFile, ParseIsRefused, TakesEnough}
 use Rattle.grammar.specs.Compiled.{main_name}
 use Rattle.grammar.specs.Pools.{FunctionNames, Pools}
 use Rattle.grammar.specs.Scope.{number_of_name}
-use Rattle.trees.specs.Laws.{Told, told_functions, told_trees}
+use Rattle.trees.specs.Laws.{UnnamedFunction, told_functions, told_trees}
 use Rattle.trees.specs.TreeMakers.{TreeMaker, TreeMakerRepresents}
 use Rattle.trees.proofs.Rebuilding.{actions_determine_trees}
 use Rattle.trees.proofs.ReplayLaws.{is_done}
@@ -70,7 +70,7 @@ within_counted p (Some r) within = (grind (arith, within.0), grind (arith, withi
 -- what is answered of a file
 pub bounds_are : (p : Profile) (told : Option (List ℕ)) (before after : TreeMaker) (names : Pools) (number : Option ℕ)
     (main : ℕ) (need : Option Room) (has_room : Bool) → TreeMakerRepresents before p [] → IsProfile p →
-    IsFile (λ p acts. TreeMakerRepresents before p acts) (λ p acts. TreeMakerRepresents after p acts) told names →
+    ParsesToFile (λ p acts. TreeMakerRepresents before p acts) (λ p acts. TreeMakerRepresents after p acts) told names →
     number ≡ number_of_name main_name (map (λ (f : FunctionNames). f.name) names.functions) →
     main ≡ unwrap_or number 0 →
     ((file : File) → IsResolved file → file.main ≡ main →
@@ -101,7 +101,7 @@ bounds_are p told before after names number main need has_room new known is numb
 -- and of the functions that call one another where it needs most
 pub chain_are : (p : Profile) (told : Option (List ℕ)) (before after : TreeMaker) (names : Pools) (number : Option ℕ)
     (main : ℕ) (chain : List ℕ) → TreeMakerRepresents before p [] →
-    IsFile (λ p acts. TreeMakerRepresents before p acts) (λ p acts. TreeMakerRepresents after p acts) told names →
+    ParsesToFile (λ p acts. TreeMakerRepresents before p acts) (λ p acts. TreeMakerRepresents after p acts) told names →
     number ≡ number_of_name main_name (map (λ (f : FunctionNames). f.name) names.functions) →
     main ≡ unwrap_or number 0 → IsChain p (told_trees after.functions) main chain → IsChainOf p told chain
 chain_are p told before after names number main chain new is numbered first linked =
@@ -114,6 +114,6 @@ chain_are p told before after names number main chain new is numbered first link
       resolved = is.resolved;
       linked =
           subst (λ (k : ℕ). IsChain p (told_functions file.functions file.order) k chain) there
-          (subst (λ (ts : List Told). IsChain p ts main chain) (sym trees) linked);
+          (subst (λ (ts : List UnnamedFunction). IsChain p ts main chain) (sym trees) linked);
       is = λ bytes tells. is.is bytes tells p new;
     }

@@ -4,7 +4,7 @@ use Rattle.std.proofs.Common.{ap, arith, ◌∙◌, inl, inr, refl, subst, sym}
 use Rattle.std.proofs.lemmas.List.{get_or_default, length-map}
 use Rattle.grammar.specs.Profile.{Profile}
 use Rattle.grammar.specs.Resolved.{IsAmong}
-use Rattle.trees.specs.Laws.{Told, told, told_trees}
+use Rattle.trees.specs.Laws.{UnnamedFunction, without_names, told_trees}
 use Rattle.trees.specs.Trees.{function_tree}
 use Rattle.trees.specs.declared.tree.Function.{Function}
 use Rattle.room.specs.declared.chains.Measure.{Measure}
@@ -14,26 +14,26 @@ use Rattle.room.specs.Chains.{AreLinked, Begins, IsChain, IsLink, NeedsBy, all_n
 use Rattle.room.specs.Tables.{needs_in, table_within}
 
 among_told : (fs : List Function) (i : ℕ) (f : Function) → i < length fs → f ≡ slice_index_or fs i f →
-    IsAmong (told f.number (function_tree f)) (told_trees fs)
+    IsAmong (without_names f.number (function_tree f)) (told_trees fs)
 among_told [] i f less is = absurd (omega (arith, less))
 among_told (g ∷ fs) zero f less is =
-    inl (ap (λ (f : Function). told f.number (function_tree f)) is)
+    inl (ap (λ (f : Function). without_names f.number (function_tree f)) is)
 among_told (g ∷ fs) (suc i) f less is = inr (among_told fs i f (omega (arith, less)) is)
 
 -- what a function needs by a call, as a link
 pub links : (measure : Measure) (calls : Calls) (fs : List Function) (i : ℕ) (f : Function) (number : ℕ)
     (result : Option ℕ) → i < length fs → f ≡ slice_index_or fs i f → f.number ≡ number →
-    IfSome result (λ j. NeedsBy measure calls (told f.number (function_tree f)) j) →
+    IfSome result (λ j. NeedsBy measure calls (without_names f.number (function_tree f)) j) →
     IfSome result (IsLink measure calls (told_trees fs) number)
 links measure calls fs i f number None less is numbered needs = tt
 links measure calls fs i f number (Some j) less is numbered needs = record {
-  caller = told f.number (function_tree f);
+  caller = without_names f.number (function_tree f);
   among = among_told fs i f less is;
   numbered = numbered;
   needs = needs;
 }
 
-module _ (measure : Measure) (calls : Calls) (fs : List Told) where
+module _ (measure : Measure) (calls : Calls) (fs : List UnnamedFunction) where
   -- each of these numbers is linked to the one after it, and the last one to this
   abbrev pub LeadsTo : List ℕ → ℕ → Type 0
   LeadsTo [] n = Unit {0}
@@ -91,7 +91,7 @@ pub chain_is : (p : Profile) (fs : List Function) (main : ℕ) (measure : Measur
     IsBegun measure calls (told_trees fs) main chain next → IsChain p (told_trees fs) main chain
 chain_is p fs main measure calls need chain next short needs by reads less begun =
     let many : length (told_trees fs) ≡ length fs =
-    length-map fs (λ (f : Function). told f.number (function_tree f)) in
+    length-map fs (λ (f : Function). without_names f.number (function_tree f)) in
     let table : calls.needs ≡ table_within p.short_circuit (told_trees fs) (length (told_trees fs)) =
     needs ∙ ap (λ (n : ℕ). table_within p.short_circuit (told_trees fs) n) (sym many) in
     let all : calls ≡ all_needed p (told_trees fs) = λ i. record { short = short i; needs = table i } in
@@ -107,7 +107,7 @@ chain_is p fs main measure calls need chain next short needs by reads less begun
     }
 
 -- the same chain and the same function after it
-pub kept : (measure : Measure) (calls : Calls) (fs : List Told) (main : ℕ) (one other : List ℕ) (next last : Option ℕ) →
+pub kept : (measure : Measure) (calls : Calls) (fs : List UnnamedFunction) (main : ℕ) (one other : List ℕ) (next last : Option ℕ) →
     one ≡ other → next ≡ last → IsBegun measure calls fs main other last → IsBegun measure calls fs main one next
 kept measure calls fs main one other next last chains functions begun =
     subst (λ (ks : List ℕ). IsBegun measure calls fs main ks next) (sym chains)

@@ -14,8 +14,8 @@ use Rattle.grammar.specs.Tree.{Done, ExpressionStatement, IfStatement, IfElseSta
 use Rattle.code.specs.declared.want.Want.{Want}
 use Rattle.code.specs.declared.want.Want.TheVariants.{Quiet, Restart}
 use Rattle.code.specs.Functions.{function_at}
-use Rattle.code.specs.Meaning.{Vars, Evaluated, Gives, Awaits, and_then, tick, Flow, Through, Returns, Again}
-use Rattle.code.specs.Meaning.{push, pass, full, short, on_through, and_on, over, closed, returned, called}
+use Rattle.code.specs.Meaning.{Vars, EvaluationResult, Gives, Awaits, and_then, tick, Completion, Through, Returns, BodyMeaning}
+use Rattle.code.specs.Meaning.{push, quiet_cycle, full, short, on_through, and_on, end_of_branch_or_iteration, end_of_function, returned, called}
 use Rattle.code.specs.Meaning.{value, values, effect, effect_within, want, want_within, wanted}
 use Rattle.room.specs.declared.room.Room.{Room}
 use Rattle.room.specs.Rooms.{words, both, above, IsWithin}
@@ -26,15 +26,15 @@ use Rattle.room.proofs.Fitting.{Fits, fits_left, fits_right, fits_above}
 
 -- Evaluations that are the same.
 
-same_and : {A B : Type 0} (x y : Evaluated A) (go on : A → Vars → List ℤ → Evaluated B) → x ≡ y →
+same_and : {A B : Type 0} (x y : EvaluationResult A) (go on : A → Vars → List ℤ → EvaluationResult B) → x ≡ y →
     ((v : A) (vars : Vars) (rest : List ℤ) → go v vars rest ≡ on v vars rest) → and_then x go ≡ and_then y on
 same_and {A = A} {B = B} x y go on same each = ap (λ z. and_then z go) same ∙ behind y
   where
-    behind : (z : Evaluated A) → and_then z go ≡ and_then z on
+    behind : (z : EvaluationResult A) → and_then z go ≡ and_then z on
     behind (Gives v vars rest) = each v vars rest
     behind (Awaits event) = refl
 
-same_tick : {A : Type 0} (a b : Bool) (event : Want) (trace : List ℤ) (go on : ℤ → List ℤ → Evaluated A) → a ≡ b →
+same_tick : {A : Type 0} (a b : Bool) (event : Want) (trace : List ℤ) (go on : ℤ → List ℤ → EvaluationResult A) → a ≡ b →
     ((reply : ℤ) (rest : List ℤ) → go reply rest ≡ on reply rest) → tick a event trace go ≡ tick b event trace on
 same_tick {A = A} a b event trace go on same each = ap (λ t. tick t event trace go) same ∙ behind b trace
   where
@@ -43,8 +43,8 @@ same_tick {A = A} a b event trace go on same each = ap (λ t. tick t event trace
     behind true [] = refl
     behind true (reply ∷ rest) = each reply rest
 
-same_pass : {A : Type 0} (trace : List ℤ) (go on : List ℤ → Evaluated A) →
-    ((rest : List ℤ) → go rest ≡ on rest) → pass trace go ≡ pass trace on
+same_pass : {A : Type 0} (trace : List ℤ) (go on : List ℤ → EvaluationResult A) →
+    ((rest : List ℤ) → go rest ≡ on rest) → quiet_cycle trace go ≡ quiet_cycle trace on
 same_pass trace go on each =
     same_tick true true Quiet trace (λ reply rest. go rest) (λ reply rest. on rest) refl (λ reply rest. each rest)
 
@@ -52,27 +52,27 @@ same_if : {A : Type 0} (b : Bool) (x y z w : A) → x ≡ y → z ≡ w → (if 
 same_if true x y z w first second = first
 same_if false x y z w first second = second
 
-same_on : (x y : Evaluated Flow) (go on : Vars → List ℤ → Evaluated Flow) → x ≡ y →
+same_on : (x y : EvaluationResult Completion) (go on : Vars → List ℤ → EvaluationResult Completion) → x ≡ y →
     ((vars : Vars) (rest : List ℤ) → go vars rest ≡ on vars rest) → and_on x go ≡ and_on y on
 same_on x y go on same each =
     same_and x y (λ flow vars rest. on_through flow vars rest go) (λ flow vars rest. on_through flow vars rest on) same
     behind
   where
-    behind : (flow : Flow) (vars : Vars) (rest : List ℤ) → on_through flow vars rest go ≡ on_through flow vars rest on
+    behind : (flow : Completion) (vars : Vars) (rest : List ℤ) → on_through flow vars rest go ≡ on_through flow vars rest on
     behind Through vars rest = each vars rest
     behind (Returns x) vars rest = refl
 
-same_full : (o : Op) (depth : ℕ) (x y : Evaluated ℤ) (go on : Vars → ℕ → List ℤ → Evaluated ℤ) → x ≡ y →
+same_full : (o : Op) (depth : ℕ) (x y : EvaluationResult ℤ) (go on : Vars → ℕ → List ℤ → EvaluationResult ℤ) → x ≡ y →
     ((vars : Vars) (rest : List ℤ) → go vars (depth + 1) rest ≡ on vars (depth + 1) rest) →
     full o depth x go ≡ full o depth y on
 same_full o depth x y go on same each =
     same_and x y
     (λ a vars rest. and_then (go vars (depth + 1) rest)
-    (λ b vars rest. pass rest (λ rest. Gives (value_of o a b) vars rest)))
+    (λ b vars rest. quiet_cycle rest (λ rest. Gives (value_of o a b) vars rest)))
     (λ a vars rest. and_then (on vars (depth + 1) rest)
-    (λ b vars rest. pass rest (λ rest. Gives (value_of o a b) vars rest))) same
+    (λ b vars rest. quiet_cycle rest (λ rest. Gives (value_of o a b) vars rest))) same
     (λ a vars rest. ap
-    (λ z. and_then z (λ b vars rest. pass rest (λ rest. Gives (value_of o a b) vars rest))) (each vars rest))
+    (λ z. and_then z (λ b vars rest. quiet_cycle rest (λ rest. Gives (value_of o a b) vars rest))) (each vars rest))
 
 lt_test : (a b : ℕ) → a < b → nat_lt a b ≡ true
 lt_test a b less = grind (arith, nat_tests)
@@ -86,7 +86,7 @@ pub record Grants (words frames : ℕ) (p : Profile) : Type 0 where
   pub frames_are : frames ≤ p.frames
 
 module _ (w f : ℕ) (p q : Profile) (first : Grants w f p) (second : Grants w f q) where
-  same_push : {A : Type 0} (depth : ℕ) (trace : List ℤ) (go on : List ℤ → Evaluated A) → depth < w →
+  same_push : {A : Type 0} (depth : ℕ) (trace : List ℤ) (go on : List ℤ → EvaluationResult A) → depth < w →
       ((rest : List ℤ) → go rest ≡ on rest) → push p depth trace go ≡ push q depth trace on
   same_push depth trace go on deep each =
       same_tick (nat_lt depth p.words) (nat_lt depth q.words) Quiet trace (λ reply rest. go rest)
@@ -94,22 +94,22 @@ module _ (w f : ℕ) (p q : Profile) (first : Grants w f p) (second : Grants w f
       (lt_test depth p.words (omega (arith, deep, first.words_are)) ∙
       sym (lt_test depth q.words (omega (arith, deep, second.words_are)))) (λ reply rest. each rest)
 
-  same_over : (depth : ℕ) (trace : List ℤ) (go on : List ℤ → Evaluated Flow) → depth < w →
-      ((rest : List ℤ) → go rest ≡ on rest) → over p depth trace go ≡ over q depth trace on
+  same_over : (depth : ℕ) (trace : List ℤ) (go on : List ℤ → EvaluationResult Completion) → depth < w →
+      ((rest : List ℤ) → go rest ≡ on rest) → end_of_branch_or_iteration p depth trace go ≡ end_of_branch_or_iteration q depth trace on
   same_over depth trace go on deep each =
-      same_push depth trace (λ rest. pass rest go) (λ rest. pass rest on) deep
+      same_push depth trace (λ rest. quiet_cycle rest go) (λ rest. quiet_cycle rest on) deep
       (λ rest. same_pass rest go on each)
 
-  same_closed : {A : Type 0} (depth frames : ℕ) (flow : Flow) (vars : Vars) (rest : List ℤ)
-      (go : ℤ → Vars → List ℤ → Evaluated A) → depth < w →
-      closed p depth frames flow vars rest go ≡ closed q depth frames flow vars rest go
+  same_closed : {A : Type 0} (depth frames : ℕ) (flow : Completion) (vars : Vars) (rest : List ℤ)
+      (go : ℤ → Vars → List ℤ → EvaluationResult A) → depth < w →
+      end_of_function p depth frames flow vars rest go ≡ end_of_function q depth frames flow vars rest go
   same_closed depth frames (Returns x) vars rest go deep = refl
   same_closed depth frames Through vars rest go deep =
       let last = λ (rest : List ℤ). tick (nat_lt 1 frames) Quiet rest (λ reply rest. go (pos 0) vars rest) in
       same_push depth rest last last deep (λ rest. refl)
 
-  same_short : (o : Op) (depth frames : ℕ) (a b : Option Room) (x y : Evaluated ℤ)
-      (go on : Vars → ℕ → List ℤ → Evaluated ℤ) → Fits w f depth frames (binary_need true o a b) → x ≡ y →
+  same_short : (o : Op) (depth frames : ℕ) (a b : Option Room) (x y : EvaluationResult ℤ)
+      (go on : Vars → ℕ → List ℤ → EvaluationResult ℤ) → Fits w f depth frames (binary_need true o a b) → x ≡ y →
       ((d : ℕ) → Fits w f d frames b → (vars : Vars) (rest : List ℤ) → go vars d rest ≡ on vars d rest) →
       short p o depth x go ≡ short q o depth y on
   same_short op.And depth frames a b x y go on fits same each =
@@ -139,8 +139,8 @@ module _ (w f : ℕ) (p q : Profile) (first : Grants w f p) (second : Grants w f
       (fits_above w f depth frames 1 0 (depth + 1) frames b refl (omega arith)
       (fits_right w f depth frames a (above 1 0 b) fits)))
 
-  same_binary : (o : Op) (s : Bool) (depth frames : ℕ) (a b : Option Room) (x y : Evaluated ℤ)
-      (go on : Vars → ℕ → List ℤ → Evaluated ℤ) → Fits w f depth frames (binary_need s o a b) → x ≡ y →
+  same_binary : (o : Op) (s : Bool) (depth frames : ℕ) (a b : Option Room) (x y : EvaluationResult ℤ)
+      (go on : Vars → ℕ → List ℤ → EvaluationResult ℤ) → Fits w f depth frames (binary_need s o a b) → x ≡ y →
       ((d : ℕ) → Fits w f d frames b → (vars : Vars) (rest : List ℤ) → go vars d rest ≡ on vars d rest) →
       (if s then short p o depth x go else full o depth x go) ≡ (if s then short q o depth y on else full o depth y on)
   same_binary o true depth frames a b x y go on fits same each =
@@ -166,7 +166,7 @@ module _ (w f : ℕ) (p q : Profile) (first : Grants w f p) (second : Grants w f
 
   -- Trees whose profiles leave out right sides alike, if calls and further turns want the same.
   module _ (file : File) (s : Bool) (left : p.short_circuit ≡ s) (right : q.short_circuit ≡ s)
-      (calls : ℕ → Option Room) (again more : Again)
+      (calls : ℕ → Option Room) (again more : BodyMeaning)
       (same_call : (k : ℕ) (arguments : List ℤ) (vars : Vars) (depth frames : ℕ) (trace : List ℤ) →
       Fits w f depth frames (calls k) →
       called p file again (callee.Function k) arguments vars depth frames trace ≡
@@ -301,7 +301,7 @@ module _ (w f : ℕ) (p q : Profile) (first : Grants w f p) (second : Grants w f
         same_and _ _ _ _ (same_value e vars depth frames trace fits) (λ x vars rest. refl)
 
   -- a call of a function, if its body wants the same within any bound of calls
-  same_function : (file : File) (s : Bool) (again more : Again) →
+  same_function : (file : File) (s : Bool) (again more : BodyMeaning) →
       ((m : ℕ) (body : Body) (vars : Vars) (depth frames : ℕ) (trace : List ℤ) →
       Fits w f depth frames (body_need s (function_need s file m) body) →
       again body vars depth frames trace ≡ more body vars depth frames trace) →

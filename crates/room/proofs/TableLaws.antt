@@ -6,11 +6,11 @@ use Rattle.std.proofs.lemmas.List.{drop_all, drop_more, get_or-set_same, get_or-
 use Rattle.std.proofs.lemmas.Option.{slice_get-get_or}
 use Rattle.std.proofs.lemmas.Bool.{cases_eq}
 use Rattle.grammar.specs.Profile.{Profile}
-use Rattle.grammar.specs.Resolved.{IsAmong, IsResolved, InFile}
+use Rattle.grammar.specs.Resolved.{IsAmong, IsResolved, FitsFile}
 use Rattle.grammar.specs.Tree.{File}
 use Rattle.grammar.specs.Tree as tree
 use Rattle.code.specs.Functions.{function_at, no_function}
-use Rattle.trees.specs.Laws.{Told, told, told_numbered, told_functions, told_trees}
+use Rattle.trees.specs.Laws.{UnnamedFunction, without_names, told_numbered, told_functions, told_trees}
 use Rattle.trees.specs.Trees.{function_tree}
 use Rattle.trees.specs.declared.tree.Function.{Function}
 use Rattle.room.specs.declared.room.Room.{Room}
@@ -21,8 +21,8 @@ use Rattle.room.specs.Tables.{needs_in, told_need, entered, blank, table_within}
 use Rattle.room.proofs.Counting.{counted_twice, counts_body, counts_function}
 
 -- what is told of functions that there are
-abbrev told_at : File → ℕ → Told
-told_at file k = told k (function_at file k)
+abbrev told_at : File → ℕ → UnnamedFunction
+told_at file k = without_names k (function_at file k)
 
 told_there : (file : File) (ks : List ℕ) → ((k : ℕ) → IsAmong k ks → k < length file.functions) →
     told_functions file.functions ks ≡ map (told_at file) ks
@@ -66,7 +66,7 @@ module _ (s : Bool) (file : File) (calls : ℕ → Option Room) where
       later other (inr is) = inr (get_or-set_other table j k (here j) None other ∙ is)
 
 module _ (s : Bool) (file : File) (resolved : IsResolved file) where
-  abbrev all_told : List Told
+  abbrev all_told : List UnnamedFunction
   all_told = map (told_at file) file.order
 
   within_is : (n k : ℕ) → k < length file.functions →
@@ -76,7 +76,7 @@ module _ (s : Bool) (file : File) (resolved : IsResolved file) where
       let table = table_within s all_told n in
       let few : k < length blank = omega (arith, there, resolved.functions, length-blank) in
       let f = function_at file k in
-      let inside : InFile (length file.externals) (length file.functions) f =
+      let inside : FitsFile (length file.externals) (length file.functions) f =
       resolved.each k f (slice_get-get_or file.functions k no_function there) in
       let same : (j : ℕ) → j < length file.functions → CountsAs (needs_in table j) (function_need s file n j) =
       λ j there. ap counted (within_is n j there) ∙ counted_twice (function_need s file n j) in
@@ -98,10 +98,10 @@ pub need_is : (p : Profile) (file : File) (made : List Function) → IsResolved 
 need_is p file made resolved same =
     let are : told_trees made ≡ map (told_at file) file.order =
     sym same ∙ told_there file file.order resolved.only in
-    let one = length_map (λ (f : Function). told f.number (function_tree f)) made in
+    let one = length_map (λ (f : Function). without_names f.number (function_tree f)) made in
     let other = length_map (told_at file) file.order in
-    let as_many : length made ≡ length file.order = sym one ∙ ap (λ (ts : List Told). length ts) are ∙ other in
-    ap (λ (ts : List Told). needs_in (table_within p.short_circuit ts (length made)) file.main) are
+    let as_many : length made ≡ length file.order = sym one ∙ ap (λ (ts : List UnnamedFunction). length ts) are ∙ other in
+    ap (λ (ts : List UnnamedFunction). needs_in (table_within p.short_circuit ts (length made)) file.main) are
     ∙
     ap (λ (n : ℕ). needs_in (table_within p.short_circuit (map (told_at file) file.order) n) file.main) as_many
     ∙ within_is p.short_circuit file resolved (length file.order) file.main resolved.main
@@ -109,7 +109,7 @@ need_is p file made resolved same =
 -- one function more is entered
 pub entered_more : (s : Bool) (calls : ℕ → Option Room) (fs : List Function) (i : ℕ) (f : Function)
     (table target : List (Option Room)) (need : Option Room) → i < length fs → f ≡ slice_index_or fs i f →
-    need ≡ told_need s calls (told f.number (function_tree f)) →
+    need ≡ told_need s calls (without_names f.number (function_tree f)) →
     entered s calls (told_trees (drop i fs)) table ≡ target →
     entered s calls (told_trees (drop (i + 1) fs)) (set table f.number need) ≡ target
 entered_more s calls fs i f table target need less is needs before =

@@ -3,7 +3,7 @@ use Rattle.std.specs.Prelude.{◌≡◌, ◌&&◌, ℕ, List, [], ◌∷◌, len
 use Rattle.std.specs.Prelude.{if◌then◌else◌}
 use Rattle.grammar.specs.Profile.{Profile}
 use Rattle.grammar.specs.Resolved.{IsAmong}
-use Rattle.trees.specs.Laws.{Told}
+use Rattle.trees.specs.Laws.{UnnamedFunction}
 use Rattle.room.specs.declared.chains.Measure.{Measure}
 use Rattle.room.specs.declared.chains.Measure.TheVariants.{Words, Frames}
 use Rattle.room.specs.declared.constructs.Calls.{Calls}
@@ -28,20 +28,20 @@ only k needs = set (replicate 256 (words 0)) k (needs_in needs k)
 
 -- A function needs as much as it would if only this one of those that it calls needed anything: so much is by that
 -- call.
-abbrev pub NeedsBy : Measure → Calls → Told → ℕ → Type 0
+abbrev pub NeedsBy : Measure → Calls → UnnamedFunction → ℕ → Type 0
 NeedsBy measure calls f k =
     measured measure (told_need calls.short (needs_in (only k calls.needs)) f) ≡
     measured measure (told_need calls.short (needs_in calls.needs) f)
 
 -- one of these functions, that of a number, needs so much by the call of the other
-pub record IsLink (measure : Measure) (calls : Calls) (fs : List Told) (number other : ℕ) : Type 0 where
-  pub caller : Told
+pub record IsLink (measure : Measure) (calls : Calls) (fs : List UnnamedFunction) (number other : ℕ) : Type 0 where
+  pub caller : UnnamedFunction
   pub among : IsAmong caller fs
   pub numbered : caller.number ≡ number
   pub needs : NeedsBy measure calls caller other
 
 -- each of these numbers and the one after it
-abbrev pub AreLinked : Measure → Calls → List Told → List ℕ → Type 0
+abbrev pub AreLinked : Measure → Calls → List UnnamedFunction → List ℕ → Type 0
 AreLinked measure calls fs [] = Unit {0}
 AreLinked measure calls fs (k ∷ []) = Unit {0}
 AreLinked measure calls fs (k ∷ (j ∷ ks)) = IsLink measure calls fs k j × AreLinked measure calls fs (j ∷ ks)
@@ -51,10 +51,10 @@ Begins main [] = ⊥
 Begins main (k ∷ ks) = k ≡ main
 
 -- what functions need, if no more of them call one another than there are
-abbrev pub all_needed : Profile → List Told → Calls
+abbrev pub all_needed : Profile → List UnnamedFunction → Calls
 all_needed p fs = record { short = p.short_circuit; needs = table_within p.short_circuit fs (length fs) }
 
 -- functions from main on, each of which needs what it needs by the call of the next one
-pub record IsChain (p : Profile) (fs : List Told) (main : ℕ) (chain : List ℕ) : Type 0 where
+pub record IsChain (p : Profile) (fs : List UnnamedFunction) (main : ℕ) (chain : List ℕ) : Type 0 where
   pub begins : Begins main chain
   pub linked : AreLinked (scarce p (needs_in (all_needed p fs).needs main)) (all_needed p fs) fs chain

@@ -1,7 +1,7 @@
 //! The calls by which a robot needs what it needs.
 
 ghost use Rattle.std.specs.Prelude.{◌≡◌, ◌++◌, ◌∷◌, [], IfOk, IfSome, OnOk};
-ghost use Rattle.trees.specs.Laws.{told, told_trees};
+ghost use Rattle.trees.specs.Laws.{without_names, told_trees};
 ghost use Rattle.trees.specs.Trees.{function_tree};
 ghost use Rattle.room.specs.Chains.{IsChain, IsLink, NeedsBy, measured, only, scarce};
 
@@ -112,7 +112,7 @@ fn needed_by(
     calls: &Calls,
     measure: Measure,
 ) -> Option<u8>
-    ensures { IfSome result (λ j. NeedsBy measure calls.now (told caller.now.number (function_tree caller.now)) j) }
+    ensures { IfSome result (λ j. NeedsBy measure calls.now (without_names caller.now.number (function_tree caller.now)) j) }
 {
     let need = measure.of(function_need(caller, calls));
     let alone = Calls {

@@ -2,7 +2,7 @@
 
 ghost use Rattle.std.specs.Prelude.{◌≡◌};
 ghost use Rattle.grammar.specs.Tree.{Body};
-ghost use Rattle.trees.specs.Laws.{told};
+ghost use Rattle.trees.specs.Laws.{without_names};
 ghost use Rattle.trees.specs.Trees.{arguments, body_tree, expr_tree, function_tree, statement_tree};
 ghost use Rattle.room.specs.Constructs.{args_need, binary_need as need_of_sides, body_need as need_of_body};
 ghost use Rattle.room.specs.Constructs.{callee_need as need_of_callee, expr_need as need_of_expr};
@@ -29,7 +29,7 @@ pub struct Calls {
 /// Returns what a function needs, with its variables and its frame.
 pub fn function_need(function: &Function, calls: &Calls) -> Option<Room>
     ensures { result ≡ told_need calls.now.short (needs_in calls.now.needs)
-        (told function.now.number (function_tree function.now)) }
+        (without_names function.now.number (function_tree function.now)) }
 {
     let body = body_need(&function.body, calls);
     above(u16::from(function.variables), 1, both(words(1), body))

@@ -12,9 +12,9 @@ use Rattle.grammar.specs.Tree.{File}
 use Rattle.code.specs.Generation.{Program, code_of}
 use Rattle.settings.specs.declared.settings.Mode.{Mode}
 use Rattle.settings.specs.Settings.{Settings}
-use Rattle.series.specs.Compiling.{Source, and_file, files_of, codes_of, code_or_fault, compiled_code, pieces_of, source_pieces, compile_status, compiling}
+use Rattle.series.specs.Compiling.{SourceFile, and_file, files_of, programs_of, program_or_fault, compiled_program, pieces_of, source_pieces, compile_status, compiling}
 use Rattle.series.specs.Pieces.{Taken, Writes, Begins}
-use Rattle.series.specs.ProgramKeeping.{and_code, and_compiled, worse_status, count_of, kept_by, KeepsMore, status_by}
+use Rattle.series.specs.ProgramKeeping.{and_program_of_file, and_compiled, worse_status, count_of, kept_by, KeepsMore, status_by}
 use Rattle.series.specs.CompiledFiles.{CompilesAll}
 use Rattle.series.specs.declared.run_results.Status.{Status}
 use Rattle.series.specs.declared.run_results.Status.TheVariants.{Done, Faulty}
@@ -25,7 +25,7 @@ use Rattle.series.proofs.RunsLemmas.{no_source}
 -- one more file is one more program
 codes_and_file : (profile : Profile) (files : Option (List File)) (verdict : Result File Diagnostic)
     → option_map (λ files. map (code_of profile) files) (and_file files verdict)
-    ≡ and_code (option_map (λ files. map (code_of profile) files) files) (code_or_fault profile verdict)
+    ≡ and_program_of_file (option_map (λ files. map (code_of profile) files) files) (program_or_fault profile verdict)
 codes_and_file profile (Some files) (Ok file) =
     ap (λ (l : List Program). Some l) (map-append (code_of profile) files (file ∷ []))
 codes_and_file profile (Some files) (Err d) = refl
@@ -33,7 +33,7 @@ codes_and_file profile None (Ok file) = refl
 codes_and_file profile None (Err d) = refl
 
 -- the files with one source more
-files_more : (profile : Profile) (sources : List Source) (file : ℕ) → file < length sources
+files_more : (profile : Profile) (sources : List SourceFile) (file : ℕ) → file < length sources
     →
     files_of profile (take (file + 1) sources) ≡
     and_file (files_of profile (take file sources)) (compiled profile (get_or sources file no_source).bytes)
@@ -45,7 +45,7 @@ files_more profile sources file within =
 -- the status of the files with one more
 both_of : (profile : Profile) (files : Option (List File)) (verdict : Result File Diagnostic)
     →
-    worse_status (compile_status files) (status_by (code_or_fault profile verdict)) ≡
+    worse_status (compile_status files) (status_by (program_or_fault profile verdict)) ≡
     compile_status (and_file files verdict)
 both_of profile (Some files) (Ok file) = refl
 both_of profile (Some files) (Err d) = refl
@@ -53,18 +53,18 @@ both_of profile None (Ok file) = refl
 both_of profile None (Err d) = refl
 
 -- the status of the files so far, with one source more
-pub status_more : (profile : Profile) (sources : List Source) (file : ℕ) (so_far one : Status) → file < length sources
+pub status_more : (profile : Profile) (sources : List SourceFile) (file : ℕ) (so_far one : Status) → file < length sources
     → so_far ≡ compile_status (files_of profile (take file sources)) →
-    one ≡ status_by (compiled_code profile (get_or sources file no_source).bytes)
+    one ≡ status_by (compiled_program profile (get_or sources file no_source).bytes)
     → worse_status so_far one ≡ compile_status (files_of profile (take (file + 1) sources))
 status_more profile sources file so_far one within is one_is = rw (files_more profile sources file within, is, one_is)
     (both_of profile (files_of profile (take file sources)) (compiled profile (get_or sources file no_source).bytes))
 
 -- what a loop keeps, with one source more
-pub kept_more : (profile : Profile) (sources : List Source) (file : ℕ) (kept : Option (List Program))
+pub kept_more : (profile : Profile) (sources : List SourceFile) (file : ℕ) (kept : Option (List Program))
     (code : Result Program Diagnostic) → file < length sources
-    → kept ≡ codes_of profile (take file sources) → code ≡ compiled_code profile (get_or sources file no_source).bytes
-    → and_code kept code ≡ codes_of profile (take (file + 1) sources)
+    → kept ≡ programs_of profile (take file sources) → code ≡ compiled_program profile (get_or sources file no_source).bytes
+    → and_program_of_file kept code ≡ programs_of profile (take (file + 1) sources)
 kept_more profile sources file kept code within so_far is = rw (so_far, is)
     (sym (ap (λ files. option_map (λ files. map (code_of profile) files) files) (files_more profile sources file within)
     ∙
@@ -74,26 +74,26 @@ kept_more profile sources file kept code within so_far is = rw (so_far, is)
 -- the programs kept of the files so far, with what is kept of one more
 kept_of : (so_far : Status) (kept codes : Option (List Program)) (code : Result Program Diagnostic) →
     IfSome kept (λ k. kept_by so_far k ≡ codes)
-    → IfSome (and_compiled kept code) (λ k. kept_by (worse_status so_far (status_by code)) k ≡ and_code codes code)
+    → IfSome (and_compiled kept code) (λ k. kept_by (worse_status so_far (status_by code)) k ≡ and_program_of_file codes code)
 kept_of so_far None codes (Ok code) are = tt
 kept_of so_far None codes (Err d) are = tt
-kept_of Done (Some kept) codes (Ok code) are = ap (λ c. and_code c (Ok code)) are
-kept_of Done (Some kept) codes (Err d) are = ap (λ c. and_code c (Err d)) are
-kept_of Faulty (Some kept) codes (Ok code) are = ap (λ c. and_code c (Ok code)) are
-kept_of Faulty (Some kept) codes (Err d) are = ap (λ c. and_code c (Err d)) are
+kept_of Done (Some kept) codes (Ok code) are = ap (λ c. and_program_of_file c (Ok code)) are
+kept_of Done (Some kept) codes (Err d) are = ap (λ c. and_program_of_file c (Err d)) are
+kept_of Faulty (Some kept) codes (Ok code) are = ap (λ c. and_program_of_file c (Ok code)) are
+kept_of Faulty (Some kept) codes (Err d) are = ap (λ c. and_program_of_file c (Err d)) are
 
 -- those with one source more
-pub kept_with : (profile : Profile) (sources : List Source) (file : ℕ) (so_far one : Status)
+pub kept_with : (profile : Profile) (sources : List SourceFile) (file : ℕ) (so_far one : Status)
     (kept after : Option (List Program)) → file < length sources
-    → IfSome kept (λ k. kept_by so_far k ≡ codes_of profile (take file sources))
-    → one ≡ status_by (compiled_code profile (get_or sources file no_source).bytes)
-    → after ≡ and_compiled kept (compiled_code profile (get_or sources file no_source).bytes)
-    → IfSome after (λ k. kept_by (worse_status so_far one) k ≡ codes_of profile (take (file + 1) sources))
+    → IfSome kept (λ k. kept_by so_far k ≡ programs_of profile (take file sources))
+    → one ≡ status_by (compiled_program profile (get_or sources file no_source).bytes)
+    → after ≡ and_compiled kept (compiled_program profile (get_or sources file no_source).bytes)
+    → IfSome after (λ k. kept_by (worse_status so_far one) k ≡ programs_of profile (take (file + 1) sources))
 kept_with profile sources file so_far one kept after within are is adds =
-    let code : Result Program Diagnostic = compiled_code profile (get_or sources file no_source).bytes in
+    let code : Result Program Diagnostic = compiled_program profile (get_or sources file no_source).bytes in
     let P : Option (List Program) → Type 0 = λ codes. IfSome after (λ k. kept_by (worse_status so_far one) k ≡ codes) in
-    subst P (kept_more profile sources file (codes_of profile (take file sources)) code within refl refl)
-    (rw (is, adds) (kept_of so_far kept (codes_of profile (take file sources)) code are))
+    subst P (kept_more profile sources file (programs_of profile (take file sources)) code within refl refl)
+    (rw (is, adds) (kept_of so_far kept (programs_of profile (take file sources)) code are))
 
 -- how many they are
 pub manned_more : (so_far one : Status) (file kept after : ℕ) → after ≡ kept + count_of one → kept ≤ file →
@@ -148,7 +148,7 @@ none_other profile (Some kept) are =
     subst P (sym are) none
 
 -- the pieces of one source more
-compiling_more : (mode : Mode) (profile : Profile) (sources : List Source) (file : ℕ) → file < length sources
+compiling_more : (mode : Mode) (profile : Profile) (sources : List SourceFile) (file : ℕ) → file < length sources
     → compiling mode profile (take (file + 1) sources)
     ≡ compiling mode profile (take file sources) ++ source_pieces mode profile (get_or sources file no_source)
 compiling_more mode profile sources file within =
@@ -159,14 +159,14 @@ compiling_more mode profile sources file within =
     (append-nil (source_pieces mode profile (get_or sources file no_source))))
 
 -- one file's pieces more
-pub pieces_more : (mode : Mode) (profile : Profile) (sources : List Source) (file : ℕ) (before now after : Taken)
+pub pieces_more : (mode : Mode) (profile : Profile) (sources : List SourceFile) (file : ℕ) (before now after : Taken)
     (verdict : Result File Diagnostic)
     → file < length sources → Writes before now (compiling mode profile (take file sources))
     → verdict ≡ compiled profile (get_or sources file no_source).bytes
     → Writes now after (pieces_of mode profile (file_name (get_or sources file no_source).word) verdict)
     → Writes before after (compiling mode profile (take (file + 1) sources))
 pieces_more mode profile sources file before now after verdict within so_far is writes =
-    let source : Source = get_or sources file no_source in
+    let source : SourceFile = get_or sources file no_source in
     let P : Result File Diagnostic → Type 0 =
     λ r. Writes now after (pieces_of mode profile (file_name source.word) r) in
     rw (compiling_more mode profile sources file within)
@@ -174,14 +174,14 @@ pieces_more mode profile sources file before now after verdict within so_far is 
     so_far (subst P is writes))
 
 -- the next file's pieces were cut
-pub pieces_cut : (mode : Mode) (profile : Profile) (sources : List Source) (file : ℕ) (before now after : Taken)
+pub pieces_cut : (mode : Mode) (profile : Profile) (sources : List SourceFile) (file : ℕ) (before now after : Taken)
     (verdict : Result File Diagnostic)
     → file < length sources → Writes before now (compiling mode profile (take file sources))
     → verdict ≡ compiled profile (get_or sources file no_source).bytes
     → Begins now after (pieces_of mode profile (file_name (get_or sources file no_source).word) verdict)
     → Begins before after (compiling mode profile sources)
 pieces_cut mode profile sources file before now after verdict within so_far is begins =
-    let source : Source = get_or sources file no_source in
+    let source : SourceFile = get_or sources file no_source in
     let P : Result File Diagnostic → Type 0 =
     λ r. Begins now after (pieces_of mode profile (file_name source.word) r) in
     let split : compiling mode profile sources ≡
@@ -195,16 +195,16 @@ pieces_cut mode profile sources file before now after verdict within so_far is b
     so_far (subst P is begins)))
 
 -- all files are compiled
-pub all_compiled : (settings : Settings) (sources : List Source) (file : ℕ) (so_far : Status)
+pub all_compiled : (settings : Settings) (sources : List SourceFile) (file : ℕ) (so_far : Status)
     (kept : Option (List Program)) (before after : Taken)
     → length sources ≤ file
     → Writes before after (compiling settings.mode settings.profile (take file sources))
     × (so_far ≡ compile_status (files_of settings.profile (take file sources)))
-    × IfSome kept (λ k. kept_by so_far k ≡ codes_of settings.profile (take file sources))
+    × IfSome kept (λ k. kept_by so_far k ≡ programs_of settings.profile (take file sources))
     → CompilesAll settings sources (Ok so_far) kept before after
 all_compiled settings sources file so_far kept before after past are =
-    let P : List Source → Type 0 = λ l. Writes before after (compiling settings.mode settings.profile l)
+    let P : List SourceFile → Type 0 = λ l. Writes before after (compiling settings.mode settings.profile l)
     × (so_far ≡ compile_status (files_of settings.profile l))
-    × IfSome kept (λ k. kept_by so_far k ≡ codes_of settings.profile l) in
+    × IfSome kept (λ k. kept_by so_far k ≡ programs_of settings.profile l) in
     let (writes, status, codes) = subst P (take_all file sources past) are in
     record { output = (writes, status); programs = codes }

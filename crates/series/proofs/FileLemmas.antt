@@ -9,32 +9,32 @@ use Rattle.grammar.specs.Building.{Representation}
 use Rattle.grammar.specs.Compiled.{compiled}
 use Rattle.grammar.specs.Pools.{Pools, pools_of}
 use Rattle.grammar.specs.Tree.{File}
-use Rattle.code.specs.Finishing.{MakerIsTold}
+use Rattle.code.specs.Finishing.{MakerRepresentsFile}
 use Rattle.code.specs.Generation.{Program, code_of}
 use Rattle.code.specs.Making.{Maker}
-use Rattle.code.specs.Told.{MakerRepresents}
-use Rattle.parser.specs.ParsedFiles.{IsFile}
+use Rattle.code.specs.Reported.{MakerRepresents}
+use Rattle.parser.specs.ParsedFiles.{ParsesToFile}
 use Rattle.settings.specs.declared.settings.Mode.{Mode}
-use Rattle.series.specs.Compiling.{code_or_fault, compiled_code, listed, listing_piece, pieces_of}
+use Rattle.series.specs.Compiling.{program_or_fault, compiled_program, listed, listing_piece, pieces_of}
 use Rattle.series.specs.Pieces.{Taken, Writes, Begins}
 use Rattle.series.specs.ProgramKeeping.{and_compiled, and_program, KeepsMore, status_by}
 use Rattle.series.specs.declared.run_results.Status.TheVariants.{Done}
 
 -- a file is that of its names, whoever has them
 file_of_names : (before after : Representation) (told : Option (List ℕ)) (kept names : Pools) → names ≡ kept →
-    IsFile before after told kept → IsFile before after told names
+    ParsesToFile before after told kept → ParsesToFile before after told names
 file_of_names before after told kept names same file = rw same file
 
 -- a parsed file, whose bytes the device may have told: the maker was told it, and these are its names
 pub record IsGood (maker : Maker) (profile : Profile) (bytes_told : Option (List ℕ)) (names : Pools) : Type 0 where
   pub file : File
-  pub told : MakerIsTold maker profile names file
+  pub told : MakerRepresentsFile maker profile names file
   pub is : (bytes : List ℕ) → bytes_told ≡ Some bytes → compiled profile bytes ≡ Ok file
 
 -- what a new maker was told of a file
 pub good_file : (before after : Maker) (profile : Profile) (bytes_told : Option (List ℕ)) (kept names : Pools) →
     MakerRepresents before profile [] → names ≡ kept →
-    IsFile (λ p acts. MakerRepresents before p acts) (λ p acts. MakerRepresents after p acts) bytes_told kept →
+    ParsesToFile (λ p acts. MakerRepresents before p acts) (λ p acts. MakerRepresents after p acts) bytes_told kept →
     IsGood after profile bytes_told names
 good_file before after profile bytes_told kept names new same file =
     let f =
@@ -49,13 +49,13 @@ good_file before after profile bytes_told kept names new same file =
 -- a good file's program
 pub good_code : (profile : Profile) (bytes : List ℕ) (file : File) (code : Program) →
     compiled profile bytes ≡ Ok file
-    → code ≡ code_of profile file → compiled_code profile bytes ≡ Ok code
-good_code profile bytes file code is made = rw made (ap (code_or_fault profile) is)
+    → code ≡ code_of profile file → compiled_program profile bytes ≡ Ok code
+good_code profile bytes file code is made = rw made (ap (program_or_fault profile) is)
 
 -- a good file's program is kept
 pub good_kept : (profile : Profile) (bytes : List ℕ) (code : Program) (kept after : Option (List Program))
-    → compiled_code profile bytes ≡ Ok code → after ≡ and_program kept code →
-    after ≡ and_compiled kept (compiled_code profile bytes)
+    → compiled_program profile bytes ≡ Ok code → after ≡ and_program kept code →
+    after ≡ and_compiled kept (compiled_program profile bytes)
 good_kept profile bytes code kept after is adds = adds ∙ sym (ap (and_compiled kept) is)
 
 -- one program more
@@ -82,8 +82,8 @@ alike_more profile file code (Some kept) after made each adds =
     (All-push (λ (c : Program). c.profile ≡ profile) kept code each (ap (λ (c : Program). c.profile) made))
 
 -- whether a file is good
-pub good_status : (profile : Profile) (bytes : List ℕ) (code : Program) → compiled_code profile bytes ≡ Ok code
-    → Done ≡ status_by (compiled_code profile bytes)
+pub good_status : (profile : Profile) (bytes : List ℕ) (code : Program) → compiled_program profile bytes ≡ Ok code
+    → Done ≡ status_by (compiled_program profile bytes)
 good_status profile bytes code is = sym (ap status_by is)
 
 at_end : (kept : List Program) (code : Program) → slice_get (kept ++ code ∷ []) (length kept) ≡ Some code

@@ -1,6 +1,6 @@
 pub mod LinesLemmas
 pub mod TextsLemmas
-pub mod CoursesLemmas
+pub mod SeriesLemmas
 pub mod KnownOutputs
 pub mod RunsLemmas
 pub mod ReadingLemmas

@@ -20,7 +20,7 @@ use Rattle.series.specs.declared.run_results.RunFault.{RunFault}
 use Rattle.series.specs.declared.run_results.RunFault.TheVariants as fault
 use Rattle.series.specs.declared.run_results.Status.{Status}
 use Rattle.series.specs.declared.run_results.Status.TheVariants.{Done, Faulty}
-use Rattle.series.specs.Compiling.{Source, and_file, codes_of, compiling, files_of, compile_status}
+use Rattle.series.specs.Compiling.{SourceFile, and_file, programs_of, compiling, files_of, compile_status}
 use Rattle.series.specs.Output.{output, played, Runs, StopsRun}
 use Rattle.series.specs.Pieces.{Piece, Taken, Writes, Begins}
 use Rattle.series.specs.Playing.{playing}
@@ -35,8 +35,8 @@ faulty_plays settings mode (Some files) none = cc
 faulty_plays settings Listing None none = (refl, refl)
 faulty_plays settings Matches None none = (refl, refl)
 
-pub faulty_run : (settings : Settings) (sources : List Source) (before after : Taken)
-    → Writes before after (compiling settings.mode settings.profile sources) → None ≡ codes_of settings.profile sources
+pub faulty_run : (settings : Settings) (sources : List SourceFile) (before after : Taken)
+    → Writes before after (compiling settings.mode settings.profile sources) → None ≡ programs_of settings.profile sources
     → Writes before after (output settings sources).pieces × (Faulty ≡ (output settings sources).status)
 faulty_run settings sources before after writes none =
     let ends = faulty_plays settings settings.mode (files_of settings.profile sources) none in
@@ -56,7 +56,7 @@ unfolding compiled
 resolved_here law profile bytes file is = law profile (tokens bytes) file is
 
 -- so each file is
-all_resolved : CompiledIsResolved → (profile : Profile) (sources : List Source) (so_far files : List File) →
+all_resolved : CompiledIsResolved → (profile : Profile) (sources : List SourceFile) (so_far files : List File) →
     All IsResolved so_far
     → fold (λ files source. and_file files (compiled profile source.bytes)) (Some so_far) sources ≡ Some files →
     All IsResolved files
@@ -66,7 +66,7 @@ all_resolved law profile (source ∷ sources) so_far files each is =
     by_verdict (compiled profile source.bytes) refl is
     (λ file. all_resolved law profile sources (so_far ++ file ∷ []) files)
   where
-    none_later : (sources : List Source) →
+    none_later : (sources : List SourceFile) →
         fold (λ files source. and_file files (compiled profile source.bytes)) None sources ≡ None
     none_later [] = refl
     none_later (s ∷ sources) = none_later sources
@@ -91,8 +91,8 @@ all_resolved law profile (source ∷ sources) so_far files each is =
     by_verdict (Err d) here rest more = let none = none_later sources in cc
 
 -- the programs that were kept are those of the files, each resolved
-pub kept_codes : CompiledIsResolved → (profile : Profile) (sources : List Source) (kept : List Program) →
-    Some kept ≡ codes_of profile sources
+pub kept_codes : CompiledIsResolved → (profile : Profile) (sources : List SourceFile) (kept : List Program) →
+    Some kept ≡ programs_of profile sources
     → (files : List File) × (files_of profile sources ≡ Some files) × AreProgramsOf kept profile files
 kept_codes law profile sources kept some =
     let found = kept_files profile kept (files_of profile sources) some in
@@ -100,7 +100,7 @@ kept_codes law profile sources kept some =
     (found.0, found.1, record { are = found.2; resolved = all_resolved law profile sources [] found.0 none found.1 })
 
 -- all matches were played
-pub played_run : (settings : Settings) (sources : List Source) (files : List File) (before now after : Taken) →
+pub played_run : (settings : Settings) (sources : List SourceFile) (files : List File) (before now after : Taken) →
     settings.mode ≡ Matches
     → files_of settings.profile sources ≡ Some files →
     Writes before now (compiling settings.mode settings.profile sources) →
@@ -119,7 +119,7 @@ played_run settings sources files before now after matches good first second =
     )
 
 -- a write failed while they were played
-pub played_stop : (settings : Settings) (sources : List Source) (files : List File) (before now after : Taken) →
+pub played_stop : (settings : Settings) (sources : List SourceFile) (files : List File) (before now after : Taken) →
     settings.mode ≡ Matches
     → files_of settings.profile sources ≡ Some files →
     Writes before now (compiling settings.mode settings.profile sources) →
@@ -135,7 +135,7 @@ played_stop settings sources files before now after matches good first second =
     second)
 
 -- what playing left, by its answer
-pub plays_run : (settings : Settings) (sources : List Source) (files : List File) (before now after : Taken)
+pub plays_run : (settings : Settings) (sources : List SourceFile) (files : List File) (before now after : Taken)
     (result : Result Status RunFault) → settings.mode ≡ Matches
     → files_of settings.profile sources ≡ Some files →
     Writes before now (compiling settings.mode settings.profile sources) →
@@ -151,7 +151,7 @@ plays_run settings sources files before now after (Err stopped) matches good fir
     subst Ends (sym is) (played_stop settings sources files before now after matches good first second)
 
 -- compiling was stopped
-pub stops_run : (settings : Settings) (sources : List Source) (stopped : RunFault) (before after : Taken) →
+pub stops_run : (settings : Settings) (sources : List SourceFile) (stopped : RunFault) (before after : Taken) →
     StopsRun settings sources (compiling settings.mode settings.profile sources) stopped before after
     → StopsRun settings sources (output settings sources).pieces stopped before after
 stops_run settings sources (fault.Read file) before after writes = writes

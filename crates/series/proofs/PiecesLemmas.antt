@@ -1,6 +1,6 @@
 -- One beginning of the output after another.
 use Rattle.std.proofs.Common.{inl, inr, ℕ, List, [], ◌∷◌, ◌++◌, refl, sym, subst}
-use Rattle.series.specs.Pieces.{Channel, Text, Faults, Piece, Taken, TakesFrontOn, Writes, Begins}
+use Rattle.series.specs.Pieces.{Channel, Text, Faults, Piece, Taken, TakesPrefixOn, Writes, Begins}
 use Rattle.sinks.proofs.PortionsLemmas.{nothing_taken}
 
 -- pieces, and then more pieces
@@ -25,7 +25,7 @@ pub begins_here : (now : Taken) (pieces : List Piece) → Begins now now pieces
 begins_here now [] = refl
 begins_here now (piece ∷ pieces) = inl (front piece.channel piece.bytes)
   where
-    front : (channel : Channel) (bytes : List ℕ) → TakesFrontOn channel now now bytes
+    front : (channel : Channel) (bytes : List ℕ) → TakesPrefixOn channel now now bytes
     front Text bytes = ((bytes, nothing_taken now.text bytes), refl)
     front Faults bytes = ((bytes, nothing_taken now.faults bytes), refl)
 

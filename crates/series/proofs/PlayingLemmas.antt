@@ -7,7 +7,7 @@ use Rattle.settings.specs.Settings.{Settings}
 use Rattle.series.specs.Pieces.{Piece, Taken, on_both, Writes, Begins}
 use Rattle.series.specs.Outcomes.{report_text, totals_text}
 use Rattle.series.specs.Playing.{playing, reports, text_piece}
-use Rattle.sinks.specs.Portions.{Portions, Takes, TakesFront}
+use Rattle.sinks.specs.Portions.{Portions, Takes, TakesPrefix}
 use Rattle.series.proofs.PiecesLemmas.{writes_then, begins_then, begins_more}
 
 -- a text that the sink took
@@ -16,7 +16,7 @@ one_written : (now after faults : Portions) (text : List ℕ) → Takes now afte
 one_written now after faults text takes = (on_both after faults, (takes, refl), refl)
 
 -- a front of a text
-one_begun : (now after faults : Portions) (text : List ℕ) → TakesFront now after text →
+one_begun : (now after faults : Portions) (text : List ℕ) → TakesPrefix now after text →
     Begins (on_both now faults) (on_both after faults) (text_piece text ∷ [])
 one_begun now after faults text front = inl (front, refl)
 
@@ -45,7 +45,7 @@ pub report_cut : (settings : Settings) (files : List File) (count number : ℕ) 
     (now after faults : Portions) →
     settings.first + count ≡ number → count < settings.matches
     → Writes before (on_both now faults) (reports settings files count) →
-    TakesFront now after (report_text settings files number)
+    TakesPrefix now after (report_text settings files number)
     → Begins before (on_both after faults) (playing settings files)
 unfolding playing
 report_cut settings files count number before now after faults here left so_far front =
@@ -82,7 +82,7 @@ totals_written settings files before now after faults so_far takes =
 -- the totals were cut
 pub totals_cut : (settings : Settings) (files : List File) (before : Taken) (now after faults : Portions)
     → Writes before (on_both now faults) (reports settings files settings.matches) →
-    TakesFront now after (totals_text settings files)
+    TakesPrefix now after (totals_text settings files)
     → Begins before (on_both after faults) (playing settings files)
 unfolding playing
 totals_cut settings files before now after faults so_far front =

@@ -10,7 +10,7 @@ use Rattle.series.specs.declared.run_results.RunFault.{RunFault}
 use Rattle.series.specs.declared.run_results.RunFault.TheVariants as fault
 use Rattle.series.specs.declared.run_results.Status.{Status}
 use Rattle.series.specs.declared.run_results.Status.TheVariants.{Done}
-use Rattle.series.specs.Compiling.{Source, compiling, source_pieces}
+use Rattle.series.specs.Compiling.{SourceFile, compiling, source_pieces}
 use Rattle.series.specs.Pieces.{Begins, Piece, Taken, Writes}
 use Rattle.series.specs.SourceReading.{FailsToRead, MayLeaveUndecided, ReadsSources, ReadsFirst, StopsReading, TakesOf, TakesOfFirst, TakesPast}
 use Rattle.series.specs.SourceContents.{AreSources}
@@ -111,7 +111,7 @@ module _ {X : Type 0} where
   }
 
 -- a write of this file's pieces failed
-pub cut_at : (mode : Mode) (profile : Profile) (sources : List Source) (file : ℕ) (before now after : Taken)
+pub cut_at : (mode : Mode) (profile : Profile) (sources : List SourceFile) (file : ℕ) (before now after : Taken)
     (pieces : List Piece)
     → Writes before now (compiling mode profile (take file sources)) → Begins now after pieces
     → TakesPast before after (compiling mode profile (take (file + 1 - 1) sources))
@@ -121,7 +121,7 @@ cut_at mode profile sources file before now after pieces so_far begins =
     subst P same (now, so_far, (pieces, begins))
 
 -- a write failed after all files were compiled
-pub cut_behind : (mode : Mode) (profile : Profile) (sources : List Source) (count : ℕ) (before now after : Taken)
+pub cut_behind : (mode : Mode) (profile : Profile) (sources : List SourceFile) (count : ℕ) (before now after : Taken)
     (pieces : List Piece)
     → Writes before now (compiling mode profile sources) → Begins now after pieces
     → TakesPast before after (compiling mode profile (take count sources))
@@ -140,7 +140,7 @@ pub reads_played : (settings : Settings) (result : Result Status RunFault) (told
     (before after : Taken)
     → ReadsFirst settings.profile told later (length told)
     → MatchResult result (λ status. status ≡ Done) (λ stopped. stopped ≡ fault.Write)
-    → (result ≡ Err fault.Write → (sources : List Source) → AreSources sources settings.file_words told
+    → (result ≡ Err fault.Write → (sources : List SourceFile) → AreSources sources settings.file_words told
     → TakesPast before after (compiling settings.mode settings.profile (take (length told - 1) sources)))
     → ReadsSources settings result told later before after
 reads_played settings (Ok status) told later before after reads is puts = reads

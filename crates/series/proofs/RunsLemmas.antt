@@ -4,29 +4,29 @@ use Rattle.std.specs.Prelude.{All}
 use Rattle.std.proofs.lemmas.List.Elements.{All-push}
 use Rattle.std.proofs.lemmas.List.{get_or-map, get_or-drop, drop-set-lt, length-map, map-set}
 use Rattle.std.proofs.Math.Seq.{map-set_same}
-use Rattle.series.specs.Compiling.{Source}
-use Rattle.tokens.specs.Feed.{Account, failed_again}
+use Rattle.series.specs.Compiling.{SourceFile}
+use Rattle.tokens.specs.Feed.{FailureCount, failed_again}
 use Rattle.series.specs.Failures.{Failures, failing, feed_failed, no_device, SinkFailed}
 use Rattle.series.specs.SourceContents.{AreSources}
 use Rattle.sinks.specs.Texts.{file_name}
 
 -- no source at all
-abbrev pub no_source : Source
+abbrev pub no_source : SourceFile
 no_source = record { word = []; bytes = [] }
 
 -- each word has its source
-pub length_sources : (sources : List Source) (words : List (List ℕ)) (told : List (Option (List ℕ))) →
+pub length_sources : (sources : List SourceFile) (words : List (List ℕ)) (told : List (Option (List ℕ))) →
     AreSources sources words told
     → length sources ≡ length words
-length_sources sources words told are = sym (length-map sources (λ (s : Source). s.word)) ∙ ap length are.named
+length_sources sources words told are = sym (length-map sources (λ (s : SourceFile). s.word)) ∙ ap length are.named
 
 -- the source of a word
-pub word_here : (sources : List Source) (words : List (List ℕ)) (told : List (Option (List ℕ))) (file : ℕ) →
+pub word_here : (sources : List SourceFile) (words : List (List ℕ)) (told : List (Option (List ℕ))) (file : ℕ) →
     AreSources sources words told
     → file < length words → get_or words file [] ≡ (get_or sources file no_source).word
 word_here sources words told file are within =
     let in_sources : file < length sources = rw (length_sources sources words told are) within in
-    rw (sym are.named) (get_or-map (λ (s : Source). s.word) sources file no_source [] in_sources)
+    rw (sym are.named) (get_or-map (λ (s : SourceFile). s.word) sources file no_source [] in_sources)
 
 module _ {X : Type 0} where
   -- what holds of one holds of all
@@ -42,7 +42,7 @@ module _ {X : Type 0} where
       sym (first feeds) ∙ ap (λ l. get_or l 0 x) same ∙ first start
 
   -- tells the bytes of its source
-  pub told_here : (tells : X → Option (List ℕ)) (start feeds : List X) (sources : List Source) (words : List (List ℕ))
+  pub told_here : (tells : X → Option (List ℕ)) (start feeds : List X) (sources : List SourceFile) (words : List (List ℕ))
       (file : ℕ) (x : X)
       → AreSources sources words (map tells start) → length start ≡ length words → file < length start →
       drop file feeds ≡ drop file start
@@ -53,15 +53,15 @@ module _ {X : Type 0} where
       ap tells (feed_here start feeds file x rest)
       ∙ sym (get_or-map tells start file x (tells x) within)
       ∙ ap (λ l. get_or l file (tells x)) (sym are.bytes)
-      ∙ get_or-map (λ (s : Source). Some s.bytes) sources file no_source (tells x) in_sources
+      ∙ get_or-map (λ (s : SourceFile). Some s.bytes) sources file no_source (tells x) in_sources
 
   -- a feed that was read without a failure
-  pub none_failed : (fails : X → Account) (feeds : List X) (file : ℕ) (x y : X) → fails y ≡ fails (get_or feeds file x)
+  pub none_failed : (fails : X → FailureCount) (feeds : List X) (file : ℕ) (x y : X) → fails y ≡ fails (get_or feeds file x)
       → map fails (set feeds file y) ≡ map fails feeds
   none_failed fails feeds file x y same = map-set_same fails feeds file y x same
 
   -- a feed failed
-  pub read_failed : (fails : X → Account) (start feeds : List X) (file text faults first_text first_faults : ℕ)
+  pub read_failed : (fails : X → FailureCount) (start feeds : List X) (file text faults first_text first_faults : ℕ)
       (x y : X)
       → failing (map fails feeds) text faults ≡ failing (map fails start) first_text first_faults
       → file < length feeds → fails y ≡ failed_again (fails (get_or feeds file x))
@@ -78,7 +78,7 @@ module _ {X : Type 0} where
       (ap (λ l. failing l text faults) (map-set fails feeds file y ∙ ap (λ a. set (map fails feeds) file a) later))
 
   -- a sink failed
-  pub write_failed : (fails : X → Account) (start feeds : List X)
+  pub write_failed : (fails : X → FailureCount) (start feeds : List X)
       (file text faults first_text first_faults later_text later_faults : ℕ) (x y : X)
       → failing (map fails feeds) text faults ≡ failing (map fails start) first_text first_faults
       → fails y ≡ fails (get_or feeds file x)
@@ -108,7 +108,7 @@ module _ {X : Type 0} where
       drop-set-lt (file + 1) feeds file y (omega arith) ∙ behind feeds ∙ ap (λ l. drop 1 l) same ∙ sym (behind start)
 
   -- the name of a source's file
-  pub name_here : (bytes : X → List ℕ) (words : List X) (sources : List Source) (told : List (Option (List ℕ)))
+  pub name_here : (bytes : X → List ℕ) (words : List X) (sources : List SourceFile) (told : List (Option (List ℕ)))
       (file : ℕ) (x : X) (word name : List ℕ)
       → AreSources sources (map bytes words) told → file < length words → word ≡ bytes (get_or words file x) →
       name ≡ file_name word

@@ -10,7 +10,7 @@ use Rattle.grammar.specs.Tree.{File}
 use Rattle.settings.specs.declared.settings.Mode.TheVariants.{Matches}
 use Rattle.settings.specs.Settings.{Settings}
 use Rattle.series.specs.declared.run_results.Status.TheVariants.{Done}
-use Rattle.series.specs.Compiling.{Source, and_file, compiling, files_of, pieces_of, compile_status}
+use Rattle.series.specs.Compiling.{SourceFile, and_file, compiling, files_of, pieces_of, compile_status}
 use Rattle.series.specs.Output.{output, played}
 use Rattle.series.specs.Pieces.{Piece}
 use Rattle.series.specs.Outcomes.{outcome_of, report_text, totals_text}
@@ -19,13 +19,13 @@ use Rattle.series.specs.SameReport.{Contains, report_in, SameReport, with_matche
 use Rattle.sinks.specs.Texts.{file_name}
 
 -- a faulty file leaves none
-none_later : (profile : Profile) (sources : List Source)
+none_later : (profile : Profile) (sources : List SourceFile)
     → fold (λ files source. and_file files (compiled profile source.bytes)) None sources ≡ None
 none_later profile [] = refl
 none_later profile (s ∷ sources) = none_later profile sources
 
 -- if all files are good, compiling them for matches writes nothing
-nothing_listed : (profile : Profile) (sources : List Source) (so_far files : List File)
+nothing_listed : (profile : Profile) (sources : List SourceFile) (so_far files : List File)
     → fold (λ files source. and_file files (compiled profile source.bytes)) (Some so_far) sources ≡ Some files →
     compiling Matches profile sources ≡ []
 nothing_listed profile [] so_far files is = refl
@@ -63,7 +63,7 @@ report_at f a (suc n) (suc i) below =
     report_at f (a + 1) n i (omega arith) ∙ ap (λ k. Some (f k)) (omega arith)
 
 -- the report of a match that the series contains
-report_is : (settings : Settings) (sources : List Source) (files : List File) (k : ℕ) → settings.mode ≡ Matches →
+report_is : (settings : Settings) (sources : List SourceFile) (files : List File) (k : ℕ) → settings.mode ≡ Matches →
     files_of settings.profile sources ≡ Some files
     → Contains settings k → report_in settings sources k ≡ Some (text_piece (report_text settings files k))
 unfolding playing

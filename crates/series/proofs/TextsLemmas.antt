@@ -4,7 +4,7 @@ use Rattle.std.specs.Prelude.{max}
 use Rattle.std.proofs.lemmas.List.FromFn.{get_or-map-range_with_len, length-map-range_with_len}
 use Rattle.std.proofs.lemmas.List.{get_or-map, length-map}
 use Rattle.series.specs.Lines.{ended_line, lines_text}
-use Rattle.battles.specs.Battle.{Outcome, alive}
+use Rattle.battles.specs.Battle.{Outcome, is_survivor}
 use Rattle.battles.specs.Pairing.{paired}
 use Rattle.series.specs.declared.totals.Score.{Score}
 use Rattle.series.specs.Reports.{report, robot_line, robot_lines, state_text}
@@ -79,11 +79,11 @@ report_added text k names outcome =
 -- the line of one robot
 pub robot_line_at : (names : List (List ℕ)) (outcome : Outcome) (i : ℕ) (name : List ℕ) → i < length outcome.damages →
     name ≡ get_or names i []
-    → get_or (robot_lines names outcome) i [] ≡ robot_line i (alive outcome i) (get_or outcome.damages i 0) name
+    → get_or (robot_lines names outcome) i [] ≡ robot_line i (is_survivor outcome i) (get_or outcome.damages i 0) name
 robot_line_at names outcome i name within named =
     rw named
     (get_or-map-range_with_len
-    (λ i. robot_line i (alive outcome i) (get_or outcome.damages i 0) (get_or names i [])) 0
+    (λ i. robot_line i (is_survivor outcome i) (get_or outcome.damages i 0) (get_or names i [])) 0
     (length outcome.damages) i i [] within (omega arith))
 
 -- the line of one score
@@ -142,7 +142,7 @@ robot_name_is {X} bytes words robot file x word name within one several is named
 pub length_robot_lines : (names : List (List ℕ)) (outcome : Outcome) →
     length (robot_lines names outcome) ≡ length outcome.damages
 length_robot_lines names outcome =
-    length-map-range_with_len (λ i. robot_line i (alive outcome i) (get_or outcome.damages i 0) (get_or names i [])) 0
+    length-map-range_with_len (λ i. robot_line i (is_survivor outcome i) (get_or outcome.damages i 0) (get_or names i [])) 0
     (length outcome.damages)
 
 pub length_score_lines : (names : List (List ℕ)) (scores : ℕ → Score) → length (score_lines names scores) ≡ length names

@@ -8,21 +8,21 @@ use Rattle.settings.specs.Settings.{Settings}
 use Rattle.series.specs.declared.compiling.CompileFault.{CompileFault}
 use Rattle.series.specs.declared.run_results.RunFault.{RunFault}
 use Rattle.series.specs.declared.run_results.Status.{Status}
-use Rattle.series.specs.Compiling.{Source, codes_of, compiled_code, compiling, files_of, pieces_of, compile_status}
+use Rattle.series.specs.Compiling.{SourceFile, programs_of, compiled_program, compiling, files_of, pieces_of, compile_status}
 use Rattle.series.specs.ProgramKeeping.{and_compiled, kept_by, status_by}
 use Rattle.series.specs.Output.{StopsRun}
 use Rattle.series.specs.Pieces.{Piece, Taken, Writes, Begins}
 
 -- the files were compiled: the sinks took what that writes, and this is the answer, or a device stopped it
-abbrev pub CompilesTo : {T : Type 0} → T → Settings → List Source → Result T RunFault → Taken → Taken → Type 0
+abbrev pub CompilesTo : {T : Type 0} → T → Settings → List SourceFile → Result T RunFault → Taken → Taken → Type 0
 CompilesTo answer settings sources result before after = MatchResult result
     (λ given. Writes before after (compiling settings.mode settings.profile sources) × (given ≡ answer))
     (λ fault. StopsRun settings sources (compiling settings.mode settings.profile sources) fault before after)
 
 -- the programs are theirs, if none has a fault
-abbrev pub Compiles : Settings → List Source → Result (Option (List Program)) RunFault → Taken → Taken → Type 0
+abbrev pub Compiles : Settings → List SourceFile → Result (Option (List Program)) RunFault → Taken → Taken → Type 0
 Compiles settings sources result before after =
-    CompilesTo (codes_of settings.profile sources) settings sources result before after
+    CompilesTo (programs_of settings.profile sources) settings sources result before after
 
 -- the sinks took the pieces, or a beginning of them
 abbrev pub PutsPieces : {T E : Type 0} → Result T E → Taken → Taken → List Piece → Type 0
@@ -34,12 +34,12 @@ PutsPieces result before after pieces = MatchResult result (λ _. Writes before 
 pub record CompilesFile (mode : Mode) (profile : Profile) (name bytes : List ℕ) (result : Result Status CompileFault)
     (kept later : Option (List Program)) (before after : Taken) : Type 0 where
   pub output : PutsPieces result before after (pieces_of mode profile name (compiled profile bytes))
-  pub status : IfOk result (λ status. status ≡ status_by (compiled_code profile bytes))
-  pub keeps : IfOk result (λ status. later ≡ and_compiled kept (compiled_code profile bytes))
+  pub status : IfOk result (λ status. status ≡ status_by (compiled_program profile bytes))
+  pub keeps : IfOk result (λ status. later ≡ and_compiled kept (compiled_program profile bytes))
 
 -- These sources were compiled: the sinks took what that gives, the status is theirs, and their programs are kept.
-pub record CompilesAll (settings : Settings) (sources : List Source) (result : Result Status RunFault)
+pub record CompilesAll (settings : Settings) (sources : List SourceFile) (result : Result Status RunFault)
     (kept : Option (List Program)) (before after : Taken) : Type 0 where
   pub output : CompilesTo (compile_status (files_of settings.profile sources)) settings sources result before after
   pub programs : IfOk result
-      (λ status. IfSome kept (λ programs. kept_by status programs ≡ codes_of settings.profile sources))
+      (λ status. IfSome kept (λ programs. kept_by status programs ≡ programs_of settings.profile sources))

@@ -17,7 +17,7 @@ use Rattle.series.specs.Pieces.{Piece, Text, Faults}
 use Rattle.sinks.specs.Texts.{file_name}
 
 -- a source file: the word that names it, and its bytes
-pub record Source : Type 0 where
+pub record SourceFile : Type 0 where
   pub word : List ℕ
   pub bytes : List ℕ
 
@@ -27,12 +27,12 @@ and_file (Some files) (Ok file) = Some (files ++ file ∷ [])
 and_file _ _ = None
 
 -- the file of each source in order, if none has a fault
-abbrev pub files_of : Profile → List Source → Option (List File)
+abbrev pub files_of : Profile → List SourceFile → Option (List File)
 files_of profile sources = fold (λ files source. and_file files (compiled profile source.bytes)) (Some []) sources
 
 -- the program of each file
-abbrev pub codes_of : Profile → List Source → Option (List Program)
-codes_of profile sources = option_map (λ files. map (code_of profile) files) (files_of profile sources)
+abbrev pub programs_of : Profile → List SourceFile → Option (List Program)
+programs_of profile sources = option_map (λ files. map (code_of profile) files) (files_of profile sources)
 
 -- whether a file had a fault
 abbrev pub compile_status : Option (List File) → Status
@@ -40,12 +40,12 @@ compile_status (Some files) = Done
 compile_status None = Faulty
 
 -- the program of a file, or its fault
-abbrev pub code_or_fault : Profile → Result File Diagnostic → Result Program Diagnostic
-code_or_fault profile (Ok file) = Ok (code_of profile file)
-code_or_fault profile (Err d) = Err d
+abbrev pub program_or_fault : Profile → Result File Diagnostic → Result Program Diagnostic
+program_or_fault profile (Ok file) = Ok (code_of profile file)
+program_or_fault profile (Err d) = Err d
 
-abbrev pub compiled_code : Profile → List ℕ → Result Program Diagnostic
-compiled_code profile bytes = code_or_fault profile (compiled profile bytes)
+abbrev pub compiled_program : Profile → List ℕ → Result Program Diagnostic
+compiled_program profile bytes = program_or_fault profile (compiled profile bytes)
 
 -- a good file's listing goes to the channel of texts
 abbrev pub listing_piece : List ℕ → Pools → Program → Piece
@@ -65,9 +65,9 @@ abbrev pub pieces_of : Mode → Profile → List ℕ → Result File Diagnostic 
 pieces_of mode profile name (Ok file) = listed mode (listing_piece name (pools_of file) (code_of profile file))
 pieces_of mode profile name (Err d) = diagnostic_piece name d ∷ []
 
-abbrev pub source_pieces : Mode → Profile → Source → List Piece
+abbrev pub source_pieces : Mode → Profile → SourceFile → List Piece
 source_pieces mode profile source = pieces_of mode profile (file_name source.word) (compiled profile source.bytes)
 
 -- what is written while the files are compiled, in order
-abbrev pub compiling : Mode → Profile → List Source → List Piece
+abbrev pub compiling : Mode → Profile → List SourceFile → List Piece
 compiling mode profile sources = flat_map (source_pieces mode profile) sources

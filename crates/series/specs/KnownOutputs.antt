@@ -3,7 +3,7 @@ use Rattle.std.specs.Prelude.{◌≡◌, ℕ, List, [], ◌∷◌, codes, map, �
 use Rattle.battles.specs.Battle.{Outcome}
 use Rattle.grammar.specs.Profile.{first_profile}
 use Rattle.series.specs.declared.run_results.Status.TheVariants.{Done, Faulty}
-use Rattle.series.specs.Compiling.{Source}
+use Rattle.series.specs.Compiling.{SourceFile}
 use Rattle.series.specs.DiagnosticLines.{diagnostic_line}
 use Rattle.series.specs.Output.{Output, output}
 use Rattle.settings.specs.Settings.{Settings}
@@ -25,7 +25,7 @@ pub record KnownTexts : Type 0 where
   pub diagnostic : diagnostic_line (codes "c.r") 2 (codes "reserved word") ≡ codes "c.r:2: reserved word\n"
 
 -- settings with the first profile and the seed 1
-abbrev asked : Mode → ℕ → ℕ → List Source → Settings
+abbrev asked : Mode → ℕ → ℕ → List SourceFile → Settings
 asked mode matches limit sources = record {
   mode = mode;
   matches = matches;
@@ -37,7 +37,7 @@ asked mode matches limit sources = record {
 }
 
 -- what a run writes that lists these files
-abbrev listing_output : List Source → Output
+abbrev listing_output : List SourceFile → Output
 listing_output sources = output (asked Listing 1 500000 sources) sources
 
 -- two matches of two robots: the second robot survived the first alone, and both survived the second

@@ -1,6 +1,6 @@
 -- The output as pieces on two channels, and what two sinks took of it.
 use Rattle.std.specs.Prelude.{◌≡◌, ◌⊎◌, ℕ, List, [], ◌∷◌}
-use Rattle.sinks.specs.Portions.{Portions, Takes, TakesFront, Written}
+use Rattle.sinks.specs.Portions.{Portions, Takes, TakesPrefix, SinkState}
 
 -- where a piece is written
 pub data Channel : Type 0 where
@@ -22,7 +22,7 @@ abbrev pub on_both : Portions → Portions → Taken
 on_both text faults = record { text = text; faults = faults }
 
 -- what the sink of texts and that of faults have taken
-abbrev pub taken_by_sinks : (text faults : Written) → Taken
+abbrev pub taken_by_sinks : (text faults : SinkState) → Taken
 taken_by_sinks text faults = on_both text.portions faults.portions
 
 -- the channel's sink took exactly these bytes, and the other one nothing
@@ -31,9 +31,9 @@ TakesOn Text before after bytes = Takes before.text after.text bytes × (after.f
 TakesOn Faults before after bytes = Takes before.faults after.faults bytes × (after.text ≡ before.text)
 
 -- the channel's sink took a front of these bytes, and the other one nothing
-abbrev pub TakesFrontOn : Channel → Taken → Taken → List ℕ → Type 0
-TakesFrontOn Text before after bytes = TakesFront before.text after.text bytes × (after.faults ≡ before.faults)
-TakesFrontOn Faults before after bytes = TakesFront before.faults after.faults bytes × (after.text ≡ before.text)
+abbrev pub TakesPrefixOn : Channel → Taken → Taken → List ℕ → Type 0
+TakesPrefixOn Text before after bytes = TakesPrefix before.text after.text bytes × (after.faults ≡ before.faults)
+TakesPrefixOn Faults before after bytes = TakesPrefix before.faults after.faults bytes × (after.text ≡ before.text)
 
 -- the sinks took these pieces, each whole, in this order; no write mixes two pieces
 abbrev pub Writes : Taken → Taken → List Piece → Type 0
@@ -45,5 +45,5 @@ Writes before after (piece ∷ pieces) = (between : Taken) × TakesOn piece.chan
 abbrev pub Begins : Taken → Taken → List Piece → Type 0
 Begins before after [] = after ≡ before
 Begins before after (piece ∷ pieces) =
-    TakesFrontOn piece.channel before after piece.bytes
+    TakesPrefixOn piece.channel before after piece.bytes
     ⊎ ((between : Taken) × TakesOn piece.channel before between piece.bytes × Begins between after pieces)

@@ -11,9 +11,9 @@ use Rattle.series.specs.declared.run_results.Status.{Status}
 use Rattle.series.specs.declared.run_results.Status.TheVariants.{Done, Faulty}
 
 -- the programs so far with that of one more file; a faulty file leaves none
-abbrev pub and_code : Option (List Program) → Result Program Diagnostic → Option (List Program)
-and_code (Some codes) (Ok code) = Some (codes ++ code ∷ [])
-and_code _ _ = None
+abbrev pub and_program_of_file : Option (List Program) → Result Program Diagnostic → Option (List Program)
+and_program_of_file (Some codes) (Ok code) = Some (codes ++ code ∷ [])
+and_program_of_file _ _ = None
 
 -- the programs that were kept count if no file has a fault
 abbrev pub kept_by : Status → List Program → Option (List Program)

@@ -1,7 +1,7 @@
 -- The report of a match.
 use Rattle.std.specs.Prelude.{ℕ, ◌+◌, List, [], ◌∷◌, ◌++◌, Bool, true, false, map, length, get_or, codes, decimal}
 use Rattle.std.specs.List.{range_with_len}
-use Rattle.battles.specs.Battle.{Outcome, alive}
+use Rattle.battles.specs.Battle.{Outcome, is_survivor}
 use Rattle.sinks.specs.Texts.{column}
 use Rattle.series.specs.Lines.{lines_text}
 
@@ -21,7 +21,7 @@ robot_line i is_alive damage name =
 
 abbrev pub robot_lines : List (List ℕ) → Outcome → List (List ℕ)
 robot_lines names outcome =
-    map (λ i. robot_line i (alive outcome i) (get_or outcome.damages i 0) (get_or names i []))
+    map (λ i. robot_line i (is_survivor outcome i) (get_or outcome.damages i 0) (get_or names i []))
     (range_with_len 0 (length outcome.damages))
 
 -- the line of the match, and one of each robot

@@ -3,7 +3,7 @@ use Rattle.std.specs.Prelude.{◌≡◌, ℕ, ◌+◌, ◌-◌, ◌<◌, ◌≤�
 use Rattle.settings.specs.declared.settings.Mode.TheVariants.{Matches}
 use Rattle.settings.specs.Settings.{Settings}
 use Rattle.series.specs.declared.run_results.Status.TheVariants.{Done}
-use Rattle.series.specs.Compiling.{Source}
+use Rattle.series.specs.Compiling.{SourceFile}
 use Rattle.series.specs.Output.{output}
 use Rattle.series.specs.Pieces.{Piece}
 
@@ -13,7 +13,7 @@ pub record Contains (settings : Settings) (k : ℕ) : Type 0 where
   pub most : k < settings.first + settings.matches
 
 -- the report of that match, as the output has it
-abbrev pub report_in : Settings → List Source → ℕ → Option Piece
+abbrev pub report_in : Settings → List SourceFile → ℕ → Option Piece
 report_in settings sources k = slice_get (output settings sources).pieces (k - settings.first)
 
 -- the same settings, but for another first number and another count of matches
@@ -22,7 +22,7 @@ with_matches settings first matches = record settings { first = first; matches =
 
 -- if both series contain a match, its report is the same
 abbrev pub SameReport : Type 0
-SameReport = (settings : Settings) (sources : List Source) (first matches k : ℕ) → settings.mode ≡ Matches
+SameReport = (settings : Settings) (sources : List SourceFile) (first matches k : ℕ) → settings.mode ≡ Matches
     → (output settings sources).status ≡ Done
     → Contains settings k → Contains (with_matches settings first matches) k
     → report_in settings sources k ≡ report_in (with_matches settings first matches) sources k

@@ -4,7 +4,7 @@ use Rattle.tokens.specs.WindowLimits.{window_bytes}
 use Rattle.grammar.specs.Profile.{Profile}
 use Rattle.parser.specs.ParsedFiles.{LeavesUndecided, TakesUpTo}
 use Rattle.settings.specs.Settings.{Settings}
-use Rattle.series.specs.Compiling.{Source, compiling}
+use Rattle.series.specs.Compiling.{SourceFile, compiling}
 use Rattle.series.specs.Pieces.{Begins, Piece, Taken, Writes}
 use Rattle.series.specs.SourceContents.{AreSources}
 use Rattle.series.specs.declared.compiling.CompileFault.{CompileFault}
@@ -58,7 +58,7 @@ TakesPast before after pieces = (between : Taken) × Writes before between piece
 pub record FailsToPut (settings : Settings) (told later : List (Option (List ℕ))) (before after : Taken) : Type 0 where
   pub count : ℕ
   pub reads : ReadsFirst settings.profile told later count
-  pub puts : (sources : List Source) → AreSources sources settings.file_words told
+  pub puts : (sources : List SourceFile) → AreSources sources settings.file_words told
       → TakesPast before after (compiling settings.mode settings.profile (take (count - 1) sources))
 
 -- what was read if a device stopped the run

@@ -1,7 +1,7 @@
 -- How often each robot of a series won, tied and lost.
 use Rattle.std.specs.Prelude.{ℕ, ◌+◌, List, [], ◌∷◌, ◌++◌, Bool, not, ◌&&◌, ◌||◌, ◌==◌, nat_lt, nat_le, map, length, get_or, count_by, codes, decimal}
 use Rattle.std.specs.List.{range_with_len}
-use Rattle.battles.specs.Battle.{Outcome, alive}
+use Rattle.battles.specs.Battle.{Outcome, is_survivor}
 use Rattle.series.specs.declared.totals.Score.{Score}
 use Rattle.series.specs.Lines.{lines_text}
 
@@ -10,11 +10,11 @@ survivors outcome = count_by (λ damage. nat_lt damage 100) outcome.damages
 
 -- a sole survivor won
 abbrev pub has_won : ℕ → Outcome → Bool
-has_won i outcome = alive outcome i && survivors outcome == 1
+has_won i outcome = is_survivor outcome i && survivors outcome == 1
 
 -- if two or more survived, each of them tied
 abbrev pub has_tied : ℕ → Outcome → Bool
-has_tied i outcome = alive outcome i && nat_le 2 (survivors outcome)
+has_tied i outcome = is_survivor outcome i && nat_le 2 (survivors outcome)
 
 -- all others lost
 abbrev pub has_lost : ℕ → Outcome → Bool

@@ -1,13 +1,13 @@
 //! Files are compiled: each good one's program is taken, and each faulty one's diagnostic put.
 
 ghost use Rattle.std.specs.Prelude.{◌≡◌, ℕ, ◌+◌, ◌-◌, ◌^◌, ◌<◌, ◌≤◌, List, [], ◌∷◌, Some, length, map};
-ghost use Rattle.series.specs.Compiling.{Source};
-ghost use Rattle.series.specs.Failures.{FailsAsAnswered, AreReady, CountsFile, failures};
+ghost use Rattle.series.specs.Compiling.{SourceFile};
+ghost use Rattle.series.specs.Failures.{FailsAsAnswered, AreReady, CountsFileFailures, failures};
 ghost use Rattle.series.specs.Pieces.{taken_by_sinks};
 ghost use Rattle.series.specs.SourceReading.{IfRead, ReadsSources, ReadsFile};
 ghost use Rattle.series.specs.ProgramKeeping.{CanKeep, IsNewKeeper, KeepsAll, KeepsOn, worse_status};
 ghost use Rattle.series.specs.CompiledFiles.{CompilesAll, CompilesFile};
-ghost use Rattle.series.specs.SourceContents.{AreSources, told_by};
+ghost use Rattle.series.specs.SourceContents.{AreSources, known_to_come};
 
 use crate::diagnostic_lines::put_diagnostic;
 use crate::keeping::TakesPrograms;
@@ -42,11 +42,11 @@ pub(crate) fn compile_all<K: TakesPrograms, F: Feed, O: Sink, E: Sink>(
     requires new { IsNewKeeper settings.now.mode (K.mode keeper.old) (K.kept keeper.old) }
     requires ready { AreReady F.device (length settings.now.file_words) feeds.old
         (O.written out.old) (E.written err.old) }
-    ensures output { (sources : List Source) → AreSources sources settings.now.file_words (told_by F.device feeds.old)
+    ensures output { (sources : List SourceFile) → AreSources sources settings.now.file_words (known_to_come F.device feeds.old)
         → CompilesAll settings.now sources result (K.kept keeper.new)
         (taken_by_sinks (O.written out.old) (E.written err.old)) (taken_by_sinks (O.written out.new) (E.written err.new)) }
     ensures keeps { KeepsAll settings.now.profile (length settings.now.file_words) result (K.kept keeper.new) }
-    ensures read { ReadsSources settings.now result (told_by F.device feeds.old) (told_by F.device feeds.new)
+    ensures read { ReadsSources settings.now result (known_to_come F.device feeds.old) (known_to_come F.device feeds.new)
         (taken_by_sinks (O.written out.old) (E.written err.old)) (taken_by_sinks (O.written out.new) (E.written err.new)) }
     ensures failures { FailsAsAnswered result
         (failures F.device feeds.old (O.written out.old) (E.written err.old))
@@ -110,7 +110,7 @@ fn compile_file<K: TakesPrograms, F: Feed, O: Sink, E: Sink>(
     ensures keeps { KeepsOn profile result (K.mode keeper.old) (K.mode keeper.new)
         (K.kept keeper.old) (K.kept keeper.new) }
     ensures read { ReadsFile profile result (F.device feed.old).to_come (F.device feed.new).to_come }
-    ensures failures { CountsFile result (F.device feed.old).account (F.device feed.new).account
+    ensures failures { CountsFileFailures result (F.device feed.old).account (F.device feed.new).account
         (O.written out.old) (E.written err.old) (O.written out.new) (E.written err.new) }
 {
     names.clear();

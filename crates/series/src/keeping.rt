@@ -8,7 +8,7 @@ ghost use Rattle.series.specs.ProgramKeeping.{CanKeep, and_program};
 ghost use Rattle.series.specs.CompiledFiles.{PutsPieces};
 ghost use Rattle.settings.specs.declared.settings.Mode.{Mode};
 ghost use Rattle.settings.specs.declared.settings.Mode.TheVariants.{Listing};
-ghost use Rattle.sinks.specs.Portions.{Written};
+ghost use Rattle.sinks.specs.Portions.{SinkState};
 ghost use Rattle.sinks.specs.Puts.{CanFail, CountsSink};
 
 use battles::Programs;
@@ -39,7 +39,7 @@ pub(crate) trait TakesPrograms {
         requires countable { CanFail (S.written out.old) }
         ensures mode { mode self.new ≡ mode self.old }
         ensures kept { kept self.new ≡ and_program (kept self.old) program }
-        ensures output { (faults : Written)
+        ensures output { (faults : SinkState)
             → PutsPieces result (taken_by_sinks (S.written out.old) faults) (taken_by_sinks (S.written out.new) faults)
             (listed (mode self.old) (listing_piece name.now names.now program)) }
         ensures count { CountsSink result (S.written out.old) (S.written out.new) };

@@ -1,7 +1,7 @@
 //! The report of a match.
 
 ghost use Rattle.std.specs.Prelude.{◌≡◌, ℕ, ◌+◌, ◌-◌, ◌^◌, ◌<◌, ◌≤◌, List, [], ◌∷◌, ◌++◌, length, map, slice_index};
-ghost use Rattle.battles.specs.Battle.{alive};
+ghost use Rattle.battles.specs.Battle.{is_survivor};
 ghost use Rattle.battles.specs.Pairing.{paired};
 ghost use Rattle.sinks.specs.Pens.{MayFail, Adds};
 ghost use Rattle.sinks.specs.Puts.{CanFail, Puts};
@@ -68,7 +68,7 @@ fn add_robot<S: Sink>(pen: &mut Pen, sink: &mut S, outcome: &Outcome, robot: usi
     requires countable { MayFail pen.old (S.written sink.old) }
     ensures countable { MayFail pen.new (S.written sink.new) }
     ensures text { Adds (S.written sink.old) pen.old (S.written sink.new) pen.new
-        (ended_line (robot_line robot (alive outcome.now robot) (slice_index outcome.now.damages robot) name.now)) }
+        (ended_line (robot_line robot (is_survivor outcome.now robot) (slice_index outcome.now.damages robot) name.now)) }
 {
     pen.add(sink, b"  ");
     pen.add_number(sink, robot as u32 + 1);

@@ -4,16 +4,16 @@ ghost use Rattle.std.specs.Prelude.{◌≡◌, ◌-◌, ◌^◌, ◌<◌, List, 
 ghost use Rattle.battles.specs.Programs.{AreOfProfile};
 ghost use Rattle.code.specs.Codes.{AreProgramsOf};
 ghost use Rattle.grammar.specs.Tree.{File};
-ghost use Rattle.series.specs.Compiling.{Source};
+ghost use Rattle.series.specs.Compiling.{SourceFile};
 ghost use Rattle.series.specs.Failures.{FailsAsAnswered, AreReady, failures};
 ghost use Rattle.series.specs.Output.{Runs};
 ghost use Rattle.series.specs.Pieces.{taken_by_sinks};
 ghost use Rattle.series.specs.Playing.{playing};
-ghost use Rattle.sinks.specs.Portions.{Written};
+ghost use Rattle.sinks.specs.Portions.{SinkState};
 ghost use Rattle.sinks.specs.Puts.{CanFail, CountsSink};
 ghost use Rattle.series.specs.SourceReading.{ReadsSources};
 ghost use Rattle.series.specs.CompiledFiles.{Compiles, PutsPieces};
-ghost use Rattle.series.specs.SourceContents.{AreSources, told_by};
+ghost use Rattle.series.specs.SourceContents.{AreSources, known_to_come};
 ghost use Rattle.settings.specs.declared.settings.Mode.TheVariants.{Matches};
 
 use crate::compiling::compile_all;
@@ -42,10 +42,10 @@ pub fn run<F: Feed, O: Sink, E: Sink>(
 ) -> Result<Status, RunFault>
     requires ready { AreReady F.device (length settings.now.file_words) feeds.old
         (O.written out.old) (E.written err.old) }
-    ensures output { (sources : List Source) → AreSources sources settings.now.file_words (told_by F.device feeds.old)
+    ensures output { (sources : List SourceFile) → AreSources sources settings.now.file_words (known_to_come F.device feeds.old)
         → Runs settings.now sources result (taken_by_sinks (O.written out.old) (E.written err.old))
         (taken_by_sinks (O.written out.new) (E.written err.new)) }
-    ensures read { ReadsSources settings.now result (told_by F.device feeds.old) (told_by F.device feeds.new)
+    ensures read { ReadsSources settings.now result (known_to_come F.device feeds.old) (known_to_come F.device feeds.new)
         (taken_by_sinks (O.written out.old) (E.written err.old)) (taken_by_sinks (O.written out.new) (E.written err.new)) }
     ensures failures { FailsAsAnswered result
         (failures F.device feeds.old (O.written out.old) (E.written err.old))
@@ -70,10 +70,10 @@ fn play_files<F: Feed, O: Sink, E: Sink>(
     requires matches { settings.now.mode ≡ Matches }
     requires ready { AreReady F.device (length settings.now.file_words) feeds.old
         (O.written out.old) (E.written err.old) }
-    ensures output { (sources : List Source) → AreSources sources settings.now.file_words (told_by F.device feeds.old)
+    ensures output { (sources : List SourceFile) → AreSources sources settings.now.file_words (known_to_come F.device feeds.old)
         → Runs settings.now sources result (taken_by_sinks (O.written out.old) (E.written err.old))
         (taken_by_sinks (O.written out.new) (E.written err.new)) }
-    ensures read { ReadsSources settings.now result (told_by F.device feeds.old) (told_by F.device feeds.new)
+    ensures read { ReadsSources settings.now result (known_to_come F.device feeds.old) (known_to_come F.device feeds.new)
         (taken_by_sinks (O.written out.old) (E.written err.old)) (taken_by_sinks (O.written out.new) (E.written err.new)) }
     ensures failures { FailsAsAnswered result
         (failures F.device feeds.old (O.written out.old) (E.written err.old))
@@ -100,7 +100,7 @@ fn play_all<O: Sink>(
     requires manned { length programs.now ≡ length settings.now.file_words }
     requires profile { AreOfProfile settings.now.profile programs.now }
     requires countable { CanFail (O.written out.old) }
-    ensures output { (files : List File) (faults : Written) → AreProgramsOf programs.now settings.now.profile files
+    ensures output { (files : List File) (faults : SinkState) → AreProgramsOf programs.now settings.now.profile files
         → PutsPieces result (taken_by_sinks (O.written out.old) faults) (taken_by_sinks (O.written out.new) faults)
         (playing settings.now files) }
     ensures answer { MatchResult result (λ status. status ≡ Status.Done) (λ fault. fault ≡ RunFault.Write) }
@@ -127,14 +127,14 @@ pub fn compile_files<F: Feed, O: Sink, E: Sink>(
 ) -> Result<Option<Programs>, RunFault>
     requires ready { AreReady F.device (length settings.now.file_words) feeds.old
         (O.written out.old) (E.written err.old) }
-    ensures output { (sources : List Source) → AreSources sources settings.now.file_words (told_by F.device feeds.old)
+    ensures output { (sources : List SourceFile) → AreSources sources settings.now.file_words (known_to_come F.device feeds.old)
         → Compiles settings.now sources result (taken_by_sinks (O.written out.old) (E.written err.old))
         (taken_by_sinks (O.written out.new) (E.written err.new)) }
     ensures manned { IfOk result (λ programs. IfSome programs
         (λ programs. length programs ≡ length settings.now.file_words)) }
     ensures profile { IfOk result (λ programs. IfSome programs
         (λ programs. AreOfProfile settings.now.profile programs)) }
-    ensures read { ReadsSources settings.now result (told_by F.device feeds.old) (told_by F.device feeds.new)
+    ensures read { ReadsSources settings.now result (known_to_come F.device feeds.old) (known_to_come F.device feeds.new)
         (taken_by_sinks (O.written out.old) (E.written err.old)) (taken_by_sinks (O.written out.new) (E.written err.new)) }
     ensures failures { FailsAsAnswered result
         (failures F.device feeds.old (O.written out.old) (E.written err.old))

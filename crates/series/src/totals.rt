@@ -1,7 +1,7 @@
 //! How often each robot won, tied and lost.
 
 ghost use Rattle.std.specs.Prelude.{◌≡◌, ℕ, ◌+◌, ◌-◌, ◌^◌, ◌<◌, ◌≤◌, List, [], ◌∷◌, ◌++◌, length, map, All};
-ghost use Rattle.battles.specs.Battle.{Outcome as Ended, alive};
+ghost use Rattle.battles.specs.Battle.{Outcome as Ended, is_survivor};
 ghost use Rattle.settings.specs.SettingsLimits.{most_files};
 ghost use Rattle.series.specs.Lines.{ended_line};
 ghost use Rattle.series.specs.SeriesSteps.{Tally, IsTallyOf, score_at, with_match};
@@ -85,7 +85,7 @@ impl Score {
     /// Returns the score with one more match, in which so many robots survived.
     fn with_match(self, alive: bool, survivors: usize) -> Score
         requires { self.won + self.tied + self.lost < 2 ^ 32 - 1 }
-        ensures { result ≡ with_match self alive survivors }
+        ensures { result ≡ with_match self is_survivor survivors }
     {
         match (alive, survivors) {
             (false, _) => Score {
@@ -116,9 +116,9 @@ fn survivor_count(outcome: &Outcome) -> usize
 }
 
 /// Reports whether a robot is alive. There is none past the last one.
-#[tactic(auto, using(crate::proofs::CoursesLemmas::none_alive))]
+#[tactic(auto, using(crate::proofs::SeriesLemmas::none_alive))]
 fn is_alive(outcome: &Outcome, robot: usize) -> bool
-    ensures { result ≡ alive outcome.now robot }
+    ensures { result ≡ is_survivor outcome.now robot }
 {
     robot < outcome.damages().len() && outcome.is_alive(robot)
 }

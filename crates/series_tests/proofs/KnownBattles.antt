@@ -1,23 +1,23 @@
 -- The known battles, worked out.
 use Rattle.std.proofs.Common.{refl, arith, [], ◌∷◌}
-use Rattle.arena.specs.Leg.{clamped, along, way_east, way_north, end_x, end_y, place_x, place_y, leg_anew, steered, approached, sped, grown, is_outside, hits_wall, walled, tried, driven}
-use Rattle.arena.specs.Field.{damage_of, is_alive, no_robot, robot_at, is_live, live_count, metres_x, metres_y}
-use Rattle.arena.specs.Collisions.{candidate, mover, moves, square, is_close, is_no_further, collides, others, touches}
+use Rattle.arena.specs.Leg.{clamped, along, way_east, way_north, end_x, end_y, place_x, place_y, leg_anew, steered, approached, sped, travelled, is_outside, hits_wall, clamped_at_walls, tried, stopped_by_walls}
+use Rattle.arena.specs.Field.{damage_of, is_alive, no_robot, robot_at, is_live_at, live_count, metres_x, metres_y}
+use Rattle.arena.specs.Collisions.{leg_alone, attempted_move, moves, square, is_close, is_no_further, collides, others, collision_count}
 use Rattle.arena.specs.Shots.{aimed_x, aimed_y, flight, shot, in_air, due_at, ring, bursts}
-use Rattle.arena.specs.Moved.{put_back, leg_after, knocks, moved_robot, moved}
+use Rattle.arena.specs.Moved.{put_back, leg_after, knock_damages, moved_robot, moved}
 use Rattle.arena.specs.Scan.{apart, east_to, north_to, in_arc, sees, range_of, nearest, scanned}
 use Rattle.arena.specs.Random.{generator, random_word}
-use Rattle.arena.specs.Start.{standing, quadrant, drawn_place, drawn_robot, start}
+use Rattle.arena.specs.Start.{robot_at_rest, quadrant, drawn_place, drawn_robot, start}
 use Rattle.arena.specs.Placed.{placed}
-use Rattle.arena.specs.Answer.{argument_at, fired, wanting, directed, random_limit, random_number, answer}
-use Rattle.battles.specs.Battle.{granted, robot_turn, behaviour_at, turn, turns, is_due, updated, cycle, is_over, stage_after, first_above, last_cycle, opening, damages_of, battle, alive}
+use Rattle.arena.specs.Answer.{argument_at, fired, with_wanted, field_with_wanted, random_limit, random_number, answer}
+use Rattle.battles.specs.Battle.{after_want, robot_turn, behaviour_at, turn, turns, is_due, updated, cycle, is_over, state_after, first_passing, last_cycle, first_state, damages_of, battle, is_survivor}
 use Rattle.arith.specs.Circle.{sine_at, cosine_at, sine_of, cosine_of}
 use Rattle.arith.specs.Degree.{degree_of}
 use Rattle.arith.specs.Table.{sines, tangents}
 use Rattle.arith.specs.Op.{value_of}
 use Rattle.std.specs.Int.{int_wrap}
 use Rattle.code.specs.Values.{stored}
-use Rattle.grammar.specs.NameLimits.{most_levels}
+use Rattle.grammar.specs.NameLimits.{most_nested}
 use Rattle.grammar.specs.Profile.{first_profile, second_profile}
 use Rattle.tokens.specs.Tokens.{tokens, located_tokens}
 use Rattle.tokens.specs.Punctuators.{punctuator_of}
@@ -30,15 +30,15 @@ use Rattle.code.specs.KnownPrograms.{shooting_file}
 use Rattle.series_tests.proofs.Limits.{longer}
 
 pub battles : KnownBattles
-unfolding clamped along way_east way_north end_x end_y place_x place_y leg_anew steered approached sped grown is_outside
-    hits_wall walled tried driven damage_of is_alive no_robot robot_at is_live live_count metres_x metres_y candidate
-    mover moves square is_close is_no_further collides others touches aimed_x aimed_y flight shot in_air due_at ring
-    bursts put_back leg_after knocks moved_robot moved apart east_to north_to in_arc sees range_of nearest scanned
-    generator random_word standing quadrant drawn_place drawn_robot start placed argument_at fired wanting directed
-    random_limit random_number answer granted robot_turn behaviour_at turn turns is_due updated cycle is_over
-    stage_after
-    first_above last_cycle opening damages_of battle alive sine_at cosine_at sine_of cosine_of degree_of sines tangents
-    value_of int_wrap stored first_profile second_profile tokens located_tokens punctuator_of keyword_of most_levels
+unfolding clamped along way_east way_north end_x end_y place_x place_y leg_anew steered approached sped travelled is_outside
+    hits_wall clamped_at_walls tried stopped_by_walls damage_of is_alive no_robot robot_at is_live_at live_count metres_x metres_y leg_alone
+    attempted_move moves square is_close is_no_further collides others collision_count aimed_x aimed_y flight shot in_air due_at ring
+    bursts put_back leg_after knock_damages moved_robot moved apart east_to north_to in_arc sees range_of nearest scanned
+    generator random_word robot_at_rest quadrant drawn_place drawn_robot start placed argument_at fired with_wanted field_with_wanted
+    random_limit random_number answer after_want robot_turn behaviour_at turn turns is_due updated cycle is_over
+    state_after
+    first_passing last_cycle first_state damages_of battle is_survivor sine_at cosine_at sine_of cosine_of degree_of sines tangents
+    value_of int_wrap stored first_profile second_profile tokens located_tokens punctuator_of keyword_of most_nested
     intrinsic_named intrinsic_name compiled
 battles = record {
   empty = record { compiles = refl; ends = refl };
@@ -76,15 +76,15 @@ battles = record {
 }
 
 pub short_battles : KnownShortBattles
-unfolding clamped along way_east way_north end_x end_y place_x place_y leg_anew steered approached sped grown is_outside
-    hits_wall walled tried driven damage_of is_alive no_robot robot_at is_live live_count metres_x metres_y candidate
-    mover moves square is_close is_no_further collides others touches aimed_x aimed_y flight shot in_air due_at ring
-    bursts put_back leg_after knocks moved_robot moved apart east_to north_to in_arc sees range_of nearest scanned
-    generator random_word standing quadrant drawn_place drawn_robot start placed argument_at fired wanting directed
-    random_limit random_number answer granted robot_turn behaviour_at turn turns is_due updated cycle is_over
-    stage_after
-    first_above last_cycle opening damages_of battle alive sine_at cosine_at sine_of cosine_of degree_of sines tangents
-    value_of int_wrap stored first_profile second_profile tokens located_tokens punctuator_of keyword_of most_levels
+unfolding clamped along way_east way_north end_x end_y place_x place_y leg_anew steered approached sped travelled is_outside
+    hits_wall clamped_at_walls tried stopped_by_walls damage_of is_alive no_robot robot_at is_live_at live_count metres_x metres_y leg_alone
+    attempted_move moves square is_close is_no_further collides others collision_count aimed_x aimed_y flight shot in_air due_at ring
+    bursts put_back leg_after knock_damages moved_robot moved apart east_to north_to in_arc sees range_of nearest scanned
+    generator random_word robot_at_rest quadrant drawn_place drawn_robot start placed argument_at fired with_wanted field_with_wanted
+    random_limit random_number answer after_want robot_turn behaviour_at turn turns is_due updated cycle is_over
+    state_after
+    first_passing last_cycle first_state damages_of battle is_survivor sine_at cosine_at sine_of cosine_of degree_of sines tangents
+    value_of int_wrap stored first_profile second_profile tokens located_tokens punctuator_of keyword_of most_nested
     intrinsic_named intrinsic_name compiled
 short_battles = record {
   left_out = record { compiles = refl; ends = refl };

@@ -1,13 +1,13 @@
 -- A battle that is over within a limit is the same within a longer one.
 use Rattle.std.proofs.Common.{◌≡◌, ◌≢◌, ℕ, ◌+◌, ◌≤◌, ◌<◌, zero, suc, Bool, true, List, length, sym, ap, ◌∙◌, inl, inr, arith}
 use Rattle.std.proofs.lemmas.Bool.{cases_Bool, false≢true}
-use Rattle.battles.specs.Battle.{Behaviour, Outcome, opening, stage_after, is_over, first_above, last_cycle, damages_of, battle}
+use Rattle.battles.specs.Battle.{Behaviour, Outcome, first_state, state_after, is_over, first_passing, last_cycle, damages_of, battle}
 use Rattle.battles.proofs.Cycles.{first_here, first_later, first_none}
 
 -- the first of some numbers that passes is the first of more numbers too
-first_longer : (passes : ℕ → Bool) (n count more first : ℕ) → count ≤ more → first_above passes n count ≡ first →
+first_longer : (passes : ℕ → Bool) (n count more first : ℕ) → count ≤ more → first_passing passes n count ≡ first →
     passes first ≡ true → n < first
-    → first_above passes n more ≡ first
+    → first_passing passes n more ≡ first
 first_longer passes n zero more first within is over some =
     let none = first_none passes n in absurd (omega arith)
 first_longer passes n (suc count) zero first within is over some = absurd (omega arith)
@@ -25,16 +25,16 @@ first_longer passes n (suc count) (suc more) first within is over some =
 -- the battle doesn't change
 pub longer : (robots : List Behaviour) (seed number limit more cycles : ℕ) (damages : List ℕ)
     → battle robots seed number limit ≡ record { cycles = cycles; damages = damages }
-    → is_over cycles (stage_after robots (opening (length robots) seed number) cycles) ≡ true → 0 < cycles →
+    → is_over cycles (state_after robots (first_state (length robots) seed number) cycles) ≡ true → 0 < cycles →
     limit ≤ more
     → battle robots seed number more ≡ record { cycles = cycles; damages = damages }
 unfolding battle last_cycle
 longer robots seed number limit more cycles damages is over some within =
-    let opened = opening (length robots) seed number in
-    let last : first_above (λ n. is_over n (stage_after robots opened n)) 0 limit ≡ cycles =
+    let opened = first_state (length robots) seed number in
+    let last : first_passing (λ n. is_over n (state_after robots opened n)) 0 limit ≡ cycles =
     ap (λ (o : Outcome). o.cycles) is in
-    let later : first_above (λ n. is_over n (stage_after robots opened n)) 0 more ≡ cycles =
-    first_longer (λ n. is_over n (stage_after robots opened n)) 0 limit more cycles within last over some in
+    let later : first_passing (λ n. is_over n (state_after robots opened n)) 0 more ≡ cycles =
+    first_longer (λ n. is_over n (state_after robots opened n)) 0 limit more cycles within last over some in
     let ended : ℕ → Outcome =
-    λ n. record { cycles = n; damages = damages_of (length robots) (stage_after robots opened n).field } in
+    λ n. record { cycles = n; damages = damages_of (length robots) (state_after robots opened n).field } in
     ap ended (later ∙ sym last) ∙ is

@@ -1,3 +1,3 @@
 pub mod PortionsLemmas
-pub mod DraftLemmas
+pub mod PenLemmas
 pub mod TextsLemmas

@@ -4,7 +4,7 @@ use Rattle.std.specs.List.{concat, between}
 use Rattle.std.proofs.lemmas.List.{append-nil, map-append, take-append-drop, take_all, take_more, drop_all}
 use Rattle.std.proofs.lemmas.Slice.{between_to_end}
 use Rattle.std.proofs.lemmas.List.Folds.{concat-append}
-use Rattle.sinks.specs.Portions.{Portions, and_portions, Takes, TakesAllBut, TakesFront, TakesWhole, buffer_bytes}
+use Rattle.sinks.specs.Portions.{Portions, and_portions, Takes, TakesAllBut, TakesPrefix, TakesWhole, buffer_bytes}
 
 -- portions after portions
 pub and_portions_twice : (p : Portions) (xs ys : List (List ℕ)) →
@@ -64,7 +64,7 @@ all_but_then before now after bytes left rest first second = record {
 
 -- a prefix of what was left is taken
 pub front_then : (before now after : Portions) (bytes left : List ℕ) → TakesAllBut before now bytes left
-    → TakesFront now after left → TakesFront before after bytes
+    → TakesPrefix now after left → TakesPrefix before after bytes
 front_then before now after bytes left first (rest, second) =
     (rest, all_but_then before now after bytes left rest first second)
 
@@ -78,8 +78,8 @@ all_but_more before after bytes left more so_far = record {
 }
 
 -- a prefix of the bytes is one of more bytes
-pub front_more : (before after : Portions) (bytes more : List ℕ) → TakesFront before after bytes →
-    TakesFront before after (bytes ++ more)
+pub front_more : (before after : Portions) (bytes more : List ℕ) → TakesPrefix before after bytes →
+    TakesPrefix before after (bytes ++ more)
 front_more before after bytes more (left, so_far) = (left ++ more, all_but_more before after bytes left more so_far)
 
 -- of these bytes none is taken, or all are by one call, and then none is left

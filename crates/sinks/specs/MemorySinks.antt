@@ -1,6 +1,6 @@
 -- What a sink in memory keeps.
 use Rattle.std.specs.Prelude.{ℕ, zero, suc, List, Option, Some, None, min, is_none, unwrap_or, ◌&&◌}
-use Rattle.sinks.specs.Portions.{Portions, Written}
+use Rattle.sinks.specs.Portions.{Portions, SinkState}
 
 -- the portions that it took, the most bytes that a call takes and the room that is left, if they are limited, how many
 -- calls succeed before one fails, and how often it failed
@@ -22,7 +22,7 @@ size_of_next r len = elim r.failing [ None ↦ fitting | Some calls ↦ elim cal
 abbrev pub contents_of : MemorySink → Portions
 contents_of r = Some (record { portions = r.portions; whole = is_none r.most && is_none r.room })
 
-abbrev pub written_of : MemorySink → Written
+abbrev pub written_of : MemorySink → SinkState
 written_of r = record { portions = contents_of r; failures = r.failures }
 
 -- how many calls succeed before one fails, after one more call

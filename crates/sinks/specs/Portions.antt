@@ -9,16 +9,16 @@ buffer_bytes = 512
 
 -- of a sink whose contents are known: each portion that it took so far, and whether it takes each put whole, which is
 -- all bytes of a call that succeeds
-pub record Contents : Type 0 where
+pub record KnownPortions : Type 0 where
   pub portions : List (List ℕ)
   pub whole : Bool
 
 -- the same of any sink: `None` if its contents aren't known, as those of a real stream
 abbrev pub Portions : Type 0
-Portions = Option Contents
+Portions = Option KnownPortions
 
 -- all that is said of a sink: which portions it took so far, if they are known, and how many calls failed
-pub record Written : Type 0 where
+pub record SinkState : Type 0 where
   pub portions : Portions
   pub failures : ℕ
 
@@ -48,5 +48,5 @@ pub record TakesAllBut (before after : Portions) (bytes left : List ℕ) : Type 
   pub joined : concat portions ++ left ≡ bytes
 
 -- it took a prefix of these bytes
-abbrev pub TakesFront : Portions → Portions → List ℕ → Type 0
-TakesFront before after bytes = (left : List ℕ) × TakesAllBut before after bytes left
+abbrev pub TakesPrefix : Portions → Portions → List ℕ → Type 0
+TakesPrefix before after bytes = (left : List ℕ) × TakesAllBut before after bytes left

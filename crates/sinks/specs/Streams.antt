@@ -1,10 +1,10 @@
 -- What a write on a real stream leaves.
 use Rattle.std.specs.Prelude.{ℕ, List, Option, None, Result, IfOk, OnErr, take}
 use Rattle.std.specs.Io.KnownBytes.{Appends, Keeps}
-use Rattle.sinks.specs.Portions.{Written}
+use Rattle.sinks.specs.Portions.{SinkState}
 
 -- a real stream that has failed this often; which portions it took is not known
-abbrev pub real_stream : ℕ → Written
+abbrev pub real_stream : ℕ → SinkState
 real_stream failures = record { portions = None; failures = failures }
 
 -- A write added the bytes that it took to those of the writer. A write that failed added none.

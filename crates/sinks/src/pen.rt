@@ -1,7 +1,7 @@
 //! A pen that writes one piece of the output from its fragments.
 
 ghost use Rattle.std.specs.Prelude.{◌≡◌, ℕ, ◌+◌, ◌-◌, ◌^◌, ◌<◌, ◌≤◌, List, [], ◌∷◌, ◌++◌, length, OnOk, OnErr, true, false};
-ghost use Rattle.sinks.specs.Portions.{Written};
+ghost use Rattle.sinks.specs.Portions.{SinkState};
 ghost use Rattle.sinks.specs.Puts.{Puts};
 ghost use Rattle.sinks.specs.Pens.{Pen, new_pen, MayFail, PutsSoFar, WritesSoFar, Adds};
 
@@ -32,7 +32,7 @@ impl Pen {
     /// Makes a pen at the beginning of a piece.
     pub fn new() -> Pen
         ensures blank { result ≡ new_pen }
-        ensures text { (now : Written) → WritesSoFar now now result [] }
+        ensures text { (now : SinkState) → WritesSoFar now now result [] }
     {
         Pen {
             buffer: ArrayVec::new(),
@@ -75,7 +75,7 @@ impl Pen {
     fn flush_buffer<S: Sink>(&mut self, sink: &mut S)
         requires { MayFail self.old (S.written sink.old) }
         ensures countable { MayFail self.new (S.written sink.new) }
-        ensures text { (before : Written) (text : List ℕ)
+        ensures text { (before : SinkState) (text : List ℕ)
             → PutsSoFar before (S.written sink.old) self.old text
             → PutsSoFar before (S.written sink.new) self.new text }
         ensures empty { self.new.failed ≡ false → self.new.buffer ≡ [] }
@@ -91,7 +91,7 @@ impl Pen {
         requires countable { MayFail self.old (S.written sink.old) }
         requires empty { self.old.failed ≡ false → self.old.buffer ≡ [] }
         ensures countable { MayFail self.new (S.written sink.new) }
-        ensures text { (before : Written) (text : List ℕ)
+        ensures text { (before : SinkState) (text : List ℕ)
             → PutsSoFar before (S.written sink.old) self.old text
             → PutsSoFar before (S.written sink.new) self.new (text ++ bytes.now) }
     {
@@ -103,7 +103,7 @@ impl Pen {
     /// Ends the piece: puts what is in the buffer, and answers whether the sink took the whole piece.
     pub fn finish<S: Sink>(self, sink: &mut S) -> Result<(), DeviceFault>
         requires { MayFail self (S.written sink.old) }
-        ensures { (before : Written) (text : List ℕ)
+        ensures { (before : SinkState) (text : List ℕ)
             → WritesSoFar before (S.written sink.old) self text
             → Puts result before (S.written sink.new) text }
     {

@@ -1,7 +1,7 @@
 //! Devices that take bytes.
 
 ghost use Rattle.std.specs.Prelude.{◌≡◌, ◌<◌, length, IfOk, OnErr};
-ghost use Rattle.sinks.specs.Portions.{Written};
+ghost use Rattle.sinks.specs.Portions.{SinkState};
 ghost use Rattle.sinks.specs.Puts.{CanFail, Puts, TakesPortion, failed_once_more};
 
 use tokens::DeviceFault;
@@ -12,7 +12,7 @@ use tokens::DeviceFault;
 /// for each call that succeeded. Joined in order they are the bytes that it took. It says too whether the device takes
 /// each put whole.
 pub trait Sink {
-    ghost written: { Self → Written };
+    ghost written: { Self → SinkState };
 
     /// Takes a nonempty prefix of `bytes` as one portion and answers its length, or fails and takes nothing.
     fn put(&mut self, bytes: &[u8]) -> Result<usize, DeviceFault>

@@ -1,6 +1,6 @@
 //! The cycles of a program's machine.
 
-ghost use Rattle.code.specs.ReachedMachines.{FitsProgram};
+ghost use Rattle.code.specs.ReachedMachines.{IsReachable};
 
 use crate::spelling::{instruction_at, name_at};
 use crate::texts::ascii;
@@ -36,8 +36,8 @@ pub fn execution(
 
 /// Runs a cycle, and adds what came of it to its line. Reports whether the reply was asked for.
 fn add_cycle(text: &mut Draft, machine: &mut Machine, made: &Compiled, reply: i32) -> bool
-    requires { FitsProgram machine.old made.now.program }
-    ensures { FitsProgram machine.new made.now.program }
+    requires { IsReachable machine.old made.now.program }
+    ensures { IsReachable machine.new made.now.program }
 {
     let (program, address) = (&made.program, machine.address());
     match machine.next(program) {

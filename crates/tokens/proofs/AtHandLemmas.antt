@@ -7,22 +7,22 @@ use Rattle.std.proofs.lemmas.List.{take-append-le, length-take-le}
 use Rattle.std.proofs.lemmas.List.Folds.{prefix_len-append}
 use Rattle.std.proofs.lemmas.List.Sums.{sum_by-cons}
 use Rattle.tokens.specs.Characters.{is_digit, is_name_byte}
-use Rattle.tokens.specs.Front.{name_token}
+use Rattle.tokens.specs.InputElement.{name_token}
 use Rattle.tokens.specs.Tokens.{line_after, ahead_after, located}
 use Rattle.tokens.specs.Window.{Window, ahead, window_after, later}
-use Rattle.tokens.specs.Lexing.{to_read, followed, token_ending, in_token_run, in_name, name_going_on, in_constant, constant_going_on, value_token, in_punctuator, BeginsName, BeginsConstant, EndsBefore}
+use Rattle.tokens.specs.Lexing.{to_read, followed, token_ending, in_token_span, in_name, name_going_on, in_constant, constant_going_on, value_token, in_punctuator, BeginsName, BeginsConstant, EndsBefore}
 use Rattle.tokens.specs.declared.located_tokens.Punctuator.{Punctuator}
 use Rattle.tokens.specs.declared.located_tokens.Token.{Token}
 use Rattle.tokens.specs.declared.located_tokens.Token.TheVariants as variant
 use Rattle.tokens.specs.declared.located_tokens.LocatedToken.{LocatedToken}
 use Rattle.tokens.specs.declared.windows.Beyond.{Beyond}
 use Rattle.tokens.proofs.WindowLemmas.{held, window_after-is}
-use Rattle.tokens.proofs.TokenLemmas.{chosen, no_line, punctuator_front-whole, punctuator_front-ended}
+use Rattle.tokens.proofs.TokenLemmas.{chosen, no_line, punctuator_element-whole, punctuator_element-ended}
 
 -- a span that ends within the first bytes ends there whatever follows
-token_run-within : (test : ℕ → Bool) (xs ys : List ℕ) → prefix_len test xs < length xs →
+token_span-within : (test : ℕ → Bool) (xs ys : List ℕ) → prefix_len test xs < length xs →
     prefix_len test (xs ++ ys) ≡ prefix_len test xs
-token_run-within test xs ys h =
+token_span-within test xs ys h =
     prefix_len-append test xs ys ∙
     cond-false _ _ _ (ne_eqb (prefix_len test xs) (length xs) (λ same. omega (arith, same, h)))
 
@@ -53,15 +53,15 @@ ahead-window_after (suc n) line place taken (b ∷ xs) to_come beyond h =
     ahead-window_after n (line_after b line) (place + 1) taken xs to_come beyond (omega (arith, h))
 
 -- a span that ends at hand is passed at once
-pub token_run-at_hand : (test : ℕ → Bool) (token_of : List ℕ → Token) (located_token : LocatedToken) (here new : Window)
-    (told : Option (List ℕ)) → test 10 ≡ false → prefix_len test here.at_hand < length here.at_hand →
+pub token_span-at_hand : (test : ℕ → Bool) (token_of : List ℕ → Token) (located_token : LocatedToken) (here new : Window)
+    (to_come : Option (List ℕ)) → test 10 ≡ false → prefix_len test here.at_hand < length here.at_hand →
     new ≡ window_after (prefix_len test here.at_hand) here →
     located_token ≡
     (record { token = token_of (take (prefix_len test here.at_hand) here.at_hand); line = new.line; end = new.offset })
-    → to_read (followed located_token) new told ≡ to_read (in_token_run test token_of) here told
-unfolding to_read in_token_run
-token_run-at_hand test token_of located_token here new None n h p x = refl
-token_run-at_hand test token_of located_token here new (Some to_come) n h p x =
+    → to_read (followed located_token) new to_come ≡ to_read (in_token_span test token_of) here to_come
+unfolding to_read in_token_span
+token_span-at_hand test token_of located_token here new None n h p x = refl
+token_span-at_hand test token_of located_token here new (Some to_come) n h p x =
     let xs = here.at_hand in
     let ys = later here.beyond here.taken to_come in
     let at =
@@ -69,7 +69,7 @@ token_run-at_hand test token_of located_token here new (Some to_come) n h p x =
     let line : new.line ≡ here.line =
     ap (λ s. s.line) at ∙ ap (λ k. here.line + k) (no_lines test n xs) ∙ omega arith in
     let place : new.offset ≡ here.offset + prefix_len test xs = ap (λ s. s.offset) at in
-    let run = token_run-within test xs ys h in
+    let run = token_span-within test xs ys h in
     let bytes = take-append-le (prefix_len test xs) xs ys (omega (arith, h)) in
     let same : located (token_of (take (prefix_len test (xs ++ ys)) (xs ++ ys))) (prefix_len test (xs ++ ys))
     (ahead here to_come) ≡ located_token =
@@ -97,13 +97,13 @@ name-in_line first len rest name here r l n =
     ap (λ k. count_by (λ b. eqb b 10) (take k here.at_hand)) count ∙ no_lines is_name_byte refl here.at_hand
 
 pub name-at_hand : (first len : ℕ) (rest name : List ℕ) (located_token : LocatedToken) (here new : Window)
-    (told : Option (List ℕ)) → rest ≡ here.at_hand → len ≡ length name → BeginsName first rest name →
+    (to_come : Option (List ℕ)) → rest ≡ here.at_hand → len ≡ length name → BeginsName first rest name →
     new ≡ window_after (len - 1) here → located_token ≡ at (name_going_on name false []) new →
-    to_read (followed located_token) new told ≡ to_read (in_name (first ∷ []) false) here told
-name-at_hand first len rest name located_token here new told r l n p x =
+    to_read (followed located_token) new to_come ≡ to_read (in_name (first ∷ []) false) here to_come
+name-at_hand first len rest name located_token here new to_come r l n p x =
     let run = subst (λ (xs : List ℕ). BeginsName first xs name) r n in
     let count = name-count first len here.at_hand name l run in
-    token_run-at_hand is_name_byte (name_going_on (first ∷ []) false) located_token here new told refl run.ended
+    token_span-at_hand is_name_byte (name_going_on (first ∷ []) false) located_token here new to_come refl run.ended
     (p ∙ ap (λ k. window_after k here) count) (x ∙ ap (λ bytes. at (name_token bytes) new) (append-nil name ∙ run.is))
 
 -- a constant that ends at hand
@@ -114,25 +114,25 @@ constant-in_line first value count rest here r n =
     ap (λ k. count_by (λ b. eqb b 10) (take k here.at_hand)) run.digits ∙ no_lines is_digit refl here.at_hand
 
 pub constant-at_hand : (first value count : ℕ) (rest : List ℕ) (located_token : LocatedToken) (here new : Window)
-    (told : Option (List ℕ)) → rest ≡ here.at_hand → BeginsConstant first rest value count →
+    (to_come : Option (List ℕ)) → rest ≡ here.at_hand → BeginsConstant first rest value count →
     new ≡ window_after count here →
     located_token ≡ at (variant.Constant value) new →
-    to_read (followed located_token) new told ≡ to_read (in_constant (first - 48)) here told
-constant-at_hand first value count rest located_token here new told r n p x =
+    to_read (followed located_token) new to_come ≡ to_read (in_constant (first - 48)) here to_come
+constant-at_hand first value count rest located_token here new to_come r n p x =
     let run = subst (λ (xs : List ℕ). BeginsConstant first xs value count) r n in
     let fits : value_token value ≡ variant.Constant value = chosen _ _ _ (le-leb value 2147483647 run.fits) in
     let token : variant.Constant value ≡
     constant_going_on (first - 48) (take (prefix_len is_digit here.at_hand) here.at_hand) =
     sym fits ∙ ap value_token run.is ∙ ap (λ k. constant_going_on (first - 48) (take k here.at_hand)) run.digits in
-    token_run-at_hand is_digit (constant_going_on (first - 48)) located_token here new told refl
+    token_span-at_hand is_digit (constant_going_on (first - 48)) located_token here new to_come refl
     (omega (arith, run.digits, run.ended)) (p ∙ ap (λ k. window_after k here) run.digits) (x ∙ ap (λ t. at t new) token)
 
 -- a punctuator ends before this byte, or before any
-pub punctuator_front-ends_before : (punctuator : Punctuator) (located_token : LocatedToken) (here : Window)
-    (told : Option (List ℕ)) (first : Option ℕ) → first ≡ slice_get here.at_hand 0 → EndsBefore punctuator first →
+pub punctuator_element-ends_before : (punctuator : Punctuator) (located_token : LocatedToken) (here : Window)
+    (to_come : Option (List ℕ)) (first : Option ℕ) → first ≡ slice_get here.at_hand 0 → EndsBefore punctuator first →
     ((to_come : List ℕ) → located_token ≡ token_ending (variant.Punctuator punctuator) (ahead here to_come)) →
-    to_read (followed located_token) here told ≡ to_read (in_punctuator punctuator) here told
-punctuator_front-ends_before punctuator located_token here told None f ends x =
-    punctuator_front-whole punctuator located_token here told ends x
-punctuator_front-ends_before punctuator located_token here told (Some b) f ends x =
-    punctuator_front-ended punctuator located_token here told b f ends x
+    to_read (followed located_token) here to_come ≡ to_read (in_punctuator punctuator) here to_come
+punctuator_element-ends_before punctuator located_token here to_come None f ends x =
+    punctuator_element-whole punctuator located_token here to_come ends x
+punctuator_element-ends_before punctuator located_token here to_come (Some b) f ends x =
+    punctuator_element-ended punctuator located_token here to_come b f ends x

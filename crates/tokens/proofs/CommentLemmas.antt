@@ -4,8 +4,8 @@ use Rattle.std.specs.Prelude.{slice_get, ◌&&◌}
 use Rattle.std.specs.List.{prefix_len}
 use Rattle.std.specs.Option.{option_map, option_eq}
 use Rattle.std.proofs.lemmas.Bool.{eqb-true}
-use Rattle.tokens.specs.Front.{begins_with, up_to_close}
-use Rattle.tokens.specs.Tokens.{Ahead, ahead_after_byte, last_located_token, located_tokens}
+use Rattle.tokens.specs.InputElement.{begins_with, up_to_close}
+use Rattle.tokens.specs.Tokens.{UnreadSource, ahead_after_byte, last_located_token, located_tokens}
 use Rattle.tokens.specs.Window.{Window, ahead, window_after, window_after_byte, window_after_plain, IsAtHandOrEnd}
 use Rattle.tokens.specs.Lexing.{to_read, in_comment, after_comment, closed_at}
 use Rattle.tokens.specs.declared.located_tokens.LexicalError.TheVariants.{CommentNotClosed}
@@ -18,7 +18,7 @@ use Rattle.tokens.proofs.ToRead.{to_read-here, to_read-pass, first-ahead, none-a
 use Rattle.tokens.proofs.LocatedTokensLemmas.{here}
 
 -- after a `*` inside a comment
-unfoldable pub in_star : ℕ → Ahead → List LocatedToken
+unfoldable pub in_star : ℕ → UnreadSource → List LocatedToken
 in_star line a = cond (begins_with 47 a.bytes) (located_tokens (ahead_after_byte a)) (in_comment line a)
 
 goes_on : (close : Option ℕ) (began line place b : ℕ) (rest : List ℕ) (too_long : Bool) →
@@ -27,11 +27,11 @@ goes_on : (close : Option ℕ) (began line place b : ℕ) (rest : List ℕ) (too
 goes_on None began line place b rest t = refl
 goes_on (Some count) began line place b rest t = refl
 
-comment_front-passes-here : (began line place b : ℕ) (rest : List ℕ) (too_long : Bool) → eqb b 42 ≡ false →
+comment_element-passes-here : (began line place b : ℕ) (rest : List ℕ) (too_long : Bool) → eqb b 42 ≡ false →
     in_comment began (ahead_after_byte (here line place (b ∷ rest) too_long)) ≡
     in_comment began (here line place (b ∷ rest) too_long)
 unfolding in_comment
-comment_front-passes-here began line place b rest t e = by (eqb b 42) e
+comment_element-passes-here began line place b rest t e = by (eqb b 42) e
   where
     by : (s : Bool) → s ≡ false →
         in_comment began (ahead_after_byte (here line place (b ∷ rest) t)) ≡
@@ -41,13 +41,13 @@ comment_front-passes-here began line place b rest t e = by (eqb b 42) e
     by false e = goes_on (up_to_close rest) began line place b rest t
 
 -- a byte other than `*` is passed
-pub comment_front-passes : (began b : ℕ) → eqb b 42 ≡ false → (a : Ahead) (rest : List ℕ) → a.bytes ≡ b ∷ rest →
+pub comment_element-passes : (began b : ℕ) → eqb b 42 ≡ false → (a : UnreadSource) (rest : List ℕ) → a.bytes ≡ b ∷ rest →
     in_comment began (ahead_after_byte a) ≡ in_comment began a
-comment_front-passes began b h a rest e =
+comment_element-passes began b h a rest e =
     subst
     (λ (xs : List ℕ). in_comment began (ahead_after_byte (here a.line a.offset xs a.too_long)) ≡
     in_comment began (here a.line a.offset xs a.too_long)) (sym e)
-    (comment_front-passes-here began a.line a.offset b rest a.too_long h)
+    (comment_element-passes-here began a.line a.offset b rest a.too_long h)
 
 star-passes-here : (began line place : ℕ) (rest : List ℕ) (too_long : Bool) →
     in_star began (ahead_after_byte (here line place (42 ∷ rest) too_long)) ≡
@@ -62,7 +62,7 @@ star-passes-here began line place rest t = by (begins_with 47 rest)
     by true = refl
     by false = goes_on (up_to_close rest) began line place 42 rest t
 
-pub star-passes : (began : ℕ) (a : Ahead) (rest : List ℕ) → a.bytes ≡ 42 ∷ rest →
+pub star-passes : (began : ℕ) (a : UnreadSource) (rest : List ℕ) → a.bytes ≡ 42 ∷ rest →
     in_star began (ahead_after_byte a) ≡ in_comment began a
 star-passes began a rest e =
     subst
@@ -71,19 +71,19 @@ star-passes began a rest e =
     (star-passes-here began a.line a.offset rest a.too_long)
 
 -- a `/` after the `*` closes the comment
-pub slash-closes : (began : ℕ) (a : Ahead) (rest : List ℕ) → a.bytes ≡ 47 ∷ rest →
+pub slash-closes : (began : ℕ) (a : UnreadSource) (rest : List ℕ) → a.bytes ≡ 47 ∷ rest →
     located_tokens (ahead_after_byte a) ≡ in_star began a
 unfolding in_star
 slash-closes began a rest e =
     sym (ap (λ s. cond s (located_tokens (ahead_after_byte a)) (in_comment began a)) (ap (begins_with 47) e))
 
 -- another byte, or none, doesn't close the comment
-pub star-open : (began : ℕ) (here : Window) (told : Option (List ℕ)) (first : Option ℕ) → IsAtHandOrEnd here →
+pub star-open : (began : ℕ) (here : Window) (to_come : Option (List ℕ)) (first : Option ℕ) → IsAtHandOrEnd here →
     first ≡ slice_get here.at_hand 0 → option_eq eqb first (Some 47) ≡ false →
-    to_read (in_comment began) here told ≡ to_read (in_star began) here told
+    to_read (in_comment began) here to_come ≡ to_read (in_star began) here to_come
 unfolding in_star
-star-open began here told first ready f e =
-    to_read-here (in_comment began) (in_star began) here told
+star-open began here to_come first ready f e =
+    to_read-here (in_comment began) (in_star began) here to_come
     (λ to_come. sym
     (ap (λ s. cond s (located_tokens (ahead_after_byte (ahead here to_come))) (in_comment began (ahead here to_come)))
     (by first f e to_come)))
@@ -98,42 +98,42 @@ slash-found None e = absurd cc
 slash-found (Some b) e = ap Some (eqb-true b 47 e)
 
 -- plain bytes leave the comment as it is
-plain-here : (began : ℕ) (told : Option (List ℕ)) (n line place taken : ℕ) (xs : List ℕ) (beyond : Beyond) →
+plain-here : (began : ℕ) (to_come : Option (List ℕ)) (n line place taken : ℕ) (xs : List ℕ) (beyond : Beyond) →
     n ≤ prefix_len (λ b. not (eqb b 42)) xs →
-    to_read (in_comment began) (window_after n (held line place xs taken beyond)) told ≡
-    to_read (in_comment began) (held line place xs taken beyond) told
-plain-here began told zero line place taken xs beyond h = refl
-plain-here began told (suc n) line place taken [] beyond h = absurd (omega (arith, h))
-plain-here began told (suc n) line place taken (b ∷ xs) beyond h =
+    to_read (in_comment began) (window_after n (held line place xs taken beyond)) to_come ≡
+    to_read (in_comment began) (held line place xs taken beyond) to_come
+plain-here began to_come zero line place taken xs beyond h = refl
+plain-here began to_come (suc n) line place taken [] beyond h = absurd (omega (arith, h))
+plain-here began to_come (suc n) line place taken (b ∷ xs) beyond h =
     let next = window_after_byte (held line place (b ∷ xs) taken beyond) in
-    by (eqb b 42) refl h (plain-here began told n next.line next.offset next.taken xs beyond)
+    by (eqb b 42) refl h (plain-here began to_come n next.line next.offset next.taken xs beyond)
   where
     by : (s : Bool) → eqb b 42 ≡ s → suc n ≤ cond (not s) (1 + prefix_len (λ b. not (eqb b 42)) xs) 0 →
         (n ≤ prefix_len (λ b. not (eqb b 42)) xs →
-        to_read (in_comment began) (window_after n (window_after_byte (held line place (b ∷ xs) taken beyond))) told ≡
-        to_read (in_comment began) (window_after_byte (held line place (b ∷ xs) taken beyond)) told) →
-        to_read (in_comment began) (window_after (suc n) (held line place (b ∷ xs) taken beyond)) told ≡
-        to_read (in_comment began) (held line place (b ∷ xs) taken beyond) told
+        to_read (in_comment began) (window_after n (window_after_byte (held line place (b ∷ xs) taken beyond))) to_come ≡
+        to_read (in_comment began) (window_after_byte (held line place (b ∷ xs) taken beyond)) to_come) →
+        to_read (in_comment began) (window_after (suc n) (held line place (b ∷ xs) taken beyond)) to_come ≡
+        to_read (in_comment began) (held line place (b ∷ xs) taken beyond) to_come
     by true e h f = absurd (omega (arith, h))
     by false e h f =
         f (omega (arith, h)) ∙
         to_read-pass (in_comment began) (in_comment began) (window_after_byte (held line place (b ∷ xs) taken beyond))
-        (held line place (b ∷ xs) taken beyond) told (Some b) b refl refl refl (comment_front-passes began b e)
+        (held line place (b ∷ xs) taken beyond) to_come (Some b) b refl refl refl (comment_element-passes began b e)
 
-pub plain-passes : (began : ℕ) (new here : Window) (told : Option (List ℕ)) → new ≡ window_after_plain here →
-    to_read (in_comment began) new told ≡ to_read (in_comment began) here told
-plain-passes began new here told n =
-    ap (λ h. to_read (in_comment began) h told) n ∙
-    plain-here began told (prefix_len (λ b. not (eqb b 42)) here.at_hand) here.line here.offset here.taken here.at_hand
+pub plain-passes : (began : ℕ) (new here : Window) (to_come : Option (List ℕ)) → new ≡ window_after_plain here →
+    to_read (in_comment began) new to_come ≡ to_read (in_comment began) here to_come
+plain-passes began new here to_come n =
+    ap (λ h. to_read (in_comment began) h to_come) n ∙
+    plain-here began to_come (prefix_len (λ b. not (eqb b 42)) here.at_hand) here.line here.offset here.taken here.at_hand
     here.beyond (omega arith)
 
 -- the source ends within the comment
-pub comment_front-ended : (began : ℕ) (here : Window) (told : Option (List ℕ)) (first : Option ℕ) → IsAtHandOrEnd here →
+pub comment_element-ended : (began : ℕ) (here : Window) (to_come : Option (List ℕ)) (first : Option ℕ) → IsAtHandOrEnd here →
     first ≡ slice_get here.at_hand 0 → first ≡ None →
-    to_read (after_comment false began) here told ≡ to_read (in_comment began) here told
+    to_read (after_comment false began) here to_come ≡ to_read (in_comment began) here to_come
 unfolding in_comment
-comment_front-ended began here told first ready f e =
-    to_read-here (after_comment false began) (in_comment began) here told (λ to_come.
+comment_element-ended began here to_come first ready f e =
+    to_read-here (after_comment false began) (in_comment began) here to_come (λ to_come.
     let a = ahead here to_come in
     subst
     (λ (xs : List ℕ). last_located_token (variant.Fault CommentNotClosed) began a ∷ [] ≡

@@ -7,8 +7,8 @@ use Rattle.std.proofs.lemmas.Bool.{ltb-true}
 use Rattle.tokens.specs.Source.{source}
 use Rattle.tokens.specs.Characters.{is_blank, is_letter, is_digit, is_name_byte}
 use Rattle.tokens.specs.Punctuators.{punctuator_of, spelling, longest_punctuator}
-use Rattle.tokens.specs.Front.{Front, Nothing, Space, Unclosed, Lexeme, front, comment_front, punctuator_front, up_to_close, begins_with}
-use Rattle.tokens.specs.Tokens.{Ahead, ahead_after_byte, ahead_after, at_end, last_located_token, is_last, tokens_within, tokens_of_front, located_tokens, ahead_of_source, tokens}
+use Rattle.tokens.specs.InputElement.{InputElement, Nothing, Space, Unclosed, Lexeme, input_element, comment_element, punctuator_element, up_to_close, begins_with}
+use Rattle.tokens.specs.Tokens.{UnreadSource, ahead_after_byte, ahead_after, at_end, last_located_token, is_last, tokens_within, tokens_of_element, located_tokens, ahead_of_source, tokens}
 use Rattle.tokens.specs.Ends.{IsRising, AllEndBy, StaysUndecided}
 use Rattle.tokens.specs.declared.located_tokens.Punctuator.{Punctuator}
 use Rattle.tokens.specs.declared.located_tokens.LexicalError.TheVariants.{CommentNotClosed}
@@ -16,24 +16,24 @@ use Rattle.tokens.specs.declared.located_tokens.Token.{Token}
 use Rattle.tokens.specs.declared.located_tokens.Token.TheVariants as variant
 use Rattle.tokens.specs.declared.located_tokens.LocatedToken.{LocatedToken}
 use Rattle.tokens.proofs.PunctuatorLemmas.{punctuator_of-spelled}
-use Rattle.tokens.proofs.LocatedTokensLemmas.{IsPiece, front-is_piece, length-ahead_after, here}
+use Rattle.tokens.proofs.LocatedTokensLemmas.{IsPiece, input_element-is_piece, length-ahead_after, here}
 use Rattle.tokens.proofs.TakenLemmas.{open-located, place-ahead_after, last-window_after, last-open}
 
 -- a token lies within the bytes that begin with it
-abbrev pub IsInside : List ℕ → Front → Type 0
+abbrev pub IsInside : List ℕ → InputElement → Type 0
 IsInside bytes Nothing = Unit {0}
 IsInside bytes Unclosed = Unit {0}
 IsInside bytes (Space count) = Unit {0}
 IsInside bytes (Lexeme sign count) = count ≤ length bytes
 
-either-inside : (t : Bool) (bytes : List ℕ) (x y : Front) → IsInside bytes x → IsInside bytes y →
+either-inside : (t : Bool) (bytes : List ℕ) (x y : InputElement) → IsInside bytes x → IsInside bytes y →
     IsInside bytes (cond t x y)
 either-inside true bytes x y f g = f
 either-inside false bytes x y f g = g
 
-comment_front-inside : (bytes : List ℕ) (n : Option ℕ) → IsInside bytes (comment_front n)
-comment_front-inside bytes None = tt
-comment_front-inside bytes (Some n) = tt
+comment_element-inside : (bytes : List ℕ) (n : Option ℕ) → IsInside bytes (comment_element n)
+comment_element-inside bytes None = tt
+comment_element-inside bytes (Some n) = tt
 
 spelling-inside : (n : ℕ) (bytes : List ℕ) (m : Punctuator) → punctuator_of (take n bytes) ≡ Some m →
     length (spelling m) ≤ length bytes
@@ -46,20 +46,20 @@ or-inside : (bytes : List ℕ) (x y : Option Punctuator) →
 or-inside bytes None y f g m e = g m e
 or-inside bytes (Some x) y f g m e = f m e
 
-punctuator_front-inside : (b : ℕ) (rest : List ℕ) (o : Option Punctuator) →
-    ((m : Punctuator) → o ≡ Some m → length (spelling m) ≤ length (b ∷ rest)) → IsInside (b ∷ rest) (punctuator_front o)
-punctuator_front-inside b rest None f = omega arith
-punctuator_front-inside b rest (Some m) f = f m refl
+punctuator_element-inside : (b : ℕ) (rest : List ℕ) (o : Option Punctuator) →
+    ((m : Punctuator) → o ≡ Some m → length (spelling m) ≤ length (b ∷ rest)) → IsInside (b ∷ rest) (punctuator_element o)
+punctuator_element-inside b rest None f = omega arith
+punctuator_element-inside b rest (Some m) f = f m refl
 
-pub front-inside : (bytes : List ℕ) → IsInside bytes (front bytes)
-front-inside [] = tt
-front-inside (b ∷ rest) =
+pub input_element-inside : (bytes : List ℕ) → IsInside bytes (input_element bytes)
+input_element-inside [] = tt
+input_element-inside (b ∷ rest) =
     let xs = b ∷ rest in
     either-inside (is_blank b) xs _ _ tt (
     either-inside (is_letter b) xs _ _ (prefix_len-le-length is_name_byte xs) (
     either-inside (is_digit b) xs _ _ (prefix_len-le-length is_digit xs) (
-    either-inside (eqb b 47 && begins_with 42 rest) xs _ _ (comment_front-inside xs (up_to_close (drop 1 rest)))
-    (punctuator_front-inside b rest (longest_punctuator xs)
+    either-inside (eqb b 47 && begins_with 42 rest) xs _ _ (comment_element-inside xs (up_to_close (drop 1 rest)))
+    (punctuator_element-inside b rest (longest_punctuator xs)
     (or-inside xs _ _ (spelling-inside 3 xs) (or-inside xs _ _ (spelling-inside 2 xs) (spelling-inside 1 xs)))))))
 
 place-here : (n line place : ℕ) (bytes : List ℕ) (too_long : Bool) → n ≤ length bytes →
@@ -70,21 +70,21 @@ place-here (suc n) line place (x ∷ xs) t h =
     let b = ahead_after_byte (here line place (x ∷ xs) t) in
     omega (arith, place-here n b.line b.offset b.bytes b.too_long (omega (arith, h)))
 
-pub place-inside : (n : ℕ) (a : Ahead) → n ≤ length a.bytes → (ahead_after n a).offset ≡ a.offset + n
+pub place-inside : (n : ℕ) (a : UnreadSource) → n ≤ length a.bytes → (ahead_after n a).offset ≡ a.offset + n
 place-inside n a h = place-here n a.line a.offset a.bytes a.too_long h
 
-long-ahead_after_byte : (a : Ahead) → (ahead_after_byte a).too_long ≡ a.too_long
+long-ahead_after_byte : (a : UnreadSource) → (ahead_after_byte a).too_long ≡ a.too_long
 long-ahead_after_byte a = by a.line a.offset a.bytes a.too_long
   where
     by : (line place : ℕ) (xs : List ℕ) (t : Bool) → (ahead_after_byte (here line place xs t)).too_long ≡ t
     by line place [] t = refl
     by line place (x ∷ xs) t = refl
 
-long-ahead_after : (n : ℕ) (a : Ahead) → (ahead_after n a).too_long ≡ a.too_long
+long-ahead_after : (n : ℕ) (a : UnreadSource) → (ahead_after n a).too_long ≡ a.too_long
 long-ahead_after zero a = refl
 long-ahead_after (suc n) a = long-ahead_after n (ahead_after_byte a) ∙ long-ahead_after_byte a
 
-sum-ahead_after_byte : (a : Ahead) →
+sum-ahead_after_byte : (a : UnreadSource) →
     (ahead_after_byte a).offset + length (ahead_after_byte a).bytes ≡ a.offset + length a.bytes
 sum-ahead_after_byte a = by a.line a.offset a.bytes a.too_long
   where
@@ -94,7 +94,7 @@ sum-ahead_after_byte a = by a.line a.offset a.bytes a.too_long
     by line place [] t = refl
     by line place (x ∷ xs) t = omega arith
 
-sum-ahead_after : (n : ℕ) (a : Ahead) →
+sum-ahead_after : (n : ℕ) (a : UnreadSource) →
     (ahead_after n a).offset + length (ahead_after n a).bytes ≡ a.offset + length a.bytes
 sum-ahead_after zero a = refl
 sum-ahead_after (suc n) a = sum-ahead_after n (ahead_after_byte a) ∙ sum-ahead_after_byte a
@@ -103,18 +103,18 @@ rising-sooner : (p q : ℕ) (xs : List LocatedToken) → q ≤ p → IsRising p 
 rising-sooner p q [] h r = tt
 rising-sooner p q (x ∷ xs) h r = (omega (arith, h, r.0), r.1)
 
-tokens_within-rising : (n : ℕ) (a : Ahead) → IsRising a.offset (tokens_within n a)
+tokens_within-rising : (n : ℕ) (a : UnreadSource) → IsRising a.offset (tokens_within n a)
 tokens_within-rising zero a = tt
 tokens_within-rising (suc n) a =
-    by (front a.bytes) (front-inside a.bytes) (λ count. tokens_within-rising n (ahead_after count a))
+    by (input_element a.bytes) (input_element-inside a.bytes) (λ count. tokens_within-rising n (ahead_after count a))
   where
     rest : (t : Bool) (p : ℕ) (xs : List LocatedToken) → IsRising p xs → IsRising p (cond t [] xs)
     rest true p xs r = tt
     rest false p xs r = r
 
-    by : (f : Front) → IsInside a.bytes f →
+    by : (f : InputElement) → IsInside a.bytes f →
         ((count : ℕ) → IsRising (ahead_after count a).offset (tokens_within n (ahead_after count a))) →
-        IsRising a.offset (tokens_of_front f a (tokens_within n))
+        IsRising a.offset (tokens_of_element f a (tokens_within n))
     by Nothing i h =
         (omega (arith, last-window_after variant.End a.line (at_end a), place-ahead_after (length a.bytes) a), tt)
     by Unclosed i h = (
@@ -132,10 +132,10 @@ tokens_within-rising (suc n) a =
           (subst (λ (p : ℕ). IsRising p (tokens_within n (ahead_after count a))) (place-inside count a i) (h count)),
     )
 
-tokens_within-open : (n : ℕ) (a : Ahead) → StaysUndecided a.offset (tokens_within n a)
+tokens_within-open : (n : ℕ) (a : UnreadSource) → StaysUndecided a.offset (tokens_within n a)
 tokens_within-open zero a = tt
 tokens_within-open (suc n) a =
-    by (front a.bytes) (front-inside a.bytes) (front-is_piece a.bytes)
+    by (input_element a.bytes) (input_element-inside a.bytes) (input_element-is_piece a.bytes)
     (λ count. tokens_within-open n (ahead_after count a))
   where
     sooner : (p q : ℕ) (xs : List LocatedToken) → q ≤ p → StaysUndecided p xs → StaysUndecided q xs
@@ -146,9 +146,9 @@ tokens_within-open (suc n) a =
     rest true p xs r = tt
     rest false p xs r = r
 
-    by : (f : Front) → IsInside a.bytes f → IsPiece f →
+    by : (f : InputElement) → IsInside a.bytes f → IsPiece f →
         ((count : ℕ) → StaysUndecided (ahead_after count a).offset (tokens_within n (ahead_after count a))) →
-        StaysUndecided a.offset (tokens_of_front f a (tokens_within n))
+        StaysUndecided a.offset (tokens_of_element f a (tokens_within n))
     by Nothing i p h =
         (omega (arith, last-open variant.End a.line (at_end a) refl, place-ahead_after (length a.bytes) a), tt)
     by Unclosed i p h = (
@@ -171,7 +171,7 @@ abbrev pub over : Bool → ℕ
 over true = 1
 over false = 0
 
-last-by : (limit line : ℕ) (token : Token) (a : Ahead) → a.offset + length a.bytes + over a.too_long ≤ limit →
+last-by : (limit line : ℕ) (token : Token) (a : UnreadSource) → a.offset + length a.bytes + over a.too_long ≤ limit →
     (last_located_token token line (at_end a)).end ≤ limit
 last-by limit line token a h = by (at_end a).too_long (long-ahead_after (length a.bytes) a)
   where
@@ -180,11 +180,11 @@ last-by limit line token a h = by (at_end a).too_long (long-ahead_after (length 
     by true e = omega (arith, place-inside (length a.bytes) a (omega arith), ap over e, h)
     by false e = omega (arith, place-inside (length a.bytes) a (omega arith), h)
 
-pub tokens_within-by : (n limit : ℕ) (a : Ahead) → a.offset + length a.bytes + over a.too_long ≤ limit →
+pub tokens_within-by : (n limit : ℕ) (a : UnreadSource) → a.offset + length a.bytes + over a.too_long ≤ limit →
     AllEndBy limit (tokens_within n a)
 tokens_within-by zero limit a h = tt
 tokens_within-by (suc n) limit a h =
-    by (front a.bytes) (front-inside a.bytes) (λ count further. tokens_within-by n limit (ahead_after count a) further)
+    by (input_element a.bytes) (input_element-inside a.bytes) (λ count further. tokens_within-by n limit (ahead_after count a) further)
   where
     rest : (t : Bool) (xs : List LocatedToken) → AllEndBy limit xs → AllEndBy limit (cond t [] xs)
     rest true xs r = tt
@@ -194,11 +194,11 @@ tokens_within-by (suc n) limit a h =
         (ahead_after count a).offset + length (ahead_after count a).bytes + over (ahead_after count a).too_long ≤ limit
     further count = omega (arith, h, sum-ahead_after count a, ap over (long-ahead_after count a))
 
-    by : (f : Front) → IsInside a.bytes f →
+    by : (f : InputElement) → IsInside a.bytes f →
         ((count : ℕ) →
         (ahead_after count a).offset + length (ahead_after count a).bytes + over (ahead_after count a).too_long ≤
         limit →
-        AllEndBy limit (tokens_within n (ahead_after count a))) → AllEndBy limit (tokens_of_front f a (tokens_within n))
+        AllEndBy limit (tokens_within n (ahead_after count a))) → AllEndBy limit (tokens_of_element f a (tokens_within n))
     by Nothing i g = (last-by limit a.line variant.End a h, tt)
     by Unclosed i g = (last-by limit a.line (variant.Fault CommentNotClosed) a h, tt)
     by (Space count) i g = g count (further count)
@@ -210,35 +210,35 @@ tokens_within-nonempty : (n line place : ℕ) (bytes : List ℕ) (too_long : Boo
     (tokens_within n (here line place bytes too_long) ≡ first ∷ others)
 tokens_within-nonempty zero line place xs t h = absurd (omega (arith, h))
 tokens_within-nonempty (suc n) line place [] t h = (_, _, refl)
-tokens_within-nonempty (suc n) line place (b ∷ xs) t h = by (front (b ∷ xs)) (front-is_piece (b ∷ xs)) (λ count c.
+tokens_within-nonempty (suc n) line place (b ∷ xs) t h = by (input_element (b ∷ xs)) (input_element-is_piece (b ∷ xs)) (λ count c.
     let p = ahead_after count (here line place (b ∷ xs) t) in
     let e = length-ahead_after count (here line place (b ∷ xs) t) in
     tokens_within-nonempty n p.line p.offset p.bytes p.too_long (omega (arith, e, h, c)))
   where
-    a : Ahead
+    a : UnreadSource
     a = here line place (b ∷ xs) t
 
-    by : (f : Front) → IsPiece f →
+    by : (f : InputElement) → IsPiece f →
         ((count : ℕ) → 0 < count →
         (first : LocatedToken) × (others : List LocatedToken) ×
         (tokens_within n (ahead_after count a) ≡ first ∷ others)) →
-        (first : LocatedToken) × (others : List LocatedToken) × (tokens_of_front f a (tokens_within n) ≡ first ∷ others)
+        (first : LocatedToken) × (others : List LocatedToken) × (tokens_of_element f a (tokens_within n) ≡ first ∷ others)
     by Nothing p g = (_, _, refl)
     by Unclosed p g = (_, _, refl)
     by (Space count) p g = g count p
     by (Lexeme sign count) p g = (_, _, refl)
 
-pub located_tokens-nonempty : (a : Ahead) →
+pub located_tokens-nonempty : (a : UnreadSource) →
     (first : LocatedToken) × (others : List LocatedToken) × (located_tokens a ≡ first ∷ others)
 unfolding located_tokens
 located_tokens-nonempty a =
     tokens_within-nonempty (suc (length a.bytes)) a.line a.offset a.bytes a.too_long (omega arith)
 
-pub located_tokens-rising : (a : Ahead) → IsRising a.offset (located_tokens a)
+pub located_tokens-rising : (a : UnreadSource) → IsRising a.offset (located_tokens a)
 unfolding located_tokens
 located_tokens-rising a = tokens_within-rising (suc (length a.bytes)) a
 
-pub located_tokens-open : (a : Ahead) → StaysUndecided a.offset (located_tokens a)
+pub located_tokens-open : (a : UnreadSource) → StaysUndecided a.offset (located_tokens a)
 unfolding located_tokens
 located_tokens-open a = tokens_within-open (suc (length a.bytes)) a
 

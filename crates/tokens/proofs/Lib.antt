@@ -2,7 +2,7 @@ pub mod CharacterLemmas
 pub mod KnownTokens
 pub mod NameLemmas
 pub mod SourceLemmas
-pub mod RunLemmas
+pub mod SpanLemmas
 pub mod WindowLemmas
 pub mod TakenLemmas
 pub mod ToRead

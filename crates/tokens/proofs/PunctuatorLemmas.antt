@@ -5,7 +5,7 @@ use Rattle.std.proofs.lemmas.Slice.Eq.{bytes_eq-Decides}
 use Rattle.std.proofs.lemmas.Bool.{agree_below_at, lt-leb}
 use Rattle.std.specs.Prelude.{◌&&◌, is_some, nat_le, slice_index}
 use Rattle.tokens.specs.Punctuators.{spelling, row, entry, all_punctuators, punctuator_of}
-use Rattle.tokens.specs.Tokens.{Ahead, located, ahead_after}
+use Rattle.tokens.specs.Tokens.{UnreadSource, located, ahead_after}
 use Rattle.tokens.specs.Lexing.{token_ending, IsOfSingleByte}
 use Rattle.tokens.specs.Characters.{is_digit}
 use Rattle.tokens.proofs.CharacterLemmas.{kinds, punctuator_bytes, by_kind}
@@ -237,7 +237,7 @@ further3 : (place : ℕ) → place + 3 ≡ place + 1 + 1 + 1
 further3 place = omega arith
 
 -- no punctuator has the byte that ends a line
-located_token-here : (m : Punctuator) (line place : ℕ) (rest : List ℕ) (too_long : Bool) → let a : Ahead =
+located_token-here : (m : Punctuator) (line place : ℕ) (rest : List ℕ) (too_long : Bool) → let a : UnreadSource =
     record { line = line; offset = place; bytes = spelling m ++ rest; too_long = too_long } in located
     (variant.Punctuator m) (length (spelling m)) a ≡
     token_ending (variant.Punctuator m) (ahead_after (length (spelling m)) a)
@@ -301,13 +301,13 @@ located_token-here CloseCurly line place rest t = refl
 located_token-here Comma line place rest t = refl
 located_token-here Semicolon line place rest t = refl
 
-pub punctuator_front-located_token : (m : Punctuator) (a : Ahead) (rest : List ℕ) → a.bytes ≡ spelling m ++ rest →
+pub punctuator_element-located_token : (m : Punctuator) (a : UnreadSource) (rest : List ℕ) → a.bytes ≡ spelling m ++ rest →
     located (variant.Punctuator m) (length (spelling m)) a ≡
     token_ending (variant.Punctuator m) (ahead_after (length (spelling m)) a)
-punctuator_front-located_token m a rest e =
+punctuator_element-located_token m a rest e =
     subst
     (λ (xs : List ℕ).
-    let b : Ahead = record { line = a.line; offset = a.offset; bytes = xs; too_long = a.too_long } in
+    let b : UnreadSource = record { line = a.line; offset = a.offset; bytes = xs; too_long = a.too_long } in
     located (variant.Punctuator m) (length (spelling m)) b ≡
     token_ending (variant.Punctuator m) (ahead_after (length (spelling m)) b)) (sym e)
     (located_token-here m a.line a.offset rest a.too_long)

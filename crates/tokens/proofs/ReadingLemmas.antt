@@ -7,7 +7,7 @@ use Rattle.tokens.specs.Tokens.{is_last, followed_by, located_tokens, ahead_of_s
 use Rattle.tokens.specs.Ends.{StaysUndecided, is_decided_by_last_byte, last_undecided_until, undecided_until}
 use Rattle.tokens.specs.Window.{Window, ahead, untouched}
 use Rattle.tokens.specs.Lexing.{to_read, followed}
-use Rattle.tokens.specs.Cursors.{Cursor, shown, unread, most_left, undecided_reach_of, reach_of}
+use Rattle.tokens.specs.Cursors.{Cursor, shown, tokens_after_lookahead, most_left, undecided_reach_of, reach_of}
 use Rattle.tokens.specs.declared.located_tokens.LocatedToken.{LocatedToken}
 use Rattle.tokens.proofs.EndLemmas.{located_tokens-nonempty, located_tokens-open, tokens-open}
 
@@ -15,10 +15,10 @@ abbrev reading : LocatedToken → LocatedToken → Window → Cursor
 reading next after behind = record { next = next; after = after; window = behind }
 
 -- the token after the next one was read
-pub shown-read : (next after : LocatedToken) (new old : Window) (told' told : Option (List ℕ)) →
-    to_read (followed after) new told' ≡ to_read located_tokens old told →
-    shown (reading next after new) told' ≡ to_read (followed next) old told
-unfolding to_read followed unread
+pub shown-read : (next after : LocatedToken) (new old : Window) (to_come' to_come : Option (List ℕ)) →
+    to_read (followed after) new to_come' ≡ to_read located_tokens old to_come →
+    shown (reading next after new) to_come' ≡ to_read (followed next) old to_come
+unfolding to_read followed tokens_after_lookahead
 shown-read next after new old None None e = refl
 shown-read next after new old None (Some t) e = absurd cc
 shown-read next after new old (Some t') None e = absurd cc
@@ -27,30 +27,30 @@ shown-read next after new old (Some t') (Some t) e =
     (same_Some (followed_by after (located_tokens (ahead new t'))) (located_tokens (ahead old t)) e)
 
 -- there is none
-pub shown-last : (next after : LocatedToken) (behind : Window) (told : Option (List ℕ)) → is_last next.token ≡ true →
-    shown (reading next after behind) told ≡ to_read (followed next) behind told
-unfolding to_read followed unread
+pub shown-last : (next after : LocatedToken) (behind : Window) (to_come : Option (List ℕ)) → is_last next.token ≡ true →
+    shown (reading next after behind) to_come ≡ to_read (followed next) behind to_come
+unfolding to_read followed tokens_after_lookahead
 shown-last next after behind None e = refl
 shown-last next after behind (Some t) e =
     ap (λ s. Some (next ∷ cond s [] (followed_by after (located_tokens (ahead behind t))))) e ∙
     sym (ap (λ s. Some (next ∷ cond s [] (located_tokens (ahead behind t)))) e)
 
 -- at the beginning
-pub shown-opened : (told : Option (List ℕ)) → to_read located_tokens untouched told ≡ option_map tokens told
+pub shown-opened : (to_come : Option (List ℕ)) → to_read located_tokens untouched to_come ≡ option_map tokens to_come
 unfolding to_read tokens
 shown-opened None = refl
 shown-opened (Some bytes) = refl
 
 -- after the next token
-pub shown-advanced : (next after located_token : LocatedToken) (new old : Window) (told' told : Option (List ℕ)) →
-    is_last next.token ≡ false → to_read (followed located_token) new told' ≡ to_read located_tokens old told →
-    shown (reading after located_token new) told' ≡ option_map (drop 1) (shown (reading next after old) told)
-unfolding to_read followed unread
-shown-advanced next after located_token new old told' told not_last e =
-    shown-read after located_token new old told' told e ∙ by told
+pub shown-advanced : (next after located_token : LocatedToken) (new old : Window) (to_come' to_come : Option (List ℕ)) →
+    is_last next.token ≡ false → to_read (followed located_token) new to_come' ≡ to_read located_tokens old to_come →
+    shown (reading after located_token new) to_come' ≡ option_map (drop 1) (shown (reading next after old) to_come)
+unfolding to_read followed tokens_after_lookahead
+shown-advanced next after located_token new old to_come' to_come not_last e =
+    shown-read after located_token new old to_come' to_come e ∙ by to_come
   where
-    by : (told : Option (List ℕ)) →
-        to_read (followed after) old told ≡ option_map (drop 1) (shown (reading next after old) told)
+    by : (to_come : Option (List ℕ)) →
+        to_read (followed after) old to_come ≡ option_map (drop 1) (shown (reading next after old) to_come)
     by None = refl
     by (Some t) = sym (ap (λ s. Some (cond s [] (followed_by after (located_tokens (ahead old t))))) not_last)
 
@@ -104,33 +104,33 @@ reach-first : (place : ℕ) (first : LocatedToken) (others : List LocatedToken) 
 reach-first place first [] r = omega arith
 reach-first place first (x ∷ others) r = omega (arith, r.1.0, open-end first)
 
-pub opened-stopped : (bytes : List ℕ) (n : ℕ) (window : Window) (told : Option (List ℕ)) → window ≡ untouched →
-    told ≡ Some bytes →
-    ((first : LocatedToken) (others : List LocatedToken) → to_read located_tokens window told ≡ Some (first ∷ others) →
+pub opened-stopped : (bytes : List ℕ) (n : ℕ) (window : Window) (to_come : Option (List ℕ)) → window ≡ untouched →
+    to_come ≡ Some bytes →
+    ((first : LocatedToken) (others : List LocatedToken) → to_read located_tokens window to_come ≡ Some (first ∷ others) →
     n ≤ undecided_until first) → n ≤ undecided_reach_of (tokens bytes)
 unfolding tokens
-opened-stopped bytes n window told w t f =
+opened-stopped bytes n window to_come w t f =
     let some = located_tokens-nonempty (ahead_of_source (source bytes)) in
     let here =
-    ap (λ h. to_read located_tokens h told) w ∙ ap (to_read located_tokens untouched) t ∙ shown-opened (Some bytes) in
+    ap (λ h. to_read located_tokens h to_come) w ∙ ap (to_read located_tokens untouched) t ∙ shown-opened (Some bytes) in
     let rising = subst (StaysUndecided 0) some.2 (located_tokens-open (ahead_of_source (source bytes))) in
     subst (λ (xs : List LocatedToken). n ≤ undecided_reach_of xs) (sym some.2)
     (omega (arith, f some.0 some.1 (here ∙ ap Some some.2), reach-first 0 some.0 some.1 rising))
 
 pub second-stopped : (bytes : List ℕ) (n : ℕ) (next : LocatedToken) (first second : Window)
-    (told told' : Option (List ℕ))
-    → first ≡ untouched → told ≡ Some bytes → is_last next.token ≡ false →
-    to_read (followed next) second told' ≡ to_read located_tokens first told →
-    ((x : LocatedToken) (others : List LocatedToken) → to_read located_tokens second told' ≡ Some (x ∷ others) →
+    (to_come to_come' : Option (List ℕ))
+    → first ≡ untouched → to_come ≡ Some bytes → is_last next.token ≡ false →
+    to_read (followed next) second to_come' ≡ to_read located_tokens first to_come →
+    ((x : LocatedToken) (others : List LocatedToken) → to_read located_tokens second to_come' ≡ Some (x ∷ others) →
     n ≤ undecided_until x) → n ≤ undecided_reach_of (tokens bytes)
 unfolding to_read followed
-second-stopped bytes n next first second told told' w t last e f =
-    by told'
-    (e ∙ ap (λ h. to_read located_tokens h told) w ∙ ap (to_read located_tokens untouched) t ∙
+second-stopped bytes n next first second to_come to_come' w t last e f =
+    by to_come'
+    (e ∙ ap (λ h. to_read located_tokens h to_come) w ∙ ap (to_read located_tokens untouched) t ∙
     shown-opened (Some bytes)) f
   where
-    by : (told' : Option (List ℕ)) → to_read (followed next) second told' ≡ Some (tokens bytes) →
-        ((x : LocatedToken) (others : List LocatedToken) → to_read located_tokens second told' ≡ Some (x ∷ others) →
+    by : (to_come' : Option (List ℕ)) → to_read (followed next) second to_come' ≡ Some (tokens bytes) →
+        ((x : LocatedToken) (others : List LocatedToken) → to_read located_tokens second to_come' ≡ Some (x ∷ others) →
         n ≤ undecided_until x) → n ≤ undecided_reach_of (tokens bytes)
     by None e f = absurd cc
     by (Some to_come) e f =
@@ -140,12 +140,12 @@ second-stopped bytes n next first second told told' w t last e f =
         ap (λ xs. next ∷ xs) some.2 in
         subst (λ (xs : List LocatedToken). n ≤ undecided_reach_of xs) (sym is) (f some.0 some.1 (ap Some some.2))
 
-pub advanced-stopped : (n : ℕ) (next after : LocatedToken) (window : Window) (told : Option (List ℕ)) →
+pub advanced-stopped : (n : ℕ) (next after : LocatedToken) (window : Window) (to_come : Option (List ℕ)) →
     is_last next.token ≡ false → is_last after.token ≡ false →
-    ((first : LocatedToken) (others : List LocatedToken) → to_read located_tokens window told ≡ Some (first ∷ others) →
+    ((first : LocatedToken) (others : List LocatedToken) → to_read located_tokens window to_come ≡ Some (first ∷ others) →
     n ≤ undecided_until first) → (x : LocatedToken) (others : List LocatedToken) →
-    shown (reading next after window) told ≡ Some (x ∷ others) → n ≤ undecided_reach_of others
-unfolding to_read unread
+    shown (reading next after window) to_come ≡ Some (x ∷ others) → n ≤ undecided_reach_of others
+unfolding to_read tokens_after_lookahead
 advanced-stopped n next after window None l m f x others e = absurd cc
 advanced-stopped n next after window (Some to_come) l m f x others e =
     let some = located_tokens-nonempty (ahead window to_come) in

@@ -3,14 +3,14 @@ use Rattle.std.proofs.Common.{◌≡◌, refl, ℕ, zero, suc, ◌+◌, ◌*◌,
 use Rattle.std.specs.Prelude.{IsErrAnd, OnErr, fold, nat_le}
 use Rattle.std.specs.List.{prefix_len}
 use Rattle.std.proofs.lemmas.Option.{same_Some}
-use Rattle.tokens.specs.Feed.{Account, Device, failed_again}
+use Rattle.tokens.specs.Feed.{FailureCount, Device, failed_again}
 use Rattle.tokens.specs.Punctuators.{punctuator_of, spelling}
 use Rattle.tokens.specs.Keywords.{keyword_of}
 use Rattle.tokens.specs.Ends.{is_decided_by_last_byte, undecided_until}
-use Rattle.tokens.specs.Front.{Front, Nothing, Space, Unclosed, Lexeme, front, up_to_close, begins_with, name_or}
-use Rattle.tokens.specs.Tokens.{Ahead, ahead_after_byte, ahead_after, at_end, located, last_located_token, tokens_within, tokens_of_front, located_tokens, FitsToken}
+use Rattle.tokens.specs.InputElement.{InputElement, Nothing, Space, Unclosed, Lexeme, input_element, up_to_close, begins_with, name_or}
+use Rattle.tokens.specs.Tokens.{UnreadSource, ahead_after_byte, ahead_after, at_end, located, last_located_token, tokens_within, tokens_of_element, located_tokens, FitsToken}
 use Rattle.tokens.specs.Window.{LeavesAsked, Window, TakesBytes, HasReadOn, ahead}
-use Rattle.tokens.specs.Lexing.{to_read, followed, token_ending, in_token_run, name_going_on, constant_going_on, value_token, in_punctuator, extended, in_comment, closed_at, LeavesUnread, StopsWithin, FindsToken, IsFound, IsRead, ReadsToken}
+use Rattle.tokens.specs.Lexing.{to_read, followed, token_ending, in_token_span, name_going_on, constant_going_on, value_token, in_punctuator, extended, in_comment, closed_at, LeavesUnread, StopsWithin, FindsToken, IsFound, IsRead, ReadsToken}
 use Rattle.tokens.specs.declared.devices.DeviceFault.{DeviceFault}
 use Rattle.tokens.specs.declared.located_tokens.Punctuator.{Punctuator}
 use Rattle.tokens.specs.declared.located_tokens.Punctuator.TheVariants.{Slash}
@@ -19,24 +19,24 @@ use Rattle.tokens.specs.declared.located_tokens.Token.{Token}
 use Rattle.tokens.specs.declared.located_tokens.Keyword.{Keyword}
 use Rattle.tokens.specs.declared.located_tokens.Token.TheVariants as variant
 use Rattle.tokens.specs.declared.located_tokens.LocatedToken.{LocatedToken}
-use Rattle.tokens.proofs.LocatedTokensLemmas.{IsPiece, front-is_piece}
+use Rattle.tokens.proofs.LocatedTokensLemmas.{IsPiece, input_element-is_piece}
 use Rattle.tokens.proofs.CommentLemmas.{in_star}
 use Rattle.tokens.proofs.BeginLemmas.{in_slash}
 
-pub TakesBytes-then : {old mid new : ℕ} {told told' told'' : Option (List ℕ)} → TakesBytes old mid told told' →
-    TakesBytes mid new told' told'' → TakesBytes old new told told''
+pub TakesBytes-then : {old mid new : ℕ} {to_come to_come' to_come'' : Option (List ℕ)} → TakesBytes old mid to_come to_come' →
+    TakesBytes mid new to_come' to_come'' → TakesBytes old new to_come to_come''
 TakesBytes-then f g = record { rest = λ total e. g.rest total (f.rest total e) }
 
 -- nothing is taken if the window goes on
-pub TakesBytes-pass : {old mid new : ℕ} {told told' : Option (List ℕ)} → new ≡ mid → TakesBytes old mid told told' →
-    TakesBytes old new told told'
-TakesBytes-pass {old} {mid} {new} {told} {told'} e f = subst (λ (n : ℕ). TakesBytes old n told told') (sym e) f
+pub TakesBytes-pass : {old mid new : ℕ} {to_come to_come' : Option (List ℕ)} → new ≡ mid → TakesBytes old mid to_come to_come' →
+    TakesBytes old new to_come to_come'
+TakesBytes-pass {old} {mid} {new} {to_come} {to_come'} e f = subst (λ (n : ℕ). TakesBytes old n to_come to_come') (sym e) f
 
 -- a window that went on goes on
-goes_on : (counted counted' : Account) (old mid new : Window) (told told' told'' : Option (List ℕ)) (after : Account)
-    (ended : Bool) → TakesBytes old.taken mid.taken told told' → old.offset ≤ mid.offset → counted' ≡ counted →
-    HasReadOn mid new told' told'' counted' after ended → HasReadOn old new told told'' counted after ended
-goes_on counted counted' old mid new told told' told'' after ended took forward count asks = record {
+goes_on : (counted counted' : FailureCount) (old mid new : Window) (to_come to_come' to_come'' : Option (List ℕ)) (after : FailureCount)
+    (ended : Bool) → TakesBytes old.taken mid.taken to_come to_come' → old.offset ≤ mid.offset → counted' ≡ counted →
+    HasReadOn mid new to_come' to_come'' counted' after ended → HasReadOn old new to_come to_come'' counted after ended
+goes_on counted counted' old mid new to_come to_come' to_come'' after ended took forward count asks = record {
   took = TakesBytes-then took asks.took;
   forward = omega (arith, forward, asks.forward);
   near = asks.near;
@@ -46,31 +46,31 @@ goes_on counted counted' old mid new told told' told'' after ended took forward 
   known = asks.known;
 }
 
-pub then-asks : {T : Type 0} (r : Result T DeviceFault) (old mid new : Window) (told told' told'' : Option (List ℕ))
-    (before between after : Account) (ended : Bool) → TakesBytes old.taken mid.taken told told' →
-    old.offset ≤ mid.offset → between ≡ before → LeavesAsked r mid new told' told'' between after ended →
-    LeavesAsked r old new told told'' before after ended
-then-asks (Ok x) old mid new told told' told'' before between after ended took forward count asks =
-    goes_on before between old mid new told told' told'' after ended took forward count asks
-then-asks (Err x) old mid new told told' told'' before between after ended took forward count asks =
-    goes_on (failed_again before) (failed_again between) old mid new told told' told'' after ended took forward
+pub then-asks : {T : Type 0} (r : Result T DeviceFault) (old mid new : Window) (to_come to_come' to_come'' : Option (List ℕ))
+    (before between after : FailureCount) (ended : Bool) → TakesBytes old.taken mid.taken to_come to_come' →
+    old.offset ≤ mid.offset → between ≡ before → LeavesAsked r mid new to_come' to_come'' between after ended →
+    LeavesAsked r old new to_come to_come'' before after ended
+then-asks (Ok x) old mid new to_come to_come' to_come'' before between after ended took forward count asks =
+    goes_on before between old mid new to_come to_come' to_come'' after ended took forward count asks
+then-asks (Err x) old mid new to_come to_come' to_come'' before between after ended took forward count asks =
+    goes_on (failed_again before) (failed_again between) old mid new to_come to_come' to_come'' after ended took forward
     (ap failed_again count) asks
 
 -- and may fail then
 pub then-fails : {T : Type 0} (r : Result T DeviceFault) (P : DeviceFault → Type 0) → IsErrAnd r P →
-    (old mid new : Window) (told told' told'' : Option (List ℕ)) (before between after : Account) (ended : Bool) →
-    TakesBytes old.taken mid.taken told told' → old.offset ≤ mid.offset → between ≡ before →
-    HasReadOn mid new told' told'' (failed_again between) after ended →
-    LeavesAsked r old new told told'' before after ended
-then-fails (Ok x) P h old mid new told told' told'' before between after ended took forward count asks = absurd h
-then-fails (Err x) P h old mid new told told' told'' before between after ended took forward count asks =
-    goes_on (failed_again before) (failed_again between) old mid new told told' told'' after ended took forward
+    (old mid new : Window) (to_come to_come' to_come'' : Option (List ℕ)) (before between after : FailureCount) (ended : Bool) →
+    TakesBytes old.taken mid.taken to_come to_come' → old.offset ≤ mid.offset → between ≡ before →
+    HasReadOn mid new to_come' to_come'' (failed_again between) after ended →
+    LeavesAsked r old new to_come to_come'' before after ended
+then-fails (Ok x) P h old mid new to_come to_come' to_come'' before between after ended took forward count asks = absurd h
+then-fails (Err x) P h old mid new to_come to_come' to_come'' before between after ended took forward count asks =
+    goes_on (failed_again before) (failed_again between) old mid new to_come to_come' to_come'' after ended took forward
     (ap failed_again count) asks
 
 -- nothing was taken before the window went on
-pub TakesBytes-from : {old mid new : ℕ} {told told' : Option (List ℕ)} → mid ≡ old → TakesBytes mid new told told' →
-    TakesBytes old new told told'
-TakesBytes-from {old} {mid} {new} {told} {told'} e f = subst (λ (n : ℕ). TakesBytes n new told told') e f
+pub TakesBytes-from : {old mid new : ℕ} {to_come to_come' : Option (List ℕ)} → mid ≡ old → TakesBytes mid new to_come to_come' →
+    TakesBytes old new to_come to_come'
+TakesBytes-from {old} {mid} {new} {to_come} {to_come'} e f = subst (λ (n : ℕ). TakesBytes n new to_come to_come') e f
 
 -- what a call that failed leaves
 pub on_err-from : {T E P : Type 0} (r : Result T E) → P → OnErr r P
@@ -78,8 +78,8 @@ on_err-from (Ok x) p = tt
 on_err-from (Err x) p = p
 
 -- the first token is undecided at its beginning
-pub record EndsBehind (made : Ahead → List LocatedToken) : Type 0 where
-  pub ends : (a : Ahead) (first : LocatedToken) (others : List LocatedToken) → made a ≡ first ∷ others →
+pub record EndsBehind (made : UnreadSource → List LocatedToken) : Type 0 where
+  pub ends : (a : UnreadSource) (first : LocatedToken) (others : List LocatedToken) → made a ≡ first ∷ others →
       a.offset ≤ undecided_until first
 
 same_first : (x first : LocatedToken) (xs others : List LocatedToken) → x ∷ xs ≡ first ∷ others → x ≡ first
@@ -90,7 +90,7 @@ at_most : (place : ℕ) (x first : LocatedToken) (xs others : List LocatedToken)
 at_most place x first xs others h e = omega (arith, h, ap undecided_until (same_first x first xs others e))
 
 -- a token of at least a byte is undecided at its beginning, and so is any other that isn't decided by its last byte
-pub open-located : (token : Token) (count : ℕ) (a : Ahead) → 0 < count →
+pub open-located : (token : Token) (count : ℕ) (a : UnreadSource) → 0 < count →
     a.offset ≤ undecided_until (located token count a)
 open-located token count a h = by (is_decided_by_last_byte token)
   where
@@ -98,7 +98,7 @@ open-located token count a h = by (is_decided_by_last_byte token)
     by true = omega (arith, h)
     by false = omega arith
 
-open-undecided : (token : Token) (count : ℕ) (a : Ahead) → is_decided_by_last_byte token ≡ false →
+open-undecided : (token : Token) (count : ℕ) (a : UnreadSource) → is_decided_by_last_byte token ≡ false →
     a.offset ≤ undecided_until (located token count a)
 open-undecided token count a h = by (is_decided_by_last_byte token) h
   where
@@ -106,19 +106,19 @@ open-undecided token count a h = by (is_decided_by_last_byte token) h
     by true h = absurd cc
     by false h = omega arith
 
-place-ahead_after_byte : (a : Ahead) → a.offset ≤ (ahead_after_byte a).offset
+place-ahead_after_byte : (a : UnreadSource) → a.offset ≤ (ahead_after_byte a).offset
 place-ahead_after_byte a = by a.line a.offset a.bytes a.too_long
   where
-    by : (line place : ℕ) (xs : List ℕ) (t : Bool) → let b : Ahead =
+    by : (line place : ℕ) (xs : List ℕ) (t : Bool) → let b : UnreadSource =
         record { line = line; offset = place; bytes = xs; too_long = t } in place ≤ (ahead_after_byte b).offset
     by line place [] t = omega arith
     by line place (x ∷ xs) t = omega arith
 
-pub place-ahead_after : (n : ℕ) (a : Ahead) → a.offset ≤ (ahead_after n a).offset
+pub place-ahead_after : (n : ℕ) (a : UnreadSource) → a.offset ≤ (ahead_after n a).offset
 place-ahead_after zero a = omega arith
 place-ahead_after (suc n) a = omega (arith, place-ahead_after_byte a, place-ahead_after n (ahead_after_byte a))
 
-pub last-open : (token : Token) (line : ℕ) (end : Ahead) → is_decided_by_last_byte token ≡ false →
+pub last-open : (token : Token) (line : ℕ) (end : UnreadSource) → is_decided_by_last_byte token ≡ false →
     end.offset ≤ undecided_until (last_located_token token line end)
 last-open token line end h = by end.too_long
   where
@@ -136,7 +136,7 @@ last-open token line end h = by end.too_long
     by true = omega arith
     by false = here (is_decided_by_last_byte token) h
 
-pub last-window_after : (token : Token) (line : ℕ) (end : Ahead) → end.offset ≤ (last_located_token token line end).end
+pub last-window_after : (token : Token) (line : ℕ) (end : UnreadSource) → end.offset ≤ (last_located_token token line end).end
 last-window_after token line end = by end.too_long
   where
     by : (t : Bool) →
@@ -148,24 +148,24 @@ last-window_after token line end = by end.too_long
     by true = omega arith
     by false = omega arith
 
-last-ends : (place : ℕ) (token : Token) (line : ℕ) (a : Ahead) (first : LocatedToken) (others : List LocatedToken) →
+last-ends : (place : ℕ) (token : Token) (line : ℕ) (a : UnreadSource) (first : LocatedToken) (others : List LocatedToken) →
     is_decided_by_last_byte token ≡ false → place ≤ a.offset →
     last_located_token token line (at_end a) ∷ [] ≡ first ∷ others → place ≤ undecided_until first
 last-ends place token line a first others u h e =
     at_most place _ first [] others
     (omega (arith, h, last-open token line (at_end a) u, place-ahead_after (length a.bytes) a)) e
 
-tokens_within-ends : (n : ℕ) (a : Ahead) (first : LocatedToken) (others : List LocatedToken) →
+tokens_within-ends : (n : ℕ) (a : UnreadSource) (first : LocatedToken) (others : List LocatedToken) →
     tokens_within n a ≡ first ∷ others →
     a.offset ≤ undecided_until first
 tokens_within-ends zero a first others e = absurd cc
 tokens_within-ends (suc n) a first others e =
-    by (front a.bytes) (front-is_piece a.bytes) (λ count. tokens_within-ends n (ahead_after count a) first others) e
+    by (input_element a.bytes) (input_element-is_piece a.bytes) (λ count. tokens_within-ends n (ahead_after count a) first others) e
   where
-    by : (f : Front) → IsPiece f →
+    by : (f : InputElement) → IsPiece f →
         ((count : ℕ) → tokens_within n (ahead_after count a) ≡ first ∷ others →
         (ahead_after count a).offset ≤ undecided_until first) →
-        tokens_of_front f a (tokens_within n) ≡ first ∷ others → a.offset ≤ undecided_until first
+        tokens_of_element f a (tokens_within n) ≡ first ∷ others → a.offset ≤ undecided_until first
     by Nothing p h e = last-ends a.offset variant.End a.line a first others refl (omega arith) e
     by Unclosed p h e = last-ends a.offset (variant.Fault CommentNotClosed) a.line a first others refl (omega arith) e
     by (Space count) p h e = omega (arith, h count e, place-ahead_after count a)
@@ -176,10 +176,10 @@ pub located_tokens-end : EndsBehind located_tokens
 unfolding located_tokens
 located_tokens-end = record { ends = λ a. tokens_within-ends (suc (length a.bytes)) a }
 
-pub in_token_run-ends : (test : ℕ → Bool) (token_of : List ℕ → Token) →
-    ((bytes : List ℕ) → is_decided_by_last_byte (token_of bytes) ≡ false) → EndsBehind (in_token_run test token_of)
-unfolding in_token_run followed
-in_token_run-ends test token_of u =
+pub in_token_span-ends : (test : ℕ → Bool) (token_of : List ℕ → Token) →
+    ((bytes : List ℕ) → is_decided_by_last_byte (token_of bytes) ≡ false) → EndsBehind (in_token_span test token_of)
+unfolding in_token_span followed
+in_token_span-ends test token_of u =
     record {
       ends =
           λ a first others e. at_most a.offset
@@ -210,7 +210,7 @@ constant-undecided value more = by (fold (λ value digit. 10 * value + (digit - 
         either true = refl
         either false = refl
 
-extended-ends : (punctuator : Punctuator) (bytes : List ℕ) (a : Ahead) (first : LocatedToken)
+extended-ends : (punctuator : Punctuator) (bytes : List ℕ) (a : UnreadSource) (first : LocatedToken)
     (others : List LocatedToken)
     → extended punctuator bytes a ≡ first ∷ others → a.offset ≤ undecided_until first
 unfolding followed
@@ -238,7 +238,7 @@ pub in_comment-ends : (line : ℕ) → EndsBehind (in_comment line)
 unfolding in_comment
 in_comment-ends line = record { ends = λ a first others. by a first others (up_to_close a.bytes) }
   where
-    by : (a : Ahead) (first : LocatedToken) (others : List LocatedToken) (o : Option ℕ) →
+    by : (a : UnreadSource) (first : LocatedToken) (others : List LocatedToken) (o : Option ℕ) →
         closed_at o line a ≡ first ∷ others → a.offset ≤ undecided_until first
     by a first others None e =
         last-ends a.offset (variant.Fault CommentNotClosed) line a first others refl (omega arith) e
@@ -268,24 +268,24 @@ in_slash-ends line = record {
 }
 
 -- a read that failed took nothing after the offset that was reached
-pub stops : (made : Ahead → List LocatedToken) → EndsBehind made → (here new : Window) (told : Option (List ℕ)) →
-    new.taken ≡ new.offset → new.offset ≡ here.offset → StopsWithin made here new told
+pub stops : (made : UnreadSource → List LocatedToken) → EndsBehind made → (here new : Window) (to_come : Option (List ℕ)) →
+    new.taken ≡ new.offset → new.offset ≡ here.offset → StopsWithin made here new to_come
 unfolding to_read
 stops made ends here new None t p = λ first others e. absurd cc
 stops made ends here new (Some to_come) t p =
     λ first others e. omega (arith, ends.ends (ahead here to_come) first others (same_Some _ _ e))
 
-pub stops-from : (made made' : Ahead → List LocatedToken) (here old new : Window) (told told' : Option (List ℕ)) →
-    to_read made here told' ≡ to_read made' old told → StopsWithin made here new told' → StopsWithin made' old new told
-stops-from made made' here old new told told' s f = λ first others e. f first others (s ∙ e)
+pub stops-from : (made made' : UnreadSource → List LocatedToken) (here old new : Window) (to_come to_come' : Option (List ℕ)) →
+    to_read made here to_come' ≡ to_read made' old to_come → StopsWithin made here new to_come' → StopsWithin made' old new to_come
+stops-from made made' here old new to_come to_come' s f = λ first others e. f first others (s ∙ e)
 
 -- nor did it put a token
-pub fails-from : (made made' : Ahead → List LocatedToken) (here old new : Window) (told told' : Option (List ℕ))
-    {located_token mid_token new_token : LocatedToken} → to_read made here told' ≡ to_read made' old told →
-    mid_token ≡ located_token → LeavesUnread made here new told' mid_token new_token →
-    LeavesUnread made' old new told located_token new_token
-fails-from made made' here old new told told' s h f =
-    record { within = stops-from made made' here old new told told' s f.within; unread = f.unread ∙ h }
+pub fails-from : (made made' : UnreadSource → List LocatedToken) (here old new : Window) (to_come to_come' : Option (List ℕ))
+    {located_token mid_token new_token : LocatedToken} → to_read made here to_come' ≡ to_read made' old to_come →
+    mid_token ≡ located_token → LeavesUnread made here new to_come' mid_token new_token →
+    LeavesUnread made' old new to_come located_token new_token
+fails-from made made' here old new to_come to_come' s h f =
+    record { within = stops-from made made' here old new to_come to_come' s f.within; unread = f.unread ∙ h }
 
 -- a token that ends here was found
 pub found-here : (here : LocatedToken) (token : Token) (window : Window) →
@@ -302,7 +302,7 @@ found-reads here old new forward found =
     record { progress = λ e. forward; reached = found.reached; fits = found.fits }
 
 -- what finds a token after its first byte reads it
-pub finds-reads : {T : Type 0} (r : Result T DeviceFault) (inside : Ahead → List LocatedToken) (old mid new : Window)
+pub finds-reads : {T : Type 0} (r : Result T DeviceFault) (inside : UnreadSource → List LocatedToken) (old mid new : Window)
     (before after : Device) (here here' : LocatedToken) →
     to_read inside mid before.to_come ≡ to_read located_tokens old before.to_come → old.offset < mid.offset →
     LeavesAsked r mid new before.to_come after.to_come before.account after.account after.ended →
@@ -333,7 +333,7 @@ then-reads (Err x) old mid new before between after here mid_here new_here same 
 
 -- a call that failed neither finds a token nor reads one
 pub fails-finds : {T : Type 0} (r : Result T DeviceFault) (P : DeviceFault → Type 0) → IsErrAnd r P →
-    (inside : Ahead → List LocatedToken) (old new : Window) (before after : Device) (here here' : LocatedToken) →
+    (inside : UnreadSource → List LocatedToken) (old new : Window) (before after : Device) (here here' : LocatedToken) →
     LeavesUnread inside old new before.to_come here here' → FindsToken r inside old new before after here here'
 fails-finds (Ok x) P h inside old new before after here here' left = absurd h
 fails-finds (Err x) P h inside old new before after here here' left = left

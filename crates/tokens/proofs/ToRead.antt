@@ -2,7 +2,7 @@
 use Rattle.std.proofs.Common.{◌≡◌, ℕ, Option, Some, None, List, [], ◌∷◌, ◌++◌, refl, sym, ap, ◌∙◌, ◌≢◌}
 use Rattle.std.specs.Prelude.{slice_get}
 use Rattle.std.specs.List.{prefix_len}
-use Rattle.tokens.specs.Tokens.{Ahead, ahead_after_byte}
+use Rattle.tokens.specs.Tokens.{UnreadSource, ahead_after_byte}
 use Rattle.tokens.specs.Window.{Window, seen, ahead, window_after_byte, later, IsAtHandOrEnd}
 use Rattle.tokens.specs.Lexing.{to_read}
 use Rattle.tokens.specs.declared.located_tokens.LocatedToken.{LocatedToken}
@@ -10,15 +10,15 @@ use Rattle.tokens.specs.declared.windows.Beyond.{Beyond}
 use Rattle.tokens.specs.declared.windows.Beyond.TheVariants.{Unread, Nothing, TooMuch}
 
 -- the same is seen, so the same is to be read
-pub to_read-seen : (made : Ahead → List LocatedToken) (new old : Window) (told' told : Option (List ℕ)) →
-    seen new told' ≡ seen old told → to_read made new told' ≡ to_read made old told
+pub to_read-seen : (made : UnreadSource → List LocatedToken) (new old : Window) (to_come' to_come : Option (List ℕ)) →
+    seen new to_come' ≡ seen old to_come → to_read made new to_come' ≡ to_read made old to_come
 unfolding to_read
-to_read-seen made new old told' told e = ap (Rattle.std.specs.Option.option_map made) e
+to_read-seen made new old to_come' to_come e = ap (Rattle.std.specs.Option.option_map made) e
 
 -- if the window stays
-pub to_read-here : (made made' : Ahead → List LocatedToken) (here : Window) (told : Option (List ℕ)) →
+pub to_read-here : (made made' : UnreadSource → List LocatedToken) (here : Window) (to_come : Option (List ℕ)) →
     ((to_come : List ℕ) → made (ahead here to_come) ≡ made' (ahead here to_come)) →
-    to_read made here told ≡ to_read made' here told
+    to_read made here to_come ≡ to_read made' here to_come
 unfolding to_read
 to_read-here made made' here None f = refl
 to_read-here made made' here (Some to_come) f = ap Some (f to_come)
@@ -66,29 +66,29 @@ ahead-window_after_byte here b to_come e = by here.at_hand e
     by [] e = absurd cc
     by (x ∷ xs) e = refl
 
-to_read-step : (made made' : Ahead → List LocatedToken) (here : Window) (told : Option (List ℕ)) (b : ℕ) →
+to_read-step : (made made' : UnreadSource → List LocatedToken) (here : Window) (to_come : Option (List ℕ)) (b : ℕ) →
     slice_get here.at_hand 0 ≡ Some b →
-    ((a : Ahead) (rest : List ℕ) → a.bytes ≡ b ∷ rest → made (ahead_after_byte a) ≡ made' a) →
-    to_read made (window_after_byte here) told ≡ to_read made' here told
+    ((a : UnreadSource) (rest : List ℕ) → a.bytes ≡ b ∷ rest → made (ahead_after_byte a) ≡ made' a) →
+    to_read made (window_after_byte here) to_come ≡ to_read made' here to_come
 unfolding to_read
 to_read-step made made' here None b e f = refl
 to_read-step made made' here (Some to_come) b e f =
     let r = first-ahead here b to_come e in
     ap (λ a. Some (made a)) (ahead-window_after_byte here b to_come e) ∙ ap Some (f (ahead here to_come) r.0 r.1)
 
-pub to_read-pass : (made made' : Ahead → List LocatedToken) (new here : Window) (told : Option (List ℕ))
+pub to_read-pass : (made made' : UnreadSource → List LocatedToken) (new here : Window) (to_come : Option (List ℕ))
     (first : Option ℕ) (b : ℕ) → new ≡ window_after_byte here → first ≡ slice_get here.at_hand 0 → first ≡ Some b →
-    ((a : Ahead) (rest : List ℕ) → a.bytes ≡ b ∷ rest → made (ahead_after_byte a) ≡ made' a) →
-    to_read made new told ≡ to_read made' here told
-to_read-pass made made' new here told first b n o e f =
-    ap (λ h. to_read made h told) n ∙ to_read-step made made' here told b (sym o ∙ e) f
+    ((a : UnreadSource) (rest : List ℕ) → a.bytes ≡ b ∷ rest → made (ahead_after_byte a) ≡ made' a) →
+    to_read made new to_come ≡ to_read made' here to_come
+to_read-pass made made' new here to_come first b n o e f =
+    ap (λ h. to_read made h to_come) n ∙ to_read-step made made' here to_come b (sym o ∙ e) f
 
 -- the same, by the line
-pub to_read-pass_line : (made made' : Ahead → List LocatedToken) (new here : Window) (told : Option (List ℕ))
+pub to_read-pass_line : (made made' : UnreadSource → List LocatedToken) (new here : Window) (to_come : Option (List ℕ))
     (b line : ℕ)
     → new ≡ window_after_byte here → slice_get here.at_hand 0 ≡ Some b → line ≡ here.line →
-    ((a : Ahead) (rest : List ℕ) → a.bytes ≡ b ∷ rest → a.line ≡ line → made (ahead_after_byte a) ≡ made' a) →
-    to_read made new told ≡ to_read made' here told
+    ((a : UnreadSource) (rest : List ℕ) → a.bytes ≡ b ∷ rest → a.line ≡ line → made (ahead_after_byte a) ≡ made' a) →
+    to_read made new to_come ≡ to_read made' here to_come
 unfolding to_read
 to_read-pass_line made made' new here None b line n e l f = refl
 to_read-pass_line made made' new here (Some to_come) b line n e l f =

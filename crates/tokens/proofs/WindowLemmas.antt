@@ -50,7 +50,7 @@ pub between-further : (xs : List ℕ) (i n j : ℕ) → between (i + n) j xs ≡
 between-further xs i n j = rw (between_is, between_is, drop-drop) refl
 
 -- after a span of the bytes at hand
-pub token_run-ahead_after : (q : ℕ → Bool) (line start taken next filled count lines : ℕ) (beyond : Beyond)
+pub token_span-ahead_after : (q : ℕ → Bool) (line start taken next filled count lines : ℕ) (beyond : Beyond)
     (bytes : List ℕ) →
     count ≡ prefix_len q (between next filled bytes) →
     lines ≡ count_by (λ b. eqb b 10) (take count (between next filled bytes))
@@ -58,7 +58,7 @@ pub token_run-ahead_after : (q : ℕ → Bool) (line start taken next filled cou
     held (line + lines) (start + (next + count)) (between (next + count) filled bytes) taken beyond ≡
     window_after (prefix_len q (between next filled bytes))
     (held line (start + next) (between next filled bytes) taken beyond)
-token_run-ahead_after q line start taken next filled count lines beyond bytes e f =
+token_span-ahead_after q line start taken next filled count lines beyond bytes e f =
     let at_hand = between next filled bytes in
     let within : count ≤ length at_hand = rw e (prefix_len-le-length q at_hand) in
     let b = window_after-is line (start + next) taken beyond count at_hand within in
@@ -134,12 +134,12 @@ pub refilled : (before after : Option (List ℕ)) (beyond : Beyond) (at_hand buf
     seen (held line new_place (between 0 kept bytes) (taken + n) beyond) after ≡
     seen (held line place at_hand taken Unread) before
 refilled None after beyond at_hand buffer bytes line place new_place taken n kept e p h f w = rw w refl
-refilled (Some told) after beyond at_hand buffer bytes line place new_place taken n kept e p h f w =
-    let d = take-append-drop n told in
-    let l = length-take-le n told w.within in
-    let same : IsSame bytes told (drop n told) taken n kept beyond =
-    subst (λ (t : List ℕ). IsSame bytes t (drop n told) taken n kept beyond) d
-    (filled-same beyond bytes (take n told) (drop n told) taken n kept (rw (← w.front, ← f) h) (f ∙ w.front) l
+refilled (Some to_come) after beyond at_hand buffer bytes line place new_place taken n kept e p h f w =
+    let d = take-append-drop n to_come in
+    let l = length-take-le n to_come w.within in
+    let same : IsSame bytes to_come (drop n to_come) taken n kept beyond =
+    subst (λ (t : List ℕ). IsSame bytes t (drop n to_come) taken n kept beyond) d
+    (filled-same beyond bytes (take n to_come) (drop n to_come) taken n kept (rw (← w.front, ← f) h) (f ∙ w.front) l
     (λ z. rw (w.ends z) (drop_all n [] (omega arith)))) in
     rw (w.rest, e, p, between_from_start, same.bytes, same.over) refl
 

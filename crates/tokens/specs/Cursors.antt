@@ -15,13 +15,13 @@ pub record Cursor : Type 0 where
   pub window : Window
 
 -- the tokens after those two, given the device's bytes to come
-unfoldable pub unread : Window → List ℕ → List LocatedToken
-unread behind to_come = located_tokens (ahead behind to_come)
+unfoldable pub tokens_after_lookahead : Window → List ℕ → List LocatedToken
+tokens_after_lookahead behind to_come = located_tokens (ahead behind to_come)
 
 -- the tokens from the next one on, if the device's bytes to come are known
 abbrev pub shown : Cursor → Option (List ℕ) → Option (List LocatedToken)
-shown cursor told = option_map (λ to_come. followed_by cursor.next
-    (followed_by cursor.after (unread cursor.window to_come))) told
+shown cursor to_come = option_map (λ to_come. followed_by cursor.next
+    (followed_by cursor.after (tokens_after_lookahead cursor.window to_come))) to_come
 
 -- how many more tokens can come at most, whatever the device gives
 unfoldable pub most_left : Cursor → ℕ
@@ -64,16 +64,16 @@ undecided_reach_of (next ∷ after ∷ others) = undecided_until after
 -- A cursor was opened: it shows the tokens of the bytes that the device had to give, and no more than the most can
 -- come. The device has still to give all but the bytes taken, which are no more than a window after the two tokens,
 -- and than the most. If it has ended, the cursor knows.
-pub record OpensCursor (cursor : Cursor) (told told' : Option (List ℕ)) (ended : Bool) : Type 0 where
-  pub tokens : shown cursor told' ≡ option_map tokens told
+pub record OpensCursor (cursor : Cursor) (to_come to_come' : Option (List ℕ)) (ended : Bool) : Type 0 where
+  pub tokens : shown cursor to_come' ≡ option_map tokens to_come
   pub bounded : most_left cursor ≤ most_tokens
-  pub took : told' ≡ option_map (drop (bytes_taken cursor)) told
+  pub took : to_come' ≡ option_map (drop (bytes_taken cursor)) to_come
   pub near : IsNear cursor
   pub limited : bytes_taken cursor ≤ most_taken_bytes
   pub known : KnowsEnd (beyond cursor) ended
 
 -- a cursor went past a token: it shows those after it, fewer can come, and it is near if it was
-pub record AdvancesCursor (old new : Cursor) (told told' : Option (List ℕ)) : Type 0 where
-  pub tokens : shown new told' ≡ option_map (drop 1) (shown old told)
+pub record AdvancesCursor (old new : Cursor) (to_come to_come' : Option (List ℕ)) : Type 0 where
+  pub tokens : shown new to_come' ≡ option_map (drop 1) (shown old to_come)
   pub progress : most_left new < most_left old
   pub near : IsNear old → IsNear new

@@ -8,13 +8,13 @@ use Rattle.tokens.specs.declared.located_tokens.LocatedToken.{LocatedToken}
 
 -- no token ends before this offset, or before the end of the one that precedes it
 abbrev pub IsRising : ℕ → List LocatedToken → Type 0
-IsRising place [] = Unit {0}
-IsRising place (located_token ∷ others) = (place ≤ located_token.end) × IsRising located_token.end others
+IsRising offset [] = Unit {0}
+IsRising offset (located_token ∷ others) = (offset ≤ located_token.end) × IsRising located_token.end others
 
 -- each token ends at this offset or before
 abbrev pub AllEndBy : ℕ → List LocatedToken → Type 0
-AllEndBy place [] = Unit {0}
-AllEndBy place (located_token ∷ others) = (located_token.end ≤ place) × AllEndBy place others
+AllEndBy offset [] = Unit {0}
+AllEndBy offset (located_token ∷ others) = (located_token.end ≤ offset) × AllEndBy offset others
 
 -- whether its own last byte decides a lexical error
 abbrev pub ends_itself : LexicalError → Bool
@@ -47,6 +47,6 @@ last_undecided_until (located_token ∷ other ∷ others) = last_undecided_until
 
 -- each token is undecided at this offset, or at the end of the one that precedes it
 abbrev pub StaysUndecided : ℕ → List LocatedToken → Type 0
-StaysUndecided place [] = Unit {0}
-StaysUndecided place (located_token ∷ others) =
-    (place ≤ undecided_until located_token) × StaysUndecided located_token.end others
+StaysUndecided offset [] = Unit {0}
+StaysUndecided offset (located_token ∷ others) =
+    (offset ≤ undecided_until located_token) × StaysUndecided located_token.end others

@@ -4,18 +4,18 @@ use Rattle.std.specs.Prelude.{List, [], length, take, drop, Option, Some, None, 
 use Rattle.tokens.specs.declared.devices.DeviceFault.{DeviceFault}
 
 -- which device it is, by a number that it keeps, and how often a read of it has failed
-pub record Account : Type 0 where
+pub record FailureCount : Type 0 where
   pub device : ℕ
   pub failures : ℕ
 
 -- the same device, of which one more read has failed
-abbrev pub failed_again : Account → Account
+abbrev pub failed_again : FailureCount → FailureCount
 failed_again account = record account { failures = account.failures + 1 }
 
 -- what is said of a device: which one it is and how often it has failed, the bytes still to come, if they are known,
 -- and whether a read has given none
 pub record Device : Type 0 where
-  pub account : Account
+  pub account : FailureCount
   pub to_come : Option (List ℕ)
   pub ended : Bool
 
@@ -25,7 +25,7 @@ pub record MayRead (device : Device) : Type 0 where
   pub not_ended : device.ended ≡ false
 
 -- the buffer begins with the next n bytes of those to come, and n is 0 only at the end
-pub record GivesFront (bytes : List ℕ) (after : Option (List ℕ)) (buffer : List ℕ) (n : ℕ) : Type 0 where
+pub record GivesPrefix (bytes : List ℕ) (after : Option (List ℕ)) (buffer : List ℕ) (n : ℕ) : Type 0 where
   pub within : n ≤ length bytes
   pub front : take n buffer ≡ take n bytes
   pub rest : after ≡ Some (drop n bytes)
@@ -34,17 +34,17 @@ pub record GivesFront (bytes : List ℕ) (after : Option (List ℕ)) (buffer : L
 -- what was read, if the device's bytes are known; else they stay unknown
 abbrev pub Gives : Option (List ℕ) → Option (List ℕ) → List ℕ → ℕ → Type 0
 Gives None after buffer n = after ≡ None
-Gives (Some bytes) after buffer n = GivesFront bytes after buffer n
+Gives (Some bytes) after buffer n = GivesPrefix bytes after buffer n
 
 -- n bytes were read into a buffer, which they fit
-pub record Fills (size : ℕ) (told told' : Option (List ℕ)) (buffer : List ℕ) (n : ℕ) : Type 0 where
+pub record Fills (size : ℕ) (to_come to_come' : Option (List ℕ)) (buffer : List ℕ) (n : ℕ) : Type 0 where
   pub within : n ≤ size
-  pub bytes : Gives told told' buffer n
+  pub bytes : Gives to_come to_come' buffer n
 
 -- what a read leaves: n bytes in the buffer, or, if it failed, all bytes still to come
-abbrev pub Reads : Result ℕ DeviceFault → (size : ℕ) → (told told' : Option (List ℕ)) → (buffer : List ℕ) → Type 0
-Reads (Ok n) size told told' buffer = Fills size told told' buffer n
-Reads (Err e) size told told' buffer = told' ≡ told
+abbrev pub Reads : Result ℕ DeviceFault → (size : ℕ) → (to_come to_come' : Option (List ℕ)) → (buffer : List ℕ) → Type 0
+Reads (Ok n) size to_come to_come' buffer = Fills size to_come to_come' buffer n
+Reads (Err e) size to_come to_come' buffer = to_come' ≡ to_come
 
 -- whether a read gave no byte, which shows that the device has ended
 abbrev pub gives_none : Result ℕ DeviceFault → Bool
@@ -52,6 +52,6 @@ gives_none (Ok n) = n == 0
 gives_none (Err e) = false
 
 -- it is the same device as before, of which one more read has failed after an error, and none without one
-abbrev pub Counts : {T : Type 0} → Result T DeviceFault → Account → Account → Type 0
+abbrev pub Counts : {T : Type 0} → Result T DeviceFault → FailureCount → FailureCount → Type 0
 Counts (Ok x) before after = after ≡ before
 Counts (Err e) before after = after ≡ failed_again before

@@ -1,10 +1,10 @@
 -- What a read of a real file leaves.
 use Rattle.std.specs.Prelude.{◌≡◌, ℕ, Bool, List, Option, Result, IfOk, OnErr, take}
 use Rattle.std.specs.Io.KnownBytes.{Consumes, IsAtEnd, Keeps}
-use Rattle.tokens.specs.Feed.{Account, Device}
+use Rattle.tokens.specs.Feed.{FailureCount, Device}
 
 -- a real device that has failed this often; all have the same number
-abbrev pub real_account : ℕ → Account
+abbrev pub real_account : ℕ → FailureCount
 real_account failures = record { device = 0; failures = failures }
 
 -- a file that has failed so often, with these bytes to come, if they are known

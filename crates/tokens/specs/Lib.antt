@@ -6,7 +6,7 @@ pub mod MemoryFeeds
 pub mod Source
 pub mod Keywords
 pub mod Punctuators
-pub mod Front
+pub mod InputElement
 pub mod Tokens
 pub mod TokenLimits
 pub mod WindowLimits

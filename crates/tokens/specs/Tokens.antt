@@ -3,7 +3,7 @@ use Rattle.std.specs.Prelude.{ℕ, zero, suc, ◌+◌, ◌≤◌, Bool, true, fa
 use Rattle.std.specs.Prelude.{◌==◌, nat_lt}
 use Rattle.tokens.specs.TokenLimits.{most_source_bytes}
 use Rattle.tokens.specs.Source.{source}
-use Rattle.tokens.specs.Front.{Front, Nothing, Space, Unclosed, Lexeme, front}
+use Rattle.tokens.specs.InputElement.{InputElement, Nothing, Space, Unclosed, Lexeme, input_element}
 use Rattle.tokens.specs.declared.located_tokens.LexicalError.TheVariants.{CommentNotClosed, SourceTooLong}
 use Rattle.tokens.specs.declared.located_tokens.Token.{Token}
 use Rattle.tokens.specs.declared.located_tokens.Token.TheVariants as variant
@@ -29,7 +29,7 @@ FitsToken (variant.Fault lexical_error) = Unit {0}
 
 -- what lies ahead in a source: the line that it begins on, its offset,
 -- its bytes up to the limit, and whether the source goes on after that
-pub record Ahead : Type 0 where
+pub record UnreadSource : Type 0 where
   pub line : ℕ
   pub offset : ℕ
   pub bytes : List ℕ
@@ -40,10 +40,10 @@ abbrev pub line_after : ℕ → ℕ → ℕ
 line_after b line = if b == 10 then line + 1 else line
 
 -- one byte further
-abbrev pub ahead_after_byte : Ahead → Ahead
+abbrev pub ahead_after_byte : UnreadSource → UnreadSource
 ahead_after_byte ahead = go ahead.bytes
   where
-    go : List ℕ → Ahead
+    go : List ℕ → UnreadSource
     go [] = ahead
     go (b ∷ rest) = record {
       line = line_after b ahead.line;
@@ -53,26 +53,26 @@ ahead_after_byte ahead = go ahead.bytes
     }
 
 -- this many bytes further
-abbrev pub ahead_after : ℕ → Ahead → Ahead
+abbrev pub ahead_after : ℕ → UnreadSource → UnreadSource
 ahead_after zero ahead = ahead
 ahead_after (suc n) ahead = ahead_after n (ahead_after_byte ahead)
 
 -- after the last byte
-abbrev pub at_end : Ahead → Ahead
+abbrev pub at_end : UnreadSource → UnreadSource
 at_end ahead = ahead_after (length ahead.bytes) ahead
 
 -- the last token, at the end of what lies ahead: this one, unless the source is too long
-abbrev pub last_located_token : Token → ℕ → Ahead → LocatedToken
+abbrev pub last_located_token : Token → ℕ → UnreadSource → LocatedToken
 last_located_token token line end =
     if end.too_long then record { token = variant.Fault SourceTooLong; line = end.line; end = end.offset + 1 }
     else record { token = token; line = line; end = end.offset }
 
 -- the last token if no other is left
-abbrev pub end_token : Token → Ahead → LocatedToken
+abbrev pub end_token : Token → UnreadSource → LocatedToken
 end_token token ahead = last_located_token token ahead.line (at_end ahead)
 
 -- a token of this many bytes, with its line and end
-abbrev pub located : Token → ℕ → Ahead → LocatedToken
+abbrev pub located : Token → ℕ → UnreadSource → LocatedToken
 located token count ahead = record { token = token; line = ahead.line; end = ahead.offset + count }
 
 -- a token, and unless it is the last, those after it
@@ -80,24 +80,24 @@ abbrev pub followed_by : LocatedToken → List LocatedToken → List LocatedToke
 followed_by located_token others = located_token ∷ (if is_last located_token.token then [] else others)
 
 -- what an input element gives, and then the tokens of the rest
-abbrev pub tokens_of_front : Front → Ahead → (Ahead → List LocatedToken) → List LocatedToken
-tokens_of_front Nothing ahead others = end_token variant.End ahead ∷ []
-tokens_of_front Unclosed ahead others = end_token (variant.Fault CommentNotClosed) ahead ∷ []
-tokens_of_front (Space count) ahead others = others (ahead_after count ahead)
-tokens_of_front (Lexeme sign count) ahead others =
+abbrev pub tokens_of_element : InputElement → UnreadSource → (UnreadSource → List LocatedToken) → List LocatedToken
+tokens_of_element Nothing ahead others = end_token variant.End ahead ∷ []
+tokens_of_element Unclosed ahead others = end_token (variant.Fault CommentNotClosed) ahead ∷ []
+tokens_of_element (Space count) ahead others = others (ahead_after count ahead)
+tokens_of_element (Lexeme sign count) ahead others =
     followed_by (located sign count ahead) (others (ahead_after count ahead))
 
 -- the tokens of what lies ahead, which is cut into at most this many input elements
-abbrev pub tokens_within : ℕ → Ahead → List LocatedToken
+abbrev pub tokens_within : ℕ → UnreadSource → List LocatedToken
 tokens_within zero ahead = []
-tokens_within (suc n) ahead = tokens_of_front (front ahead.bytes) ahead (tokens_within n)
+tokens_within (suc n) ahead = tokens_of_element (input_element ahead.bytes) ahead (tokens_within n)
 
 -- each input element has at least a byte, but for the end
-unfoldable pub located_tokens : Ahead → List LocatedToken
+unfoldable pub located_tokens : UnreadSource → List LocatedToken
 located_tokens ahead = tokens_within (suc (length ahead.bytes)) ahead
 
 -- the whole of a source
-abbrev pub ahead_of_source : List ℕ → Ahead
+abbrev pub ahead_of_source : List ℕ → UnreadSource
 ahead_of_source bytes = record {
   line = 1;
   offset = 0;

@@ -6,9 +6,9 @@ use Rattle.std.specs.Option.{option_map}
 use Rattle.tokens.specs.TokenLimits.{most_source_bytes}
 use Rattle.tokens.specs.WindowLimits.{most_taken_bytes, window_bytes}
 use Rattle.tokens.specs.Characters.{is_blank}
-use Rattle.tokens.specs.Feed.{Account, Device, failed_again}
+use Rattle.tokens.specs.Feed.{FailureCount, Device, failed_again}
 use Rattle.tokens.specs.Source.{source}
-use Rattle.tokens.specs.Tokens.{Ahead, line_after}
+use Rattle.tokens.specs.Tokens.{UnreadSource, line_after}
 use Rattle.tokens.specs.declared.devices.DeviceFault.{DeviceFault}
 use Rattle.tokens.specs.declared.windows.Beyond.{Beyond}
 use Rattle.tokens.specs.declared.windows.Beyond.TheVariants.{Unread, Nothing, TooMuch}
@@ -24,8 +24,8 @@ pub record Window : Type 0 where
 
 -- a window of this line, this offset, these bytes at hand, this many bytes taken, and this beyond
 abbrev pub window_of : ℕ → ℕ → List ℕ → ℕ → Beyond → Window
-window_of line place at_hand taken beyond =
-    record { line = line; offset = place; at_hand = at_hand; taken = taken; beyond = beyond }
+window_of line offset at_hand taken beyond =
+    record { line = line; offset = offset; at_hand = at_hand; taken = taken; beyond = beyond }
 
 -- the bytes after those at hand, up to the limit, given the device's bytes to come
 abbrev pub later : Beyond → ℕ → List ℕ → List ℕ
@@ -40,7 +40,7 @@ goes_on Nothing taken to_come = false
 goes_on TooMuch taken to_come = true
 
 -- what lies ahead
-abbrev pub ahead : Window → List ℕ → Ahead
+abbrev pub ahead : Window → List ℕ → UnreadSource
 ahead window to_come = record {
   line = window.line;
   offset = window.offset;
@@ -49,8 +49,8 @@ ahead window to_come = record {
 }
 
 -- the same, if the device's bytes to come are known
-abbrev pub seen : Window → Option (List ℕ) → Option Ahead
-seen window told = option_map (ahead window) told
+abbrev pub seen : Window → Option (List ℕ) → Option UnreadSource
+seen window to_come = option_map (ahead window) to_come
 
 -- a source of which nothing was read
 abbrev pub untouched : Window
@@ -95,8 +95,8 @@ abbrev pub IsAtHandOrEnd : Window → Type 0
 IsAtHandOrEnd window = window.at_hand ≡ [] → window.beyond ≢ Unread
 
 -- a window shows the same source as before; a byte of it is at hand, or what is beyond is known
-pub record Shows (old new : Window) (told told' : Option (List ℕ)) : Type 0 where
-  pub seen : seen new told' ≡ seen old told
+pub record Shows (old new : Window) (to_come to_come' : Option (List ℕ)) : Type 0 where
+  pub seen : seen new to_come' ≡ seen old to_come
   pub ready : IsAtHandOrEnd new
 
 -- a window that would still ask its device knows that this has not ended
@@ -114,8 +114,8 @@ pub record IsWindow (next filled start taken line : ℕ) (beyond : Beyond) : Typ
   pub near : taken ≤ start + window_bytes
 
 -- what a device has still to give is all but the bytes taken, of which there were `before` and are `now`
-pub record TakesBytes (before now : ℕ) (told told' : Option (List ℕ)) : Type 0 where
-  pub rest : (total : Option (List ℕ)) → told ≡ option_map (drop before) total → told' ≡ option_map (drop now) total
+pub record TakesBytes (before now : ℕ) (to_come to_come' : Option (List ℕ)) : Type 0 where
+  pub rest : (total : Option (List ℕ)) → to_come ≡ option_map (drop before) total → to_come' ≡ option_map (drop now) total
 
 -- What each call on a window needs and keeps. Every contract of the lexer cites these facts.
 
@@ -133,9 +133,9 @@ pub record MayAsk (window : Window) (device : Device) : Type 0 where
 
 -- A window went on, or stayed: its device has still to give all but the bytes taken, and has failed as often as
 -- counted. The window is as every window is, and knows if the device has ended.
-pub record HasReadOn (old new : Window) (told told' : Option (List ℕ)) (counted account : Account) (ended : Bool)
+pub record HasReadOn (old new : Window) (to_come to_come' : Option (List ℕ)) (counted account : FailureCount) (ended : Bool)
     : Type 0 where
-  pub took : TakesBytes old.taken new.taken told told'
+  pub took : TakesBytes old.taken new.taken to_come to_come'
   pub forward : old.offset ≤ new.offset
   pub near : new.taken ≤ new.offset + window_bytes
   pub limited : new.taken ≤ most_taken_bytes
@@ -145,10 +145,10 @@ pub record HasReadOn (old new : Window) (told told' : Option (List ℕ)) (counte
 
 -- what a call leaves that may ask the device, which fails once more if the call fails
 abbrev pub LeavesAsked : {T : Type 0} → Result T DeviceFault → Window → Window → Option (List ℕ) → Option (List ℕ)
-    → Account → Account → Bool → Type 0
-LeavesAsked (Ok x) old new told told' before after ended = HasReadOn old new told told' before after ended
-LeavesAsked (Err e) old new told told' before after ended =
-    HasReadOn old new told told' (failed_again before) after ended
+    → FailureCount → FailureCount → Bool → Type 0
+LeavesAsked (Ok x) old new to_come to_come' before after ended = HasReadOn old new to_come to_come' before after ended
+LeavesAsked (Err e) old new to_come to_come' before after ended =
+    HasReadOn old new to_come to_come' (failed_again before) after ended
 
 abbrev pub MayHaveAsked : {T : Type 0} → Result T DeviceFault → Window → Window → (before after : Device) → Type 0
 MayHaveAsked result old new before after =

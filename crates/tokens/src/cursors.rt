@@ -46,7 +46,7 @@ impl Cursor {
         ensures count { Counts result (F.device feed.old).account (F.device feed.new).account }
     {
         let mut lexer = Lexer::new();
-        let mut next = LocatedToken::placeholder();
+        let mut next = LocatedToken::blank();
         lexer.read_token(&mut next, feed)?;
         let mut after = next;
         if !next.token.is_last() {

@@ -3,7 +3,7 @@
 ghost use Rattle.std.specs.Prelude.{◌≡◌, ◌≢◌, ◌∷◌, [], ◌-◌, ◌<◌, ◌≤◌, ℕ, List, Some, true, false, slice_get};
 ghost use Rattle.std.specs.Prelude.{IfOk, IfSome, OnOk, OnErr};
 ghost use Rattle.tokens.specs.Characters.{is_blank, is_digit};
-ghost use Rattle.tokens.specs.Front.{name_token};
+ghost use Rattle.tokens.specs.InputElement.{name_token};
 ghost use Rattle.tokens.specs.Tokens.{FitsToken, located_tokens, last_located_token};
 ghost use Rattle.tokens.specs.Window.{MayHaveAsked, IsNextByte, MayAsk, ahead, untouched};
 ghost use Rattle.tokens.specs.Lexing.{BeginsConstant, BeginsToken, FindsToken, LeavesUnread, ReadsSlash, ReadsToken};

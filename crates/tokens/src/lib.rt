@@ -1,7 +1,7 @@
 //! Reads the bytes of a source from a device and returns its tokens one by one, through a window of fixed size.
 #![tactic(auto)]
 
-mod byte_runs;
+mod byte_spans;
 mod characters;
 mod cursors;
 mod devices;

@@ -160,7 +160,7 @@ impl Token {
 
 impl LocatedToken {
     /// Makes what fills the field of a token before one is read.
-    pub(crate) fn placeholder() -> LocatedToken {
+    pub(crate) fn blank() -> LocatedToken {
         LocatedToken {
             token: Token::End,
             line: 0,

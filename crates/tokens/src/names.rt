@@ -125,13 +125,13 @@ impl Name {
     pub fn is_same(&self, other: &Name) -> bool
         ensures { result ≡ bytes_eq self.now other.now }
     {
-        self.has_same_front(other) && self.as_bytes() == other.as_bytes()
+        self.has_same_prefix(other) && self.as_bytes() == other.as_bytes()
     }
 
     /// Reports whether the length and the first two bytes are those of a name: a short name has zeros there.
     #[inline(always)]
     #[tactic(auto, using(crate::proofs::NameLemmas::same_kept))]
-    fn has_same_front(&self, other: &Name) -> bool
+    fn has_same_prefix(&self, other: &Name) -> bool
         ensures { self.now ≡ other.now → result ≡ true }
     {
         self.len == other.len && self.bytes[0] == other.bytes[0] && self.bytes[1] == other.bytes[1]

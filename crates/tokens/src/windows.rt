@@ -8,7 +8,7 @@ ghost use Rattle.tokens.specs.Source.{source};
 ghost use Rattle.tokens.specs.Window.{MayHaveAsked, Splits, IsAtSameOffset, IsBounded, IsNextByte, MayAsk, SkipsBytes, Shows};
 ghost use Rattle.tokens.specs.Window.{window_after, window_after_blanks, window_after_byte, window_after_plain, seen, untouched};
 
-use crate::byte_runs::{LINE_FEED, NonBlankByte, StarByte, run_before, run_before_end};
+use crate::byte_spans::{LINE_FEED, NonBlankByte, StarByte, span_before, span_before_end};
 use crate::characters::is_blank;
 use crate::devices::{DeviceFault, Feed};
 use crate::token_limits::{MOST_SOURCE_BYTES, WINDOW_BYTES};
@@ -143,7 +143,7 @@ impl Window {
         ensures value { self.new ≡ window_after_plain self.old }
         ensures kept { SkipsBytes self.old self.new }
     {
-        let (count, lines) = run_before::<StarByte>(&self.bytes[self.next..self.filled]);
+        let (count, lines) = span_before::<StarByte>(&self.bytes[self.next..self.filled]);
         self.next += count;
         self.line += lines;
     }
@@ -157,7 +157,7 @@ impl Window {
             Some(b) if is_blank(b) => {}
             _ => return,
         }
-        let (count, lines) = run_before::<NonBlankByte>(&self.bytes[self.next..self.filled]);
+        let (count, lines) = span_before::<NonBlankByte>(&self.bytes[self.next..self.filled]);
         self.next += count;
         self.line += lines;
     }
@@ -221,10 +221,10 @@ fn split_source(bytes: &[u8], room: usize) -> (usize, Beyond)
 }
 
 /// Returns how many bytes there are before the first that ends a source.
-#[tactic(auto, using(crate::proofs::RunLemmas::ends_source))]
+#[tactic(auto, using(crate::proofs::SpanLemmas::ends_source))]
 fn source_len(bytes: &[u8]) -> usize
     requires { length bytes.now ≤ window_bytes }
     ensures { result ≡ length (source bytes.now) }
 {
-    run_before_end(bytes)
+    span_before_end(bytes)
 }

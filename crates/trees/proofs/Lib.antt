@@ -1,5 +1,5 @@
 pub mod TreeLaws
 pub mod MakingLaws
-pub mod StandingLaws
+pub mod RepresentationLaws
 pub mod ReplayLaws
 pub mod Rebuilding

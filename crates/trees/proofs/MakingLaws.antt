@@ -11,7 +11,7 @@ use Rattle.grammar.specs.declared.actions.Action.{Action}
 use Rattle.grammar.specs.declared.actions.Action.TheVariants.{ApplyBinop, BeginCall, EndCall, EndIf}
 use Rattle.grammar.specs.declared.actions.Action.TheVariants.{EndWhile, GiveBack, Chop, EndFunction}
 use Rattle.grammar.specs.Actions.{body_actions, args_actions, expr_actions}
-use Rattle.grammar.specs.Following.{InFunction, AValue, BeforeRight, Opened, Origin, Computed, follow, only_on, statement_done, call_done, is_increment, stored_origin, same_op, is_callee_numbered}
+use Rattle.grammar.specs.Following.{InFunction, AValue, BeforeRight, Opened, ValueCategory, Computed, follow, only_on, statement_done, call_done, is_increment, stored_origin, same_op, is_callee_numbered}
 use Rattle.arith.specs.Op.{is_logic}
 use Rattle.grammar.specs.Laws.Origins.{origin_of, ends_in_return}
 use Rattle.grammar.specs.Tree.{Args, Body, Done}
@@ -80,7 +80,7 @@ statement_continues : (a : Action) (s : Statement) (before xs ys : List entry.Op
 statement_continues a s before xs ys added follows acts =
     record { follows = follows ∙ adds_follows s xs ys added; adds = acts ∙ adds_actions s xs ys added }
 
-chop_place : (h : BodyOwner) (b : Body) (origin : Origin) (o : Opened) →
+chop_place : (h : BodyOwner) (b : Body) (origin : ValueCategory) (o : Opened) →
     follow Chop (AValue origin ∷ open_of_owner h b ∷ o) ≡ statement_done false (open_of_owner h b ∷ o)
 chop_place (heading.Function n p) b origin o = refl
 chop_place (heading.First c) b origin o = refl
@@ -151,14 +151,14 @@ value_is_left (Test ∷ xs) h = refl
 value_is_left (entry_of.Body b ∷ xs) h = refl
 
 -- no operator is applied right in a body
-apply_place : (o : Op) (origin : Origin) (g : BodyOwner) (b : Body) (q : Opened) →
+apply_place : (o : Op) (origin : ValueCategory) (g : BodyOwner) (b : Body) (q : Opened) →
     IsTrue (is_some (follow (ApplyBinop o) (AValue origin ∷ open_of_owner g b ∷ q))) → ⊥
 apply_place o origin (heading.Function n p) b q k = absurd (cc)
 apply_place o origin (heading.First c) b q k = absurd (cc)
 apply_place o origin (heading.Second c t) b q k = absurd (cc)
 apply_place o origin (heading.Loop c) b q k = absurd (cc)
 
-apply_right : (o p : Op) (origin : Origin) (g : BodyOwner) (b : Body) (q : Opened) →
+apply_right : (o p : Op) (origin : ValueCategory) (g : BodyOwner) (b : Body) (q : Opened) →
     IsTrue (is_some (follow (ApplyBinop o) (AValue origin ∷ BeforeRight p ∷ open_of_owner g b ∷ q))) → ⊥
 apply_right o p origin (heading.Function n m) b q k = absurd (cc)
 apply_right o p origin (heading.First c) b q k = absurd (cc)

@@ -16,7 +16,7 @@ use Rattle.grammar.specs.Actions.{last_return, middle, numbered_actions}
 use Rattle.grammar.specs.Tree.{Expr, Constant, Variable, Binary, Assign, Postfix, Call, Args, NoMore, Argument, Body}
 use Rattle.grammar.specs.Tree.{Done, ExpressionStatement, IfStatement, IfElseStatement, While, Return, join, File}
 use Rattle.grammar.specs.Tree as tree
-use Rattle.trees.specs.Laws.{ActionsDetermineTrees, Told, told, told_numbered, told_functions, told_trees}
+use Rattle.trees.specs.Laws.{ActionsDetermineTrees, UnnamedFunction, without_names, told_numbered, told_functions, told_trees}
 use Rattle.trees.specs.Trees.{function_tree, made_actions}
 use Rattle.trees.specs.declared.tree.Function.{Function}
 
@@ -77,12 +77,12 @@ front [] = []
 front (s ∷ ss) = ss
 
 -- a function without its last return
-abbrev ended : ℕ → List Entry → List Told → List Told
+abbrev ended : ℕ → List Entry → List UnnamedFunction → List UnnamedFunction
 ended variables (ABody (AFunction n parameters) ss ∷ st) later =
     record { number = n; parameters = parameters; variables = variables; body = whole (front ss) Done } ∷ later
 ended variables st later = later
 
-abbrev rebuild : List Action → List Entry → List Told
+abbrev rebuild : List Action → List Entry → List UnnamedFunction
 rebuild [] st = []
 rebuild (EndFunction variables ∷ acts) st = ended variables st (rebuild acts [])
 rebuild (a ∷ acts) st = rebuild acts (next a st)
@@ -226,7 +226,7 @@ rebuild_body (Return e rest) head ss st acts =
     ∙ rebuild_body rest head (Return e ∷ ss) st acts
 
 rebuild_function : (k : ℕ) (f : tree.Function) (acts : List Action) →
-    rebuild (function_actions k f ++ acts) [] ≡ told k f ∷ rebuild acts []
+    rebuild (function_actions k f ++ acts) [] ≡ without_names k f ∷ rebuild acts []
 rebuild_function k f acts =
     let head = AFunction k f.parameters in
     before (body_actions f.body) (last_return ++ EndFunction (length f.variables) ∷ []) acts (ABody head [] ∷ [])
@@ -246,13 +246,13 @@ rebuild_functions functions (k ∷ ks) = by (slice_get functions k) (rebuild_fun
         told_numbered k f ++ told_functions functions ks
     by None others = others
     by (Some f) others =
-        rebuild_function k f (functions_actions functions ks) ∙ ap (λ later. told k f ∷ later) others
+        rebuild_function k f (functions_actions functions ks) ∙ ap (λ later. without_names k f ∷ later) others
 
 rebuild_made : (made : List Function) → rebuild (made_actions made) [] ≡ told_trees made
 rebuild_made [] = refl
 rebuild_made (f ∷ fs) =
     rebuild_function f.number (function_tree f) (made_actions fs)
-    ∙ ap (λ later. told f.number (function_tree f) ∷ later) (rebuild_made fs)
+    ∙ ap (λ later. without_names f.number (function_tree f) ∷ later) (rebuild_made fs)
 
 pub actions_determine_trees : ActionsDetermineTrees
 actions_determine_trees file made same =

@@ -20,8 +20,8 @@ use Rattle.grammar.specs.Tree.{Done}
 use Rattle.grammar.proofs.Beginnings.{follows_begins}
 use Rattle.grammar.proofs.Lengths.{code_length-append}
 use Rattle.trees.specs.Opened.{opened_of, open_actions}
-use Rattle.trees.specs.Replaying.{AppendsThose, StandsForNone, IsOverWith, IsOverWithThose}
-use Rattle.trees.specs.TreeMakers.{TreeMaker, FitsLimit, Builds, Passed, TreeMakerRepresents}
+use Rattle.trees.specs.Replaying.{AppendsThose, RepresentsNoActions, IsOverWith, IsOverWithThose}
+use Rattle.trees.specs.TreeMakers.{TreeMaker, FitsLimit, Builds, ExceedsLimit, TreeMakerRepresents}
 use Rattle.trees.specs.Trees.{arguments, body_tree, expr_tree, function_tree, made_actions, statement_actions}
 use Rattle.trees.specs.declared.tree_stack.OpenItem as entry
 use Rattle.trees.specs.declared.tree.Expr.{Expr}
@@ -29,9 +29,9 @@ use Rattle.trees.specs.declared.tree.Expr.TheVariants as expr
 use Rattle.trees.specs.declared.tree.Function.{Function}
 use Rattle.trees.specs.declared.tree.Statement.{Statement}
 use Rattle.trees.specs.declared.tree.Statement.TheVariants as statement
-use Rattle.trees.proofs.StandingLaws.{follow_inside}
+use Rattle.trees.proofs.RepresentationLaws.{follow_inside}
 use Rattle.trees.proofs.TreeLaws.{Tells, tells_arguments, tells_functions, tells_last, tells_split, tells_statements, tree-Binary, tree-Assign, tree-Call, tree-ExpressionStatement, tree-IfStatement, tree-IfElseStatement, tree-While, tree-Return}
-use Rattle.grammar.proofs.StandingLaws.{may_front, may_first, may_then, appends_both}
+use Rattle.grammar.proofs.RepresentationLaws.{may_front, may_first, may_then, appends_both}
 
 -- the limit is exceeded with more actions too
 pub over_front : (before : Representation) (xs ys : List Action) → IsOverWith before xs → IsOverWith before (xs ++ ys)
@@ -212,21 +212,21 @@ is_done_at m s fits =
     }
 
 pub is_done : (m : TreeMaker) → LeavesOpen (λ p acts. TreeMakerRepresents m p acts) [] → IsDone m
-is_done m s = by_code (nat_lt m.code m.profile.instructions) refl
+is_done m s = by_code (nat_lt m.length m.profile.instructions) refl
   where
-    by_code : (b : Bool) → nat_lt m.code m.profile.instructions ≡ b → IsDone m
+    by_code : (b : Bool) → nat_lt m.length m.profile.instructions ≡ b → IsDone m
     by_code true h =
-        let fits : m.code < m.profile.instructions = grind (arith, nat_tests, h) in
+        let fits : m.length < m.profile.instructions = grind (arith, nat_tests, h) in
         is_done_at m s (omega (arith, fits))
     by_code false h =
-        let past : m.profile.instructions ≤ m.code = grind (arith, nat_tests, h) in
-        let q : Passed m.profile s.acts = s.stood.passed (omega (arith, past)) in
+        let past : m.profile.instructions ≤ m.length = grind (arith, nat_tests, h) in
+        let q : ExceedsLimit m.profile s.acts = s.stood.passed (omega (arith, past)) in
         let no : false ≡ true = sym (follow_inside s.acts [] [] s.opens) ∙ q.inside in
         absurd (cc)
 
 -- the actions of a maker that leaves nothing open may be reported to a builder to which nothing was reported
 pub may_replay : (m : TreeMaker) (before : Representation) → LeavesOpen (λ p acts. TreeMakerRepresents m p acts) [] →
-    StandsForNone before →
+    RepresentsNoActions before →
     MayFollowAll before (made_actions m.functions)
 may_replay m before closed none =
     record { profile = none.profile; acts = []; stood = none.stood; begins = (is_done m closed).begins }

@@ -4,7 +4,7 @@ use Rattle.grammar.specs.declared.actions.Action.{Action}
 use Rattle.grammar.specs.declared.actions.Action.TheVariants.{BeginCall, IfTest, ElsePart, BeginWhile, WhileTest}
 use Rattle.grammar.specs.declared.actions.Action.TheVariants.{BeginFunction, EndFunction}
 use Rattle.grammar.specs.Actions.{expr_actions, body_actions, function_actions, middle}
-use Rattle.grammar.specs.Following.{Open, InFunction, AValue, BeforeRight, InCall, InBranch, InElse, BeforeTest, InTurn}
+use Rattle.grammar.specs.Following.{Open, InFunction, AValue, BeforeRight, InCall, InBranch, InElse, BeforeTest, InLoopBody}
 use Rattle.grammar.specs.Following.{Opened, follow}
 use Rattle.grammar.specs.Laws.Origins.{origin_of, ends_in_return}
 use Rattle.grammar.specs.Tree.{Body}
@@ -20,7 +20,7 @@ abbrev pub open_of_owner : BodyOwner → Body → Open
 open_of_owner (heading.Function number parameters) body = InFunction parameters (ends_in_return false body)
 open_of_owner (heading.First c) body = InBranch
 open_of_owner (heading.Second c s) body = InElse
-open_of_owner (heading.Loop c) body = InTurn
+open_of_owner (heading.Loop c) body = InLoopBody
 
 abbrev pub open_of : entry.OpenItem → Open
 open_of (entry_of.Value e) = AValue (origin_of (expr_tree e))

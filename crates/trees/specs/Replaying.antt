@@ -7,7 +7,7 @@ use Rattle.grammar.specs.Profile.{Profile}
 use Rattle.trees.specs.TreeMakers.{TreeMaker, TreeMakerRepresents}
 
 -- the empty list is represented
-pub record StandsForNone (before : Representation) : Type 0 where
+pub record RepresentsNoActions (before : Representation) : Type 0 where
   pub profile : Profile
   pub stood : before profile []
 

@@ -16,11 +16,11 @@ pub record TreeMaker : Type 0 where
   pub profile : Profile
   pub functions : List Function
   pub stack : List OpenItem
-  pub code : ℕ
+  pub length : ℕ
 
 -- the instructions so far and the last NOP are within the profile's limit
 abbrev pub FitsLimit : TreeMaker → Type 0
-FitsLimit m = m.code + 1 ≤ m.profile.instructions
+FitsLimit m = m.length + 1 ≤ m.profile.instructions
 
 -- whether a function is open after the actions, if one was before or not
 abbrev pub in_function : Bool → List Action → Bool
@@ -33,10 +33,10 @@ in_function before (a ∷ acts) = in_function before acts
 pub record Builds (m : TreeMaker) (acts : List Action) : Type 0 where
   pub actions : acts ≡ made_actions m.functions ++ open_actions m.stack
   pub opens : follow_all acts [] ≡ Some (opened_of m.stack)
-  pub counted : code_length m.profile acts ≡ m.code
+  pub counted : code_length m.profile acts ≡ m.length
 
 -- the code exceeds the limit in a function that is still open
-pub record Passed (p : Profile) (acts : List Action) : Type 0 where
+pub record ExceedsLimit (p : Profile) (acts : List Action) : Type 0 where
   pub over : p.instructions < code_length p acts + 1
   pub inside : in_function false acts ≡ true
 
@@ -46,4 +46,4 @@ pub record TreeMakerRepresents (m : TreeMaker) (p : Profile) (acts : List Action
   pub profile : p ≡ m.profile
   pub known : IsProfile m.profile
   pub builds : FitsLimit m → Builds m acts
-  pub passed : m.profile.instructions < m.code + 1 → Passed m.profile acts
+  pub passed : m.profile.instructions < m.length + 1 → ExceedsLimit m.profile acts

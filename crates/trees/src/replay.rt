@@ -6,7 +6,7 @@ ghost use Rattle.grammar.specs.declared.actions.Action.TheVariants.{PushConstant
 ghost use Rattle.grammar.specs.Actions.{args_actions, body_actions, expr_actions, function_actions, last_return};
 ghost use Rattle.grammar.specs.Actions.{middle};
 ghost use Rattle.grammar.specs.Building.{AppendsAll, MayFollowAll, Refuses, LeavesOpen};
-ghost use Rattle.trees.specs.Replaying.{AppendsThose, IsOverWith, IsOverWithThose, StandsForNone};
+ghost use Rattle.trees.specs.Replaying.{AppendsThose, IsOverWith, IsOverWithThose, RepresentsNoActions};
 ghost use Rattle.trees.specs.TreeMakers.{TreeMakerRepresents};
 ghost use Rattle.trees.specs.Trees.{arguments, body_tree, expr_tree, function_tree, statement_actions};
 
@@ -22,20 +22,20 @@ impl TreeMaker {
     /// The builder's refusal. What the builder then represents is unknown.
     pub fn replay<B: Build>(&self, build: &mut B) -> Result<(), BuildFault>
         requires closed { LeavesOpen (λ p acts. TreeMakerRepresents self.now p acts) [] }
-        requires told_nothing { StandsForNone (B.stands build.old) }
+        requires told_nothing { RepresentsNoActions (B.stands build.old) }
         ensures ok { OnOk result (AppendsThose self.now (B.stands build.old) (B.stands build.new)) }
         ensures full { IsErrOf result BuildFault.Full → IsOverWithThose self.now (B.stands build.old) }
         ensures memory { IsErrOf result BuildFault.Memory → B.denied }
     {
         for function in self.functions() {
-            tell_function(function, build)?;
+            report_function(function, build)?;
         }
         Ok(())
     }
 }
 
 /// Reports a function, with the `return 0;` at its end.
-fn tell_function<B: Build>(function: &Function, build: &mut B) -> Result<(), BuildFault>
+fn report_function<B: Build>(function: &Function, build: &mut B) -> Result<(), BuildFault>
     requires { MayFollowAll (B.stands build.old) (function_actions function.now.number (function_tree function.now)) }
     ensures ok { OnOk result (AppendsAll (B.stands build.old) (B.stands build.new)
         (function_actions function.now.number (function_tree function.now))) }
@@ -69,14 +69,14 @@ fn tell_statements<B: Build>(statements: &[Statement], build: &mut B) -> Result<
     ensures memory { Refuses result B.denied }
 {
     for statement in statements {
-        tell_statement(statement, build)?;
+        report_statement(statement, build)?;
     }
     Ok(())
 }
 
 /// Reports a statement.
 #[cycle(statements)]
-fn tell_statement<B: Build>(statement: &Statement, build: &mut B) -> Result<(), BuildFault>
+fn report_statement<B: Build>(statement: &Statement, build: &mut B) -> Result<(), BuildFault>
     requires { MayFollowAll (B.stands build.old) (statement_actions statement.now) }
     ensures ok { OnOk result (AppendsAll (B.stands build.old) (B.stands build.new) (statement_actions statement.now)) }
     ensures memory { Refuses result B.denied }
@@ -100,11 +100,11 @@ fn tell_statement<B: Build>(statement: &Statement, build: &mut B) -> Result<(), 
             build.act(Action::EndWhile)
         }
         Statement::ExpressionStatement(expr) => {
-            tell_expr(expr, build)?;
+            report_expr(expr, build)?;
             build.act(Action::Chop)
         }
         Statement::Return(expr) => {
-            tell_expr(expr, build)?;
+            report_expr(expr, build)?;
             build.act(Action::GiveBack)
         }
     }
@@ -117,7 +117,7 @@ fn tell_test<B: Build>(condition: &Expr, build: &mut B) -> Result<(), BuildFault
         (expr_actions (expr_tree condition.now) ++ IfTest ∷ [])) }
     ensures memory { Refuses result B.denied }
 {
-    tell_expr(condition, build)?;
+    report_expr(condition, build)?;
     build.act(Action::IfTest)
 }
 
@@ -130,13 +130,13 @@ fn tell_loop_test<B: Build>(condition: &Expr, build: &mut B) -> Result<(), Build
     ensures memory { Refuses result B.denied }
 {
     build.act(Action::BeginWhile)?;
-    tell_expr(condition, build)?;
+    report_expr(condition, build)?;
     build.act(Action::WhileTest)
 }
 
 /// Reports an expression.
 #[cycle(expressions)]
-fn tell_expr<B: Build>(expr: &Expr, build: &mut B) -> Result<(), BuildFault>
+fn report_expr<B: Build>(expr: &Expr, build: &mut B) -> Result<(), BuildFault>
     requires { MayFollowAll (B.stands build.old) (expr_actions (expr_tree expr.now)) }
     ensures ok { OnOk result (AppendsAll (B.stands build.old) (B.stands build.new)
         (expr_actions (expr_tree expr.now))) }
@@ -146,13 +146,13 @@ fn tell_expr<B: Build>(expr: &Expr, build: &mut B) -> Result<(), BuildFault>
         Expr::Constant(value) => build.act(Action::PushConstant(*value)),
         Expr::Variable(var) => build.act(Action::FetchVariable(*var)),
         Expr::Binary(op, left, right) => {
-            tell_expr(left, build)?;
-            tell_middle(*op, build)?;
-            tell_expr(right, build)?;
+            report_expr(left, build)?;
+            report_middle(*op, build)?;
+            report_expr(right, build)?;
             build.act(Action::ApplyBinop(*op))
         }
         Expr::Assign(op, var, right) => {
-            tell_expr(right, build)?;
+            report_expr(right, build)?;
             build.act(Action::StoreVariable(*var, *op))
         }
         Expr::Postfix(op, var) => tell_step(*op, *var, build),
@@ -173,13 +173,13 @@ fn tell_arguments<B: Build>(exprs: &[Expr], build: &mut B) -> Result<(), BuildFa
     ensures memory { Refuses result B.denied }
 {
     for expr in exprs {
-        tell_expr(expr, build)?;
+        report_expr(expr, build)?;
     }
     Ok(())
 }
 
 /// Reports what is between the sides of an operator.
-fn tell_middle<B: Build>(op: Op, build: &mut B) -> Result<(), BuildFault>
+fn report_middle<B: Build>(op: Op, build: &mut B) -> Result<(), BuildFault>
     requires { MayFollowAll (B.stands build.old) (middle op) }
     ensures ok { OnOk result (AppendsAll (B.stands build.old) (B.stands build.new) (middle op)) }
     ensures memory { Refuses result B.denied }

@@ -32,7 +32,7 @@ impl Model for TreeMaker {
 
     ghost coded = { Prim.hlevel (codes, expr.the_row.coded, statement.the_row.coded) };
 
-    ghost view = { λ a. record { profile = a.profile; functions = a.functions.items; stack = a.stack; code = a.code } };
+    ghost view = { λ a. record { profile = a.profile; functions = a.functions.items; stack = a.stack; length = a.length } };
 }
 
 impl TreeMaker {
@@ -61,8 +61,8 @@ impl TreeMaker {
         ensures profile { self.new.profile ≡ self.old.profile }
         ensures functions { self.new.functions ≡ self.old.functions }
         ensures stack { self.new.stack ≡ self.old.stack }
-        ensures code { self.new.code ≡ min (self.old.code + instructions) 65535 }
-        ensures passes { result ≡ nat_le self.old.profile.instructions self.new.code }
+        ensures code { self.new.length ≡ min (self.old.length + instructions) 65535 }
+        ensures passes { result ≡ nat_le self.old.profile.instructions self.new.length }
     {
         self.code = self.code.saturating_add(instructions);
         self.code >= self.profile.instructions()

@@ -2,7 +2,7 @@
 //! out by hand, from the code of its source (docs/machine.md) and from where operations give up.
 
 ghost use Rattle.std.specs.Prelude.{◌≡◌};
-ghost use Rattle.code.specs.ReachedMachines.{FitsProgram as MachineFits};
+ghost use Rattle.code.specs.ReachedMachines.{IsReachable as MachineFits};
 ghost use Rattle.engine.specs.Engines.{EngineFits, IsStopped};
 ghost use Rattle.engine.specs.Questions.{IsAsked, want_of};
 

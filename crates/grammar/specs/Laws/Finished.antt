@@ -8,7 +8,7 @@ use Rattle.grammar.specs.Compiled.{compiled_tokens, diagnostic, last_line, main_
 use Rattle.grammar.specs.Derivation.{Definition, initial_state, state}
 use Rattle.grammar.specs.Faults.{definitions_actions}
 use Rattle.grammar.specs.Laws.Naming.{line_of_undefined}
-use Rattle.grammar.specs.Laws.Parsing.{Passes}
+use Rattle.grammar.specs.Laws.Parsing.{DerivesWithoutFault}
 use Rattle.grammar.specs.Pools.{Pools, pools_of}
 use Rattle.grammar.specs.Profile.{Profile}
 use Rattle.grammar.specs.Resolved.{IsResolved}
@@ -17,7 +17,7 @@ use Rattle.grammar.specs.Tree.{File}
 
 -- the derivation leads from the first token to the end, and nothing is left to match or to do
 abbrev pub PassesAll : Profile → List LocatedToken → Scope → List Definition → Type 0
-PassesAll profile located_tokens scope ds = Passes profile (initial_state located_tokens) (state [] [] [] scope ds)
+PassesAll profile located_tokens scope ds = DerivesWithoutFault profile (initial_state located_tokens) (state [] [] [] scope ds)
 
 -- the names of externals and functions that are known
 abbrev pub known_names : Scope → Pools

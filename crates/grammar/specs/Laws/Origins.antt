@@ -1,10 +1,10 @@
 -- How the value of an expression came about, and whether a body ends with `return 0;`.
 use Rattle.std.specs.Prelude.{Bool, false}
-use Rattle.grammar.specs.Following.{Origin, Number, Fetched, Computed, stored_origin, is_number}
+use Rattle.grammar.specs.Following.{ValueCategory, Number, Fetched, Computed, stored_origin, is_number}
 use Rattle.grammar.specs.Tree.{Expr, Constant, Variable, Binary, Assign, Postfix, Call}
 use Rattle.grammar.specs.Tree.{Body, Done, ExpressionStatement, IfStatement, IfElseStatement, While, Return}
 
-abbrev pub origin_of : Expr → Origin
+abbrev pub origin_of : Expr → ValueCategory
 origin_of (Constant value) = Number value
 origin_of (Variable v) = Fetched v
 origin_of (Binary op a b) = Computed

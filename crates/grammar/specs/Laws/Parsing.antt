@@ -28,7 +28,7 @@ pub record Fails (profile : Profile) (s : State) (d : Diagnostic) : Type 0 where
   pub code : d.code ≡ fault.code
 
 -- the derivation leads from s to t without a fault on the way
-pub record Passes (profile : Profile) (s t : State) : Type 0 where
+pub record DerivesWithoutFault (profile : Profile) (s t : State) : Type 0 where
   pub steps : ℕ
   pub leads : derived steps s ≡ t
   pub clean : faults_in profile steps s ≡ []

@@ -1,6 +1,6 @@
 //! Machines of whole sources: in which cycles they ask, and in which they first restart.
 
-ghost use Rattle.code.specs.ReachedMachines.{FitsProgram};
+ghost use Rattle.code.specs.ReachedMachines.{IsReachable};
 
 use crate::tests::checks::program_of;
 use code::{Machine, Program, Want};
@@ -65,8 +65,8 @@ fn restarts_in_its_cycle(rt: HostRuntime) -> Result<(), Fail> {
 
 /// Goes on by so many cycles, in which the machine wants nothing.
 fn pass(rt: &impl Abort, machine: &mut Machine, program: &Program, cycles: u32)
-    requires { FitsProgram machine.old program.now }
-    ensures { FitsProgram machine.new program.now }
+    requires { IsReachable machine.old program.now }
+    ensures { IsReachable machine.new program.now }
 {
     for _ in 0..cycles {
         assert_eq!(rt; machine.next(program), Want::Quiet);

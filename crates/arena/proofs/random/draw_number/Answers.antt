@@ -9,8 +9,8 @@ use Rattle.arena.proofs.random.draw_number.Goals as goal
 pub returns-clause-value : goal.returns-clause-value
 unfolding random_number
 returns-clause-value c = λ field e.
-    let drawn = c.draw_word-word.ensures.word field.seed field.number field.drawn e in
+    let drawn = c.draw_word-word.ensures.word field.seed field.match_number field.drawn e in
     let limit = rw (to_z-of_z w32 c.args.limit c.ranges.limit) at c.random_limit.ensures.value in
     to_z_pos w32 (c.draw_word-word.result % c.random_limit.result) (omega arith) ∙
     ap (λ n. pos (n % c.random_limit.result)) drawn
-    ∙ ap (λ n. pos (random_word field.seed field.number field.drawn % n)) limit
+    ∙ ap (λ n. pos (random_word field.seed field.match_number field.drawn % n)) limit

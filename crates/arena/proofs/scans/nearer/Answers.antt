@@ -15,11 +15,11 @@ returns-then-not-is_alive-clause-value c = λ a b at is.
     sym (c.is_alive.ensures ∙ ap (λ (x : Robot). nat_lt x.damage 100) is) ∙ c.if-not-is_alive.true in
     rw (dead_unseen a arc.degree arc.resolution b dead) refl
 
-pub returns-then-is_passed_by-clause-value : goal.returns-then-is_passed_by-clause-value
-returns-then-is_passed_by-clause-value c = λ a b at is.
+pub returns-then-surely_excludes-clause-value : goal.returns-then-surely_excludes-clause-value
+returns-then-surely_excludes-clause-value c = λ a b at is.
     let arc = c.args.arc.now in
     let way = c.way_to-way.ensures in
-    let beside = rw (way.east a b at is, way.north a b at is) at (c.is_passed_by.ensures c.if-is_passed_by.true) in
+    let beside = rw (way.east a b at is, way.north a b at is) at (c.surely_excludes.ensures c.if-surely_excludes.true) in
     rw (beside_unseen a arc.degree arc.resolution b beside) refl
 
 pub returns-clause-value : goal.returns-clause-value
@@ -40,11 +40,11 @@ returns-then-not-is_alive-clause-seen c = λ a b at is seen.
     sym (c.is_alive.ensures ∙ ap (λ (x : Robot). nat_lt x.damage 100) is) ∙ c.if-not-is_alive.true in
     absurd (off (sym seen ∙ dead_unseen a arc.degree arc.resolution b dead))
 
-pub returns-then-is_passed_by-clause-seen : goal.returns-then-is_passed_by-clause-seen
-returns-then-is_passed_by-clause-seen c = λ a b at is seen.
+pub returns-then-surely_excludes-clause-seen : goal.returns-then-surely_excludes-clause-seen
+returns-then-surely_excludes-clause-seen c = λ a b at is seen.
     let arc = c.args.arc.now in
     let way = c.way_to-way.ensures in
-    let beside = rw (way.east a b at is, way.north a b at is) at (c.is_passed_by.ensures c.if-is_passed_by.true) in
+    let beside = rw (way.east a b at is, way.north a b at is) at (c.surely_excludes.ensures c.if-surely_excludes.true) in
     absurd (off (sym seen ∙ beside_unseen a arc.degree arc.resolution b beside))
 
 pub returns-clause-seen : goal.returns-clause-seen

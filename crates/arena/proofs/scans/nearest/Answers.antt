@@ -37,7 +37,7 @@ loop-i-preserved c = record {
       elim c.if-i-robot.branch [
         | then-i-robot w ↦
             let is = c.of_robot-from.ensures from here in
-            let arc = c.around-arc.ensures in
+            let arc = c.new-arc.ensures in
             let value = rw (arc.degree, arc.resolution) at (w.nearer-nearest.ensures.value from _ is there) in
             let seen = rw (arc.degree, arc.resolution) at (w.nearer-nearest.ensures.seen from _ is there) in
             rw w.nearest-is

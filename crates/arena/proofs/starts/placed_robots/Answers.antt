@@ -6,7 +6,7 @@ use Rattle.std.proofs.lemmas.Simd.{map-map}
 use Rattle.arena.specs.Rules.{last_place}
 use Rattle.arena.specs.Leg.{clamped}
 use Rattle.arena.specs.Field.{FieldRobot}
-use Rattle.arena.specs.Start.{standing}
+use Rattle.arena.specs.Start.{robot_at_rest}
 use Rattle.arena.specs.Placed.{placed, IsPlace}
 use Rattle.arena.specs.Arena.{Robot, robot_of}
 use Rattle.arena.proofs.Sums.{coordinate_back}
@@ -14,7 +14,7 @@ use Rattle.arena.proofs.starts.placed_robots.Goals as goal
 
 -- the robot at a given place
 abbrev robot_at_place : ℤ × ℤ → FieldRobot
-robot_at_place place = standing (clamped last_place place.0) (clamped last_place place.1)
+robot_at_place place = robot_at_rest (clamped last_place place.0) (clamped last_place place.1)
 
 -- the place that is read
 given : (places items : List (ℤ × ℤ)) (i : ℕ) → items ≡ places → All IsPlace places → i < length items →
@@ -64,8 +64,8 @@ loop-place-preserved c = record {
       let x = simp to_z-of_z at c.coordinate.ensures.value in
       let y = simp to_z-of_z at c.coordinate-in-loop-place.ensures.value in
       let point = rw (x, y) at c.new-place.ensures in
-      let body = rw point at c.standing.ensures in
-      c.push.ensures.items ∙ ap (λ (l : List Robot). l ++ c.standing.result ∷ []) c.loop-place.invariant.robots ∙
+      let body = rw point at c.at_rest.ensures in
+      c.push.ensures.items ∙ ap (λ (l : List Robot). l ++ c.at_rest.result ∷ []) c.loop-place.invariant.robots ∙
       ap (λ (b : Robot). map (λ place. robot_of (robot_at_place place)) (take c.loop-place.place-index items) ++ b ∷ [])
       body ∙
       sym

@@ -4,9 +4,9 @@ use Rattle.arena.specs.Field.{no_robot}
 use Rattle.arena.specs.Arena.{Robot}
 use Rattle.arena.specs.Ahead.{robot_ahead}
 use Rattle.arena.specs.Apart.{IsAtPlace}
-use Rattle.arena.specs.Due.{harm}
+use Rattle.arena.specs.Due.{burst_damage}
 use Rattle.arena.proofs.Loops.{after_at, at_is}
-use Rattle.arena.proofs.Wear.{hurt_at}
+use Rattle.arena.proofs.RobotUpdates.{hurt_at}
 use Rattle.arena.proofs.InPlace.{none, one_more, others_stay, all_after}
 use Rattle.arena.proofs.updates.hurt_near_bursts.Goals as goal
 
@@ -31,7 +31,7 @@ loop-robot-preserved c =
           there ∙ ap (λ l. get_or l i none) e ∙ get_or-map robot_ahead f.robots i no_robot none first in
           let harms =
           c.harm_by-harm.ensures.value ∙
-          ap (λ bs. sum (map (harm c.place.result.x c.place.result.y) bs)) c.as_slice.ensures.value ∙
+          ap (λ bs. sum (map (burst_damage c.place.result.x c.place.result.y) bs)) c.as_slice.ensures.value ∙
           c.bursts-bursts.ensures.harm f.updates f.shots u holds c.place.result.x c.place.result.y in
           let burst = rw c.place.ensures at harms in
           one_more (λ k b. b ≡ after_at f k) items i new inside (inv.robots f u e holds untouched)

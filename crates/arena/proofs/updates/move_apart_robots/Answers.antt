@@ -6,22 +6,22 @@ use Rattle.arena.specs.Apart.{robot_in, IsNearby, AreApartFor}
 use Rattle.arena.proofs.InPlace.{ahead_of_all}
 use Rattle.arena.proofs.Calm.{calm, far_one, far_less}
 use Rattle.arena.proofs.updates.move_apart_robots.Goals as goal
-use Rattle.arena.proofs.updates.move_apart_robots.Goals.{then-not-is_quiet, else-not-is_quiet}
+use Rattle.arena.proofs.updates.move_apart_robots.Goals.{then-not-has_no_burst_by, else-not-has_no_burst_by}
 
 pub returns-clause-far : goal.returns-clause-far
 returns-clause-far c =
     let P : List Robot → Type 0 = λ robots. (k : ℕ) → k < length c.args.robots.now →
     IsNearby (robot_in c.args.robots.now k).motion (robot_in robots k).motion in
-    let near : P c.if-not-is_quiet.robots = elim c.if-not-is_quiet.branch [
-      | then-not-is_quiet w ↦
+    let near : P c.if-not-has_no_burst_by.robots = elim c.if-not-has_no_burst_by.branch [
+      | then-not-has_no_burst_by w ↦
           subst P (sym w.robots-is)
           (λ k l. let near = c.move_all.ensures.nearby k l in
           let same = w.hurt_near_bursts.ensures.places k (omega (arith, l, c.move_all.auto.robots)) in
           record { on_x = omega (arith, near.on_x, same.on_x); on_y = omega (arith, near.on_y, same.on_y) })
-      | else-not-is_quiet w ↦ subst P (sym w.robots-is) c.move_all.ensures.nearby
+      | else-not-has_no_burst_by w ↦ subst P (sym w.robots-is) c.move_all.ensures.nearby
     ] in
-    far_less c.args.apart c.args.robots.now c.if-not-is_quiet.robots
-    (c.if-not-is_quiet.auto.robots ∙ c.move_all.auto.robots) near c.requires.far
+    far_less c.args.apart c.args.robots.now c.if-not-has_no_burst_by.robots
+    (c.if-not-has_no_burst_by.auto.robots ∙ c.move_all.auto.robots) near c.requires.far
 
 pub returns-clause-robots : goal.returns-clause-robots
 returns-clause-robots c = λ f u e holds.
@@ -30,11 +30,11 @@ returns-clause-robots c = λ f u e holds.
     let far : AreApartFor 1 c.args.robots.now =
     far_one c.args.apart c.args.robots.now (λ z. absurd (omega (arith, z, c.requires.some))) c.requires.far in
     let untouched = calm f c.args.robots.now c.move_all.new.robots size there c.move_all.ensures.nearby far in
-    elim c.if-not-is_quiet.branch [
-      | then-not-is_quiet w ↦ w.robots-is ∙ w.hurt_near_bursts.ensures.robots f u there holds untouched
-      | else-not-is_quiet w ↦
+    elim c.if-not-has_no_burst_by.branch [
+      | then-not-has_no_burst_by w ↦ w.robots-is ∙ w.hurt_near_bursts.ensures.robots f u there holds untouched
+      | else-not-has_no_burst_by w ↦
           let none : (x y : ℕ) → sum (bursts (f.updates + 1) f.shots x y) ≡ 0 =
           λ x y. subst (λ n. sum (bursts n f.shots x y) ≡ 0) u
-          (c.is_quiet.ensures w.if-not-is_quiet.false f.updates f.shots x y u holds) in
+          (c.has_no_burst_by.ensures w.if-not-is_quiet.false f.updates f.shots x y u holds) in
           w.robots-is ∙ there ∙ ahead_of_all f untouched none
     ]

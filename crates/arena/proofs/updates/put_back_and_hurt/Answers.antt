@@ -1,7 +1,7 @@
 use Rattle.std.proofs.Common.{◌≡◌, ◌<◌, length, get_or, sym, ap, ◌∙◌, arith}
 use Rattle.std.proofs.lemmas.List.{get_or_read, get_or-map, length-set, length-map}
 use Rattle.arena.specs.Field.{no_robot}
-use Rattle.arena.specs.Collisions.{mover, touches}
+use Rattle.arena.specs.Collisions.{attempted_move, collision_count}
 use Rattle.arena.specs.Ahead.{robot_ahead}
 use Rattle.arena.proofs.Loops.{mapped_is, after_at, at_is}
 use Rattle.arena.proofs.DueBursts.{same_harm}
@@ -28,11 +28,11 @@ loop-i-preserved c =
           sym c.index-robots-i.is ∙ was ∙ ap (λ l. get_or l i none) e ∙
           get_or-map robot_ahead f.robots i no_robot none within in
           let seen =
-          mapped_is mover _ f.robots _ _ no_robot m (omega (arith, first, c.requires.count)) c.index-movers-i.is in
+          mapped_is attempted_move _ f.robots _ _ no_robot m (omega (arith, first, c.requires.count)) c.index-movers-i.is in
           let bursts =
           same_harm c.args.update f.shots _ _ c.as_slice.ensures.value
           (c.bursts-bursts.ensures.harm f.updates f.shots u holds) in
-          let touched = c.touched_count-touched.ensures.value ∙ ap (λ l. touches l i) m in
+          let touched = c.robot_collision_count-touched.ensures.value ∙ ap (λ l. collision_count l i) m in
           one_more (λ k b. b ≡ after_at f k) robots i new inside (inv.robots f u e m holds)
           (c.robot_after.ensures (get_or f.robots i no_robot) c.args.update f.shots bursts body seen ∙
           at_is f i _ _ u touched);

@@ -1,6 +1,6 @@
 use Rattle.std.proofs.Common.{◌≡◌, ℕ, ◌+◌, ◌<◌, ◌≤◌, length, map, get_or}
 use Rattle.arena.specs.Field.{Field}
-use Rattle.arena.specs.Collisions.{mover}
+use Rattle.arena.specs.Collisions.{attempted_move}
 use Rattle.arena.specs.Ahead.{robot_ahead}
 use Rattle.arena.specs.Representing.{HoldsShots}
 use Rattle.arena.proofs.InPlace.{none}
@@ -13,6 +13,6 @@ invariant-loop-i l = record {
   size : length l.robots ≡ length l.initial.robots;
   rest : (k : ℕ) → l.i ≤ k → get_or l.robots k none ≡ get_or l.initial.robots k none;
   robots : (f : Field) → l.update ≡ f.updates + 1 → l.initial.robots ≡ map robot_ahead f.robots →
-      l.movers ≡ map mover f.robots → HoldsShots f.updates l.missiles f.shots →
+      l.movers ≡ map attempted_move f.robots → HoldsShots f.updates l.missiles f.shots →
       (k : ℕ) → k < l.i → get_or l.robots k none ≡ after_at f k;
 }

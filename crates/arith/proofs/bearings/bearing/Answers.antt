@@ -2,19 +2,19 @@
 use Rattle.std.proofs.Common.{◌*◌, ◌+◌, FitsSigned, rules, arith}
 use Rattle.std.specs.Int.{w32}
 use Rattle.std.proofs.lemmas.Int.{to_z-of_z}
-use Rattle.arith.specs.Bearing.{reach_of, reaches}
+use Rattle.arith.specs.Bearing.{projection_of, projections}
 use Rattle.arith.specs.Furthest.{IsGreatest}
 use Rattle.arith.proofs.BearingLemmas.{IsFirstGreatest, first_of_chunk, none_in_chunk, some_reaches, bearing_is_first, bearing_of_is_first}
 use Rattle.arith.proofs.bearings.bearing.Goals as goal
 
 -- the numbers that the calls were given are those of the caller
 found : (c : goal.In-Some) →
-    IsFirstGreatest (reach_of c.args.dx c.args.dy) 360 (8 * c.loop-chunk.chunk + c.in-Some.lane)
+    IsFirstGreatest (projection_of c.args.dx c.args.dy) 360 (8 * c.loop-chunk.chunk + c.in-Some.lane)
 found c =
-    let most = c.furthest_reach-furthest.result in
-    let fits : FitsSigned w32 most = search (rules, c.furthest_reach-furthest.type_inv) in
-    let is : IsGreatest (reaches c.args.dx c.args.dy) most =
-    rw (to_z-of_z w32 c.args.dx c.ranges.dx, to_z-of_z w32 c.args.dy c.ranges.dy) at c.furthest_reach-furthest.ensures
+    let most = c.greatest_projection-furthest.result in
+    let fits : FitsSigned w32 most = search (rules, c.greatest_projection-furthest.type_inv) in
+    let is : IsGreatest (projections c.args.dx c.args.dy) most =
+    rw (to_z-of_z w32 c.args.dx c.ranges.dx, to_z-of_z w32 c.args.dy c.ranges.dy) at c.greatest_projection-furthest.ensures
     in
     let before =
     rw (to_z-of_z w32 c.args.dx c.ranges.dx, to_z-of_z w32 c.args.dy c.ranges.dy, to_z-of_z w32 most fits) at
@@ -37,10 +37,10 @@ returns-in-Some-clause-value c =
 
 pub loop-chunk-preserved : goal.loop-chunk-preserved
 loop-chunk-preserved c =
-    let most = c.furthest_reach-furthest.result in
-    let fits : FitsSigned w32 most = search (rules, c.furthest_reach-furthest.type_inv) in
-    let is : IsGreatest (reaches c.args.dx c.args.dy) most =
-    rw (to_z-of_z w32 c.args.dx c.ranges.dx, to_z-of_z w32 c.args.dy c.ranges.dy) at c.furthest_reach-furthest.ensures
+    let most = c.greatest_projection-furthest.result in
+    let fits : FitsSigned w32 most = search (rules, c.greatest_projection-furthest.type_inv) in
+    let is : IsGreatest (projections c.args.dx c.args.dy) most =
+    rw (to_z-of_z w32 c.args.dx c.ranges.dx, to_z-of_z w32 c.args.dy c.ranges.dy) at c.greatest_projection-furthest.ensures
     in
     let before =
     rw (to_z-of_z w32 c.args.dx c.ranges.dx, to_z-of_z w32 c.args.dy c.ranges.dy, to_z-of_z w32 most fits) at
@@ -54,10 +54,10 @@ loop-chunk-preserved c =
 -- the last chunk ends the round
 past_all : (c : goal.After-loop-chunk) → ⊥
 past_all c =
-    let most = c.furthest_reach-furthest.result in
-    let fits : FitsSigned w32 most = search (rules, c.furthest_reach-furthest.type_inv) in
-    let is : IsGreatest (reaches c.args.dx c.args.dy) most =
-    rw (to_z-of_z w32 c.args.dx c.ranges.dx, to_z-of_z w32 c.args.dy c.ranges.dy) at c.furthest_reach-furthest.ensures
+    let most = c.greatest_projection-furthest.result in
+    let fits : FitsSigned w32 most = search (rules, c.greatest_projection-furthest.type_inv) in
+    let is : IsGreatest (projections c.args.dx c.args.dy) most =
+    rw (to_z-of_z w32 c.args.dx c.ranges.dx, to_z-of_z w32 c.args.dy c.ranges.dy) at c.greatest_projection-furthest.ensures
     in
     let before =
     rw (to_z-of_z w32 c.args.dx c.ranges.dx, to_z-of_z w32 c.args.dy c.ranges.dy, to_z-of_z w32 most fits) at

@@ -8,7 +8,7 @@ use Rattle.arith.specs.Circle.{sine_at, cosine_at, sine_of}
 use Rattle.arith.specs.Tangent.{tangent_at, tangent_of}
 use Rattle.arith.specs.Arctangent.{bound_of, quarter, degrees_reached, arctangent_of}
 use Rattle.arith.specs.Root.{root_by_quarters, root_of}
-use Rattle.arith.specs.Bearing.{reach_of, first_greatest, reaches, bearing_of}
+use Rattle.arith.specs.Bearing.{projection_of, first_greatest, projections, bearing_of}
 use Rattle.arith.proofs.laws.known_values.Goals as goal
 
 pub returns-clause-each : goal.returns-clause-each
@@ -68,7 +68,7 @@ unfolding root_by_quarters root_of
 returns-clause-roots c = record { root_below_zero = refl; root_least = refl }
 
 pub returns-clause-bearings : goal.returns-clause-bearings
-unfolding sines sine_at cosine_at reach_of first_greatest reaches bearing_of
+unfolding sines sine_at cosine_at projection_of first_greatest projections bearing_of
 returns-clause-bearings c = record {
   reach_354 = refl;
   reach_355 = refl;

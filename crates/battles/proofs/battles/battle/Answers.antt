@@ -1,5 +1,5 @@
 use Rattle.std.proofs.Common.{◌≡◌, length, sym, ◌∙◌}
-use Rattle.battles.specs.Battle.{opening}
+use Rattle.battles.specs.Battle.{first_state}
 use Rattle.battles.specs.Carrying.{AreRobotsOf, HasReached}
 use Rattle.battles.specs.Pairing.{robots_of}
 use Rattle.battles.proofs.Beginnings.{robots_are, opening_reached, battle_is}
@@ -13,7 +13,7 @@ returns-clause-battle c = λ p files are.
     let each : AreRobotsOf exes robots =
     robots_are exes c.args.programs.now p files c.new-executables.ensures are in
     let reached : HasReached c.begin_runners.new.runners exes c.new-arena.result
-    (opening (length robots) c.args.seed c.args.number) =
+    (first_state (length robots) c.args.seed c.args.number) =
     opening_reached c.begin_runners.new.runners exes c.new-arena.result robots _ c.args.seed c.args.number each
     c.len-robots.ensures.robots (rw c.from.ensures at c.new-arena.ensures.stands) c.begin_runners.ensures.begins in
     let ended = c.play_cycles-cycles.ensures.stage robots _ each reached in

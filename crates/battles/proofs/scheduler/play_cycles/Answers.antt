@@ -1,7 +1,7 @@
 use Rattle.std.proofs.Common.{◌≡◌, ◌<◌, ◌≤◌, ◌+◌, ◌/◌, ◌*◌, List, sym, ap, ◌∙◌, arith}
 use Rattle.std.specs.Prelude.{nat_le}
 use Rattle.arena.specs.Field.{live_count}
-use Rattle.battles.specs.Battle.{Behaviour, Stage, stage_after}
+use Rattle.battles.specs.Battle.{Behaviour, BattleState, state_after}
 use Rattle.battles.specs.Carrying.{AreRobotsOf, HasReached}
 use Rattle.battles.proofs.Cycles.{stage_none, first_begins}
 use Rattle.battles.proofs.Spans.{stage_segment, stage_segments, stage_rest, first_decided, first_undecided, first_skipped, first_limit}
@@ -41,9 +41,9 @@ loop-number-preserved c =
     let n = c.loop-number.number in
     let k = c.skip_intervals-number.result in
     let most : n + 1 + k ≤ c.args.limit / 15 = omega (arith, c.skip_intervals-number.ensures.most) in
-    let segmented : (robots : List Behaviour) (s : Stage) → AreRobotsOf exes robots →
+    let segmented : (robots : List Behaviour) (s : BattleState) → AreRobotsOf exes robots →
     HasReached c.args.runners.now exes c.args.arena.now s
-    → HasReached c.play_period.new.runners exes c.play_period.new.arena (stage_after robots s (15 * (n + 1))) =
+    → HasReached c.play_period.new.runners exes c.play_period.new.arena (state_after robots s (15 * (n + 1))) =
     λ robots s are reached.
     rw (stage_segment robots s n)
     (c.play_period.ensures.stage robots _ are (c.loop-number.invariant.stage robots s are reached)).reached in
@@ -65,7 +65,7 @@ loop-number-preserved c =
           let next =
           first_undecided robots s n c.args.limit _ (omega arith)
           (c.loop-number.invariant.cycles robots s are reached) undecided in
-          let few = λ (t : Stage). nat_le (live_count t.field) 1 in
+          let few = λ (t : BattleState). nat_le (live_count t.field) 1 in
           first_skipped robots s (n + 1) k c.args.limit _ (omega arith) next
           (λ j low. ap (λ count. nat_le count 1)
           ((c.skip_intervals-number.ensures.stage exes robots _ are (segmented robots s are reached)).alive j low)

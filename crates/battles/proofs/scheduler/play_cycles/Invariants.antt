@@ -1,21 +1,21 @@
 use Rattle.std.proofs.Common.{◌≡◌, ◌≤◌, ◌-◌, ◌*◌, List}
-use Rattle.battles.specs.Battle.{Behaviour, Stage, stage_after, is_over, first_above, last_cycle}
+use Rattle.battles.specs.Battle.{Behaviour, BattleState, state_after, is_over, first_passing, last_cycle}
 use Rattle.battles.specs.Carrying.{AreRobotsOf, HasReached}
-use Rattle.battles.specs.IntervalKeeping.{AreManned}
+use Rattle.battles.specs.IntervalKeeping.{HaveMachines}
 use Rattle.battles.proofs.scheduler.play_cycles.Given as goal
 
 abbrev pub invariant-loop-number : goal.invariant-loop-number
 invariant-loop-number l = record {
   within : l.number ≤ l.intervals;
-  manned : AreManned l.executables l.runners l.arena;
+  manned : HaveMachines l.executables l.runners l.arena;
   updates : l.arena.updates ≡ l.number;
-  stage : (robots : List Behaviour) (s : Stage) → AreRobotsOf l.executables robots
+  stage : (robots : List Behaviour) (s : BattleState) → AreRobotsOf l.executables robots
       → HasReached l.initial.runners l.executables l.initial.arena s
-      → HasReached l.runners l.executables l.arena (stage_after robots s (15 * l.number));
-  cycles : (robots : List Behaviour) (s : Stage) → AreRobotsOf l.executables robots
+      → HasReached l.runners l.executables l.arena (state_after robots s (15 * l.number));
+  cycles : (robots : List Behaviour) (s : BattleState) → AreRobotsOf l.executables robots
       → HasReached l.initial.runners l.executables l.initial.arena s
       →
-      first_above (λ n. is_over n (stage_after robots s n)) (15 * l.number) (l.limit - 15 * l.number) ≡
+      first_passing (λ n. is_over n (state_after robots s n)) (15 * l.number) (l.limit - 15 * l.number) ≡
       last_cycle robots s l.limit;
 }
 

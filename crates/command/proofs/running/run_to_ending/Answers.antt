@@ -3,14 +3,14 @@ use Rattle.std.proofs.lemmas.Simd.{map-map}
 use Rattle.command.specs.Files.{EachShows}
 use Rattle.command.proofs.FilesLemmas.{shown}
 use Rattle.command.proofs.WholeLemmas.{ends_by_run}
-use Rattle.series.specs.SourceContents.{told_by}
+use Rattle.series.specs.SourceContents.{known_to_come}
 use Rattle.command.proofs.running.run_to_ending.Goals as goal
 
 pub returns-clause-ends : goal.returns-clause-ends
 returns-clause-ends g c =
     let holds : List ℕ → Option (List ℕ) = (g.D.Opener.files c.args.disk.now).holds in
     let fails : List ℕ → Type 0 = (g.D.Opener.files c.args.disk.now).fails in
-    let known : told_by g.D.File.Feed.device c.as_mut_slice.result.now ≡ map holds c.in-Ok.settings.file_words =
+    let known : known_to_come g.D.File.Feed.device c.as_mut_slice.result.now ≡ map holds c.in-Ok.settings.file_words =
     ap (map (λ feed. (g.D.File.Feed.device feed).to_come)) c.as_mut_slice.ensures.value
     ∙ (c.in-Ok-open_files.ensures.contents
     ∙

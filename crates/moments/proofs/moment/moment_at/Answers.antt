@@ -1,5 +1,5 @@
 use Rattle.std.proofs.Common.{length, ◌∙◌, arith}
-use Rattle.battles.specs.Battle.{opening}
+use Rattle.battles.specs.Battle.{first_state}
 use Rattle.playing.specs.Played.{codes_of}
 use Rattle.playing.proofs.Playing.{seats_length}
 use Rattle.moments.proofs.Moments.{moment_is}
@@ -7,7 +7,7 @@ use Rattle.moments.proofs.moment.moment_at.Goals as goal
 
 pub returns-clause-moment : goal.returns-clause-moment
 returns-clause-moment c = λ robots are.
-    let s = opening (length robots) c.args.seed c.args.number in
+    let s = first_state (length robots) c.args.seed c.args.number in
     let codes = codes_of c.args.pilots.now in
     let same = c.play_to-last.ensures.codes ∙ c.new-game.ensures.codes in
     let played =

@@ -1,5 +1,5 @@
 use Rattle.std.proofs.Common.{◌≡◌, List, length}
-use Rattle.battles.specs.Battle.{Behaviour, Stage}
+use Rattle.battles.specs.Battle.{Behaviour, BattleState}
 use Rattle.battles.specs.Carrying.{AreRobotsOf}
 use Rattle.playing.specs.Games.{HasCome}
 use Rattle.playing.specs.Played.{codes_of, exes_of}
@@ -14,10 +14,10 @@ invariant-loop l = record {
   codes : codes_of l.pilots ≡ codes_of l.initial.pilots;
   limit : l.game.limit ≡ l.initial.game.limit;
   cycles : l.game.ending.cycles ≡ l.counter;
-  battle : (robots : List Behaviour) (s : Stage) → AreRobotsOf (exes_of (codes_of l.initial.pilots)) robots
+  battle : (robots : List Behaviour) (s : BattleState) → AreRobotsOf (exes_of (codes_of l.initial.pilots)) robots
       → HasCome (codes_of l.initial.pilots) robots s l.initial.pilots l.initial.game
       → HasCome (codes_of l.initial.pilots) robots s l.pilots l.game;
-  asked : (robots : List Behaviour) (s : Stage) → AreRobotsOf (exes_of (codes_of l.initial.pilots)) robots
+  asked : (robots : List Behaviour) (s : BattleState) → AreRobotsOf (exes_of (codes_of l.initial.pilots)) robots
       → HasCome (codes_of l.initial.pilots) robots s l.initial.pilots l.initial.game
       → l.last ≡ last_question robots l.robot s l.counter;
 }

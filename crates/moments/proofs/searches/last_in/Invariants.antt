@@ -1,6 +1,6 @@
 use Rattle.std.proofs.Common.{◌≡◌, List, Some, length}
 use Rattle.std.specs.Prelude.{slice_get}
-use Rattle.battles.specs.Battle.{Behaviour, Stage}
+use Rattle.battles.specs.Battle.{Behaviour, BattleState}
 use Rattle.battles.specs.Carrying.{AreRobotsOf}
 use Rattle.code.specs.Generation.{Program}
 use Rattle.playing.specs.Games.{HasCome}
@@ -17,10 +17,10 @@ invariant-loop l = record {
   codes : codes_of l.pilots ≡ codes_of l.initial.pilots;
   limit : l.game.limit ≡ l.initial.game.limit;
   cycles : l.game.ending.cycles ≡ l.counter;
-  battle : (robots : List Behaviour) (s : Stage) → AreRobotsOf (exes_of (codes_of l.initial.pilots)) robots
+  battle : (robots : List Behaviour) (s : BattleState) → AreRobotsOf (exes_of (codes_of l.initial.pilots)) robots
       → HasCome (codes_of l.initial.pilots) robots s l.initial.pilots l.initial.game
       → HasCome (codes_of l.initial.pilots) robots s l.pilots l.game;
-  last : (robots : List Behaviour) (s : Stage) (code : Program)
+  last : (robots : List Behaviour) (s : BattleState) (code : Program)
       → AreRobotsOf (exes_of (codes_of l.initial.pilots)) robots
       → slice_get (codes_of l.initial.pilots) l.robot ≡ Some code
       → HasCome (codes_of l.initial.pilots) robots s l.initial.pilots l.initial.game

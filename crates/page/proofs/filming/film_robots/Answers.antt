@@ -1,5 +1,5 @@
 use Rattle.std.proofs.Common.{◌≡◌, List, ℕ, Ok, Some, map, Bor, ap, sym, ◌∙◌, ◌≢◌, rules}
-use Rattle.series.specs.Compiling.{Source}
+use Rattle.series.specs.Compiling.{SourceFile}
 use Rattle.series.specs.Pieces.{Taken, on_both}
 use Rattle.series.specs.CompiledFiles.{Compiles}
 use Rattle.settings.specs.Settings.{Settings}
@@ -16,7 +16,7 @@ returns-in-Ok-None-clause-films c =
     c.compile_feeds.new.faults
     (search rules)
     (by_robots
-    (λ (setup : Settings) (sources : List Source) (before : Taken). Compiles setup sources c.compile_feeds.result before
+    (λ (setup : Settings) (sources : List SourceFile) (before : Taken). Compiles setup sources c.compile_feeds.result before
     (on_both (contents_of c.compile_feeds.new.text) (contents_of c.compile_feeds.new.faults)))
     c.args.order.now c.args.robots.now c.in_ok-settings.settings
     (map (λ (word : Bor (List ℕ)). word.now) c.as_slice.result.now) _ c.clear.new.self c.clear-2.new.self
@@ -34,7 +34,7 @@ returns-clause-films c =
     let good : c.compile_feeds.result ≡ Ok (Some programs) = search rules in
     let compiled : CompilesRobots order robots c.compile_feeds.result text faults =
     by_robots
-    (λ (setup : Settings) (sources : List Source) (before : Taken). Compiles setup sources c.compile_feeds.result before
+    (λ (setup : Settings) (sources : List SourceFile) (before : Taken). Compiles setup sources c.compile_feeds.result before
     (on_both (contents_of c.compile_feeds.new.text) (contents_of c.compile_feeds.new.faults)))
     c.args.order.now c.args.robots.now c.in_ok-settings.settings
     (map (λ (word : Bor (List ℕ)). word.now) c.as_slice.result.now) _ c.clear.new.self c.clear-2.new.self

@@ -3,7 +3,7 @@ use Rattle.std.proofs.lemmas.Result.{err_from_is_err_and}
 use Rattle.tokens.specs.declared.located_tokens.Punctuator.TheVariants as punctuator
 use Rattle.grammar.specs.Grammar.{Exactly, ParameterTypes, Parameters, Part}
 use Rattle.parser.specs.Declarations.{header_items}
-use Rattle.parser.proofs.HeadingLaws.{heading_closed, heading_listed, heading_named, heading_open}
+use Rattle.parser.proofs.HeaderLaws.{heading_closed, heading_listed, heading_named, heading_open}
 use Rattle.parser.proofs.Advances.{kept_then, on, on_then}
 use Rattle.parser.proofs.ListLaws.{item_on, leaves}
 use Rattle.parser.proofs.function_headers.function_header.Goals as goal

@@ -1,7 +1,7 @@
 use Rattle.std.proofs.Common.{◌≡◌, [], ◌∷◌, ◌++◌, refl, true, false}
 use Rattle.std.proofs.lemmas.Result.{err_from_is_err_and}
 use Rattle.tokens.specs.declared.located_tokens.Keyword.TheVariants as keyword
-use Rattle.grammar.specs.Grammar.{Part, is_fault, is_keyword}
+use Rattle.grammar.specs.Grammar.{Part, is_lexical_error, is_keyword}
 use Rattle.parser.proofs.Names.{stays_at_then}
 use Rattle.parser.specs.Declarations.{declaration_items, declarations_of}
 use Rattle.parser.proofs.Advances.{kept_then, on}
@@ -10,7 +10,7 @@ use Rattle.parser.proofs.name_lists.declarations.Goals as goal
 
 pub loop-declared-preserved : goal.loop-declared-preserved
 loop-declared-preserved g c =
-    let sound : is_fault c.loop-declared.parser.position.lookahead.cursor.next.token ≡ false =
+    let sound : is_lexical_error c.loop-declared.parser.position.lookahead.cursor.next.token ≡ false =
     c.loop-declared.invariant.kept.ready.sound in
     let is : is_keyword keyword.Type c.loop-declared.parser.position.lookahead.cursor.next.token ≡ true = cc in
     record {
@@ -27,7 +27,7 @@ loop-declared-preserved g c =
 
 pub returns-in_err-declaration-clause-matches : goal.returns-in_err-declaration-clause-matches
 returns-in_err-declaration-clause-matches g c =
-    let sound : is_fault c.loop-declared.parser.position.lookahead.cursor.next.token ≡ false =
+    let sound : is_lexical_error c.loop-declared.parser.position.lookahead.cursor.next.token ≡ false =
     c.loop-declared.invariant.kept.ready.sound in
     let is : is_keyword keyword.Type c.loop-declared.parser.position.lookahead.cursor.next.token ≡ true = cc in
     let p = err_from_is_err_and c.from_residual.result c.from_residual.ensures.1 in
@@ -40,7 +40,7 @@ returns-in_err-declaration-clause-matches g c =
 
 pub returns-clause-matches : goal.returns-clause-matches
 returns-clause-matches g c depth =
-    let sound : is_fault c.loop-declared.parser.position.lookahead.cursor.next.token ≡ false =
+    let sound : is_lexical_error c.loop-declared.parser.position.lookahead.cursor.next.token ≡ false =
     c.loop-declared.invariant.kept.ready.sound in
     let other : is_keyword keyword.Type c.loop-declared.parser.position.lookahead.cursor.next.token ≡ false = cc in
     opens_on depth _ (declarations_of c.args.declared) [] _ _ sound

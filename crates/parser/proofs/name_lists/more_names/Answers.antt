@@ -1,7 +1,7 @@
 use Rattle.std.proofs.Common.{◌≡◌, [], ◌∷◌, refl, subst, true, false}
 use Rattle.std.proofs.lemmas.Result.{err_from_is_err_and}
 use Rattle.tokens.specs.declared.located_tokens.Punctuator.TheVariants as punctuator
-use Rattle.grammar.specs.Grammar.{AName, Exactly, More, Part, is_fault, is_punctuator}
+use Rattle.grammar.specs.Grammar.{AName, Exactly, More, Part, is_lexical_error, is_punctuator}
 use Rattle.grammar.specs.Scope.{Scope}
 use Rattle.parser.specs.Defining.{StaysAt}
 use Rattle.parser.specs.Roles.{role_of}
@@ -13,7 +13,7 @@ use Rattle.parser.proofs.name_lists.more_names.Goals as goal
 
 pub returns-in_err-expect-clause-matches : goal.returns-in_err-expect-clause-matches
 returns-in_err-expect-clause-matches g c =
-    let sound : is_fault c.loop-declared.parser.position.lookahead.cursor.next.token ≡ false =
+    let sound : is_lexical_error c.loop-declared.parser.position.lookahead.cursor.next.token ≡ false =
     c.loop-declared.invariant.kept.ready.sound in
     let is : is_punctuator punctuator.Comma c.loop-declared.parser.position.lookahead.cursor.next.token ≡ true = cc in
     let p = err_from_is_err_and c.from_residual.result c.from_residual.ensures.1 in
@@ -27,7 +27,7 @@ returns-in_err-expect-clause-matches g c =
 
 pub loop-declared-preserved : goal.loop-declared-preserved
 loop-declared-preserved g c =
-    let sound : is_fault c.loop-declared.parser.position.lookahead.cursor.next.token ≡ false =
+    let sound : is_lexical_error c.loop-declared.parser.position.lookahead.cursor.next.token ≡ false =
     c.loop-declared.invariant.kept.ready.sound in
     let is : is_punctuator punctuator.Comma c.loop-declared.parser.position.lookahead.cursor.next.token ≡ true = cc in
     record {
@@ -47,7 +47,7 @@ loop-declared-preserved g c =
 
 pub returns-in_err-expect_declaration-clause-matches : goal.returns-in_err-expect_declaration-clause-matches
 returns-in_err-expect_declaration-clause-matches g c =
-    let sound : is_fault c.loop-declared.parser.position.lookahead.cursor.next.token ≡ false =
+    let sound : is_lexical_error c.loop-declared.parser.position.lookahead.cursor.next.token ≡ false =
     c.loop-declared.invariant.kept.ready.sound in
     let is : is_punctuator punctuator.Comma c.loop-declared.parser.position.lookahead.cursor.next.token ≡ true = cc in
     let p =
@@ -61,7 +61,7 @@ returns-in_err-expect_declaration-clause-matches g c =
 
 pub returns-clause-matches : goal.returns-clause-matches
 returns-clause-matches g c depth =
-    let sound : is_fault c.loop-declared.parser.position.lookahead.cursor.next.token ≡ false =
+    let sound : is_lexical_error c.loop-declared.parser.position.lookahead.cursor.next.token ≡ false =
     c.loop-declared.invariant.kept.ready.sound in
     let other : is_punctuator punctuator.Comma c.loop-declared.parser.position.lookahead.cursor.next.token ≡ false =
     cc in

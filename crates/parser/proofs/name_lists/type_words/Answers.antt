@@ -1,14 +1,14 @@
 use Rattle.std.proofs.Common.{◌≡◌, [], ◌∷◌, ◌∙◌, refl, true, false}
 use Rattle.std.proofs.lemmas.Result.{err_from_is_err_and}
 use Rattle.tokens.specs.declared.located_tokens.Keyword.TheVariants as keyword
-use Rattle.grammar.specs.Grammar.{AKeyword, Part, Types, is_fault, is_keyword}
+use Rattle.grammar.specs.Grammar.{AKeyword, Part, Types, is_lexical_error, is_keyword}
 use Rattle.parser.proofs.Advances.{kept_then, on}
 use Rattle.parser.proofs.ListLaws.{goes_on, leaves, opens_on, types_end, types_more}
 use Rattle.parser.proofs.name_lists.type_words.Goals as goal
 
 pub loop-parser-preserved : goal.loop-parser-preserved
 loop-parser-preserved g c =
-    let sound : is_fault c.loop-parser.parser.position.lookahead.cursor.next.token ≡ false =
+    let sound : is_lexical_error c.loop-parser.parser.position.lookahead.cursor.next.token ≡ false =
     c.loop-parser.invariant.kept.ready.sound in
     let is : is_keyword keyword.Type c.loop-parser.parser.position.lookahead.cursor.next.token ≡ true = cc in
     record {
@@ -24,7 +24,7 @@ loop-parser-preserved g c =
 
 pub returns-in_err-expect_type-clause-matches : goal.returns-in_err-expect_type-clause-matches
 returns-in_err-expect_type-clause-matches g c =
-    let sound : is_fault c.loop-parser.parser.position.lookahead.cursor.next.token ≡ false =
+    let sound : is_lexical_error c.loop-parser.parser.position.lookahead.cursor.next.token ≡ false =
     c.loop-parser.invariant.kept.ready.sound in
     let is : is_keyword keyword.Type c.loop-parser.parser.position.lookahead.cursor.next.token ≡ true = cc in
     let p = err_from_is_err_and c.from_residual.result c.from_residual.ensures.1 in
@@ -37,7 +37,7 @@ returns-in_err-expect_type-clause-matches g c =
 
 pub returns-clause-matches : goal.returns-clause-matches
 returns-clause-matches g c depth =
-    let sound : is_fault c.loop-parser.parser.position.lookahead.cursor.next.token ≡ false =
+    let sound : is_lexical_error c.loop-parser.parser.position.lookahead.cursor.next.token ≡ false =
     c.loop-parser.invariant.kept.ready.sound in
     let other : is_keyword keyword.Type c.loop-parser.parser.position.lookahead.cursor.next.token ≡ false = cc in
     opens_on depth (Part Types ∷ []) Types [] _ _ sound (types_end _ other) (c.loop-parser.invariant.matches depth)

@@ -1,6 +1,6 @@
 use Rattle.std.proofs.Common.{◌≡◌, refl, sym, true}
 use Rattle.std.proofs.lemmas.Result.{err_from_is_err_and}
-use Rattle.grammar.specs.Grammar.{is_fault}
+use Rattle.grammar.specs.Grammar.{is_lexical_error}
 use Rattle.parser.proofs.Segments.{no_opening, opens_at_lexical_error}
 use Rattle.parser.proofs.scoped_cursor.open_cursor.Goals as goal
 
@@ -13,9 +13,9 @@ returns-in_err-cursor-clause-refused g c =
 
 pub returns-in-Fault-clause-refused : goal.returns-in-Fault-clause-refused
 returns-in-Fault-clause-refused g c =
-    let lexical_error : is_fault c.in_ok-cursor.cursor.next.token ≡ true =
+    let lexical_error : is_lexical_error c.in_ok-cursor.cursor.next.token ≡ true =
     rw (sym c.peek.ensures.value, c.in-Fault.is) refl in
-    rw (c.misfit.ensures, c.peek-in-Fault.ensures.value)
+    rw (c.unexpected_token_at.ensures, c.peek-in-Fault.ensures.value)
     (opens_at_lexical_error c.in_ok-cursor.cursor _ _ c.in_ok-cursor.ensures.opens.tokens
     c.in_ok-cursor.ensures.opens.took c.in_ok-cursor.ensures.opens.near c.in_ok-cursor.ensures.opens.limited
     lexical_error)

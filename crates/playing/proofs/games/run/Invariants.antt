@@ -1,5 +1,5 @@
 use Rattle.std.proofs.Common.{◌≡◌, List, length}
-use Rattle.battles.specs.Battle.{Behaviour, Stage}
+use Rattle.battles.specs.Battle.{Behaviour, BattleState}
 use Rattle.battles.specs.Carrying.{AreRobotsOf}
 use Rattle.playing.specs.Games.{EndsWell, HasCome}
 use Rattle.playing.specs.Played.{codes_of, exes_of}
@@ -13,7 +13,7 @@ invariant-loop g l = record {
   limit : l.game.limit ≡ l.initial.game.limit;
   cycles : l.game.ending.cycles ≡ l.counter;
   ends : EndsWell l.game;
-  battle : (robots : List Behaviour) (s : Stage) → AreRobotsOf (exes_of (codes_of l.initial.pilots)) robots
+  battle : (robots : List Behaviour) (s : BattleState) → AreRobotsOf (exes_of (codes_of l.initial.pilots)) robots
       → HasCome (codes_of l.initial.pilots) robots s l.initial.pilots l.initial.game
       → HasCome (codes_of l.initial.pilots) robots s l.pilots l.game;
 }

@@ -1,5 +1,5 @@
 use Rattle.std.proofs.Common.{◌≡◌, List, length}
-use Rattle.battles.specs.Battle.{Behaviour, Stage, turns}
+use Rattle.battles.specs.Battle.{Behaviour, BattleState, turns}
 use Rattle.battles.specs.Carrying.{AreRobotsOf}
 use Rattle.playing.specs.Played.{HavePlayed, codes_of, exes_of}
 use Rattle.playing.proofs.games.turns.Given as goal
@@ -11,7 +11,7 @@ invariant-loop-robot g l = record {
   updates : l.arena.updates ≡ l.initial.arena.updates;
   codes : codes_of l.pilots ≡ codes_of l.initial.pilots;
   pilots : length l.pilots ≡ length l.initial.pilots;
-  stage : (robots : List Behaviour) (s : Stage) → AreRobotsOf (exes_of (codes_of l.initial.pilots)) robots
+  stage : (robots : List Behaviour) (s : BattleState) → AreRobotsOf (exes_of (codes_of l.initial.pilots)) robots
       → HavePlayed (codes_of l.initial.pilots) l.initial.pilots l.initial.arena s
       → HavePlayed (codes_of l.initial.pilots) l.pilots l.arena (turns robots l.robot s);
 }

@@ -5,7 +5,7 @@ use Rattle.grammar.specs.Compiled.{compiled}
 use Rattle.series.specs.Compiling.{pieces_of}
 use Rattle.series.specs.Failures.{Failures}
 use Rattle.series.specs.Pieces.{taken_by_sinks}
-use Rattle.series.specs.SourceContents.{AreSources, told_by}
+use Rattle.series.specs.SourceContents.{AreSources, known_to_come}
 use Rattle.series.proofs.CompilingLemmas.{all_compiled, all_manned, kept_with, manned_with, none_kept, none_manned, none_other, pieces_more, pieces_cut, room_left, status_more}
 use Rattle.series.proofs.ReadingLemmas.{cut_at, fails_at, reads_all, reads_first, reads_more, same_length}
 use Rattle.series.proofs.RunsLemmas.{all_of_one, feed_here, told_here, name_here, length_sources, no_source, none_failed, read_failed, rest_more, write_failed}
@@ -64,7 +64,7 @@ loop-file-preserved g c = (
   λ sources are.
       let within : c.loop-file.file < length c.args.feeds.now = omega arith in
       let Named : List (List ℕ) → Type 0 =
-      λ words. AreSources sources words (told_by g.F.Feed.device c.args.feeds.now) in
+      λ words. AreSources sources words (known_to_come g.F.Feed.device c.args.feeds.now) in
       let named : Named (map (λ word. word.now) c.file_words-words.result.now) =
       subst Named (sym c.file_words-words.ensures.value) are in
       let in_words : c.loop-file.file < length c.file_words-words.result.now =
@@ -140,7 +140,7 @@ returns-in-Err-Write-clause-output g c =
       output = (
           let within : c.loop-file.file < length c.args.feeds.now = omega arith in
           let Named : List (List ℕ) → Type 0 =
-          λ words. AreSources sources words (told_by g.F.Feed.device c.args.feeds.now) in
+          λ words. AreSources sources words (known_to_come g.F.Feed.device c.args.feeds.now) in
           let named : Named (map (λ word. word.now) c.file_words-words.result.now) =
           subst Named (sym c.file_words-words.ensures.value) are in
           let in_words : c.loop-file.file < length c.file_words-words.result.now =

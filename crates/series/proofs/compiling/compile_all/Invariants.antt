@@ -1,12 +1,12 @@
 use Rattle.std.proofs.Common.{◌≡◌, List, drop, take}
 use Rattle.std.specs.Prelude.{IfSome}
 use Rattle.battles.specs.Programs.{AreOfProfile}
-use Rattle.series.specs.Compiling.{Source, compiling, codes_of, files_of, compile_status}
+use Rattle.series.specs.Compiling.{SourceFile, compiling, programs_of, files_of, compile_status}
 use Rattle.series.specs.Failures.{failures}
 use Rattle.series.specs.Pieces.{taken_by_sinks, Writes}
 use Rattle.series.specs.SourceReading.{TakesOfFirst}
 use Rattle.series.specs.ProgramKeeping.{kept_by}
-use Rattle.series.specs.SourceContents.{AreSources, told_by}
+use Rattle.series.specs.SourceContents.{AreSources, known_to_come}
 use Rattle.series.proofs.CompilingLemmas.{IsManned}
 use Rattle.series.proofs.compiling.compile_all.Given as goal
 
@@ -20,7 +20,7 @@ invariant-loop-file g l =
     ≡ failures g.F.Feed.device l.fn.feeds (g.O.Sink.written l.fn.out) (g.E.Sink.written l.fn.err))
     × (g.K.TakesPrograms.mode l.keeper ≡ l.settings.mode)
     × IfSome (g.K.TakesPrograms.kept l.keeper) (λ kept. IsManned l.status l.file kept)
-    × ((sources : List Source) → AreSources sources l.settings.file_words (told_by g.F.Feed.device l.fn.feeds)
+    × ((sources : List SourceFile) → AreSources sources l.settings.file_words (known_to_come g.F.Feed.device l.fn.feeds)
     →
     Writes (taken_by_sinks (g.O.Sink.written l.fn.out) (g.E.Sink.written l.fn.err))
     (taken_by_sinks (g.O.Sink.written l.out) (g.E.Sink.written l.err))
@@ -28,6 +28,6 @@ invariant-loop-file g l =
     × (l.status ≡ compile_status (files_of l.settings.profile (take l.file sources)))
     ×
     IfSome (g.K.TakesPrograms.kept l.keeper)
-    (λ kept. kept_by l.status kept ≡ codes_of l.settings.profile (take l.file sources)))
-    × TakesOfFirst l.settings.profile (told_by g.F.Feed.device l.fn.feeds) (told_by g.F.Feed.device l.feeds) l.file
+    (λ kept. kept_by l.status kept ≡ programs_of l.settings.profile (take l.file sources)))
+    × TakesOfFirst l.settings.profile (known_to_come g.F.Feed.device l.fn.feeds) (known_to_come g.F.Feed.device l.feeds) l.file
     × IfSome (g.K.TakesPrograms.kept l.keeper) (λ kept. AreOfProfile l.settings.profile kept)

@@ -1,7 +1,7 @@
 use Rattle.std.proofs.Common.{◌≡◌, ◌+◌, ◌<◌, ◌∙◌, Ok, refl, arith}
 use Rattle.settings.specs.Settings.{Settings}
 use Rattle.series.specs.SeriesSteps.{played_after}
-use Rattle.series.proofs.CoursesLemmas.{next_report, plays}
+use Rattle.series.proofs.SeriesLemmas.{next_report, plays}
 use Rattle.series.proofs.PlayingLemmas.{report_written, report_cut, totals_written, totals_cut}
 use Rattle.series.proofs.runs.play_all.Goals as goal
 

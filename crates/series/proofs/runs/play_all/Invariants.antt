@@ -3,7 +3,7 @@ use Rattle.grammar.specs.Tree.{File}
 use Rattle.code.specs.Codes.{AreProgramsOf}
 use Rattle.series.specs.Pieces.{taken_by_sinks, Writes}
 use Rattle.series.specs.Playing.{reports}
-use Rattle.sinks.specs.Portions.{Written}
+use Rattle.sinks.specs.Portions.{SinkState}
 use Rattle.series.proofs.runs.play_all.Given as goal
 
 -- so many matches were played, and their reports written; no write has failed
@@ -11,7 +11,7 @@ abbrev pub invariant-loop : goal.invariant-loop
 invariant-loop g l = record {
   standing : l.series ≡ record { settings = l.fn.settings; programs = l.programs; played = l.counter; failed = false };
   calm : (g.O.Sink.written l.out).failures ≡ (g.O.Sink.written l.fn.out).failures;
-  writes : (files : List File) (faults : Written) → AreProgramsOf l.programs l.fn.settings.profile files
+  writes : (files : List File) (faults : SinkState) → AreProgramsOf l.programs l.fn.settings.profile files
       →
       Writes (taken_by_sinks (g.O.Sink.written l.fn.out) faults) (taken_by_sinks (g.O.Sink.written l.out) faults)
       (reports l.fn.settings files l.counter);

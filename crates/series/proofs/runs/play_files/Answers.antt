@@ -3,7 +3,7 @@ use Rattle.series.specs.Pieces.{taken_by_sinks}
 use Rattle.series.specs.Playing.{playing}
 use Rattle.series.proofs.OutputLemmas.{faulty_run, kept_codes, plays_run, stops_run}
 use Rattle.series.proofs.ReadingLemmas.{cut_behind, reads_played}
-use Rattle.series.specs.SourceContents.{told_by}
+use Rattle.series.specs.SourceContents.{known_to_come}
 use Rattle.series.proofs.runs.play_files.Goals as goal
 
 pub play_all-requires-clause-manned : goal.play_all-requires-clause-manned
@@ -31,11 +31,11 @@ returns-in-Err-clause-output g c =
 pub returns-in-Ok-Done-clause-read : goal.returns-in-Ok-Done-clause-read
 returns-in-Ok-Done-clause-read g c =
     let settings = c.args.settings.now in
-    let told = told_by g.F.Feed.device c.args.feeds.now in
+    let told = known_to_come g.F.Feed.device c.args.feeds.now in
     let before = taken_by_sinks (g.O.Sink.written c.args.out.now) (g.E.Sink.written c.args.err.now) in
     let compiled = taken_by_sinks (g.O.Sink.written c.compile_all.new.out) (g.E.Sink.written c.compile_all.new.err) in
     let after = taken_by_sinks (g.O.Sink.written c.play_all.new.out) (g.E.Sink.written c.compile_all.new.err) in
-    reads_played settings c.play_all.result told (told_by g.F.Feed.device c.compile_all.new.feeds) before after
+    reads_played settings c.play_all.result told (known_to_come g.F.Feed.device c.compile_all.new.feeds) before after
     c.in-Ok-Done.ensures.read c.play_all.ensures.answer
     (λ failed sources are.
     let compiles = rw c.in-Ok-Done.field-0-is at (c.in-Ok-Done.ensures.output sources are).output in

@@ -1,11 +1,11 @@
 use Rattle.std.proofs.Common.{rules}
-use Rattle.code.specs.Told.{MakerRepresents}
-use Rattle.parser.specs.ParsedFiles.{IsFile}
+use Rattle.code.specs.Reported.{MakerRepresents}
+use Rattle.parser.specs.ParsedFiles.{ParsesToFile}
 use Rattle.tools.proofs.compiling.compile.Goals as goal
 
 pub finish-program-requires : goal.finish-program-requires
 finish-program-requires g c =
-    let f : IsFile (λ p acts. MakerRepresents c.new-maker.result p acts)
+    let f : ParsesToFile (λ p acts. MakerRepresents c.new-maker.result p acts)
     (λ p acts. MakerRepresents c.parse.new.build p acts)
     (g.F.Feed.device c.args.feed.now).to_come c.in-Ok.names =
     search rules in

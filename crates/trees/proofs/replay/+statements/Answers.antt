@@ -9,18 +9,18 @@ use Rattle.trees.specs.Trees.{body_tree, expr_tree}
 use Rattle.trees.specs.declared.tree.Statement.{the_lemmas}
 use Rattle.trees.proofs.ReplayLaws.{actions-ExpressionStatement, actions-IfElseStatement, actions-IfStatement, actions-Return, actions-While, may_next, statement_may, statements_more}
 use Rattle.trees.proofs.replay.+statements.Goals as goal
-use Rattle.grammar.proofs.StandingLaws.{appends_both, appends_none, may_first, may_front, may_then}
+use Rattle.grammar.proofs.RepresentationLaws.{appends_both, appends_none, may_first, may_front, may_then}
 
 -- Expressions whose value is dropped.
 
-pub tell_statement-tell_expr-requires : goal.tell_statement-tell_expr-requires
-tell_statement-tell_expr-requires g t c =
+pub report_statement-report_expr-requires : goal.report_statement-report_expr-requires
+report_statement-report_expr-requires g t c =
     may_front _ _ (Chop ∷ [])
     (subst (MayFollowAll (g.B.Build.stands c.args.build.now))
     (actions-ExpressionStatement _ _ c.in-ExpressionStatement.is) c.requires)
 
-pub tell_statement-act-requires-in-ExpressionStatement : goal.tell_statement-act-requires-in-ExpressionStatement
-tell_statement-act-requires-in-ExpressionStatement g t c =
+pub report_statement-act-requires-in-ExpressionStatement : goal.report_statement-act-requires-in-ExpressionStatement
+report_statement-act-requires-in-ExpressionStatement g t c =
     let at = g.B.Build.stands in
     let whole =
     subst (MayFollowAll (at c.args.build.now)) (actions-ExpressionStatement _ _ c.in-ExpressionStatement.is)
@@ -28,30 +28,30 @@ tell_statement-act-requires-in-ExpressionStatement g t c =
     record {
       follows =
           may_first _ _ _
-          (may_then _ (at c.tell_expr.new.build) _ _ c.in_ok-tell_expr-in-ExpressionStatement.ensures.ok whole);
+          (may_then _ (at c.report_expr.new.build) _ _ c.in_ok-report_expr-in-ExpressionStatement.ensures.ok whole);
     }
 
-pub tell_statement-returns-in_ok-tell_expr-in-ExpressionStatement-clause-ok :
-    goal.tell_statement-returns-in_ok-tell_expr-in-ExpressionStatement-clause-ok
-tell_statement-returns-in_ok-tell_expr-in-ExpressionStatement-clause-ok g t c =
+pub report_statement-returns-in_ok-report_expr-in-ExpressionStatement-clause-ok :
+    goal.report_statement-returns-in_ok-report_expr-in-ExpressionStatement-clause-ok
+report_statement-returns-in_ok-report_expr-in-ExpressionStatement-clause-ok g t c =
     let at = g.B.Build.stands in
     let first = at c.args.build.now in
     let last = at c.act-in-ExpressionStatement.new.self in
     on_ok_weaker _
     (λ dropped. subst (AppendsAll first last) (sym (actions-ExpressionStatement _ _ c.in-ExpressionStatement.is))
-    (appends_both first (at c.tell_expr.new.build) last _ (Chop ∷ [])
-    c.in_ok-tell_expr-in-ExpressionStatement.ensures.ok dropped)) c.act-in-ExpressionStatement.ensures.ok
+    (appends_both first (at c.report_expr.new.build) last _ (Chop ∷ [])
+    c.in_ok-report_expr-in-ExpressionStatement.ensures.ok dropped)) c.act-in-ExpressionStatement.ensures.ok
 
 -- Ifs without a second branch.
 
-pub tell_statement-tell_test-requires : goal.tell_statement-tell_test-requires
-tell_statement-tell_test-requires g t c =
+pub report_statement-tell_test-requires : goal.report_statement-tell_test-requires
+report_statement-tell_test-requires g t c =
     may_front _ _ _
     (subst (MayFollowAll (g.B.Build.stands c.args.build.now)) (actions-IfStatement _ _ _ c.in-IfStatement.is)
     c.requires)
 
-pub tell_statement-tell_statements-requires : goal.tell_statement-tell_statements-requires
-tell_statement-tell_statements-requires g t c κs within =
+pub report_statement-tell_statements-requires : goal.report_statement-tell_statements-requires
+report_statement-tell_statements-requires g t c κs within =
     let at = g.B.Build.stands in
     let whole = subst (MayFollowAll (at c.args.build.now)) (actions-IfStatement _ _ _ c.in-IfStatement.is) c.requires in
     let rest =
@@ -61,8 +61,8 @@ tell_statement-tell_statements-requires g t c κs within =
     rw c.deref.ensures.value (may_front _ _ _ rest) in
     (grind (arith, the_lemmas), (within, may))
 
-pub tell_statement-act-requires : goal.tell_statement-act-requires
-tell_statement-act-requires g t c =
+pub report_statement-act-requires : goal.report_statement-act-requires
+report_statement-act-requires g t c =
     let at = g.B.Build.stands in
     let whole = subst (MayFollowAll (at c.args.build.now)) (actions-IfStatement _ _ _ c.in-IfStatement.is) c.requires in
     let rest =
@@ -73,9 +73,9 @@ tell_statement-act-requires g t c =
     rw c.deref.ensures.value at c.in_ok-tell_statements-in-IfStatement.ensures.ok in
     record { follows = may_first _ _ _ (may_then _ (at c.tell_statements.new.build) _ _ told rest) }
 
-pub tell_statement-returns-in_ok-tell_statements-in-IfStatement-clause-ok :
-    goal.tell_statement-returns-in_ok-tell_statements-in-IfStatement-clause-ok
-tell_statement-returns-in_ok-tell_statements-in-IfStatement-clause-ok g t c =
+pub report_statement-returns-in_ok-tell_statements-in-IfStatement-clause-ok :
+    goal.report_statement-returns-in_ok-tell_statements-in-IfStatement-clause-ok
+report_statement-returns-in_ok-tell_statements-in-IfStatement-clause-ok g t c =
     let at = g.B.Build.stands in
     let first = at c.args.build.now in
     let second = at c.tell_test.new.build in
@@ -89,15 +89,15 @@ tell_statement-returns-in_ok-tell_statements-in-IfStatement-clause-ok g t c =
 
 -- Ifs with both branches.
 
-pub tell_statement-tell_test-requires-in-IfElseStatement : goal.tell_statement-tell_test-requires-in-IfElseStatement
-tell_statement-tell_test-requires-in-IfElseStatement g t c =
+pub report_statement-tell_test-requires-in-IfElseStatement : goal.report_statement-tell_test-requires-in-IfElseStatement
+report_statement-tell_test-requires-in-IfElseStatement g t c =
     may_front _ _ _
     (subst (MayFollowAll (g.B.Build.stands c.args.build.now))
     (actions-IfElseStatement _ _ _ _ c.in-IfElseStatement.is) c.requires)
 
-pub tell_statement-tell_statements-requires-in-IfElseStatement :
-    goal.tell_statement-tell_statements-requires-in-IfElseStatement
-tell_statement-tell_statements-requires-in-IfElseStatement g t c κs within =
+pub report_statement-tell_statements-requires-in-IfElseStatement :
+    goal.report_statement-tell_statements-requires-in-IfElseStatement
+report_statement-tell_statements-requires-in-IfElseStatement g t c κs within =
     let at = g.B.Build.stands in
     let whole =
     subst (MayFollowAll (at c.args.build.now)) (actions-IfElseStatement _ _ _ _ c.in-IfElseStatement.is) c.requires in
@@ -110,8 +110,8 @@ tell_statement-tell_statements-requires-in-IfElseStatement g t c κs within =
     rw c.deref-in-IfElseStatement.ensures.value (may_front _ _ _ rest) in
     (grind (arith, the_lemmas), (within, may))
 
-pub tell_statement-act-requires-in-IfElseStatement : goal.tell_statement-act-requires-in-IfElseStatement
-tell_statement-act-requires-in-IfElseStatement g t c =
+pub report_statement-act-requires-in-IfElseStatement : goal.report_statement-act-requires-in-IfElseStatement
+report_statement-act-requires-in-IfElseStatement g t c =
     let at = g.B.Build.stands in
     let whole =
     subst (MayFollowAll (at c.args.build.now)) (actions-IfElseStatement _ _ _ _ c.in-IfElseStatement.is) c.requires in
@@ -125,9 +125,9 @@ tell_statement-act-requires-in-IfElseStatement g t c =
     rw c.deref-in-IfElseStatement.ensures.value at c.in_ok-tell_statements-in-IfElseStatement.ensures.ok in
     record { follows = may_first _ _ _ (may_then _ (at c.tell_statements-in-IfElseStatement.new.build) _ _ one rest) }
 
-pub tell_statement-tell_statements-requires-in-IfElseStatement-2 :
-    goal.tell_statement-tell_statements-requires-in-IfElseStatement-2
-tell_statement-tell_statements-requires-in-IfElseStatement-2 g t c κs within =
+pub report_statement-tell_statements-requires-in-IfElseStatement-2 :
+    goal.report_statement-tell_statements-requires-in-IfElseStatement-2
+report_statement-tell_statements-requires-in-IfElseStatement-2 g t c κs within =
     let at = g.B.Build.stands in
     let whole =
     subst (MayFollowAll (at c.args.build.now)) (actions-IfElseStatement _ _ _ _ c.in-IfElseStatement.is) c.requires in
@@ -148,8 +148,8 @@ tell_statement-tell_statements-requires-in-IfElseStatement-2 g t c κs within =
     rw c.deref-in-IfElseStatement-2.ensures.value (may_front _ _ _ other) in
     (grind (arith, the_lemmas), (within, may))
 
-pub tell_statement-act-requires-in-IfElseStatement-2 : goal.tell_statement-act-requires-in-IfElseStatement-2
-tell_statement-act-requires-in-IfElseStatement-2 g t c =
+pub report_statement-act-requires-in-IfElseStatement-2 : goal.report_statement-act-requires-in-IfElseStatement-2
+report_statement-act-requires-in-IfElseStatement-2 g t c =
     let at = g.B.Build.stands in
     let whole =
     subst (MayFollowAll (at c.args.build.now)) (actions-IfElseStatement _ _ _ _ c.in-IfElseStatement.is) c.requires in
@@ -170,9 +170,9 @@ tell_statement-act-requires-in-IfElseStatement-2 g t c =
     record
     { follows = may_first _ _ _ (may_then _ (at c.tell_statements-in-IfElseStatement-2.new.build) _ _ two other) }
 
-pub tell_statement-returns-in_ok-tell_statements-in-IfElseStatement-2-clause-ok :
-    goal.tell_statement-returns-in_ok-tell_statements-in-IfElseStatement-2-clause-ok
-tell_statement-returns-in_ok-tell_statements-in-IfElseStatement-2-clause-ok g t c =
+pub report_statement-returns-in_ok-tell_statements-in-IfElseStatement-2-clause-ok :
+    goal.report_statement-returns-in_ok-tell_statements-in-IfElseStatement-2-clause-ok
+report_statement-returns-in_ok-tell_statements-in-IfElseStatement-2-clause-ok g t c =
     let at = g.B.Build.stands in
     let first = at c.args.build.now in
     let second = at c.tell_test-in-IfElseStatement.new.build in
@@ -196,13 +196,13 @@ tell_statement-returns-in_ok-tell_statements-in-IfElseStatement-2-clause-ok g t 
 
 -- Loops.
 
-pub tell_statement-tell_loop_test-requires : goal.tell_statement-tell_loop_test-requires
-tell_statement-tell_loop_test-requires g t c =
+pub report_statement-tell_loop_test-requires : goal.report_statement-tell_loop_test-requires
+report_statement-tell_loop_test-requires g t c =
     may_front _ _ _
     (subst (MayFollowAll (g.B.Build.stands c.args.build.now)) (actions-While _ _ _ c.in-While.is) c.requires)
 
-pub tell_statement-tell_statements-requires-in-While : goal.tell_statement-tell_statements-requires-in-While
-tell_statement-tell_statements-requires-in-While g t c κs within =
+pub report_statement-tell_statements-requires-in-While : goal.report_statement-tell_statements-requires-in-While
+report_statement-tell_statements-requires-in-While g t c κs within =
     let at = g.B.Build.stands in
     let whole = subst (MayFollowAll (at c.args.build.now)) (actions-While _ _ _ c.in-While.is) c.requires in
     let rest =
@@ -213,8 +213,8 @@ tell_statement-tell_statements-requires-in-While g t c κs within =
     rw c.deref-in-While.ensures.value (may_front _ _ _ rest) in
     (grind (arith, the_lemmas), (within, may))
 
-pub tell_statement-act-requires-in-While : goal.tell_statement-act-requires-in-While
-tell_statement-act-requires-in-While g t c =
+pub report_statement-act-requires-in-While : goal.report_statement-act-requires-in-While
+report_statement-act-requires-in-While g t c =
     let at = g.B.Build.stands in
     let whole = subst (MayFollowAll (at c.args.build.now)) (actions-While _ _ _ c.in-While.is) c.requires in
     let rest =
@@ -226,9 +226,9 @@ tell_statement-act-requires-in-While g t c =
     rw c.deref-in-While.ensures.value at c.in_ok-tell_statements-in-While.ensures.ok in
     record { follows = may_first _ _ _ (may_then _ (at c.tell_statements-in-While.new.build) _ _ told rest) }
 
-pub tell_statement-returns-in_ok-tell_statements-in-While-clause-ok :
-    goal.tell_statement-returns-in_ok-tell_statements-in-While-clause-ok
-tell_statement-returns-in_ok-tell_statements-in-While-clause-ok g t c =
+pub report_statement-returns-in_ok-tell_statements-in-While-clause-ok :
+    goal.report_statement-returns-in_ok-tell_statements-in-While-clause-ok
+report_statement-returns-in_ok-tell_statements-in-While-clause-ok g t c =
     let at = g.B.Build.stands in
     let first = at c.args.build.now in
     let second = at c.tell_loop_test.new.build in
@@ -242,14 +242,14 @@ tell_statement-returns-in_ok-tell_statements-in-While-clause-ok g t c =
 
 -- Returns.
 
-pub tell_statement-tell_expr-requires-in-Return : goal.tell_statement-tell_expr-requires-in-Return
-tell_statement-tell_expr-requires-in-Return g t c =
+pub report_statement-report_expr-requires-in-Return : goal.report_statement-report_expr-requires-in-Return
+report_statement-report_expr-requires-in-Return g t c =
     may_front _ _ (GiveBack ∷ [])
     (subst (MayFollowAll (g.B.Build.stands c.args.build.now))
     (actions-Return _ _ c.in-Return.is) c.requires)
 
-pub tell_statement-act-requires-in-Return : goal.tell_statement-act-requires-in-Return
-tell_statement-act-requires-in-Return g t c =
+pub report_statement-act-requires-in-Return : goal.report_statement-act-requires-in-Return
+report_statement-act-requires-in-Return g t c =
     let at = g.B.Build.stands in
     let whole =
     subst (MayFollowAll (at c.args.build.now)) (actions-Return _ _ c.in-Return.is)
@@ -257,27 +257,27 @@ tell_statement-act-requires-in-Return g t c =
     record {
       follows =
           may_first _ _ _
-          (may_then _ (at c.tell_expr-in-Return.new.build) _ _ c.in_ok-tell_expr-in-Return.ensures.ok whole);
+          (may_then _ (at c.report_expr-in-Return.new.build) _ _ c.in_ok-report_expr-in-Return.ensures.ok whole);
     }
 
-pub tell_statement-returns-in_ok-tell_expr-in-Return-clause-ok :
-    goal.tell_statement-returns-in_ok-tell_expr-in-Return-clause-ok
-tell_statement-returns-in_ok-tell_expr-in-Return-clause-ok g t c =
+pub report_statement-returns-in_ok-report_expr-in-Return-clause-ok :
+    goal.report_statement-returns-in_ok-report_expr-in-Return-clause-ok
+report_statement-returns-in_ok-report_expr-in-Return-clause-ok g t c =
     let at = g.B.Build.stands in
     let first = at c.args.build.now in
     let last = at c.act-in-Return.new.self in
     on_ok_weaker _
     (λ returned. subst (AppendsAll first last) (sym (actions-Return _ _ c.in-Return.is))
-    (appends_both first (at c.tell_expr-in-Return.new.build) last _ (GiveBack ∷ [])
-    c.in_ok-tell_expr-in-Return.ensures.ok returned)) c.act-in-Return.ensures.ok
+    (appends_both first (at c.report_expr-in-Return.new.build) last _ (GiveBack ∷ [])
+    c.in_ok-report_expr-in-Return.ensures.ok returned)) c.act-in-Return.ensures.ok
 
 -- Rows of statements.
 
 pub tell_statements-loop-statement-init : goal.tell_statements-loop-statement-init
 tell_statements-loop-statement-init g t c = appends_none (g.B.Build.stands c.args.build.now)
 
-pub tell_statements-tell_statement-requires : goal.tell_statements-tell_statement-requires
-tell_statements-tell_statement-requires g t c κs within =
+pub tell_statements-report_statement-requires : goal.tell_statements-report_statement-requires
+tell_statements-report_statement-requires g t c κs within =
     let at = g.B.Build.stands in
     let may =
     statement_may (at c.args.build.now) (at c.loop-statement.build) c.loop-statement.statement-index
@@ -288,9 +288,9 @@ tell_statements-tell_statement-requires g t c κs within =
 pub tell_statements-loop-statement-preserved : goal.tell_statements-loop-statement-preserved
 tell_statements-loop-statement-preserved g t c =
     let at = g.B.Build.stands in
-    statements_more (at c.args.build.now) (at c.loop-statement.build) (at c.tell_statement.new.build)
+    statements_more (at c.args.build.now) (at c.loop-statement.build) (at c.report_statement.new.build)
     c.loop-statement.statement-index c.args.statements.now c.statement-item.result c.loop-statement-test.true
-    c.statement-item.is c.loop-statement.invariant c.in_ok-tell_statement.ensures.ok
+    c.statement-item.is c.loop-statement.invariant c.in_ok-report_statement.ensures.ok
 
 pub tell_statements-returns-clause-ok : goal.tell_statements-returns-clause-ok
 tell_statements-returns-clause-ok g t c =

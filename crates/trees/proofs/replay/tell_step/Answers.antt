@@ -3,7 +3,7 @@ use Rattle.std.proofs.lemmas.Result.{on_ok_weaker}
 use Rattle.grammar.specs.declared.actions.Action.TheVariants.{Chop, FetchVariable, PushConstant, StoreVariable}
 use Rattle.trees.proofs.ReplayLaws.{may_next}
 use Rattle.trees.proofs.replay.tell_step.Goals as goal
-use Rattle.grammar.proofs.StandingLaws.{appends_both, may_first}
+use Rattle.grammar.proofs.RepresentationLaws.{appends_both, may_first}
 
 pub act-requires : goal.act-requires
 act-requires g c = record { follows = may_first _ _ _ c.requires }

@@ -3,7 +3,7 @@ use Rattle.std.proofs.lemmas.List.{get_or_read, length-set}
 use Rattle.std.proofs.lemmas.Int.{to_z-of_z}
 use Rattle.arena.specs.Field.{no_robot, robot_at}
 use Rattle.arena.specs.Answer.{answer, argument_at}
-use Rattle.arena.specs.Arena.{Arena, Robot, robot_of, lives}
+use Rattle.arena.specs.Arena.{Arena, Robot, robot_of, is_live}
 use Rattle.arena.specs.Representing.{RepresentsField}
 use Rattle.arena.specs.contracts.arenas.Arena.{the_view}
 use Rattle.arena.specs.Apart.{IsAtPlace}
@@ -83,5 +83,5 @@ returns c =
           let damage = c.want.ensures.damage ∙ ap (λ (b : Robot). b.damage) same in
           rw put
           (lives_as (the_view c.self.inside) c.args.robot c.want.new.self inside damage ∙
-          ap (λ (g : Arena). lives g c.args.robot) c.self.view_is ∙ c.requires);
+          ap (λ (g : Arena). is_live g c.args.robot) c.self.view_is ∙ c.requires);
     }

@@ -2,7 +2,7 @@ use Rattle.std.proofs.Common.{ap, ◌∙◌}
 use Rattle.arena.specs.Point.{Point}
 use Rattle.arena.specs.Leg.{place_x, place_y}
 use Rattle.arena.specs.Field.{robot_at}
-use Rattle.arena.specs.Collisions.{touches}
+use Rattle.arena.specs.Collisions.{collision_count}
 use Rattle.arena.specs.Moved.{leg_after}
 use Rattle.arena.specs.Arena.{Motion, motion_of}
 use Rattle.arena.specs.Outlook.{next_leg}
@@ -17,12 +17,12 @@ returns-clause-x c = λ f s.
     let live = alive_if_lives c.args.self.now f c.args.robot s c.requires.live in
     let movers =
     c.as_slice.ensures.value ∙ c.movers-movers.ensures.movers f.robots (c.robots.ensures.value ∙ s.robots) in
-    let touched = c.touched_count.ensures.value ∙ ap (λ ms. touches ms c.args.robot) movers in
-    let track =
+    let touched = c.robot_collision_count.ensures.value ∙ ap (λ ms. collision_count ms c.args.robot) movers in
+    let motion =
     c.motion_after-motion.ensures r (c.move_ahead_as_mover-seen.ensures.ahead r body)
     (c.move_ahead_as_mover-seen.ensures.mover r body)
     live in
-    ap (λ (p : Point). p.x) c.place.ensures ∙ ap (λ (t : Motion). t.x) track ∙
+    ap (λ (p : Point). p.x) c.place.ensures ∙ ap (λ (t : Motion). t.x) motion ∙
     ap (λ n. place_x (leg_after r.leg n)) touched
 
 pub returns-clause-y : goal.returns-clause-y
@@ -33,10 +33,10 @@ returns-clause-y c = λ f s.
     let live = alive_if_lives c.args.self.now f c.args.robot s c.requires.live in
     let movers =
     c.as_slice.ensures.value ∙ c.movers-movers.ensures.movers f.robots (c.robots.ensures.value ∙ s.robots) in
-    let touched = c.touched_count.ensures.value ∙ ap (λ ms. touches ms c.args.robot) movers in
-    let track =
+    let touched = c.robot_collision_count.ensures.value ∙ ap (λ ms. collision_count ms c.args.robot) movers in
+    let motion =
     c.motion_after-motion.ensures r (c.move_ahead_as_mover-seen.ensures.ahead r body)
     (c.move_ahead_as_mover-seen.ensures.mover r body)
     live in
-    ap (λ (p : Point). p.y) c.place.ensures ∙ ap (λ (t : Motion). t.y) track ∙
+    ap (λ (p : Point). p.y) c.place.ensures ∙ ap (λ (t : Motion). t.y) motion ∙
     ap (λ n. place_y (leg_after r.leg n)) touched

@@ -26,7 +26,7 @@ invariant_of-self-2 c =
       c.land.ensures.count ∙ i.1 ∙ sym len,
       omega (arith, len, i.2),
       c.land.ensures.two i.3,
-      λ e. still (c.as_slice.ensures.value ∙ refilled) refl (c.is_still-self-inside.ensures e),
+      λ e. still (c.as_slice.ensures.value ∙ refilled) refl (c.only_counts-self-inside.ensures e),
       c.move_robots-self-inside.ensures.far,
     )
 

@@ -1,4 +1,4 @@
-use Rattle.arena.proofs.Tracks.{only_turns_is}
+use Rattle.arena.proofs.MotionLaws.{only_turns_is}
 use Rattle.arena.proofs.motion.Motion.adjust.Goals as goal
 
 pub returns-then-only_turns-clause-leg : goal.returns-then-only_turns-clause-leg

@@ -1,10 +1,10 @@
 use Rattle.std.proofs.Common.{sym, ap, ◌∙◌}
 use Rattle.std.proofs.lemmas.Bool.{or_parts}
 use Rattle.arena.specs.Arena.{Motion}
-use Rattle.arena.specs.Sums.{place_near}
+use Rattle.arena.specs.Sums.{clamped_place_of}
 use Rattle.arena.specs.contracts.motion.Motion.{the_view}
 use Rattle.arena.proofs.Sums.{free_is_field, near, near_inside, grown_back}
-use Rattle.arena.proofs.Tracks.{forward_from, walled_is, stops_is, drives_is}
+use Rattle.arena.proofs.MotionLaws.{forward_from, walled_is, stops_is, drives_is}
 use Rattle.arena.proofs.motion.Motion.drive_straight.Goals as goal
 
 pub returns-then-leads_beyond-clause-motion : goal.returns-then-leads_beyond-clause-motion
@@ -14,8 +14,8 @@ returns-then-leads_beyond-clause-motion c = λ leg e.
     let east_bits = grown_back t.east t.step_east i.east i.step_east in
     let north_bits = grown_back t.north t.step_north i.north i.step_north in
     let f = forward_from t _ c.leads_beyond.ensures east_bits north_bits in
-    stops_is t _ leg _ _ _ _ _ (c.self.view_is ∙ e) f c.if-leads_beyond.true (ap place_near east_bits)
-    (ap place_near north_bits) (c.stop_near.ensures.leg leg e)
+    stops_is t _ leg _ _ _ _ _ (c.self.view_is ∙ e) f c.if-leads_beyond.true (ap clamped_place_of east_bits)
+    (ap clamped_place_of north_bits) (c.stop_near.ensures.leg leg e)
 
 pub returns-then-leads_beyond-clause-walled : goal.returns-then-leads_beyond-clause-walled
 returns-then-leads_beyond-clause-walled c = λ leg e.
@@ -37,8 +37,8 @@ returns-then-leads_beyond-clause-nearby c =
     let near_y = near t.north t.step_north i.north i.step_north in
     let from_x = ap (λ (t : Motion). t.x) c.self.view_is in
     let from_y = ap (λ (t : Motion). t.y) c.self.view_is in
-    let to_x = c.stop_near.ensures.place.0 ∙ ap place_near east_bits in
-    let to_y = c.stop_near.ensures.place.1 ∙ ap place_near north_bits in
+    let to_x = c.stop_near.ensures.place.0 ∙ ap clamped_place_of east_bits in
+    let to_y = c.stop_near.ensures.place.1 ∙ ap clamped_place_of north_bits in
     record { on_x = rw (sym from_x, to_x) near_x; on_y = rw (sym from_y, to_y) near_y }
 
 pub invariant_of-self : goal.invariant_of-self

@@ -1,12 +1,12 @@
 use Rattle.std.proofs.Common.{◌≡◌, sym, ap, ◌∙◌}
-use Rattle.arena.specs.Leg.{steered, sped, driven, tried}
+use Rattle.arena.specs.Leg.{steered, sped, stopped_by_walls, tried}
 use Rattle.arena.specs.Arena.{Motion, motion_of}
-use Rattle.arena.proofs.Tracks.{keeps_course}
+use Rattle.arena.proofs.MotionLaws.{keeps_course}
 use Rattle.arena.proofs.motion.Motion.move_within_walls.Goals as goal
 use Rattle.arena.proofs.motion.Motion.move_within_walls.Goals.{then-not-self, else-not-self}
 
 pub returns-clause-motion : goal.returns-clause-motion
-unfolding driven tried
+unfolding stopped_by_walls tried
 returns-clause-motion c = λ leg e.
     let course : c.if-not-self.self ≡ motion_of (sped (steered leg)) = elim c.if-not-self.branch [
       | then-not-self w ↦ w.self-is ∙ w.adjust.ensures.leg leg e

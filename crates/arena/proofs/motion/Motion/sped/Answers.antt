@@ -3,7 +3,7 @@ use Rattle.std.proofs.lemmas.Int.{to_z-of_z}
 use Rattle.arena.specs.Arena.{Motion}
 use Rattle.arena.proofs.Sums.{field_back}
 use Rattle.arena.proofs.Products.{back}
-use Rattle.arena.proofs.Tracks.{sped_is}
+use Rattle.arena.proofs.MotionLaws.{sped_is}
 use Rattle.arena.proofs.motion.Motion.sped.Goals as goal
 
 pub sum_step-requires-clause-part : goal.sum_step-requires-clause-part

@@ -1,6 +1,6 @@
 use Rattle.std.proofs.Common.{◌∙◌, sym, arith}
 use Rattle.std.proofs.lemmas.Int.{to_z-of_z}
-use Rattle.arena.proofs.Tracks.{keeps_heading, turns_is, brakes_is}
+use Rattle.arena.proofs.MotionLaws.{keeps_heading, turns_is, brakes_is}
 use Rattle.arena.proofs.motion.Motion.steered.Goals as goal
 
 pub returns-then-self-clause-leg : goal.returns-then-self-clause-leg

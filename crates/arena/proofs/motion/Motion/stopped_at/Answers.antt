@@ -1,5 +1,5 @@
 use Rattle.std.proofs.Common.{◌∙◌}
-use Rattle.arena.proofs.Tracks.{stopped_is}
+use Rattle.arena.proofs.MotionLaws.{stopped_is}
 use Rattle.arena.proofs.motion.Motion.stopped_at.Goals as goal
 
 pub returns-clause-leg : goal.returns-clause-leg

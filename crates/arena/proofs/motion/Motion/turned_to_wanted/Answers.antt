@@ -1,7 +1,7 @@
 use Rattle.std.proofs.Common.{◌∙◌, ap}
 use Rattle.arena.specs.Point.{Point}
 use Rattle.arena.specs.Arena.{Motion, motion_of}
-use Rattle.arena.proofs.Tracks.{turned_is}
+use Rattle.arena.proofs.MotionLaws.{turned_is}
 use Rattle.arena.proofs.motion.Motion.turned_to_wanted.Goals as goal
 
 pub returns-clause-leg : goal.returns-clause-leg

@@ -1,6 +1,6 @@
 use Rattle.std.proofs.Common.{arith}
 use Rattle.std.proofs.lemmas.Int.{to_z-of_z}
-use Rattle.arena.proofs.Tracks.{wanting_is}
+use Rattle.arena.proofs.MotionLaws.{wanting_is}
 use Rattle.arena.proofs.motion.Motion.want.Goals as goal
 
 pub returns-clause-leg : goal.returns-clause-leg

@@ -5,7 +5,7 @@ use Rattle.code.specs.declared.instr.Instr.TheVariants.{Fcall}
 use Rattle.grammar.specs.declared.resolved_names.Callee.TheVariants as callee
 use Rattle.code.specs.Machine.{done_with}
 use Rattle.code.specs.Registers.{machine_of}
-use Rattle.code.proofs.Coasting.{asking, asked_frame, asked_room}
+use Rattle.code.proofs.QuietRuns.{asking, asked_frame, asked_room}
 use Rattle.code.proofs.Machines.{advances}
 use Rattle.code.proofs.storage.Storage.reply.Goals as goal
 

@@ -2,21 +2,21 @@ use Rattle.std.proofs.Common.{◌≡◌, ◌∙◌, ◌+◌, ◌-◌, ℕ, Optio
 use Rattle.code.specs.Registers.{Registers, Storage, machine_of, machine_if}
 use Rattle.code.specs.Machine.{want_next}
 use Rattle.code.specs.ReachedMachines.{HasRunQuiet}
-use Rattle.code.proofs.Coasting.{taken, not_taken, coasted_step}
+use Rattle.code.proofs.QuietRuns.{taken, not_taken, coasted_step}
 use Rattle.code.proofs.storage.Storage.run_quiet.Goals as goal
 use Rattle.code.proofs.storage.Storage.run_quiet.Goals.{else-loop-left-test, then-loop-left-test+in-None}
 
 pub loop-left-preserved : goal.loop-left-preserved
 loop-left-preserved c =
     let m = machine_of c.loop-left.registers c.loop-left.self in
-    let next = machine_of c.in-Some.next c.step.new.self in
+    let next = machine_of c.in-Some.next c.run_instr.new.self in
     let code = c.args.program.now in
     let i = c.instr_at-instr.result.now in
     let old = machine_of c.args.from c.args.self.now in
     let step =
     taken code m next i
-    (λ reply. ap (λ (o : Option Registers). machine_if o c.step.new.self) (sym c.in-Some.is) ∙
-    c.step.ensures.next reply)
+    (λ reply. ap (λ (o : Option Registers). machine_if o c.run_instr.new.self) (sym c.in-Some.is) ∙
+    c.run_instr.ensures.next reply)
     in
     let more = coasted_step code old m next _ i c.loop-left.invariant.coasted c.instr_at-instr.ensures.next.here step in
     let count : c.args.most - c.loop-left.left + 1 ≡ c.args.most - (c.loop-left.left - 1) =

@@ -1,5 +1,5 @@
 use Rattle.std.proofs.Common.{◌≤◌}
-use Rattle.code.specs.ReachedMachines.{FitsProgram as MachineFits}
+use Rattle.code.specs.ReachedMachines.{IsReachable as MachineFits}
 use Rattle.engine.specs.Engines.{EngineFits}
 use Rattle.engine_tests.proofs.tests.sides.both_run.Given as goal
 

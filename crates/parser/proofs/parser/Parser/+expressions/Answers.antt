@@ -5,7 +5,7 @@ use Rattle.std.proofs.lemmas.Result.{err_from_is_err_and}
 use Rattle.tokens.specs.declared.located_tokens.LocatedToken.{LocatedToken}
 use Rattle.tokens.specs.declared.located_tokens.Punctuator.TheVariants as punctuator
 use Rattle.grammar.specs.declared.diagnostics.ParseFault.TheVariants as refusal
-use Rattle.grammar.specs.Grammar.{Expression, Level, Part, Unary, is_fault, is_punctuator}
+use Rattle.grammar.specs.Grammar.{Expression, Level, Part, Unary, is_lexical_error, is_punctuator}
 use Rattle.grammar.specs.Operators.{operator_of}
 use Rattle.grammar.specs.Laws.Climbing.{operator_from}
 use Rattle.parser.specs.Room.{HasLeftSide, HasRoom, room}
@@ -20,14 +20,14 @@ use Rattle.parser.proofs.CallLaws.{IsCall, callee_halts, argument_adds, argument
 use Rattle.parser.proofs.NestedLaws.{NoOperator, NoPrimary, plain_operand, bracket_adds, bracket_too_deep, close_refused, inside_refused, open_ends, primary_adds, primary_misfits, primary_refused}
 use Rattle.parser.proofs.ClimbingLaws.{at_its_own, climb_refused, climbs_end, climbs_first, climbs_on, first_stops, found, left_open, ten_levels}
 use Rattle.parser.proofs.OperatorLaws.{apply_follows, middle_follows, operand_adds, operator_ends, right_has_room, right_refused}
-use Rattle.parser.proofs.SignLaws.{before_follows, behind_follows, operand_refused, operand_room, sign_adds, sign_ends, sign_too_deep}
+use Rattle.parser.proofs.UnaryOpLaws.{before_follows, behind_follows, operand_refused, operand_room, sign_adds, sign_ends, sign_too_deep}
 use Rattle.parser.proofs.OperandLaws.{is_named}
 use Rattle.parser.proofs.parser.Parser.+expressions.Goals as goal
 
-pub bracketed-returns-in_err-check_level-clause-parses :
-    goal.bracketed-returns-in_err-check_level-clause-parses
-bracketed-returns-in_err-check_level-clause-parses g t c =
-    let refused = c.in_err-check_level.ensures.refused in
+pub bracketed-returns-in_err-check_nesting-clause-parses :
+    goal.bracketed-returns-in_err-check_nesting-clause-parses
+bracketed-returns-in_err-check_nesting-clause-parses g t c =
+    let refused = c.in_err-check_nesting.ensures.refused in
     let p = err_from_is_err_and c.from_residual.result c.from_residual.ensures.1 in
     rw (p.1, p.2, refused.is) (record {
       refused =
@@ -39,7 +39,7 @@ bracketed-returns-in_err-check_level-clause-parses g t c =
 
 pub bracketed-returns-in_err-advance-clause-parses : goal.bracketed-returns-in_err-advance-clause-parses
 bracketed-returns-in_err-advance-clause-parses g t c =
-    let shallow : c.args.self.now.depth < 64 = c.in_ok-check_level.ensures.ok in
+    let shallow : c.args.self.now.depth < 64 = c.in_ok-check_nesting.ensures.ok in
     let p = err_from_is_err_and c.from_residual-in_err-advance.result c.from_residual-in_err-advance.ensures.1 in
     rw (p.1, p.2) (record {
       refused =
@@ -52,7 +52,7 @@ bracketed-returns-in_err-advance-clause-parses g t c =
 
 pub bracketed-returns-in_err-expression-clause-parses : goal.bracketed-returns-in_err-expression-clause-parses
 bracketed-returns-in_err-expression-clause-parses g t c =
-    let shallow : c.args.self.now.depth < 64 = c.in_ok-check_level.ensures.ok in
+    let shallow : c.args.self.now.depth < 64 = c.in_ok-check_nesting.ensures.ok in
     let p = err_from_is_err_and c.from_residual-in_err-expression.result c.from_residual-in_err-expression.ensures.1 in
     rw (p.1, p.2) (record {
       refused =
@@ -64,7 +64,7 @@ bracketed-returns-in_err-expression-clause-parses g t c =
 
 pub bracketed-returns-in_err-expect-clause-parses : goal.bracketed-returns-in_err-expect-clause-parses
 bracketed-returns-in_err-expect-clause-parses g t c =
-    let shallow : c.args.self.now.depth < 64 = c.in_ok-check_level.ensures.ok in
+    let shallow : c.args.self.now.depth < 64 = c.in_ok-check_nesting.ensures.ok in
     let p = err_from_is_err_and c.from_residual-in_err-expect.result c.from_residual-in_err-expect.ensures.1 in
     rw (p.1, p.2) (record {
       refused = close_refused _ (g.B.Build.stands c.args.self.now.builder.now)
@@ -78,17 +78,17 @@ bracketed-returns-in_err-expect-clause-parses g t c =
 
 pub bracketed-returns-clause-parses : goal.bracketed-returns-clause-parses
 bracketed-returns-clause-parses g t c =
-    let shallow : c.args.self.now.depth < 64 = c.in_ok-check_level.ensures.ok in
+    let shallow : c.args.self.now.depth < 64 = c.in_ok-check_nesting.ensures.ok in
     bracket_adds (g.B.Build.stands c.args.self.now.builder.now) (g.B.Build.stands c.expression.new.self.builder.now)
     c.args.self.now.tokens.position c.advance.new.self.position
     c.expression.new.self.tokens.position c.expect.new.self.position c.args.self.now.depth c.requires.at.is shallow
     c.in_ok-advance.ensures.consumes c.in_ok-expression.ensures.parses c.in_ok-expect.ensures.matches
     c.in_ok-expect.ensures.kept.ready.sound
 
-pub unary_operation-returns-in_err-check_level-clause-parses :
-    goal.unary_operation-returns-in_err-check_level-clause-parses
-unary_operation-returns-in_err-check_level-clause-parses g t c =
-    let refused = c.in_err-check_level.ensures.refused in
+pub unary_operation-returns-in_err-check_nesting-clause-parses :
+    goal.unary_operation-returns-in_err-check_nesting-clause-parses
+unary_operation-returns-in_err-check_nesting-clause-parses g t c =
+    let refused = c.in_err-check_nesting.ensures.refused in
     let p = err_from_is_err_and c.from_residual.result c.from_residual.ensures.1 in
     rw (p.1, p.2, refused.is) (record {
       refused =
@@ -99,7 +99,7 @@ unary_operation-returns-in_err-check_level-clause-parses g t c =
 
 pub unary_operation-returns-in_err-advance-clause-parses : goal.unary_operation-returns-in_err-advance-clause-parses
 unary_operation-returns-in_err-advance-clause-parses g t c =
-    let shallow : c.args.self.now.depth < 64 = c.in_ok-check_level.ensures.ok in
+    let shallow : c.args.self.now.depth < 64 = c.in_ok-check_nesting.ensures.ok in
     let p = err_from_is_err_and c.from_residual-in_err-advance.result c.from_residual-in_err-advance.ensures.1 in
     rw (p.1, p.2) (record {
       refused =
@@ -114,7 +114,7 @@ unary_operation-tell_before_operand-requires g t c =
 
 pub unary_operation-returns-in_err-unary-clause-parses : goal.unary_operation-returns-in_err-unary-clause-parses
 unary_operation-returns-in_err-unary-clause-parses g t c =
-    let shallow : c.args.self.now.depth < 64 = c.in_ok-check_level.ensures.ok in
+    let shallow : c.args.self.now.depth < 64 = c.in_ok-check_nesting.ensures.ok in
     let p = err_from_is_err_and c.from_residual-in_err-unary.result c.from_residual-in_err-unary.ensures.1 in
     rw (p.1, p.2) (record {
       refused =
@@ -128,7 +128,7 @@ unary_operation-returns-in_err-unary-clause-parses g t c =
 
 pub unary_operation-tell_after_operand-requires : goal.unary_operation-tell_after_operand-requires
 unary_operation-tell_after_operand-requires g t c =
-    let shallow : c.args.self.now.depth < 64 = c.in_ok-check_level.ensures.ok in
+    let shallow : c.args.self.now.depth < 64 = c.in_ok-check_nesting.ensures.ok in
     record {
       follow =
           behind_follows _ _ _ c.args.sign c.in_ok-unary.ensures.parses.tree c.args.self.now.depth shallow
@@ -138,7 +138,7 @@ unary_operation-tell_after_operand-requires g t c =
 
 pub unary_operation-returns-clause-parses : goal.unary_operation-returns-clause-parses
 unary_operation-returns-clause-parses g t c =
-    let shallow : c.args.self.now.depth < 64 = c.in_ok-check_level.ensures.ok in
+    let shallow : c.args.self.now.depth < 64 = c.in_ok-check_nesting.ensures.ok in
     sign_adds (g.B.Build.stands c.args.self.now.builder.now) (g.B.Build.stands c.tell_before_operand.new.build)
     (g.B.Build.stands c.unary.new.self.builder.now)
     (g.B.Build.stands c.tell_after_operand.new.build) c.args.self.now.tokens.position c.advance.new.self.position
@@ -221,8 +221,8 @@ operand-returns-in_err-advance-clause-parses g t c =
       grown = λ device. grown_nothing _;
     })
 
-pub operand-tell_middle-requires : goal.operand-tell_middle-requires
-operand-tell_middle-requires g t c =
+pub operand-report_middle-requires : goal.operand-report_middle-requires
+operand-report_middle-requires g t c =
     record {
       follow =
           middle_follows _ c.args.self.now.depth c.args.binary.level c.args.binary.op _
@@ -238,7 +238,7 @@ operand-returns-in_err-levels-clause-parses g t c =
           c.in_err-levels.field-0.0 (at_its_own _ c.args.binary c.requires.at.is) c.in_ok-advance.ensures.consumes
           c.in_err-levels.ensures.parses.refused;
       grown =
-          λ device. grown_behind _ _ _ _ c.in_ok-tell_middle.ensures.told (c.in_err-levels.ensures.parses.grown device);
+          λ device. grown_behind _ _ _ _ c.in_ok-report_middle.ensures.told (c.in_err-levels.ensures.parses.grown device);
     })
 
 pub operand-act-requires : goal.operand-act-requires
@@ -247,7 +247,7 @@ operand-act-requires g t c =
       follows =
           apply_follows _ _ _ c.args.self.now.depth c.args.binary.level c.args.binary.op _
           c.in_ok-levels.ensures.parses.0.tree
-          (at_its_own _ c.args.binary c.requires.at.is) c.requires.at.builder c.in_ok-tell_middle.ensures.told
+          (at_its_own _ c.args.binary c.requires.at.is) c.requires.at.builder c.in_ok-report_middle.ensures.told
           c.in_ok-levels.ensures.parses.0.numbered c.in_ok-levels.ensures.parses.0.narrow
           c.in_ok-levels.ensures.parses.0.added;
     }
@@ -255,14 +255,14 @@ operand-act-requires g t c =
 pub operand-returns-clause-parses : goal.operand-returns-clause-parses
 operand-returns-clause-parses g t c = (
   operand_adds _ _ _ _ c.args.self.now.tokens.position _ _ c.args.self.now.depth c.args.binary.level c.args.binary.op
-      (at_its_own _ c.args.binary c.requires.at.is) c.in_ok-advance.ensures.consumes c.in_ok-tell_middle.ensures.told
+      (at_its_own _ c.args.binary c.requires.at.is) c.in_ok-advance.ensures.consumes c.in_ok-report_middle.ensures.told
       c.in_ok-levels.ensures.parses.0 c.in_ok-act.ensures.ok c.in_ok-levels.ensures.kept.tokens.ready.sound,
   c.in_ok-levels.ensures.parses.1,
 )
 
-pub call-returns-in_err-check_level-clause-parses : goal.call-returns-in_err-check_level-clause-parses
-call-returns-in_err-check_level-clause-parses g t c =
-    let refused = c.in_err-check_level.ensures.refused in
+pub call-returns-in_err-check_nesting-clause-parses : goal.call-returns-in_err-check_nesting-clause-parses
+call-returns-in_err-check_nesting-clause-parses g t c =
+    let refused = c.in_err-check_nesting.ensures.refused in
     let p = err_from_is_err_and c.from_residual.result c.from_residual.ensures.1 in
     rw (p.1, p.2, refused.is) (record {
       refused = call_too_deep c.args.self.now.tokens.position _ c.requires.at.ready.near c.args.self.now.depth
@@ -272,7 +272,7 @@ call-returns-in_err-check_level-clause-parses g t c =
 
 pub call-returns-in_err-callee-clause-parses : goal.call-returns-in_err-callee-clause-parses
 call-returns-in_err-callee-clause-parses g t c =
-    let shallow : c.args.self.now.depth < 64 = c.in_ok-check_level.ensures.ok in
+    let shallow : c.args.self.now.depth < 64 = c.in_ok-check_nesting.ensures.ok in
     let is : IsCall c.args.self.now.tokens.position c.args.self.now.depth =
     record { named = is_named _ c.requires.at.is.named; fits = c.requires.at.is.is; shallow = shallow } in
     let p =
@@ -286,12 +286,12 @@ call-returns-in_err-callee-clause-parses g t c =
 
 pub call-act-requires : goal.call-act-requires
 call-act-requires g t c =
-    let shallow : c.args.self.now.depth < 64 = c.in_ok-check_level.ensures.ok in
+    let shallow : c.args.self.now.depth < 64 = c.in_ok-check_nesting.ensures.ok in
     record { follows = begin_follows _ c.args.self.now.depth shallow c.requires.at.builder }
 
 pub call-returns-in_err-expect-clause-parses : goal.call-returns-in_err-expect-clause-parses
 call-returns-in_err-expect-clause-parses g t c =
-    let shallow : c.args.self.now.depth < 64 = c.in_ok-check_level.ensures.ok in
+    let shallow : c.args.self.now.depth < 64 = c.in_ok-check_nesting.ensures.ok in
     let is : IsCall c.args.self.now.tokens.position c.args.self.now.depth =
     record { named = is_named _ c.requires.at.is.named; fits = c.requires.at.is.is; shallow = shallow } in
     let p = err_from_is_err_and c.from_residual-in_err-expect.result c.from_residual-in_err-expect.ensures.1 in
@@ -304,7 +304,7 @@ call-returns-in_err-expect-clause-parses g t c =
 
 pub call-returns-in_err-arguments-clause-parses : goal.call-returns-in_err-arguments-clause-parses
 call-returns-in_err-arguments-clause-parses g t c =
-    let shallow : c.args.self.now.depth < 64 = c.in_ok-check_level.ensures.ok in
+    let shallow : c.args.self.now.depth < 64 = c.in_ok-check_nesting.ensures.ok in
     let is : IsCall c.args.self.now.tokens.position c.args.self.now.depth =
     record { named = is_named _ c.requires.at.is.named; fits = c.requires.at.is.is; shallow = shallow } in
     let p = err_from_is_err_and c.from_residual-in_err-arguments.result c.from_residual-in_err-arguments.ensures.1 in
@@ -319,7 +319,7 @@ call-returns-in_err-arguments-clause-parses g t c =
 
 pub call-returns-in_err-expect-2-clause-parses : goal.call-returns-in_err-expect-2-clause-parses
 call-returns-in_err-expect-2-clause-parses g t c =
-    let shallow : c.args.self.now.depth < 64 = c.in_ok-check_level.ensures.ok in
+    let shallow : c.args.self.now.depth < 64 = c.in_ok-check_nesting.ensures.ok in
     let is : IsCall c.args.self.now.tokens.position c.args.self.now.depth =
     record { named = is_named _ c.requires.at.is.named; fits = c.requires.at.is.is; shallow = shallow } in
     let p = err_from_is_err_and c.from_residual-in_err-expect-2.result c.from_residual-in_err-expect-2.ensures.1 in
@@ -339,7 +339,7 @@ call-returns-in_err-expect-2-clause-parses g t c =
 
 pub call-act-requires-2 : goal.call-act-requires-2
 call-act-requires-2 g t c =
-    let shallow : c.args.self.now.depth < 64 = c.in_ok-check_level.ensures.ok in
+    let shallow : c.args.self.now.depth < 64 = c.in_ok-check_nesting.ensures.ok in
     record {
       follows =
           end_follows _ _ _ c.args.self.now.depth c.in_ok-callee.callee c.in_ok-arguments.ensures.parses.tree
@@ -351,7 +351,7 @@ call-act-requires-2 g t c =
 
 pub call-returns-clause-parses : goal.call-returns-clause-parses
 call-returns-clause-parses g t c =
-    let shallow : c.args.self.now.depth < 64 = c.in_ok-check_level.ensures.ok in
+    let shallow : c.args.self.now.depth < 64 = c.in_ok-check_nesting.ensures.ok in
     let is : IsCall c.args.self.now.tokens.position c.args.self.now.depth =
     record { named = is_named _ c.requires.at.is.named; fits = c.requires.at.is.is; shallow = shallow } in
     call_adds (g.B.Build.stands c.args.self.now.builder.now) (g.B.Build.stands c.act.new.self)
@@ -373,7 +373,7 @@ arguments-returns-then-is_punctuator-clause-parses g t c =
 
 pub arguments-returns-in_err-expression-clause-parses : goal.arguments-returns-in_err-expression-clause-parses
 arguments-returns-in_err-expression-clause-parses g t c =
-    let sound : is_fault c.args.self.now.tokens.position.lookahead.cursor.next.token ≡ false =
+    let sound : is_lexical_error c.args.self.now.tokens.position.lookahead.cursor.next.token ≡ false =
     c.requires.at.ready.sound in
     let other : is_punctuator punctuator.CloseRound c.args.self.now.tokens.position.lookahead.cursor.next.token ≡
     false =
@@ -390,7 +390,7 @@ arguments-returns-in_err-expression-clause-parses g t c =
 
 pub arguments-loop-self-init : goal.arguments-loop-self-init
 arguments-loop-self-init g t c =
-    let sound : is_fault c.args.self.now.tokens.position.lookahead.cursor.next.token ≡ false =
+    let sound : is_lexical_error c.args.self.now.tokens.position.lookahead.cursor.next.token ≡ false =
     c.requires.at.ready.sound in
     let other : is_punctuator punctuator.CloseRound c.args.self.now.tokens.position.lookahead.cursor.next.token ≡
     false =
@@ -463,19 +463,19 @@ arguments-returns-in_err-expression-2-clause-parses g t c =
 
 pub arguments-returns-clause-parses : goal.arguments-returns-clause-parses
 arguments-returns-clause-parses g t c =
-    let sound : is_fault c.loop-self.self.tokens.position.lookahead.cursor.next.token ≡ false =
+    let sound : is_lexical_error c.loop-self.self.tokens.position.lookahead.cursor.next.token ≡ false =
     c.loop-self.invariant.kept.tokens.ready.sound in
     let other : is_punctuator punctuator.Comma c.loop-self.self.tokens.position.lookahead.cursor.next.token ≡ false =
     punctuator_tested punctuator.Comma c.peek-in-loop-self.result.now _ c.is_punctuator-in-loop-self.result false
     c.peek-in-loop-self.ensures.value c.is_punctuator-in-loop-self.ensures c.loop-self-test.false in
     arguments_end _ _ c.args.self.now.tokens.position _ c.args.self.now.depth c.loop-self.invariant.parsed sound other
 
-pub assignment-returns-in_err-check_level-clause-parses :
-    goal.assignment-returns-in_err-check_level-clause-parses
-assignment-returns-in_err-check_level-clause-parses g t c =
+pub assignment-returns-in_err-check_nesting-clause-parses :
+    goal.assignment-returns-in_err-check_nesting-clause-parses
+assignment-returns-in_err-check_nesting-clause-parses g t c =
     let is : IsAssignment c.args.self.now.tokens.position c.args.op =
     record { named = is_named _ c.requires.at.is.named; is = c.requires.at.is.is } in
-    let refused = c.in_err-check_level.ensures.refused in
+    let refused = c.in_err-check_nesting.ensures.refused in
     let p = err_from_is_err_and c.from_residual.result c.from_residual.ensures.1 in
     rw (p.1, p.2, refused.is) (record {
       refused =
@@ -486,7 +486,7 @@ assignment-returns-in_err-check_level-clause-parses g t c =
 
 pub assignment-returns-in_err-var-clause-parses : goal.assignment-returns-in_err-var-clause-parses
 assignment-returns-in_err-var-clause-parses g t c =
-    let shallow : c.args.self.now.depth < 64 = c.in_ok-check_level.ensures.ok in
+    let shallow : c.args.self.now.depth < 64 = c.in_ok-check_nesting.ensures.ok in
     let is : IsAssignment c.args.self.now.tokens.position c.args.op =
     record { named = is_named _ c.requires.at.is.named; is = c.requires.at.is.is } in
     let p = err_from_is_err_and c.from_residual-in_err-var.result c.from_residual-in_err-var.ensures.1 in
@@ -506,7 +506,7 @@ assignment-advance-requires-clause-more g t c =
 
 pub assignment-returns-in_err-advance-clause-parses : goal.assignment-returns-in_err-advance-clause-parses
 assignment-returns-in_err-advance-clause-parses g t c =
-    let shallow : c.args.self.now.depth < 64 = c.in_ok-check_level.ensures.ok in
+    let shallow : c.args.self.now.depth < 64 = c.in_ok-check_nesting.ensures.ok in
     let is : IsAssignment c.args.self.now.tokens.position c.args.op =
     record { named = is_named _ c.requires.at.is.named; is = c.requires.at.is.is } in
     let p = err_from_is_err_and c.from_residual-in_err-advance.result c.from_residual-in_err-advance.ensures.1 in
@@ -518,7 +518,7 @@ assignment-returns-in_err-advance-clause-parses g t c =
 
 pub assignment-returns-in_err-right_side-clause-parses : goal.assignment-returns-in_err-right_side-clause-parses
 assignment-returns-in_err-right_side-clause-parses g t c =
-    let shallow : c.args.self.now.depth < 64 = c.in_ok-check_level.ensures.ok in
+    let shallow : c.args.self.now.depth < 64 = c.in_ok-check_nesting.ensures.ok in
     let is : IsAssignment c.args.self.now.tokens.position c.args.op =
     record { named = is_named _ c.requires.at.is.named; is = c.requires.at.is.is } in
     let p = err_from_is_err_and c.from_residual-in_err-right_side.result c.from_residual-in_err-right_side.ensures.1 in
@@ -531,7 +531,7 @@ assignment-returns-in_err-right_side-clause-parses g t c =
 
 pub assignment-act-requires : goal.assignment-act-requires
 assignment-act-requires g t c =
-    let shallow : c.args.self.now.depth < 64 = c.in_ok-check_level.ensures.ok in
+    let shallow : c.args.self.now.depth < 64 = c.in_ok-check_nesting.ensures.ok in
     record {
       follows =
           store_follows _ _ c.args.self.now.depth c.args.op c.in_ok-var.var c.in_ok-right_side.ensures.parses.tree
@@ -542,7 +542,7 @@ assignment-act-requires g t c =
 
 pub assignment-returns-clause-parses : goal.assignment-returns-clause-parses
 assignment-returns-clause-parses g t c =
-    let shallow : c.args.self.now.depth < 64 = c.in_ok-check_level.ensures.ok in
+    let shallow : c.args.self.now.depth < 64 = c.in_ok-check_nesting.ensures.ok in
     let is : IsAssignment c.args.self.now.tokens.position c.args.op =
     record { named = is_named _ c.requires.at.is.named; is = c.requires.at.is.is } in
     assignment_adds _ _ _ c.args.self.now.tokens.position _ _ _ c.args.self.now.depth c.args.op c.in_ok-var.var is
@@ -582,7 +582,7 @@ arguments-expression-requires-in-loop-self g t c κs within =
 
 pub call-arguments-requires : goal.call-arguments-requires
 call-arguments-requires g t c κs within =
-    let shallow : c.args.self.now.depth < 64 = c.in_ok-check_level.ensures.ok in
+    let shallow : c.args.self.now.depth < 64 = c.in_ok-check_nesting.ensures.ok in
     let opened : HasRoom (g.B.Build.stands c.act.new.self) (room (c.args.self.now.depth + 1) 1) =
     arguments_room (g.B.Build.stands c.args.self.now.builder.now) (g.B.Build.stands c.act.new.self)
     c.args.self.now.depth shallow
@@ -607,18 +607,18 @@ levels-operand-requires g t c κs within =
 
 pub operand-levels-requires : goal.operand-levels-requires
 operand-levels-requires g t c κs within =
-    let opened : HasRoom (g.B.Build.stands c.tell_middle.new.build)
+    let opened : HasRoom (g.B.Build.stands c.report_middle.new.build)
     (room c.args.self.now.depth (c.args.binary.level + 1)) =
-    right_has_room (g.B.Build.stands c.args.self.now.builder.now) (g.B.Build.stands c.tell_middle.new.build)
+    right_has_room (g.B.Build.stands c.args.self.now.builder.now) (g.B.Build.stands c.report_middle.new.build)
     c.args.self.now.depth
     c.args.binary.level c.args.binary.op _ (at_its_own _ c.args.binary c.requires.at.is) c.requires.at.builder
-    c.in_ok-tell_middle.ensures.told in
+    c.in_ok-report_middle.ensures.told in
     let most : c.args.binary.level ≤ 10 = ten_levels _ c.args.binary c.requires.at.is in
     search (rules, opened, most)
 
 pub unary_operation-unary-requires : goal.unary_operation-unary-requires
 unary_operation-unary-requires g t c κs within =
-    let shallow : c.args.self.now.depth < 64 = c.in_ok-check_level.ensures.ok in
+    let shallow : c.args.self.now.depth < 64 = c.in_ok-check_nesting.ensures.ok in
     let opened : HasRoom (g.B.Build.stands c.tell_before_operand.new.build) (room (c.args.self.now.depth + 1) 11) =
     operand_room (g.B.Build.stands c.args.self.now.builder.now) (g.B.Build.stands c.tell_before_operand.new.build)
     c.args.sign
@@ -639,12 +639,12 @@ primary-returns-in_default-2 g t c =
       bracket = misses;
     } in
     record {
-      parses = rw c.misfit.ensures (record {
+      parses = rw c.unexpected_token.ensures (record {
         refused = primary_misfits c.args.self.now.tokens.position _ c.requires.at.ready.near c.args.self.now.depth
             c.requires.at.ready.sound none;
         grown = source_grown _ _ _;
       });
-      kept = rw c.misfit.ensures (record {
+      kept = rw c.unexpected_token.ensures (record {
         tokens = record { borrows = refl; account = refl; took = record { rest = λ total h. h } };
         builder = refl;
       });
@@ -743,7 +743,7 @@ call-returns-clause-kept g t c = record {
 pub unary_operation-returns-in_err-tell_before_operand-clause-parses :
     goal.unary_operation-returns-in_err-tell_before_operand-clause-parses
 unary_operation-returns-in_err-tell_before_operand-clause-parses g t c =
-    let shallow : c.args.self.now.depth < 64 = c.in_ok-check_level.ensures.ok in
+    let shallow : c.args.self.now.depth < 64 = c.in_ok-check_nesting.ensures.ok in
     let p =
     err_from_is_err_and c.from_residual-in_err-tell_before_operand.result
     c.from_residual-in_err-tell_before_operand.ensures.1 in
@@ -761,7 +761,7 @@ unary_operation-returns-in_err-tell_before_operand-clause-parses g t c =
 pub unary_operation-returns-in_err-tell_after_operand-clause-parses :
     goal.unary_operation-returns-in_err-tell_after_operand-clause-parses
 unary_operation-returns-in_err-tell_after_operand-clause-parses g t c =
-    let shallow : c.args.self.now.depth < 64 = c.in_ok-check_level.ensures.ok in
+    let shallow : c.args.self.now.depth < 64 = c.in_ok-check_nesting.ensures.ok in
     let p =
     err_from_is_err_and c.from_residual-in_err-tell_after_operand.result
     c.from_residual-in_err-tell_after_operand.ensures.1 in
@@ -781,16 +781,16 @@ unary_operation-returns-in_err-tell_after_operand-clause-parses g t c =
       grown = memory_grown _ _;
     })
 
-pub operand-returns-in_err-tell_middle-clause-parses : goal.operand-returns-in_err-tell_middle-clause-parses
-operand-returns-in_err-tell_middle-clause-parses g t c =
+pub operand-returns-in_err-report_middle-clause-parses : goal.operand-returns-in_err-report_middle-clause-parses
+operand-returns-in_err-report_middle-clause-parses g t c =
     let p =
-    err_from_is_err_and c.from_residual-in_err-tell_middle.result c.from_residual-in_err-tell_middle.ensures.1 in
+    err_from_is_err_and c.from_residual-in_err-report_middle.result c.from_residual-in_err-report_middle.ensures.1 in
     rw (p.1, p.2) (record {
       refused =
           right_refused _ c.args.self.now.tokens.position _ c.args.self.now.depth c.args.binary.level c.args.binary.op _
           refusal.Memory
           (at_its_own _ c.args.binary c.requires.at.is) c.in_ok-advance.ensures.consumes (
-            refuses c.in_err-tell_middle.field-0.0 _ c.in_err-tell_middle.ensures.memory,
+            refuses c.in_err-report_middle.field-0.0 _ c.in_err-report_middle.ensures.memory,
             halts_here c.args.self.now.depth (Part (Level (c.args.binary.level + 1)) ∷ []) [] _ _
                 c.in_ok-advance.ensures.kept.ready.near,
           );
@@ -806,7 +806,7 @@ operand-returns-in_err-act-clause-parses g t c =
         λ left. halts _ _ _ _ _ _ _ _
             ((operand_adds _ _ _ unknown c.args.self.now.tokens.position _ _ c.args.self.now.depth c.args.binary.level
             c.args.binary.op (at_its_own _ c.args.binary c.requires.at.is)
-            c.in_ok-advance.ensures.consumes c.in_ok-tell_middle.ensures.told
+            c.in_ok-advance.ensures.consumes c.in_ok-report_middle.ensures.told
             c.in_ok-levels.ensures.parses.0 (λ profile acts h. tt)
             c.in_ok-levels.ensures.kept.tokens.ready.sound).derives
             left) c.in_ok-levels.ensures.kept.tokens.ready.near,
@@ -816,7 +816,7 @@ operand-returns-in_err-act-clause-parses g t c =
 
 pub call-returns-in_err-act-clause-parses : goal.call-returns-in_err-act-clause-parses
 call-returns-in_err-act-clause-parses g t c =
-    let shallow : c.args.self.now.depth < 64 = c.in_ok-check_level.ensures.ok in
+    let shallow : c.args.self.now.depth < 64 = c.in_ok-check_nesting.ensures.ok in
     let is : IsCall c.args.self.now.tokens.position c.args.self.now.depth =
     record { named = is_named _ c.requires.at.is.named; fits = c.requires.at.is.is; shallow = shallow } in
     let p = err_from_is_err_and c.from_residual-in_err-act.result c.from_residual-in_err-act.ensures.1 in
@@ -831,7 +831,7 @@ call-returns-in_err-act-clause-parses g t c =
 
 pub call-returns-in_err-act-2-clause-parses : goal.call-returns-in_err-act-2-clause-parses
 call-returns-in_err-act-2-clause-parses g t c =
-    let shallow : c.args.self.now.depth < 64 = c.in_ok-check_level.ensures.ok in
+    let shallow : c.args.self.now.depth < 64 = c.in_ok-check_nesting.ensures.ok in
     let is : IsCall c.args.self.now.tokens.position c.args.self.now.depth =
     record { named = is_named _ c.requires.at.is.named; fits = c.requires.at.is.is; shallow = shallow } in
     let p = err_from_is_err_and c.from_residual-in_err-act-2.result c.from_residual-in_err-act-2.ensures.1 in
@@ -854,7 +854,7 @@ call-returns-in_err-act-2-clause-parses g t c =
 
 pub assignment-returns-in_err-act-clause-parses : goal.assignment-returns-in_err-act-clause-parses
 assignment-returns-in_err-act-clause-parses g t c =
-    let shallow : c.args.self.now.depth < 64 = c.in_ok-check_level.ensures.ok in
+    let shallow : c.args.self.now.depth < 64 = c.in_ok-check_nesting.ensures.ok in
     let is : IsAssignment c.args.self.now.tokens.position c.args.op =
     record { named = is_named _ c.requires.at.is.named; is = c.requires.at.is.is } in
     let p = err_from_is_err_and c.from_residual-in_err-act.result c.from_residual-in_err-act.ensures.1 in

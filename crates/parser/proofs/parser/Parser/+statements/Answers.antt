@@ -6,7 +6,7 @@ use Rattle.tokens.specs.declared.located_tokens.Punctuator.TheVariants as punctu
 use Rattle.tokens.specs.declared.located_tokens.Token.TheVariants as token
 use Rattle.tokens.specs.declared.located_tokens.Keyword.TheVariants as keyword
 use Rattle.grammar.specs.Derivation.{ABody}
-use Rattle.grammar.specs.Grammar.{ElsePart, Make, Part, Repeat, Close, Statement, is_fault, is_punctuator, is_keyword}
+use Rattle.grammar.specs.Grammar.{ElsePart, Make, Part, Repeat, Close, Statement, is_lexical_error, is_punctuator, is_keyword}
 use Rattle.parser.specs.Room.{HasStatementRoom, room}
 use Rattle.grammar.specs.Following.{InBranch}
 use Rattle.parser.specs.Branches.{HasInside, before_else}
@@ -478,7 +478,7 @@ statements-loop-self-init g t c = record {
 
 pub statements-loop-self-preserved : goal.statements-loop-self-preserved
 statements-loop-self-preserved g t c =
-    let sound : is_fault c.loop-self.self.tokens.position.lookahead.cursor.next.token ≡ false =
+    let sound : is_lexical_error c.loop-self.self.tokens.position.lookahead.cursor.next.token ≡ false =
     c.loop-self.invariant.kept.tokens.ready.sound in
     let other : is_punctuator punctuator.CloseCurly c.loop-self.self.tokens.position.lookahead.cursor.next.token ≡
     false =
@@ -495,7 +495,7 @@ statements-loop-self-preserved g t c =
 
 pub statements-returns-in_err-statement-clause-parses : goal.statements-returns-in_err-statement-clause-parses
 statements-returns-in_err-statement-clause-parses g t c =
-    let sound : is_fault c.loop-self.self.tokens.position.lookahead.cursor.next.token ≡ false =
+    let sound : is_lexical_error c.loop-self.self.tokens.position.lookahead.cursor.next.token ≡ false =
     c.loop-self.invariant.kept.tokens.ready.sound in
     let other : is_punctuator punctuator.CloseCurly c.loop-self.self.tokens.position.lookahead.cursor.next.token ≡
     false =
@@ -515,7 +515,7 @@ statements-returns-in_err-statement-clause-parses g t c =
 
 pub statements-returns-clause-parses : goal.statements-returns-clause-parses
 statements-returns-clause-parses g t c =
-    let sound : is_fault c.loop-self.self.tokens.position.lookahead.cursor.next.token ≡ false =
+    let sound : is_lexical_error c.loop-self.self.tokens.position.lookahead.cursor.next.token ≡ false =
     c.loop-self.invariant.kept.tokens.ready.sound in
     let is : is_punctuator punctuator.CloseCurly c.loop-self.self.tokens.position.lookahead.cursor.next.token ≡ true =
     punctuator_tested punctuator.CloseCurly c.peek.result.now _ c.is_punctuator.result true c.peek.ensures.value
@@ -526,7 +526,7 @@ statements-returns-clause-parses g t c =
 
 pub else_part-returns-in_err-advance-clause-parses : goal.else_part-returns-in_err-advance-clause-parses
 else_part-returns-in_err-advance-clause-parses g t c =
-    let sound : is_fault c.args.self.now.tokens.position.lookahead.cursor.next.token ≡ false =
+    let sound : is_lexical_error c.args.self.now.tokens.position.lookahead.cursor.next.token ≡ false =
     c.requires.at.ready.sound in
     let is : is_keyword keyword.Else c.args.self.now.tokens.position.lookahead.cursor.next.token ≡ true =
     word_tested keyword.Else c.peek.result.now _ c.is_keyword.result true c.peek.ensures.value c.is_keyword.ensures
@@ -540,7 +540,7 @@ else_part-returns-in_err-advance-clause-parses g t c =
 
 pub else_part-returns-in_err-statement-clause-parses : goal.else_part-returns-in_err-statement-clause-parses
 else_part-returns-in_err-statement-clause-parses g t c =
-    let sound : is_fault c.args.self.now.tokens.position.lookahead.cursor.next.token ≡ false =
+    let sound : is_lexical_error c.args.self.now.tokens.position.lookahead.cursor.next.token ≡ false =
     c.requires.at.ready.sound in
     let is : is_keyword keyword.Else c.args.self.now.tokens.position.lookahead.cursor.next.token ≡ true =
     word_tested keyword.Else c.peek.result.now _ c.is_keyword.result true c.peek.ensures.value c.is_keyword.ensures
@@ -556,7 +556,7 @@ else_part-returns-in_err-statement-clause-parses g t c =
 
 pub else_part-returns-in_ok-statement-clause-parses : goal.else_part-returns-in_ok-statement-clause-parses
 else_part-returns-in_ok-statement-clause-parses g t c =
-    let sound : is_fault c.args.self.now.tokens.position.lookahead.cursor.next.token ≡ false =
+    let sound : is_lexical_error c.args.self.now.tokens.position.lookahead.cursor.next.token ≡ false =
     c.requires.at.ready.sound in
     let is : is_keyword keyword.Else c.args.self.now.tokens.position.lookahead.cursor.next.token ≡ true =
     word_tested keyword.Else c.peek.result.now _ c.is_keyword.result true c.peek.ensures.value c.is_keyword.ensures
@@ -567,7 +567,7 @@ else_part-returns-in_ok-statement-clause-parses g t c =
 
 pub else_part-returns-else-is_keyword-clause-parses : goal.else_part-returns-else-is_keyword-clause-parses
 else_part-returns-else-is_keyword-clause-parses g t c =
-    let sound : is_fault c.args.self.now.tokens.position.lookahead.cursor.next.token ≡ false =
+    let sound : is_lexical_error c.args.self.now.tokens.position.lookahead.cursor.next.token ≡ false =
     c.requires.at.ready.sound in
     let other : is_keyword keyword.Else c.args.self.now.tokens.position.lookahead.cursor.next.token ≡ false =
     word_tested keyword.Else c.peek.result.now _ c.is_keyword.result false c.peek.ensures.value c.is_keyword.ensures
@@ -579,7 +579,7 @@ else_part-returns-else-is_keyword-clause-parses g t c =
 pub statement-returns-in_err-expect-in-Punctuator-Semicolon-clause-parses :
     goal.statement-returns-in_err-expect-in-Punctuator-Semicolon-clause-parses
 statement-returns-in_err-expect-in-Punctuator-Semicolon-clause-parses g t c =
-    let sound : is_fault c.args.self.now.tokens.position.lookahead.cursor.next.token ≡ false =
+    let sound : is_lexical_error c.args.self.now.tokens.position.lookahead.cursor.next.token ≡ false =
     c.requires.at.ready.sound in
     let at : c.args.self.now.tokens.position.lookahead.cursor.next.token ≡ token.Punctuator punctuator.Semicolon =
     search rules in
@@ -596,7 +596,7 @@ statement-returns-in_err-expect-in-Punctuator-Semicolon-clause-parses g t c =
 pub statement-returns-in_ok-expect-in-Punctuator-Semicolon-clause-parses :
     goal.statement-returns-in_ok-expect-in-Punctuator-Semicolon-clause-parses
 statement-returns-in_ok-expect-in-Punctuator-Semicolon-clause-parses g t c =
-    let sound : is_fault c.args.self.now.tokens.position.lookahead.cursor.next.token ≡ false =
+    let sound : is_lexical_error c.args.self.now.tokens.position.lookahead.cursor.next.token ≡ false =
     c.requires.at.ready.sound in
     let at : c.args.self.now.tokens.position.lookahead.cursor.next.token ≡ token.Punctuator punctuator.Semicolon =
     search rules in

@@ -3,7 +3,7 @@ use Rattle.std.proofs.lemmas.Result.{err_from_is_err_and}
 use Rattle.tokens.specs.declared.located_tokens.LocatedToken.{LocatedToken}
 use Rattle.tokens.specs.declared.located_tokens.Token.TheVariants as token
 use Rattle.tokens.specs.declared.located_tokens.Keyword.TheVariants as keyword
-use Rattle.grammar.specs.Grammar.{is_fault, is_keyword}
+use Rattle.grammar.specs.Grammar.{is_lexical_error, is_keyword}
 use Rattle.parser.specs.Progress.{at_source}
 use Rattle.parser.proofs.Choosing.{function_read, function_refused, source_misfits, source_named}
 use Rattle.parser.proofs.parser.Parser.file_part.Goals as goal
@@ -20,18 +20,18 @@ returns-in_err-function-clause-reads g c =
 
 pub returns-in_default : goal.returns-in_default
 returns-in_default g c =
-    let sound : is_fault c.args.self.now.tokens.position.lookahead.cursor.next.token ≡ false =
+    let sound : is_lexical_error c.args.self.now.tokens.position.lookahead.cursor.next.token ≡ false =
     c.requires.at.ready.sound in
     let other : is_keyword keyword.Type c.args.self.now.tokens.position.lookahead.cursor.next.token ≡ false = cc in
     record {
       reads =
-          rw c.misfit.ensures (source_misfits (g.B.Build.stands c.args.self.now.builder.now) _ _
+          rw c.unexpected_token.ensures (source_misfits (g.B.Build.stands c.args.self.now.builder.now) _ _
           c.requires.at.ready.near
           sound
           c.requires.at.is other
           (λ name same. c.in_default.not-Name name
           (ap (λ (l : LocatedToken). l.token) c.peek-else-is_keyword.ensures.value ∙ same)));
-      kept = rw c.misfit.ensures (record {
+      kept = rw c.unexpected_token.ensures (record {
         tokens = record { borrows = refl; account = refl; took = record { rest = λ total h. h } };
         builder = refl;
       });

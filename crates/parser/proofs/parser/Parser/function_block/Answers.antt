@@ -2,7 +2,7 @@ use Rattle.std.proofs.Common.{◌≡◌, ℕ, ◌+◌, [], ◌∷◌, true, fals
 use Rattle.std.proofs.lemmas.Result.{err_from_is_err_and}
 use Rattle.tokens.specs.declared.located_tokens.Punctuator.TheVariants as punctuator
 use Rattle.grammar.specs.Derivation.{ABody}
-use Rattle.grammar.specs.Grammar.{Declarations, FunctionBlock, Part, Statements, is_fault, is_punctuator}
+use Rattle.grammar.specs.Grammar.{Declarations, FunctionBlock, Part, Statements, is_lexical_error, is_punctuator}
 use Rattle.grammar.specs.Tree.{Done}
 use Rattle.parser.specs.Segment.{FailsAt}
 use Rattle.parser.specs.Statements.{FailsBody}
@@ -15,12 +15,12 @@ use Rattle.parser.proofs.parser.Parser.function_block.Goals as goal
 
 pub returns-then-not-is_punctuator-clause-parses : goal.returns-then-not-is_punctuator-clause-parses
 returns-then-not-is_punctuator-clause-parses g c =
-    let sound : is_fault c.args.self.now.tokens.position.lookahead.cursor.next.token ≡ false =
+    let sound : is_lexical_error c.args.self.now.tokens.position.lookahead.cursor.next.token ≡ false =
     c.requires.at.ready.sound in
     let misses : is_punctuator punctuator.OpenCurly c.args.self.now.tokens.position.lookahead.cursor.next.token ≡
     false =
     cc in
-    rw c.misfit.ensures (record {
+    rw c.unexpected_token.ensures (record {
       refused = brace_misfits _ _ c.requires.at.ready.near sound misses;
       grown = source_grown _ _ _;
     })

@@ -3,7 +3,7 @@ use Rattle.std.proofs.lemmas.Result.{err_from_is_err_and}
 use Rattle.tokens.specs.declared.located_tokens.LocatedToken.{LocatedToken}
 use Rattle.tokens.specs.declared.located_tokens.Punctuator.TheVariants as punctuator
 use Rattle.tokens.specs.declared.located_tokens.Token.TheVariants as token
-use Rattle.grammar.specs.Grammar.{is_fault, is_punctuator}
+use Rattle.grammar.specs.Grammar.{is_lexical_error, is_punctuator}
 use Rattle.parser.proofs.Choosing.{at_head, externals_read, externals_refused, function_read, function_refused, head_defined, head_misfits}
 use Rattle.parser.proofs.parser.Parser.head.Goals as goal
 
@@ -37,13 +37,13 @@ returns-in_err-external_declaration-in-Name-2-clause-reads g c =
 
 pub returns-in_default : goal.returns-in_default
 returns-in_default g c =
-    let sound : is_fault c.args.self.now.tokens.position.lookahead.cursor.next.token ≡ false =
+    let sound : is_lexical_error c.args.self.now.tokens.position.lookahead.cursor.next.token ≡ false =
     c.requires.at.ready.sound in
     record {
-      reads = rw c.misfit.ensures
+      reads = rw c.unexpected_token.ensures
           (head_misfits (g.B.Build.stands c.args.self.now.builder.now) _ _ c.requires.at.ready.near sound
           (λ name same. c.in_default.not-Name name (ap (λ (l : LocatedToken). l.token) c.peek.ensures.value ∙ same)));
-      kept = rw c.misfit.ensures (record {
+      kept = rw c.unexpected_token.ensures (record {
         tokens = record { borrows = refl; account = refl; took = record { rest = λ total h. h } };
         builder = refl;
       });

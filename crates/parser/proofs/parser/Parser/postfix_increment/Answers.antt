@@ -5,10 +5,10 @@ use Rattle.grammar.specs.Tree.{Postfix}
 use Rattle.parser.proofs.Advances.{on, on_then}
 use Rattle.parser.proofs.Growing.{grown, grown_behind, grown_nothing, memory_grown, refuses}
 use Rattle.parser.specs.UnaryOps.{increment_store_op}
-use Rattle.parser.proofs.TellingLaws.{next_follows}
+use Rattle.parser.proofs.ReportingLaws.{next_follows}
 use Rattle.parser.proofs.OperandLaws.{behind_adds, behind_halts, behind_punctuator_ends, behind_name_ends, is_named, tree_follows}
 use Rattle.parser.proofs.parser.Parser.postfix_increment.Goals as goal
-use Rattle.grammar.proofs.StandingLaws.{appends_both, may_first}
+use Rattle.grammar.proofs.RepresentationLaws.{appends_both, may_first}
 
 pub returns-in_err-var-clause-parses : goal.returns-in_err-var-clause-parses
 returns-in_err-var-clause-parses g c =

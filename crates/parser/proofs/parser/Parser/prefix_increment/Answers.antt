@@ -6,7 +6,7 @@ use Rattle.parser.proofs.Advances.{on, on_then}
 use Rattle.parser.proofs.Growing.{grown_nothing, memory_grown, refuses, unknown}
 use Rattle.parser.proofs.Segments.{halts}
 use Rattle.parser.specs.UnaryOps.{increment_store_op}
-use Rattle.parser.proofs.TellingLaws.{next_follows}
+use Rattle.parser.proofs.ReportingLaws.{next_follows}
 use Rattle.parser.proofs.OperandLaws.{before_adds, before_punctuator_ends, before_name_ends, constant_follows, tree_follows}
 use Rattle.parser.proofs.parser.Parser.prefix_increment.Goals as goal
 

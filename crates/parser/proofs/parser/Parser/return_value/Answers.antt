@@ -1,7 +1,7 @@
 use Rattle.std.proofs.Common.{refl, ◌≡◌, [], ◌∷◌, true, false}
 use Rattle.std.proofs.lemmas.Result.{err_from_is_err_and}
 use Rattle.tokens.specs.declared.located_tokens.Punctuator.TheVariants as punctuator
-use Rattle.grammar.specs.Grammar.{Back, Part, is_fault, is_punctuator}
+use Rattle.grammar.specs.Grammar.{Back, Part, is_lexical_error, is_punctuator}
 use Rattle.parser.proofs.Advances.{stays_ready}
 use Rattle.parser.proofs.Keeping.{went}
 use Rattle.parser.proofs.Growing.{memory_grown, refuses}
@@ -16,7 +16,7 @@ act-requires g c = record { follows = may_push _ (room c.args.self.now.depth 1) 
 
 pub returns-then-is_punctuator-clause-parses : goal.returns-then-is_punctuator-clause-parses
 returns-then-is_punctuator-clause-parses g c =
-    let sound : is_fault c.args.self.now.tokens.position.lookahead.cursor.next.token ≡ false =
+    let sound : is_lexical_error c.args.self.now.tokens.position.lookahead.cursor.next.token ≡ false =
     c.requires.at.ready.sound in
     let is : is_punctuator punctuator.Semicolon c.args.self.now.tokens.position.lookahead.cursor.next.token ≡ true =
     cc in
@@ -24,7 +24,7 @@ returns-then-is_punctuator-clause-parses g c =
 
 pub returns-in_err-expression-clause-parses : goal.returns-in_err-expression-clause-parses
 returns-in_err-expression-clause-parses g c =
-    let sound : is_fault c.args.self.now.tokens.position.lookahead.cursor.next.token ≡ false =
+    let sound : is_lexical_error c.args.self.now.tokens.position.lookahead.cursor.next.token ≡ false =
     c.requires.at.ready.sound in
     let other : is_punctuator punctuator.Semicolon c.args.self.now.tokens.position.lookahead.cursor.next.token ≡ false =
     cc in
@@ -37,7 +37,7 @@ returns-in_err-expression-clause-parses g c =
 
 pub returns-clause-parses : goal.returns-clause-parses
 returns-clause-parses g c =
-    let sound : is_fault c.args.self.now.tokens.position.lookahead.cursor.next.token ≡ false =
+    let sound : is_lexical_error c.args.self.now.tokens.position.lookahead.cursor.next.token ≡ false =
     c.requires.at.ready.sound in
     let other : is_punctuator punctuator.Semicolon c.args.self.now.tokens.position.lookahead.cursor.next.token ≡ false =
     cc in

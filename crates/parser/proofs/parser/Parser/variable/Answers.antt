@@ -6,7 +6,7 @@ use Rattle.parser.proofs.Growing.{grown_nothing, memory_grown, refuses, unknown}
 use Rattle.parser.proofs.Segments.{halts}
 use Rattle.parser.proofs.OperandLaws.{NoStep, fetch_adds, fetch_ends, is_named, tree_follows}
 use Rattle.parser.proofs.parser.Parser.variable.Goals as goal
-use Rattle.grammar.proofs.StandingLaws.{may_first}
+use Rattle.grammar.proofs.RepresentationLaws.{may_first}
 
 pub returns-in_err-var-clause-parses : goal.returns-in_err-var-clause-parses
 returns-in_err-var-clause-parses g c =

@@ -1,6 +1,6 @@
 use Rattle.std.proofs.Common.{◌≡◌, ◌∙◌, length, sym, ap}
 use Rattle.std.proofs.lemmas.List.{length-map}
-use Rattle.battles.specs.Battle.{opening}
+use Rattle.battles.specs.Battle.{first_state}
 use Rattle.battles.proofs.Beginnings.{opening_reached}
 use Rattle.battles.proofs.Cycles.{stage_none}
 use Rattle.playing.specs.Played.{codes_of, exes_of, plainly, runners_of}
@@ -10,7 +10,7 @@ use Rattle.playing.proofs.games.Game.new.Goals as goal
 pub returns-clause-battle : goal.returns-clause-battle
 returns-clause-battle c = λ robots are.
     let codes = codes_of c.args.pilots.now in
-    let s = opening (length robots) c.args.seed c.args.number in
+    let s = first_state (length robots) c.args.seed c.args.number in
     let all : length c.begin.new.pilots ≡ length (exes_of codes) =
     sym (codes_length c.begin.new.pilots) ∙ ap length c.begin.ensures.codes ∙ sym (length-map codes plainly) in
     let reached =

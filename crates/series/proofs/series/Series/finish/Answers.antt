@@ -4,8 +4,8 @@ use Rattle.grammar.specs.Tree.{File}
 use Rattle.series.specs.SeriesSteps.{Series}
 use Rattle.series.specs.RobotNames.{robot_names}
 use Rattle.series.specs.Outcomes.{totals_text}
-use Rattle.sinks.specs.Portions.{Takes, TakesFront}
-use Rattle.series.proofs.CoursesLemmas.{totals_are}
+use Rattle.sinks.specs.Portions.{Takes, TakesPrefix}
+use Rattle.series.proofs.SeriesLemmas.{totals_are}
 use Rattle.series.proofs.series.Series.finish.Goals as goal
 
 pub returns-in-Ok-clause-text : goal.returns-in-Ok-clause-text
@@ -28,7 +28,7 @@ pub returns-in-Err-clause-text : goal.returns-in-Err-clause-text
 returns-in-Err-clause-text g c = λ going.
     let Text : Series → Type 0 =
     λ s. s.played ≡ s.settings.matches → (files : List File) → AreProgramsOf s.programs s.settings.profile files
-    → TakesFront (g.S.Sink.written c.args.out.now).portions (g.S.Sink.written c.put_totals.new.sink).portions
+    → TakesPrefix (g.S.Sink.written c.args.out.now).portions (g.S.Sink.written c.put_totals.new.sink).portions
     (totals_text s.settings files)
     × ((g.S.Sink.written c.put_totals.new.sink).failures ≡ (g.S.Sink.written c.args.out.now).failures + 1) in
     let within = c.file_words.ensures.within in

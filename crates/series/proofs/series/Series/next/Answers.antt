@@ -7,8 +7,8 @@ use Rattle.settings.specs.Settings.{Settings}
 use Rattle.series.specs.SeriesSteps.{Series, next_text, next_step}
 use Rattle.series.specs.RobotNames.{robot_names}
 use Rattle.series.specs.Outcomes.{outcomes}
-use Rattle.sinks.specs.Portions.{Takes, TakesFront}
-use Rattle.series.proofs.CoursesLemmas.{is_left, next_is, outcome_is, outcomes_more, step_is}
+use Rattle.sinks.specs.Portions.{Takes, TakesPrefix}
+use Rattle.series.proofs.SeriesLemmas.{is_left, next_is, outcome_is, outcomes_more, step_is}
 use Rattle.series.proofs.TextsLemmas.{length_paired}
 use Rattle.series.proofs.series.Series.next.Goals as goal
 
@@ -68,7 +68,7 @@ pub returns-in-Err-clause-text : goal.returns-in-Err-clause-text
 returns-in-Err-clause-text g c = λ going.
     let Text : Series → Type 0 = λ s. (files : List File) → AreProgramsOf s.programs s.settings.profile files
     →
-    TakesFront (g.S.Sink.written c.args.out.now).portions (g.S.Sink.written c.put_report.new.sink).portions
+    TakesPrefix (g.S.Sink.written c.args.out.now).portions (g.S.Sink.written c.put_report.new.sink).portions
     (next_text s.settings files s.played)
     × ((g.S.Sink.written c.put_report.new.sink).failures ≡ (g.S.Sink.written c.args.out.now).failures + 1) in
     let settings : Settings = c.self.inside.settings.now in

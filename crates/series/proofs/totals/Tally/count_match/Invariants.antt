@@ -1,5 +1,5 @@
 use Rattle.std.proofs.Common.{◌≡◌, ℕ, ◌+◌, ◌<◌, ◌≤◌, length, get_or}
-use Rattle.battles.specs.Battle.{alive}
+use Rattle.battles.specs.Battle.{is_survivor}
 use Rattle.series.specs.SeriesSteps.{no_score, with_match}
 use Rattle.series.specs.Totals.{survivors}
 use Rattle.series.proofs.totals.Tally.count_match.Given as goal
@@ -15,6 +15,6 @@ invariant-loop-robot l = record {
       (get_or l.fn.self.scores k no_score).lost ≡ l.fn.self.matches;
   done : (k : ℕ) → k < l.robot →
       get_or l.self-inside.scores k no_score ≡
-      with_match (get_or l.fn.self.scores k no_score) (alive l.outcome k) l.survivors;
+      with_match (get_or l.fn.self.scores k no_score) (is_survivor l.outcome k) l.survivors;
   left : (k : ℕ) → l.robot ≤ k → get_or l.self-inside.scores k no_score ≡ get_or l.fn.self.scores k no_score;
 }

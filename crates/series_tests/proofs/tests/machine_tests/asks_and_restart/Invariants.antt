@@ -1,5 +1,5 @@
-use Rattle.code.specs.ReachedMachines.{FitsProgram}
+use Rattle.code.specs.ReachedMachines.{IsReachable}
 use Rattle.series_tests.proofs.tests.machine_tests.asks_and_restart.Given as goal
 
 abbrev pub invariant-loop-cycle : goal.invariant-loop-cycle
-invariant-loop-cycle l = FitsProgram l.machine l.program
+invariant-loop-cycle l = IsReachable l.machine l.program

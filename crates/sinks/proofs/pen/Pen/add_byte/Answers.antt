@@ -1,6 +1,6 @@
 use Rattle.std.proofs.Common.{◌≡◌, ◌+◌, ◌<◌, length, [], ◌∷◌, true, sym, ap, ◌∙◌, arith}
 use Rattle.sinks.specs.Portions.{buffer_bytes}
-use Rattle.sinks.proofs.DraftLemmas.{nothing_more, not_failed, too_long}
+use Rattle.sinks.proofs.PenLemmas.{nothing_more, not_failed, too_long}
 use Rattle.sinks.proofs.pen.Pen.add_byte.Goals as goal
 use Rattle.sinks.proofs.pen.Pen.add_byte.Goals.{then-remaining_capacity-eq0, else-remaining_capacity-eq0}
 

@@ -1,5 +1,5 @@
 use Rattle.std.proofs.Common.{rules}
-use Rattle.sinks.proofs.DraftLemmas.{piece_put}
+use Rattle.sinks.proofs.PenLemmas.{piece_put}
 use Rattle.sinks.proofs.pen.Pen.finish.Goals as goal
 
 pub returns : goal.returns

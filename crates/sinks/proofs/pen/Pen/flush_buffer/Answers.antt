@@ -1,5 +1,5 @@
 use Rattle.std.proofs.Common.{rules}
-use Rattle.sinks.proofs.DraftLemmas.{page_put}
+use Rattle.sinks.proofs.PenLemmas.{page_put}
 use Rattle.sinks.proofs.pen.Pen.flush_buffer.Goals as goal
 
 pub returns-then-not-self-clause-text : goal.returns-then-not-self-clause-text

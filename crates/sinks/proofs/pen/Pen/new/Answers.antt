@@ -1,5 +1,5 @@
 use Rattle.std.proofs.Common.{rules}
-use Rattle.sinks.proofs.DraftLemmas.{writes_nothing}
+use Rattle.sinks.proofs.PenLemmas.{writes_nothing}
 use Rattle.sinks.proofs.pen.Pen.new.Goals as goal
 
 pub returns-clause-text : goal.returns-clause-text

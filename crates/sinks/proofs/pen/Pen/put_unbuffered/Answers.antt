@@ -1,5 +1,5 @@
 use Rattle.std.proofs.Common.{rules}
-use Rattle.sinks.proofs.DraftLemmas.{fragment_put}
+use Rattle.sinks.proofs.PenLemmas.{fragment_put}
 use Rattle.sinks.proofs.pen.Pen.put_unbuffered.Goals as goal
 
 pub returns-then-not-self-clause-text : goal.returns-then-not-self-clause-text

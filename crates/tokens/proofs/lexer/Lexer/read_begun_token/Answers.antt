@@ -1,5 +1,5 @@
 use Rattle.std.proofs.Common.{◌∙◌, ◌-◌, ◌∷◌, [], sym, ap, refl, Some, false, List, arith}
-use Rattle.tokens.specs.Tokens.{Ahead, located_tokens}
+use Rattle.tokens.specs.Tokens.{UnreadSource, located_tokens}
 use Rattle.tokens.specs.Window.{ahead}
 use Rattle.tokens.specs.declared.located_tokens.LexicalError.TheVariants.{BadCharacter}
 use Rattle.tokens.specs.declared.located_tokens.Token.TheVariants as variant
@@ -8,9 +8,9 @@ use Rattle.tokens.specs.Lexing.{followed, token_ending, in_name, in_constant, in
 use Rattle.tokens.proofs.ToRead.{to_read-pass, to_read-here}
 use Rattle.tokens.proofs.BeginLemmas.{name-begins, constant-begins, other-begins, bad-begins}
 use Rattle.tokens.proofs.TakenLemmas.{finds-reads, found-here, found-reads}
-use Rattle.tokens.proofs.AtHandLemmas.{punctuator_front-ends_before}
+use Rattle.tokens.proofs.AtHandLemmas.{punctuator_element-ends_before}
 use Rattle.tokens.proofs.PunctuatorLemmas.{no-digit}
-use Rattle.tokens.proofs.TokenLemmas.{punctuator_front-whole}
+use Rattle.tokens.proofs.TokenLemmas.{punctuator_element-whole}
 use Rattle.tokens.proofs.lexer.Lexer.read_begun_token.Goals as goal
 
 pub returns-then-is_letter-clause-reads : goal.returns-then-is_letter-clause-reads
@@ -53,7 +53,7 @@ returns-then-ends_before-clause-reads g c =
     let b = c.args.first in
     record {
       tokens =
-          punctuator_front-ends_before c.in-Some-of_byte.punctuator c.token_ending_here-then-ends_before.result
+          punctuator_element-ends_before c.in-Some-of_byte.punctuator c.token_ending_here-then-ends_before.result
           c.skip_byte.new.self _ _
           c.first_at_hand.ensures.value (c.ends_before.ensures c.if-ends_before.true)
           (λ _. c.token_ending_here-then-ends_before.ensures)
@@ -70,7 +70,7 @@ returns-then-ends_before-clause-reads g c =
 pub returns-in_default-of_byte-clause-reads : goal.returns-in_default-of_byte-clause-reads
 returns-in_default-of_byte-clause-reads g c =
     let b = c.args.first in
-    let bad : Ahead → List LocatedToken = λ a. followed (token_ending (variant.Fault BadCharacter) a) a in
+    let bad : UnreadSource → List LocatedToken = λ a. followed (token_ending (variant.Fault BadCharacter) a) a in
     record {
       tokens =
           to_read-here (followed c.token_ending_here-in_default-of_byte.result) bad c.skip_byte.new.self _
@@ -93,7 +93,7 @@ returns-in-Some-clause-reads g c =
     let whole = c.in-Some.ensures in
     record {
       tokens =
-          punctuator_front-whole punctuator c.token_ending_here.result c.skip_byte.new.self _ whole.ends
+          punctuator_element-whole punctuator c.token_ending_here.result c.skip_byte.new.self _ whole.ends
           (λ _. c.token_ending_here.ensures)
           ∙
           to_read-pass (in_punctuator punctuator) located_tokens _ _ (g.F.Feed.device c.args.feed.now).to_come (Some b)

@@ -2,8 +2,8 @@ use Rattle.std.proofs.Common.{◌≡◌, ◌∙◌, ◌++◌, ◌∷◌, sym, ar
 use Rattle.tokens.specs.Characters.{is_name_byte}
 use Rattle.tokens.specs.Lexing.{to_read, in_name, name_going_on}
 use Rattle.tokens.proofs.ToRead.{to_read-pass, to_read-seen}
-use Rattle.tokens.proofs.TokenLemmas.{name-takes, name-overflows, token_run-stops, StopsAt}
-use Rattle.tokens.proofs.TakenLemmas.{fails-finds, name-found, stops, stops-from, in_token_run-ends, name-undecided, TakesBytes-pass, TakesBytes-then, then-fails}
+use Rattle.tokens.proofs.TokenLemmas.{name-takes, name-overflows, token_span-stops, StopsAt}
+use Rattle.tokens.proofs.TakenLemmas.{fails-finds, name-found, stops, stops-from, in_token_span-ends, name-undecided, TakesBytes-pass, TakesBytes-then, then-fails}
 use Rattle.tokens.proofs.lexer.Lexer.read_name_bytewise.Goals as goal
 use Rattle.tokens.proofs.lexer.Lexer.read_name_bytewise.Goals.{then-is_full, else-is_full, in_default-via-in-Some+else-is_name_byte, in_default-via-in_default}
 
@@ -45,7 +45,7 @@ returns-in_default-clause-finds g c =
     ] in
     record {
       tokens =
-          token_run-stops is_name_byte (name_going_on c.loop-b.name c.loop-b.too_long) c.put_name_token.new.here
+          token_span-stops is_name_byte (name_going_on c.loop-b.name c.loop-b.too_long) c.put_name_token.new.here
           (name_going_on c.loop-b.name c.loop-b.too_long []) _ _ _ seen.next.ready seen.next.first stops
           (λ _. c.put_name_token.ensures.value) refl
           ∙ to_read-seen now _ _ _ _ seen.seen ∙ c.loop-b.invariant.tokens
@@ -67,7 +67,7 @@ returns-in_err-b-clause-finds g c =
     (g.F.Feed.device c.args.feed.now) (g.F.Feed.device c.peek.new.feed) _ _ (record {
       within = stops-from now (in_name (c.args.first ∷ []) false) _ _ c.peek.new.self _ _ chain
           (stops now
-          (in_token_run-ends is_name_byte (name_going_on c.loop-b.name c.loop-b.too_long)
+          (in_token_span-ends is_name_byte (name_going_on c.loop-b.name c.loop-b.too_long)
           (name-undecided c.loop-b.name c.loop-b.too_long)) c.loop-b.self.window c.peek.new.self _ seen.failed
           seen.offset.offset);
       unread = c.loop-b.invariant.here;

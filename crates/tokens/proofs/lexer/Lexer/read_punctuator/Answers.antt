@@ -1,7 +1,7 @@
 use Rattle.std.proofs.Common.{◌∙◌, sym, arith}
 use Rattle.tokens.specs.Lexing.{in_punctuator}
 use Rattle.tokens.proofs.ToRead.{to_read-seen}
-use Rattle.tokens.proofs.TokenLemmas.{punctuator_front-passes, punctuator_front-stops}
+use Rattle.tokens.proofs.TokenLemmas.{punctuator_element-passes, punctuator_element-stops}
 use Rattle.tokens.proofs.TakenLemmas.{fails-finds, found-here, stops, stops-from, in_punctuator-ends, TakesBytes-pass, TakesBytes-then, then-fails}
 use Rattle.tokens.proofs.lexer.Lexer.read_punctuator.Goals as goal
 
@@ -11,7 +11,7 @@ loop-next-preserved g c =
     let seen = c.in_ok-next.ensures in
     record {
       tokens =
-          punctuator_front-passes c.loop-next.punctuator c.in-Some.longer _ _ _ c.in_ok-next.next
+          punctuator_element-passes c.loop-next.punctuator c.in-Some.longer _ _ _ c.in_ok-next.next
           c.skip_byte.ensures.value
           seen.next.first (sym c.in-Some.ensures)
           ∙ to_read-seen now _ _ _ _ seen.seen ∙ c.loop-next.invariant.tokens;
@@ -28,7 +28,7 @@ returns-in-None-clause-finds g c =
     let seen = c.in_ok-next.ensures in
     record {
       tokens =
-          punctuator_front-stops c.loop-next.punctuator c.token_ending_here.result _ _ c.in_ok-next.next seen.next.ready
+          punctuator_element-stops c.loop-next.punctuator c.token_ending_here.result _ _ c.in_ok-next.next seen.next.ready
           seen.next.first
           (sym c.in-None.ensures) (λ _. c.token_ending_here.ensures)
           ∙ to_read-seen now _ _ _ _ seen.seen ∙ c.loop-next.invariant.tokens;

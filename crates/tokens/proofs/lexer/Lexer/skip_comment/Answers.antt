@@ -3,14 +3,14 @@ use Rattle.std.proofs.lemmas.Bool.{ne_eqb}
 use Rattle.tokens.specs.Tokens.{located_tokens}
 use Rattle.tokens.specs.Lexing.{in_comment}
 use Rattle.tokens.proofs.ToRead.{to_read-pass, to_read-seen}
-use Rattle.tokens.proofs.CommentLemmas.{in_star, comment_front-passes, star-passes, star-open, slash-closes, slash-found, plain-passes, comment_front-ended, ended-beyond}
+use Rattle.tokens.proofs.CommentLemmas.{in_star, comment_element-passes, star-passes, star-open, slash-closes, slash-found, plain-passes, comment_element-ended, ended-beyond}
 use Rattle.tokens.proofs.TakenLemmas.{on_err-from, stops, stops-from, in_comment-ends, in_star-ends, TakesBytes-pass, TakesBytes-then, then-fails}
 use Rattle.tokens.proofs.lexer.Lexer.skip_comment.Goals as goal
 
 pub returns-in-None-clause-tokens : goal.returns-in-None-clause-tokens
 returns-in-None-clause-tokens g c = λ line.
     let seen = c.in_ok-peek.ensures in
-    comment_front-ended line _ _ c.in_ok-peek.field-0 seen.next.ready seen.next.first c.in-None.is
+    comment_element-ended line _ _ c.in_ok-peek.field-0 seen.next.ready seen.next.first c.in-None.is
     ∙ to_read-seen (in_comment line) _ _ _ _ seen.seen ∙ plain-passes line _ _ _ c.skip_to_star.ensures.value ∙
     c.loop-self.invariant.tokens line
 
@@ -60,7 +60,7 @@ loop-self-preserved g c =
       tokens =
           λ line. to_read-pass (in_comment line) (in_comment line) _ _ _ _ c.in-Some.field-0
           c.skip_byte-in-Some.ensures.value seen.next.first c.in-Some.is
-          (comment_front-passes line c.in-Some.field-0 (ne_eqb _ _ c.in-Some.field-0-test.1))
+          (comment_element-passes line c.in-Some.field-0 (ne_eqb _ _ c.in-Some.field-0-test.1))
           ∙ to_read-seen (in_comment line) _ _ _ _ seen.seen ∙ plain-passes line _ _ _ c.skip_to_star.ensures.value ∙
           c.loop-self.invariant.tokens line;
       took = TakesBytes-pass c.skip_byte-in-Some.ensures.kept.taken

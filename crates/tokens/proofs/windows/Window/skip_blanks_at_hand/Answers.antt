@@ -1,9 +1,9 @@
 use Rattle.std.proofs.Common.{◌∙◌, sym, subst}
 use Rattle.std.specs.List.{between}
 use Rattle.tokens.specs.Characters.{is_blank}
-use Rattle.tokens.proofs.RunLemmas.{turned_twice}
+use Rattle.tokens.proofs.SpanLemmas.{turned_twice}
 use Rattle.tokens.proofs.TokenLemmas.{no-blanks, StopsAt}
-use Rattle.tokens.proofs.WindowLemmas.{token_run-ahead_after}
+use Rattle.tokens.proofs.WindowLemmas.{token_span-ahead_after}
 use Rattle.tokens.proofs.windows.Window.skip_blanks_at_hand.Goals as goal
 use Rattle.tokens.proofs.windows.Window.skip_blanks_at_hand.Goals.{in_default-via-in-Some+else-is_blank, in_default-via-in_default}
 
@@ -18,8 +18,8 @@ returns-in_default-clause-value c =
 pub returns-clause-value : goal.returns-clause-value
 returns-clause-value c =
     let s = c.self.inside in
-    let e = c.run_before-count.ensures in
+    let e = c.span_before-count.ensures in
     rw (← c.self.view_is)
-    (token_run-ahead_after is_blank s.line s.start s.taken s.next s.filled c.run_before-count.result.0
-    c.run_before-count.result.1 s.beyond s.bytes
+    (token_span-ahead_after is_blank s.line s.start s.taken s.next s.filled c.span_before-count.result.0
+    c.span_before-count.result.1 s.beyond s.bytes
     (e.count ∙ turned_twice is_blank (between s.next s.filled s.bytes)) e.lines)

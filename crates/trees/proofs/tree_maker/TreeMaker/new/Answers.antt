@@ -1,5 +1,5 @@
 use Rattle.std.proofs.Common.{arith}
-use Rattle.trees.proofs.StandingLaws.{some}
+use Rattle.trees.proofs.RepresentationLaws.{some}
 use Rattle.trees.proofs.tree_maker.TreeMaker.new.Goals as goal
 
 pub prove-unreachable-requires : goal.prove-unreachable-requires

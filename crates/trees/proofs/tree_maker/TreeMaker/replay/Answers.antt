@@ -6,8 +6,8 @@ use Rattle.trees.specs.Trees.{made_actions}
 use Rattle.trees.proofs.ReplayLaws.{appends_those, function_may, functions_more, may_replay, over_those}
 use Rattle.trees.proofs.tree_maker.TreeMaker.replay.Goals as goal
 
-pub tell_function-requires : goal.tell_function-requires
-tell_function-requires g c =
+pub report_function-requires : goal.report_function-requires
+report_function-requires g c =
     let at = g.B.Build.stands in
     let below : c.loop-function.function-index < length c.args.self.now.functions =
     rw c.functions-function-items.ensures at c.loop-function-test.true in
@@ -26,12 +26,12 @@ loop-function-preserved g c =
     let is : c.function-item.result ≡
     get_or c.args.self.now.functions c.loop-function.function-index c.function-item.result =
     rw c.functions-function-items.ensures at c.function-item.is in
-    functions_more (at c.args.build.now) (at c.loop-function.build) (at c.tell_function.new.build)
+    functions_more (at c.args.build.now) (at c.loop-function.build) (at c.report_function.new.build)
     c.loop-function.function-index c.args.self.now.functions c.function-item.result below is
-    c.loop-function.invariant c.in_ok-tell_function.ensures.ok
+    c.loop-function.invariant c.in_ok-report_function.ensures.ok
 
-pub returns-in_err-tell_function-clause-full : goal.returns-in_err-tell_function-clause-full
-returns-in_err-tell_function-clause-full g c =
+pub returns-in_err-report_function-clause-full : goal.returns-in_err-report_function-clause-full
+returns-in_err-report_function-clause-full g c =
     let at = g.B.Build.stands in
     let below : c.loop-function.function-index < length c.args.self.now.functions =
     rw c.functions-function-items.ensures at c.loop-function-test.true in
@@ -42,7 +42,7 @@ returns-in_err-tell_function-clause-full g c =
     rw (p.1, p.2)
     (λ full. over_those c.args.self.now (at c.args.build.now) (at c.loop-function.build)
     c.loop-function.function-index c.function-item.result c.requires.closed below is c.loop-function.invariant
-    (c.in_err-tell_function.ensures.full full))
+    (c.in_err-report_function.ensures.full full))
 
 pub returns-clause-ok : goal.returns-clause-ok
 returns-clause-ok g c =

@@ -5,7 +5,7 @@ use Rattle.grammar.specs.declared.actions.Action.TheVariants.{EndFunction}
 use Rattle.grammar.specs.Actions.{instructions}
 use Rattle.grammar.proofs.Judging.{ends_none, judges_other, measures_fitting}
 use Rattle.trees.specs.TreeMakers.{TreeMaker}
-use Rattle.trees.proofs.StandingLaws.{stopped, may_go_on, went_on, fits_at_end, ended}
+use Rattle.trees.proofs.RepresentationLaws.{stopped, may_go_on, went_on, fits_at_end, ended}
 use Rattle.trees.proofs.tree_maker.TreeMakerBuild.act.Goals as goal
 
 pub end_function-function-requires : goal.end_function-function-requires
@@ -13,8 +13,8 @@ end_function-function-requires c =
     let counted = c.count_past_limit-passes.ensures in
     let m = c.args.self.now in
     let code =
-    counted.code ∙
-    ap (λ (n : ℕ). min (m.code + n) 65535)
+    counted.length ∙
+    ap (λ (n : ℕ). min (m.length + n) 65535)
     (c.instructions-instructions.ensures.value ∙
     ap (λ (k : TreeMaker). instructions k.profile c.args.action) c.self.view_is ∙
     ap (λ (a : Action). instructions m.profile a) c.in-EndFunction-2.is) in
@@ -32,11 +32,11 @@ returns-in-EndFunction-2-clause-ok c =
       profile = c.self-2.inside.profile;
       functions = c.self-2.inside.functions.items;
       stack = c.self-2.inside.stack;
-      code = c.self-2.inside.code;
+      length = c.self-2.inside.length;
     } in
     let code =
-    counted.code ∙
-    ap (λ (n : ℕ). min (m.code + n) 65535)
+    counted.length ∙
+    ap (λ (n : ℕ). min (m.length + n) 65535)
     (c.instructions-instructions.ensures.value ∙
     ap (λ (k : TreeMaker). instructions k.profile c.args.action) c.self.view_is ∙
     ap (λ (a : Action). instructions m.profile a) c.in-EndFunction-2.is) in
@@ -46,8 +46,8 @@ returns-in-EndFunction-2-clause-ok c =
     (ap (λ (k : TreeMaker). k.profile) c.self-2.view_is ∙ counted.profile)
     (ap (λ (k : TreeMaker). k.functions) c.self-2.view_is ∙ counted.functions)
     (ap (λ (k : TreeMaker). k.stack) c.self-2.view_is ∙ counted.stack)
-    (ap (λ (k : TreeMaker). k.code) c.self-2.view_is ∙ code)
-    (rw (ap (λ (k : TreeMaker). k.code) c.self-2.view_is) counted.passes) c.if-passes.false
+    (ap (λ (k : TreeMaker). k.length) c.self-2.view_is ∙ code)
+    (rw (ap (λ (k : TreeMaker). k.length) c.self-2.view_is) counted.passes) c.if-passes.false
     (rw c.in-EndFunction-2.is at c.requires.follows) c.end_function-function.ensures c.push_or_refuse.ensures.ok)
 
 pub returns-in-EndFunction-2-clause-judged : goal.returns-in-EndFunction-2-clause-judged
@@ -55,8 +55,8 @@ returns-in-EndFunction-2-clause-judged c =
     let counted = c.count_past_limit-passes.ensures in
     let m = c.args.self.now in
     let code =
-    counted.code ∙
-    ap (λ (n : ℕ). min (m.code + n) 65535)
+    counted.length ∙
+    ap (λ (n : ℕ). min (m.length + n) 65535)
     (c.instructions-instructions.ensures.value ∙
     ap (λ (k : TreeMaker). instructions k.profile c.args.action) c.self.view_is ∙
     ap (λ (a : Action). instructions m.profile a) c.in-EndFunction-2.is) in
@@ -71,8 +71,8 @@ returns-in_default-clause-ok c =
     let counted = c.count_past_limit-passes.ensures in
     let m = c.args.self.now in
     let code =
-    counted.code ∙
-    ap (λ (n : ℕ). min (m.code + n) 65535)
+    counted.length ∙
+    ap (λ (n : ℕ). min (m.length + n) 65535)
     (c.instructions-instructions.ensures.value ∙
     ap (λ (k : TreeMaker). instructions k.profile c.args.action) c.self.view_is) in
     stopped m c.count_past_limit-passes.new.self c.args.action c.count_past_limit-passes.result counted.profile code
@@ -88,8 +88,8 @@ act-requires c =
     let counted = c.count_past_limit-passes.ensures in
     let m = c.args.self.now in
     let code =
-    counted.code ∙
-    ap (λ (n : ℕ). min (m.code + n) 65535)
+    counted.length ∙
+    ap (λ (n : ℕ). min (m.length + n) 65535)
     (c.instructions-instructions.ensures.value ∙
     ap (λ (k : TreeMaker). instructions k.profile c.args.action) c.self.view_is) in
     record {
@@ -110,19 +110,19 @@ returns-in_default-2-clause-ok c =
       profile = c.self-2.inside.profile;
       functions = c.self-2.inside.functions.items;
       stack = c.self-2.inside.stack;
-      code = c.self-2.inside.code;
+      length = c.self-2.inside.length;
     } in
     let code =
-    counted.code ∙
-    ap (λ (n : ℕ). min (m.code + n) 65535)
+    counted.length ∙
+    ap (λ (n : ℕ). min (m.length + n) 65535)
     (c.instructions-instructions.ensures.value ∙
     ap (λ (k : TreeMaker). instructions k.profile c.args.action) c.self.view_is) in
     went_on m inside c.act.new.self c.args.action c.count_past_limit-passes.result c.act.result
     (ap (λ (k : TreeMaker). k.profile) c.self-2.view_is ∙ counted.profile)
     (ap (λ (k : TreeMaker). k.functions) c.self-2.view_is ∙ counted.functions)
     (ap (λ (k : TreeMaker). k.stack) c.self-2.view_is ∙ counted.stack)
-    (ap (λ (k : TreeMaker). k.code) c.self-2.view_is ∙ code)
-    (rw (ap (λ (k : TreeMaker). k.code) c.self-2.view_is) counted.passes) c.if-passes-2.false c.requires.follows
+    (ap (λ (k : TreeMaker). k.length) c.self-2.view_is ∙ code)
+    (rw (ap (λ (k : TreeMaker). k.length) c.self-2.view_is) counted.passes) c.if-passes-2.false c.requires.follows
     c.act.ensures.ok
 
 pub returns-in_default-2-clause-judged : goal.returns-in_default-2-clause-judged

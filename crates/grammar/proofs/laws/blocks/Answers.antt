@@ -1,5 +1,0 @@
-use Rattle.grammar.proofs.Keeping.{blocks_keep}
-use Rattle.grammar.proofs.laws.blocks.Goals as goal
-
-pub returns : goal.returns
-returns c = blocks_keep

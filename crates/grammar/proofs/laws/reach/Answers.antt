@@ -1,5 +1,0 @@
-use Rattle.grammar.proofs.Reach.{what_was_read_is_needed}
-use Rattle.grammar.proofs.laws.reach.Goals as goal
-
-pub returns : goal.returns
-returns c = what_was_read_is_needed
