@@ -46,14 +46,14 @@ kept_more {A} kept x all =
     ∙ ap (λ l. map (λ (x : A). Some x) l) (sym (list_more kept x))
 
 -- one more program, with its operations
-pub translated_more : (codes : List Program) (kept : List (Option Operations)) (code : Program)
-    (o : Operations) → AreTranslated codes kept → IsTranslated (executable_of code (translated o)) →
-    AreTranslated (codes ++ code ∷ []) (kept ++ Some o ∷ [])
-translated_more [] [] code o are one = (one, tt)
-translated_more [] (p ∷ others) code o are one = absurd are
-translated_more (c ∷ codes) [] code o are one = absurd are
-translated_more (c ∷ codes) (None ∷ others) code o are one = absurd are
-translated_more (c ∷ codes) (Some p ∷ others) code o are one = (are.0, translated_more codes others code o are.1 one)
+pub translated_more : (codes : List Program) (kept : List (Option Operations)) (program : Program)
+    (o : Operations) → AreTranslated codes kept → IsTranslated (executable_of program (translated o)) →
+    AreTranslated (codes ++ program ∷ []) (kept ++ Some o ∷ [])
+translated_more [] [] program o are one = (one, tt)
+translated_more [] (p ∷ others) program o are one = absurd are
+translated_more (c ∷ codes) [] program o are one = absurd are
+translated_more (c ∷ codes) (None ∷ others) program o are one = absurd are
+translated_more (c ∷ codes) (Some p ∷ others) program o are one = (are.0, translated_more codes others program o are.1 one)
 
 pub translated_length : (codes : List Program) (kept : List (Option Operations)) → AreTranslated codes kept →
     length kept ≡ length codes
@@ -76,19 +76,19 @@ translated_there (c ∷ codes) (Some p ∷ others) (suc place) found are low the
     translated_there codes others place found are.1 (omega (arith, low)) there none
 
 -- and they are its translation
-pub translated_at : (codes : List Program) (kept : List (Option Operations)) (place : ℕ) (code : Program)
-    (found : Option Operations) (o : Operations) → AreTranslated codes kept → slice_get codes place ≡ Some code →
-    found ≡ get_or kept place found → found ≡ Some o → IsTranslated (executable_of code (translated o))
-translated_at [] kept place code found o are here there is = absurd (cc)
-translated_at (c ∷ codes) [] place code found o are here there is = absurd are
-translated_at (c ∷ codes) (None ∷ others) place code found o are here there is = absurd are
-translated_at (c ∷ codes) (Some p ∷ others) zero code found o are here there is =
-    let same : c ≡ code = cc in
+pub translated_at : (codes : List Program) (kept : List (Option Operations)) (place : ℕ) (program : Program)
+    (found : Option Operations) (o : Operations) → AreTranslated codes kept → slice_get codes place ≡ Some program →
+    found ≡ get_or kept place found → found ≡ Some o → IsTranslated (executable_of program (translated o))
+translated_at [] kept place program found o are here there is = absurd (cc)
+translated_at (c ∷ codes) [] place program found o are here there is = absurd are
+translated_at (c ∷ codes) (None ∷ others) place program found o are here there is = absurd are
+translated_at (c ∷ codes) (Some p ∷ others) zero program found o are here there is =
+    let same : c ≡ program = cc in
     let alike : p ≡ o = cc (there, is) in
-    subst (λ (o : Operations). IsTranslated (executable_of code (translated o))) alike
+    subst (λ (o : Operations). IsTranslated (executable_of program (translated o))) alike
     (subst (λ (c : Program). IsTranslated (executable_of c (translated p))) same are.0)
-translated_at (c ∷ codes) (Some p ∷ others) (suc place) code found o are here there is =
-    translated_at codes others place code found o are.1 here there is
+translated_at (c ∷ codes) (Some p ∷ others) (suc place) program found o are here there is =
+    translated_at codes others place program found o are.1 here there is
 
 -- one more is looked up
 pub looked_up : (exes : List Executable) (codes : List Program) (n : ℕ) (exe : Executable)

@@ -5,7 +5,7 @@ use Rattle.grammar.specs.declared.resolved_names.Intrinsic.TheVariants as intrin
 use Rattle.grammar.specs.declared.resolved_names.Var.TheVariants as var
 use Rattle.arith.specs.declared.operators.Op.{Op}
 use Rattle.arith.specs.declared.operators.Op.TheVariants as op
-use Rattle.grammar.specs.declared.operators.StoreOp.TheVariants as store
+use Rattle.grammar.specs.declared.operators.StoreOp.TheVariants as store_op
 use Rattle.grammar.specs.Compiled.{compiled}
 use Rattle.grammar.specs.KnownSources.{constant, file_of_main, late_read_file, main_of, shot_tree}
 use Rattle.grammar.specs.Profile.{Profile, first_profile, second_profile}
@@ -32,7 +32,7 @@ abbrev pub counting_file : File
 counting_file = record {
   externals = codes "n" ∷ [];
   functions = main_of [] (
-      ExpressionStatement (Assign store.Set (var.External 0) (Binary op.Add (Variable (var.External 0)) (constant 1)))
+      ExpressionStatement (Assign store_op.Set (var.External 0) (Binary op.Add (Variable (var.External 0)) (constant 1)))
       (IfStatement (Binary op.Equal (Variable (var.External 0)) (constant 2)) shot_tree Done)) ∷ [];
   order = 0 ∷ [];
   main = 0;

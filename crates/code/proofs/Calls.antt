@@ -28,25 +28,25 @@ use Rattle.code.proofs.Lists.{words_of, pushed}
 use Rattle.code.proofs.Pieces.{StandsAt, stands, ends, Tied, Evaluation, gone_on, gone_on_with, flown, Evaluates, EvaluatesAll, arrives}
 
 -- what is known of the functions of a file in its code
-pub record Holds (code : Program) (file : File) : Type 0 where
+pub record Holds (program : Program) (file : File) : Type 0 where
   pub placed : (k : ℕ) → k < length file.functions →
-      StandsAt code (address_at code k) (function_code code.profile (function_at file k) (address_at code k))
+      StandsAt program (address_at program k) (function_code program.profile (function_at file k) (address_at program k))
   pub counted : (k : ℕ) → k < length file.functions →
-      counts_at code k ≡ counts_of (names_of_function (function_at file k))
-  pub known : (k : ℕ) → k < length file.functions → k < length code.functions
+      counts_at program k ≡ counts_of (names_of_function (function_at file k))
+  pub known : (k : ℕ) → k < length file.functions → k < length program.functions
   pub resolved : (k : ℕ) → k < length file.functions →
       FitsFile (length file.externals) (length file.functions) (function_at file k)
 
 -- bodies follow their meaning along fewer than n replies
 abbrev pub Follows_sooner : Program → File → ℕ → BodyMeaning → Type 0
-Follows_sooner code file n again =
+Follows_sooner program file n again =
     (l : ℕ) (b : Body) → InBody (length file.externals) l (length file.functions) b →
     (below : List ℤ) (f : Frame) (fs : List Frame) (at : ℕ) (vars : Vars) (depth frames : ℕ) (trace : List ℤ) →
     f.base ≡ length below → Tied (length file.externals) l n below (f ∷ fs) vars [] depth frames trace →
-    length trace < n → StandsAt code at (body_code code.profile b at) →
+    length trace < n → StandsAt program at (body_code program.profile b at) →
     Follows (length file.externals) l n (again b vars depth frames trace)
-    (wants code (run at below (f ∷ fs) vars []) trace)
-    (flown code (at + length (body_code code.profile b at)) below f fs)
+    (wants program (run at below (f ∷ fs) vars []) trace)
+    (flown program (at + length (body_code program.profile b at)) below f fs)
 
 -- a variable by its index: the argument there, or 0
 variable_at : (parameters variables : ℕ) (arguments : List ℤ) (j : ℕ) → parameters ≤ variables → j < variables →
@@ -118,28 +118,28 @@ first_sizes f arguments =
     length-map-range_with_len (λ (j : ℕ). if nat_lt j f.parameters then get_or arguments j (pos 0) else pos 0) 0
     (length f.variables)
 
-module _ (code : Program) (e l n : ℕ) {A : Type 0} where
+module _ (program : Program) (e l n : ℕ) {A : Type 0} where
   -- the end of a function's run
   pub closed_law : (v : ℕ) (below : List ℤ) (f g : Frame) (fs : List Frame) (at : ℕ) (depth frames : ℕ)
       (go : ℤ → Vars → List ℤ → EvaluationResult A) (k : A → Vars → List ℤ → Option Want) → f.base ≡ length below →
-      IsDepth v below [] depth → frames ≡ length (f ∷ g ∷ fs) → StandsAt code at (Const (pos 0) ∷ Retsub ∷ []) →
+      IsDepth v below [] depth → frames ≡ length (f ∷ g ∷ fs) → StandsAt program at (Const (pos 0) ∷ Retsub ∷ []) →
       ((x : ℤ) (vars : Vars) (rest : List ℤ) → HasSizes e v vars → length rest ≤ n →
-      Follows e l n (go x vars rest) (wants code (back_with f below (g ∷ fs) vars.externals x) rest) k) →
+      Follows e l n (go x vars rest) (wants program (back_with f below (g ∷ fs) vars.externals x) rest) k) →
       (flow : Completion) (vars : Vars) (rest : List ℤ) → HasSizes e v vars → length rest ≤ n →
-      Follows e l n (end_of_function code.profile depth frames flow vars rest go) (flown code at below f (g ∷ fs) flow vars rest)
+      Follows e l n (end_of_function program.profile depth frames flow vars rest go) (flown program at below f (g ∷ fs) flow vars rest)
       k
   closed_law v below f g fs at depth frames go k base deep count s next (Returns x) vars rest sizes short =
       next x vars rest sizes short
   closed_law v below f g fs at depth frames go k base deep count s next Through vars rest sizes short =
-      on_const code e l n below (f ∷ g ∷ fs) at k v vars [] depth (pos 0) rest
+      on_const program e l n below (f ∷ g ∷ fs) at k v vars [] depth (pos 0) rest
       (λ rest. tick (nat_lt 1 frames) Quiet rest (λ reply rest. go (pos 0) vars rest)) s.0 sizes deep
       (λ r1 h1.
-      on_retsub code e l n below (g ∷ fs) (at + 1) k f vars [] frames (pos 0) r1 (λ rest. go (pos 0) vars rest) s.1.0
+      on_retsub program e l n below (g ∷ fs) (at + 1) k f vars [] frames (pos 0) r1 (λ rest. go (pos 0) vars rest) s.1.0
       base count
       (λ r2 h2. next (pos 0) vars r2 sizes (omega (arith, short, h1, h2))))
 
-module _ (code : Program) (file : File) (l n : ℕ) (again : BodyMeaning) (holds : Holds code file)
-    (sooner : Follows_sooner code file n again) where
+module _ (program : Program) (file : File) (l n : ℕ) (again : BodyMeaning) (holds : Holds program file)
+    (sooner : Follows_sooner program file n again) where
   abbrev e : ℕ
   e = length file.externals
 
@@ -147,15 +147,15 @@ module _ (code : Program) (file : File) (l n : ℕ) (again : BodyMeaning) (holds
   called_law : (f : Callee) → IsCallable (length file.functions) f →
       (xs : List ℤ) (below : List ℤ) (fs : List Frame) (at : ℕ) (vars : Vars) (temps : List ℤ) (depth frames : ℕ)
       (rest : List ℤ) → HasSizes e l vars → IsDepth l below temps depth → frames ≡ length fs → 0 < length fs →
-      length rest ≤ n → instr_at code at ≡ Some (Fcall f) →
-      Follows e l n (called code.profile file again f xs vars depth frames rest)
-      (wants code (run at below (opened below depth ∷ fs) vars (temps ++ xs)) rest)
-      (gone_on code (at + 1) below fs temps)
+      length rest ≤ n → instr_at program at ≡ Some (Fcall f) →
+      Follows e l n (called program.profile file again f xs vars depth frames rest)
+      (wants program (run at below (opened below depth ∷ fs) vars (temps ++ xs)) rest)
+      (gone_on program (at + 1) below fs temps)
   called_law (callee.Intrinsic i) callable xs below fs at vars temps depth frames rest sizes deep count inside short
       here =
-      on_ask code e l n below fs at (gone_on code (at + 1) below fs temps) vars temps xs depth i rest
+      on_ask program e l n below fs at (gone_on program (at + 1) below fs temps) vars temps xs depth i rest
       (λ reply rest. Gives reply vars rest) here sizes deep
-      (λ reply last shorter. arrives code e l n below fs (at + 1) (at + 1) vars (temps ++ reply ∷ []) last sizes
+      (λ reply last shorter. arrives program e l n below fs (at + 1) (at + 1) vars (temps ++ reply ∷ []) last sizes
       (omega (arith, shorter, short)) refl)
   called_law (callee.Function j) callable xs below [] at vars temps depth frames rest sizes deep count inside short here
       =
@@ -164,37 +164,37 @@ module _ (code : Program) (file : File) (l n : ℕ) (again : BodyMeaning) (holds
       short here =
       let f = function_at file j in
       let v = length f.variables in
-      let start = address_at code j in
+      let start = address_at program j in
       let known = holds.resolved j callable in
-      let sb = stands code start (body_code code.profile f.body) last_return_code (holds.placed j callable) in
+      let sb = stands program start (body_code program.profile f.body) last_return_code (holds.placed j callable) in
       let base = words_of below vars.locals temps in
       let frame = entered below depth (at + 1) in
       let first : Vars = record { externals = vars.externals; locals = first_locals f xs } in
-      let k = gone_on code (at + 1) below (g ∷ fs) temps in
+      let k = gone_on program (at + 1) below (g ∷ fs) temps in
       let go = λ (rest : List ℤ).
       and_then (again f.body first (depth + v) (frames + 1) rest) (λ flow after rest.
-      end_of_function code.profile (depth + v) (frames + 1) flow after rest (returned vars))
+      end_of_function program.profile (depth + v) (frames + 1) flow after rest (returned vars))
       in
-      let whole = wants code (run at below (opened below depth ∷ g ∷ fs) vars (temps ++ xs)) rest in
+      let whole = wants program (run at below (opened below depth ∷ g ∷ fs) vars (temps ++ xs)) rest in
       let base_is : depth ≡ length base = sym (length-words e l below vars temps depth sizes deep) in
       let deep_inside : IsDepth v base [] (depth + v) = record { is = omega (arith, base_is) } in
       let count_inside : frames + 1 ≡ length (frame ∷ g ∷ fs) = omega (arith, count) in
       let next : (x : ℤ) (after : Vars) (last : List ℤ) → HasSizes e v after → length last ≤ n →
-      Follows e l n (returned vars x after last) (wants code (back_with frame base (g ∷ fs) after.externals x) last)
+      Follows e l n (returned vars x after last) (wants program (back_with frame base (g ∷ fs) after.externals x) last)
       k =
       λ x after last sizes_inside short_inside. record {
         sizes = record { externals_are = sizes_inside.externals_are; locals_are = sizes.locals_are };
         short = short_inside;
         same =
             ap
-            (λ (words : List ℤ). wants code
+            (λ (words : List ℤ). wants program
             (record
             { at = at + 1; home = length below; words = words; frames = g ∷ fs; externals = after.externals }) last)
             (pushed below vars.locals temps (x ∷ []));
       }
       in
       let body : (r1 : List ℤ) → suc (length r1) ≡ length rest →
-      Follows e l n (go r1) (wants code (run start base (frame ∷ g ∷ fs) first []) r1) k =
+      Follows e l n (go r1) (wants program (run start base (frame ∷ g ∷ fs) first []) r1) k =
       λ r1 h1.
       let tied : Tied e v n base (frame ∷ g ∷ fs) first [] (depth + v) (frames + 1) r1 = record {
         sizes = record { externals_are = sizes.externals_are; locals_are = first_sizes f xs };
@@ -204,57 +204,57 @@ module _ (code : Program) (file : File) (l n : ℕ) (again : BodyMeaning) (holds
         short = omega (arith, h1, short);
       } in
       chain e l e v n (again f.body first (depth + v) (frames + 1) r1)
-      (wants code (run start base (frame ∷ g ∷ fs) first []) r1)
-      (flown code (start + length (body_code code.profile f.body start)) base frame (g ∷ fs))
-      (λ flow after rest. end_of_function code.profile (depth + v) (frames + 1) flow after rest (returned vars)) k
+      (wants program (run start base (frame ∷ g ∷ fs) first []) r1)
+      (flown program (start + length (body_code program.profile f.body start)) base frame (g ∷ fs))
+      (λ flow after rest. end_of_function program.profile (depth + v) (frames + 1) flow after rest (returned vars)) k
       (sooner v f.body known.body base frame (g ∷ fs) start first (depth + v) (frames + 1) r1 base_is tied
       (omega (arith, h1, short)) sb.first)
-      (closed_law code e l n v base frame g fs (start + length (body_code code.profile f.body start)) (depth + v)
+      (closed_law program e l n v base frame g fs (start + length (body_code program.profile f.body start)) (depth + v)
       (frames + 1) (returned vars) k base_is deep_inside count_inside sb.second next)
       in
       subst
       (λ (counts : FunctionCounts). Follows e l n
-      (tick (nat_le (depth + counts.variables) code.profile.words) Quiet rest (λ reply rest. go rest)) whole k)
+      (tick (nat_le (depth + counts.variables) program.profile.words) Quiet rest (λ reply rest. go rest)) whole k)
       (holds.counted j callable)
-      (on_call code e l n below (g ∷ fs) at k vars temps xs depth j rest go here (holds.known j callable) sizes deep
+      (on_call program e l n below (g ∷ fs) at k vars temps xs depth j rest go here (holds.known j callable) sizes deep
       (λ r1 h1.
       follows_from e l n (go r1)
-      (wants code
+      (wants program
       (run start base (frame ∷ g ∷ fs)
       (record
-      { externals = vars.externals; locals = variables_of (parameters_at code j) (variables_at code j) xs }) [])
+      { externals = vars.externals; locals = variables_of (parameters_at program j) (variables_at program j) xs }) [])
       r1)
-      (wants code (run start base (frame ∷ g ∷ fs) first []) r1) k
+      (wants program (run start base (frame ∷ g ∷ fs) first []) r1) k
       (ap
-      (λ (counts : FunctionCounts). wants code
+      (λ (counts : FunctionCounts). wants program
       (run start base (frame ∷ g ∷ fs)
       (record { externals = vars.externals; locals = variables_of counts.parameters counts.variables xs }) []) r1)
       (holds.counted j callable)
       ∙
       ap
-      (λ (locals : List ℤ). wants code
+      (λ (locals : List ℤ). wants program
       (run start base (frame ∷ g ∷ fs) (record { externals = vars.externals; locals = locals }) []) r1)
       (first_is f xs known.parameters))
       (body r1 h1)))
 
   -- the whole call: a frame, the arguments, and the call
   pub call_law : (f : Callee) → IsCallable (length file.functions) f → (b : CodeAt) (ev : Evaluation (List ℤ)) →
-      EvaluatesAll code e l n b ev →
-      Evaluates code e l n (only (instr.Frame ∷ []) ⨾ b ⨾ only (Fcall f ∷ []))
-      (λ vars depth frames trace. tick (nat_lt frames code.profile.frames) Quiet trace
+      EvaluatesAll program e l n b ev →
+      Evaluates program e l n (only (instr.Frame ∷ []) ⨾ b ⨾ only (Fcall f ∷ []))
+      (λ vars depth frames trace. tick (nat_lt frames program.profile.frames) Quiet trace
       (λ reply rest. and_then (ev vars depth (frames + 1) rest)
-      (λ xs vars rest. called code.profile file again f xs vars depth frames rest)))
+      (λ xs vars rest. called program.profile file again f xs vars depth frames rest)))
   call_law f callable b ev B below fs at vars temps depth frames trace t s =
       let tail = only (Fcall f ∷ []) in
-      let sb = stands code (at + 1) b tail s.1 in
+      let sb = stands program (at + 1) b tail s.1 in
       let at1 = at + 1 + length (b (at + 1)) in
       let end = at + length ((only (instr.Frame ∷ []) ⨾ b ⨾ tail) at) in
       let end_is : at1 + 1 ≡ end = omega (arith, ends (at + 1) b tail) in
-      let k = gone_on code end below fs temps in
+      let k = gone_on program end below fs temps in
       let frame = opened below depth in
-      on_frame code e l n below fs at k vars temps depth frames trace
+      on_frame program e l n below fs at k vars temps depth frames trace
       (λ rest. and_then (ev vars depth (frames + 1) rest)
-      (λ xs vars rest. called code.profile file again f xs vars depth frames rest)) s.0 t.sizes t.deep t.count
+      (λ xs vars rest. called program.profile file again f xs vars depth frames rest)) s.0 t.sizes t.deep t.count
       (λ r1 h1.
       let tied : Tied e l n below (frame ∷ fs) vars temps depth (frames + 1) r1 = record {
         sizes = t.sizes;
@@ -263,13 +263,13 @@ module _ (code : Program) (file : File) (l n : ℕ) (again : BodyMeaning) (holds
         inside = omega arith;
         short = omega (arith, h1, t.short);
       } in
-      chain e l e l n (ev vars depth (frames + 1) r1) (wants code (run (at + 1) below (frame ∷ fs) vars temps) r1)
-      (gone_on_with code at1 below (frame ∷ fs) temps)
-      (λ xs vars rest. called code.profile file again f xs vars depth frames rest) k
+      chain e l e l n (ev vars depth (frames + 1) r1) (wants program (run (at + 1) below (frame ∷ fs) vars temps) r1)
+      (gone_on_with program at1 below (frame ∷ fs) temps)
+      (λ xs vars rest. called program.profile file again f xs vars depth frames rest) k
       (B below (frame ∷ fs) (at + 1) vars temps depth (frames + 1) r1 tied sb.first)
       (λ xs vars r2 sizes short.
       subst
-      (λ (a : ℕ). Follows e l n (called code.profile file again f xs vars depth frames r2)
-      (wants code (run at1 below (frame ∷ fs) vars (temps ++ xs)) r2) (gone_on code a below fs temps)) end_is
+      (λ (a : ℕ). Follows e l n (called program.profile file again f xs vars depth frames r2)
+      (wants program (run at1 below (frame ∷ fs) vars (temps ++ xs)) r2) (gone_on program a below fs temps)) end_is
       (called_law f callable xs below fs at1 vars temps depth frames r2 sizes t.deep t.count t.inside short
       sb.second.0)))

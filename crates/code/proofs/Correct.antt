@@ -27,80 +27,80 @@ use Rattle.code.proofs.Expressions.{const_law, fetch_law, binary_law, assign_law
 use Rattle.code.proofs.Calls.{Holds, Follows_sooner, call_law}
 use Rattle.code.proofs.Statements.{done_law, alone_law, when_law, choose_law, while_law, return_law}
 
-module _ (code : Program) (file : File) (n : ℕ) (again : BodyMeaning) (holds : Holds code file)
-    (sooner : Follows_sooner code file n again) (l : ℕ) where
+module _ (program : Program) (file : File) (n : ℕ) (again : BodyMeaning) (holds : Holds program file)
+    (sooner : Follows_sooner program file n again) (l : ℕ) where
   abbrev e : ℕ
   e = length file.externals
 
   mutual
     value_law : (x : Expr) → InExpr e l (length file.functions) x →
-        Evaluates code e l n (expr_code code.profile x)
-        (λ vars depth frames trace. value code.profile file again x vars depth frames trace)
-    value_law (Constant x) r = const_law code e l n x
-    value_law (Variable v) r = fetch_law code e l n v r
+        Evaluates program e l n (expr_code program.profile x)
+        (λ vars depth frames trace. value program.profile file again x vars depth frames trace)
+    value_law (Constant x) r = const_law program e l n x
+    value_law (Variable v) r = fetch_law program e l n v r
     value_law (Binary o a b) r =
-        binary_law code e l n o (expr_code code.profile a) (expr_code code.profile b)
-        (λ vars depth frames trace. value code.profile file again a vars depth frames trace)
-        (λ vars depth frames trace. value code.profile file again b vars depth frames trace)
+        binary_law program e l n o (expr_code program.profile a) (expr_code program.profile b)
+        (λ vars depth frames trace. value program.profile file again a vars depth frames trace)
+        (λ vars depth frames trace. value program.profile file again b vars depth frames trace)
         (value_law a r.0) (value_law b r.1)
     value_law (Assign o v a) r =
-        assign_law code e l n o v (expr_code code.profile a)
-        (λ vars depth frames trace. value code.profile file again a vars depth frames trace) r.0 (value_law a r.1)
-    value_law (Postfix o v) r = postfix_law code e l n o v r
+        assign_law program e l n o v (expr_code program.profile a)
+        (λ vars depth frames trace. value program.profile file again a vars depth frames trace) r.0 (value_law a r.1)
+    value_law (Postfix o v) r = postfix_law program e l n o v r
     value_law (Call f xs) r =
-        call_law code file l n again holds sooner f r.0 (args_code code.profile xs)
-        (λ vars depth frames trace. values code.profile file again xs vars depth frames trace) (values_law xs r.1)
+        call_law program file l n again holds sooner f r.0 (args_code program.profile xs)
+        (λ vars depth frames trace. values program.profile file again xs vars depth frames trace) (values_law xs r.1)
 
     values_law : (xs : Args) → InArgs e l (length file.functions) xs →
-        EvaluatesAll code e l n (args_code code.profile xs)
-        (λ vars depth frames trace. values code.profile file again xs vars depth frames trace)
-    values_law NoMore r = no_more_law code e l n
+        EvaluatesAll program e l n (args_code program.profile xs)
+        (λ vars depth frames trace. values program.profile file again xs vars depth frames trace)
+    values_law NoMore r = no_more_law program e l n
     values_law (Argument a xs) r =
-        argument_law code e l n (expr_code code.profile a) (args_code code.profile xs)
-        (λ vars depth frames trace. value code.profile file again a vars depth frames trace)
-        (λ vars depth frames trace. values code.profile file again xs vars depth frames trace)
+        argument_law program e l n (expr_code program.profile a) (args_code program.profile xs)
+        (λ vars depth frames trace. value program.profile file again a vars depth frames trace)
+        (λ vars depth frames trace. values program.profile file again xs vars depth frames trace)
         (value_law a r.0) (values_law xs r.1)
 
   effect_law : (b : Body) → InBody e l (length file.functions) b →
-      Effects code e l n (body_code code.profile b)
-      (λ vars depth frames trace. effect code.profile file again b vars depth frames trace)
-  effect_law Done r = done_law code e l n
+      Effects program e l n (body_code program.profile b)
+      (λ vars depth frames trace. effect program.profile file again b vars depth frames trace)
+  effect_law Done r = done_law program e l n
   effect_law (ExpressionStatement a next) r =
-      alone_law code e l n (expr_code code.profile a) (body_code code.profile next)
-      (λ vars depth frames trace. value code.profile file again a vars depth frames trace)
-      (λ vars depth frames trace. effect code.profile file again next vars depth frames trace)
+      alone_law program e l n (expr_code program.profile a) (body_code program.profile next)
+      (λ vars depth frames trace. value program.profile file again a vars depth frames trace)
+      (λ vars depth frames trace. effect program.profile file again next vars depth frames trace)
       (value_law a r.0) (effect_law next r.1)
   effect_law (IfStatement c s next) r =
-      when_law code e l n (expr_code code.profile c) (body_code code.profile s) (body_code code.profile next)
-      (λ vars depth frames trace. value code.profile file again c vars depth frames trace)
-      (λ vars depth frames trace. effect code.profile file again s vars depth frames trace)
-      (λ vars depth frames trace. effect code.profile file again next vars depth frames trace)
+      when_law program e l n (expr_code program.profile c) (body_code program.profile s) (body_code program.profile next)
+      (λ vars depth frames trace. value program.profile file again c vars depth frames trace)
+      (λ vars depth frames trace. effect program.profile file again s vars depth frames trace)
+      (λ vars depth frames trace. effect program.profile file again next vars depth frames trace)
       (value_law c r.0) (effect_law s r.1) (effect_law next r.2)
   effect_law (IfElseStatement c s t next) r =
-      choose_law code e l n (expr_code code.profile c) (body_code code.profile s) (body_code code.profile t)
-      (body_code code.profile next) (λ vars depth frames trace. value code.profile file again c vars depth frames trace)
-      (λ vars depth frames trace. effect code.profile file again s vars depth frames trace)
-      (λ vars depth frames trace. effect code.profile file again t vars depth frames trace)
-      (λ vars depth frames trace. effect code.profile file again next vars depth frames trace)
+      choose_law program e l n (expr_code program.profile c) (body_code program.profile s) (body_code program.profile t)
+      (body_code program.profile next) (λ vars depth frames trace. value program.profile file again c vars depth frames trace)
+      (λ vars depth frames trace. effect program.profile file again s vars depth frames trace)
+      (λ vars depth frames trace. effect program.profile file again t vars depth frames trace)
+      (λ vars depth frames trace. effect program.profile file again next vars depth frames trace)
       (value_law c r.0) (effect_law s r.1) (effect_law t r.2) (effect_law next r.3)
   effect_law (While c s next) r =
-      while_law code e l n (expr_code code.profile c) (body_code code.profile s) (body_code code.profile next)
-      (λ vars depth frames trace. value code.profile file again c vars depth frames trace)
-      (λ vars depth frames trace. effect code.profile file again s vars depth frames trace)
-      (λ vars depth frames trace. effect code.profile file again next vars depth frames trace)
+      while_law program e l n (expr_code program.profile c) (body_code program.profile s) (body_code program.profile next)
+      (λ vars depth frames trace. value program.profile file again c vars depth frames trace)
+      (λ vars depth frames trace. effect program.profile file again s vars depth frames trace)
+      (λ vars depth frames trace. effect program.profile file again next vars depth frames trace)
       (λ vars depth frames trace. again (While c s next) vars depth frames trace)
       (value_law c r.0) (effect_law s r.1) (effect_law next r.2) (sooner l (While c s next) r)
   effect_law (Return a next) r =
-      return_law code e l n (expr_code code.profile a) (body_code code.profile next)
-      (λ vars depth frames trace. value code.profile file again a vars depth frames trace) (value_law a r.0)
+      return_law program e l n (expr_code program.profile a) (body_code program.profile next)
+      (λ vars depth frames trace. value program.profile file again a vars depth frames trace) (value_law a r.0)
 
 -- At each bound, along as many replies as the bound allows.
-pub bounded : (code : Program) (file : File) → Holds code file → (n : ℕ) →
-    Follows_sooner code file n (effect_within code.profile file n)
-bounded code file holds zero l b r below f fs at vars depth frames trace base t short s = absurd (omega (arith, short))
-bounded code file holds (suc n) l b r below f fs at vars depth frames trace base t short s =
+pub bounded : (program : Program) (file : File) → Holds program file → (n : ℕ) →
+    Follows_sooner program file n (effect_within program.profile file n)
+bounded program file holds zero l b r below f fs at vars depth frames trace base t short s = absurd (omega (arith, short))
+bounded program file holds (suc n) l b r below f fs at vars depth frames trace base t short s =
     let e = length file.externals in
-    let again = effect_within code.profile file n in
+    let again = effect_within program.profile file n in
     let tied : Tied e l n below (f ∷ fs) vars [] depth frames trace = record {
       sizes = t.sizes;
       deep = t.deep;
@@ -108,25 +108,25 @@ bounded code file holds (suc n) l b r below f fs at vars depth frames trace base
       inside = t.inside;
       short = omega (arith, short);
     } in
-    follows_longer e l n (effect code.profile file again b vars depth frames trace)
-    (wants code (run at below (f ∷ fs) vars []) trace)
-    (flown code (at + length (body_code code.profile b at)) below f fs)
-    (effect_law code file n again holds (bounded code file holds n) l b r below f fs at vars depth frames trace base
+    follows_longer e l n (effect program.profile file again b vars depth frames trace)
+    (wants program (run at below (f ∷ fs) vars []) trace)
+    (flown program (at + length (body_code program.profile b at)) below f fs)
+    (effect_law program file n again holds (bounded program file holds n) l b r below f fs at vars depth frames trace base
     tied s)
 
 -- the part of a list after another part is there
-stands_behind : (code : Program) (front xs : List Instr) → code.instructions ≡ front ++ xs →
-    StandsAt code (length front) xs
-stands_behind code front [] e = tt
-stands_behind code front (x ∷ xs) e =
-    let whole : code.instructions ≡ (front ++ x ∷ []) ++ xs = e ∙ sym (append_assoc front (x ∷ []) xs) in
-    let here : instr_at code (length front) ≡ Some x =
+stands_behind : (program : Program) (front xs : List Instr) → program.instructions ≡ front ++ xs →
+    StandsAt program (length front) xs
+stands_behind program front [] e = tt
+stands_behind program front (x ∷ xs) e =
+    let whole : program.instructions ≡ (front ++ x ∷ []) ++ xs = e ∙ sym (append_assoc front (x ∷ []) xs) in
+    let here : instr_at program (length front) ≡ Some x =
     ap (λ (is : List Instr). slice_get is (length front)) e
     ∙ slice_get-get_or (front ++ x ∷ xs) (length front) x (omega (arith, length-append front (x ∷ xs)))
     ∙ ap (λ (i : Instr). Some i) (get_or-append_seam front x xs x)
     in
     let next : length (front ++ x ∷ []) ≡ length front + 1 = length-append front (x ∷ []) in
-    (here, subst (λ (at : ℕ). StandsAt code at xs) next (stands_behind code (front ++ x ∷ []) xs whole))
+    (here, subst (λ (at : ℕ). StandsAt program at xs) next (stands_behind program (front ++ x ∷ []) xs whole))
 
 module _ (p : Profile) (file : File) where
   -- each function of the order is at its address
@@ -211,7 +211,7 @@ module _ (p : Profile) (file : File) where
       (and_then o
       (λ flow vars rest. end_of_function p (length main.variables) 1 flow vars rest (λ x vars rest. Awaits Restart))))
   main_law n o w at s f =
-      let code = code_of p file in
+      let program = code_of p file in
       let e = length file.externals in
       let l = length main.variables in
       let k = λ (x : ℤ) (vars : Vars) (rest : List ℤ). Some Restart in
@@ -220,14 +220,14 @@ module _ (p : Profile) (file : File) where
       λ (flow : Completion) (vars : Vars) (rest : List ℤ). end_of_function {A = ℤ} p l 1 flow vars rest
       (λ x vars rest. Awaits Restart) in
       read_off e l n (and_then o end) w
-      (chain e l e l n o w (flown code at [] first_frame []) end k f
+      (chain e l e l n o w (flown program at [] first_frame []) end k f
       (λ flow vars rest sizes short.
       elim flow as
-      (λ (flow : Completion). Follows e l n (end flow vars rest) (flown code at [] first_frame [] flow vars rest) k) [
+      (λ (flow : Completion). Follows e l n (end flow vars rest) (flown program at [] first_frame [] flow vars rest) k) [
         | Through ↦
-            on_const code e l n [] (first_frame ∷ []) at k l vars [] l (pos 0) rest
+            on_const program e l n [] (first_frame ∷ []) at k l vars [] l (pos 0) rest
             (λ rest. tick (nat_lt 1 1) Quiet rest (λ reply rest. Awaits Restart)) s.0 sizes deep
-            (λ r1 h1. on_retsub_of_main code e l n [] [] (at + 1) k first_frame vars [] 1 (pos 0) r1
+            (λ r1 h1. on_retsub_of_main program e l n [] [] (at + 1) k first_frame vars [] 1 (pos 0) r1
             (λ rest. Awaits Restart) s.1.0 refl refl)
         | Returns x ↦ refl
       ]))
@@ -237,14 +237,14 @@ module _ (p : Profile) (file : File) where
 shown_within : (p : Profile) (file : File) → IsResolved file → (n : ℕ) (trace : List ℤ) → length trace < n →
     wants (code_of p file) (started_machine (code_of p file)) trace ≡ Some (want_within p file n trace)
 shown_within p file r n trace enough =
-    let code = code_of p file in
+    let program = code_of p file in
     let f = main p file in
     let e = length file.externals in
     let l = length f.variables in
-    let start = address_at code file.main in
+    let start = address_at program file.main in
     let vars = first_vars p file in
     let known = holds p file r in
-    let both = stands code start (body_code p f.body) last_return_code (known.placed file.main r.main) in
+    let both = stands program start (body_code p f.body) last_return_code (known.placed file.main r.main) in
     let tied : Tied e l n [] (first_frame ∷ []) vars [] l 1 trace = record {
       sizes = record { externals_are = length-replicate e (pos 0); locals_are = length-replicate l (pos 0) };
       deep = record { is = omega arith };
@@ -252,12 +252,12 @@ shown_within p file r n trace enough =
       inside = omega arith;
       short = omega (arith, enough);
     } in
-    ap (λ (s : Machine). wants code s trace) (start_is p file)
+    ap (λ (s : Machine). wants program s trace) (start_is p file)
     ∙
     main_law p file n (effect_within p file n f.body vars l 1 trace)
-    (wants code (run start [] (first_frame ∷ []) vars []) trace) (start + length (body_code p f.body start))
+    (wants program (run start [] (first_frame ∷ []) vars []) trace) (start + length (body_code p f.body start))
     both.second
-    (bounded code file known n l f.body (known.resolved file.main r.main).body [] first_frame [] start vars l 1 trace
+    (bounded program file known n l f.body (known.resolved file.main r.main).body [] first_frame [] start vars l 1 trace
     refl tied (omega (arith, enough)) both.first)
 
 pub shown_is_want : (p : Profile) (file : File) → IsResolved file → (trace : List ℤ) →
@@ -276,9 +276,9 @@ shown_if true v w e = (cc, refl)
 shown_if false v w e = (cc, cc)
 
 -- what is shown is wanted, and the instruction is ready
-shown_ready : (code : Program) (s : Machine) (w : Want) → shown code s ≡ Some w →
-    (want_next code s ≡ w) × (is_ready code s (instr_at code s.at) ≡ true)
-shown_ready code s w e = shown_if (is_ready code s (instr_at code s.at)) (want_next code s) w e
+shown_ready : (program : Program) (s : Machine) (w : Want) → shown program s ≡ Some w →
+    (want_next program s ≡ w) × (is_ready program s (instr_at program s.at) ≡ true)
+shown_ready program s w e = shown_if (is_ready program s (instr_at program s.at)) (want_next program s) w e
 
 pub want_code_is_want : (p : Profile) (file : File) → IsResolved file → (trace : List ℤ) →
     want_code (code_of p file) trace ≡ want p file trace

@@ -47,60 +47,60 @@ follows_longer e l n (Awaits event) w k f = f
 
 -- what a state shows: what it wants, or nothing if its instruction lacks what it takes
 abbrev pub shown : Program → Machine → Option Want
-shown code s = if is_ready code s (instr_at code s.at) then Some (want_next code s) else None
+shown program s = if is_ready program s (instr_at program s.at) then Some (want_next program s) else None
 
 -- what is shown after replies, from a state on
 unfoldable pub wants : Program → Machine → List ℤ → Option Want
-wants code s trace = shown code (reached code s trace)
+wants program s trace = shown program (reached program s trace)
 
-module _ (code : Program) (s : Machine) (i : Instr) (here : instr_at code s.at ≡ Some i)
-    (ready : is_ready code s (Some i) ≡ true) where
-  shown_when : (b : Bool) → is_fitting code s (Some i) ≡ b →
-      shown code s ≡ Some (if b then event_of s (Some i) else Restart)
+module _ (program : Program) (s : Machine) (i : Instr) (here : instr_at program s.at ≡ Some i)
+    (ready : is_ready program s (Some i) ≡ true) where
+  shown_when : (b : Bool) → is_fitting program s (Some i) ≡ b →
+      shown program s ≡ Some (if b then event_of s (Some i) else Restart)
   shown_when b fits =
       ap
-      (λ (o : Option Instr). if is_ready code s o then Some (if is_fitting code s o then event_of s o else Restart)
+      (λ (o : Option Instr). if is_ready program s o then Some (if is_fitting program s o then event_of s o else Restart)
       else None) here
       ∙
-      ap (λ (r : Bool). if r then Some (if is_fitting code s (Some i) then event_of s (Some i) else Restart) else None)
+      ap (λ (r : Bool). if r then Some (if is_fitting program s (Some i) then event_of s (Some i) else Restart) else None)
       ready
       ∙ ap (λ (c : Bool). Some (if c then event_of s (Some i) else Restart)) fits
 
-  after_when : (b : Bool) → is_fitting code s (Some i) ≡ b → (reply : ℤ) →
-      machine_after code reply s ≡ (if b then done_with code reply s (Some i) else s)
+  after_when : (b : Bool) → is_fitting program s (Some i) ≡ b → (reply : ℤ) →
+      machine_after program reply s ≡ (if b then done_with program reply s (Some i) else s)
   after_when b fits reply =
-      ap (λ (o : Option Instr). if is_fitting code s o then done_with code reply s o else s) here
-      ∙ ap (λ (c : Bool). if c then done_with code reply s (Some i) else s) fits
+      ap (λ (o : Option Instr). if is_fitting program s o then done_with program reply s o else s) here
+      ∙ ap (λ (c : Bool). if c then done_with program reply s (Some i) else s) fits
 
-  wants_restart : is_fitting code s (Some i) ≡ false → (trace : List ℤ) → wants code s trace ≡ Some Restart
+  wants_restart : is_fitting program s (Some i) ≡ false → (trace : List ℤ) → wants program s trace ≡ Some Restart
   unfolding wants
   wants_restart unfit [] = shown_when false unfit
   wants_restart unfit (reply ∷ rest) =
-      ap (λ (t : Machine). shown code (reached code t rest)) (after_when false unfit reply) ∙ wants_restart unfit rest
+      ap (λ (t : Machine). shown program (reached program t rest)) (after_when false unfit reply) ∙ wants_restart unfit rest
 
-  wants_now : is_fitting code s (Some i) ≡ true → wants code s [] ≡ Some (event_of s (Some i))
+  wants_now : is_fitting program s (Some i) ≡ true → wants program s [] ≡ Some (event_of s (Some i))
   unfolding wants
   wants_now fits = shown_when true fits
 
-  wants_behind : is_fitting code s (Some i) ≡ true → (reply : ℤ) (rest : List ℤ) →
-      wants code s (reply ∷ rest) ≡ wants code (done_with code reply s (Some i)) rest
+  wants_behind : is_fitting program s (Some i) ≡ true → (reply : ℤ) (rest : List ℤ) →
+      wants program s (reply ∷ rest) ≡ wants program (done_with program reply s (Some i)) rest
   unfolding wants
-  wants_behind fits reply rest = ap (λ (t : Machine). shown code (reached code t rest)) (after_when true fits reply)
+  wants_behind fits reply rest = ap (λ (t : Machine). shown program (reached program t rest)) (after_when true fits reply)
 
   -- One instruction is one cycle of the tree.
   pub ticks : {A : Type 0} (e l n : ℕ) (fit : Bool) (event : Want) (trace : List ℤ) (go : ℤ → List ℤ → EvaluationResult A)
-      (k : A → Vars → List ℤ → Option Want) → is_fitting code s (Some i) ≡ fit → event_of s (Some i) ≡ event →
+      (k : A → Vars → List ℤ → Option Want) → is_fitting program s (Some i) ≡ fit → event_of s (Some i) ≡ event →
       ((reply : ℤ) (rest : List ℤ) → suc (length rest) ≡ length trace →
-      Follows e l n (go reply rest) (wants code (done_with code reply s (Some i)) rest) k) →
-      Follows e l n (tick fit event trace go) (wants code s trace) k
+      Follows e l n (go reply rest) (wants program (done_with program reply s (Some i)) rest) k) →
+      Follows e l n (tick fit event trace go) (wants program s trace) k
   ticks e l n false event trace go k fits is next = wants_restart fits trace
   ticks e l n true event [] go k fits is next = wants_now fits ∙ ap (λ (w : Want). Some w) is
   ticks e l n true event (reply ∷ rest) go k fits is next =
-      follows_from e l n (go reply rest) (wants code s (reply ∷ rest))
-      (wants code (done_with code reply s (Some i)) rest) k (wants_behind fits reply rest) (next reply rest refl)
+      follows_from e l n (go reply rest) (wants program s (reply ∷ rest))
+      (wants program (done_with program reply s (Some i)) rest) k (wants_behind fits reply rest) (next reply rest refl)
 
   -- what doesn't fit wants a restart
   pub ticks_not : {A : Type 0} (e l n : ℕ) (event : Want) (trace : List ℤ) (go : ℤ → List ℤ → EvaluationResult A)
-      (k : A → Vars → List ℤ → Option Want) → is_fitting code s (Some i) ≡ false →
-      Follows e l n (tick false event trace go) (wants code s trace) k
+      (k : A → Vars → List ℤ → Option Want) → is_fitting program s (Some i) ≡ false →
+      Follows e l n (tick false event trace go) (wants program s trace) k
   ticks_not e l n event trace go k unfit = wants_restart unfit trace

@@ -113,64 +113,64 @@ next_run at below fs vars words temps before e =
     (λ (words : List ℤ). let s : Machine = record
     { at = at + 1; home = length below; words = words; frames = fs; externals = vars.externals } in s) e
 
-module _ (code : Program) (e l n : ℕ) (below : List ℤ) (fs : List Frame) {A : Type 0} (at : ℕ)
+module _ (program : Program) (e l n : ℕ) (below : List ℤ) (fs : List Frame) {A : Type 0} (at : ℕ)
     (k : A → Vars → List ℤ → Option Want) where
   -- what comes after a cycle
   abbrev Next : List ℤ → (List ℤ → EvaluationResult A) → ℕ → Vars → List ℤ → Type 0
   Next trace go to vars temps =
       (rest : List ℤ) → suc (length rest) ≡ length trace →
-      Follows e l n (go rest) (wants code (run to below fs vars temps) rest) k
+      Follows e l n (go rest) (wants program (run to below fs vars temps) rest) k
 
-  moved : (s t : Machine) (o : EvaluationResult A) (rest : List ℤ) → s ≡ t → Follows e l n o (wants code t rest) k →
-      Follows e l n o (wants code s rest) k
+  moved : (s t : Machine) (o : EvaluationResult A) (rest : List ℤ) → s ≡ t → Follows e l n o (wants program t rest) k →
+      Follows e l n o (wants program s rest) k
   moved s t o rest same f =
-      follows_from e l n o (wants code s rest) (wants code t rest) k (ap (λ (s : Machine). wants code s rest) same) f
+      follows_from e l n o (wants program s rest) (wants program t rest) k (ap (λ (s : Machine). wants program s rest) same) f
 
   pub on_const : (m : ℕ) (vars : Vars) (temps : List ℤ) (depth : ℕ) (x : ℤ) (trace : List ℤ) (go : List ℤ → EvaluationResult A)
-      → instr_at code at ≡ Some (Const x) → HasSizes e m vars → IsDepth m below temps depth →
+      → instr_at program at ≡ Some (Const x) → HasSizes e m vars → IsDepth m below temps depth →
       Next trace go (at + 1) vars (temps ++ x ∷ []) →
-      Follows e l n (push code.profile depth trace go) (wants code (run at below fs vars temps) trace) k
+      Follows e l n (push program.profile depth trace go) (wants program (run at below fs vars temps) trace) k
   on_const m vars temps depth x trace go here sizes d next =
       let s = run at below fs vars temps in
-      ticks code s (Const x) here refl e l n (nat_lt depth code.profile.words) Quiet trace (λ reply rest. go rest) k
-      (ap (λ (m : ℕ). nat_lt m code.profile.words) (length-words e m below vars temps depth sizes d)) refl
+      ticks program s (Const x) here refl e l n (nat_lt depth program.profile.words) Quiet trace (λ reply rest. go rest) k
+      (ap (λ (m : ℕ). nat_lt m program.profile.words) (length-words e m below vars temps depth sizes d)) refl
       (λ reply rest shorter.
-      moved (done_with code reply s (Some (Const x))) (run (at + 1) below fs vars (temps ++ x ∷ [])) (go rest) rest
+      moved (done_with program reply s (Some (Const x))) (run (at + 1) below fs vars (temps ++ x ∷ [])) (go rest) rest
       (next_run at below fs vars (s.words ++ x ∷ []) (temps ++ x ∷ []) temps (pushed below vars.locals temps (x ∷ [])))
       (next rest shorter))
 
   pub on_fetch : (vars : Vars) (temps : List ℤ) (depth : ℕ) (v : Var) (trace : List ℤ) (go : List ℤ → EvaluationResult A) →
-      instr_at code at ≡ Some (Fetch v) → HasSizes e l vars → IsVariable e l v → IsDepth l below temps depth →
+      instr_at program at ≡ Some (Fetch v) → HasSizes e l vars → IsVariable e l v → IsDepth l below temps depth →
       Next trace go (at + 1) vars (temps ++ value_of_variable vars v ∷ []) →
-      Follows e l n (push code.profile depth trace go) (wants code (run at below fs vars temps) trace) k
+      Follows e l n (push program.profile depth trace go) (wants program (run at below fs vars temps) trace) k
   on_fetch vars temps depth v trace go here sizes known d next =
       let s = run at below fs vars temps in
       let x = value_of_variable vars v in
-      ticks code s (Fetch v) here (variable_known e l at below fs vars temps v sizes known) e l n
-      (nat_lt depth code.profile.words) Quiet trace (λ reply rest. go rest) k
-      (ap (λ (m : ℕ). nat_lt m code.profile.words) (length-words e l below vars temps depth sizes d)) refl
+      ticks program s (Fetch v) here (variable_known e l at below fs vars temps v sizes known) e l n
+      (nat_lt depth program.profile.words) Quiet trace (λ reply rest. go rest) k
+      (ap (λ (m : ℕ). nat_lt m program.profile.words) (length-words e l below vars temps depth sizes d)) refl
       (λ reply rest shorter.
-      moved (done_with code reply s (Some (Fetch v))) (run (at + 1) below fs vars (temps ++ x ∷ [])) (go rest) rest
+      moved (done_with program reply s (Some (Fetch v))) (run (at + 1) below fs vars (temps ++ x ∷ [])) (go rest) rest
       (next_run at below fs vars (s.words ++ read_variable s v ∷ []) (temps ++ x ∷ []) temps
       (ap (λ (y : ℤ). s.words ++ y ∷ []) (variable_read e l at below fs vars temps v sizes known) ∙
       pushed below vars.locals temps (x ∷ [])))
       (next rest shorter))
 
   pub on_chop : (vars : Vars) (temps : List ℤ) (x : ℤ) (trace : List ℤ) (go : List ℤ → EvaluationResult A) →
-      instr_at code at ≡ Some Chop → Next trace go (at + 1) vars temps →
-      Follows e l n (quiet_cycle trace go) (wants code (run at below fs vars (temps ++ x ∷ [])) trace) k
+      instr_at program at ≡ Some Chop → Next trace go (at + 1) vars temps →
+      Follows e l n (quiet_cycle trace go) (wants program (run at below fs vars (temps ++ x ∷ [])) trace) k
   on_chop vars temps x trace go here next =
       let s = run at below fs vars (temps ++ x ∷ []) in
-      ticks code s Chop here (one_word below vars.locals temps x) e l n true Quiet trace (λ reply rest. go rest) k refl
+      ticks program s Chop here (one_word below vars.locals temps x) e l n true Quiet trace (λ reply rest. go rest) k refl
       refl
       (λ reply rest shorter.
-      moved (done_with code reply s (Some Chop)) (run (at + 1) below fs vars temps) (go rest) rest
+      moved (done_with program reply s (Some Chop)) (run (at + 1) below fs vars temps) (go rest) rest
       (next_run at below fs vars (without 1 s.words) temps (temps ++ x ∷ []) (taken_one below vars.locals temps x))
       (next rest shorter))
 
   pub on_binop : (vars : Vars) (temps : List ℤ) (o : Op) (x y : ℤ) (trace : List ℤ) (go : List ℤ → EvaluationResult A) →
-      instr_at code at ≡ Some (Binop o) → Next trace go (at + 1) vars (temps ++ value_of o x y ∷ []) →
-      Follows e l n (quiet_cycle trace go) (wants code (run at below fs vars ((temps ++ x ∷ []) ++ y ∷ [])) trace) k
+      instr_at program at ≡ Some (Binop o) → Next trace go (at + 1) vars (temps ++ value_of o x y ∷ []) →
+      Follows e l n (quiet_cycle trace go) (wants program (run at below fs vars ((temps ++ x ∷ []) ++ y ∷ [])) trace) k
   on_binop vars temps o x y trace go here next =
       let s = run at below fs vars ((temps ++ x ∷ []) ++ y ∷ []) in
       let z = value_of o x y in
@@ -184,16 +184,16 @@ module _ (code : Program) (e l n : ℕ) (below : List ℤ) (fs : List Frame) {A 
       ∙ ap (λ (b : ℤ). words_of below vars.locals temps ++ value_of o x b ∷ []) (top_of_two below vars.locals temps x y)
       ∙ pushed below vars.locals temps (z ∷ [])
       in
-      ticks code s (Binop o) here (two_words below vars.locals temps x y) e l n true Quiet trace (λ reply rest. go rest)
+      ticks program s (Binop o) here (two_words below vars.locals temps x y) e l n true Quiet trace (λ reply rest. go rest)
       k refl refl
       (λ reply rest shorter.
-      moved (done_with code reply s (Some (Binop o))) (run (at + 1) below fs vars (temps ++ z ∷ [])) (go rest) rest
+      moved (done_with program reply s (Some (Binop o))) (run (at + 1) below fs vars (temps ++ z ∷ [])) (go rest) rest
       (next_run at below fs vars (without 2 s.words ++ value_of o (nth_word s.words 2) (nth_word s.words 1) ∷ [])
       (temps ++ z ∷ []) ((temps ++ x ∷ []) ++ y ∷ []) words) (next rest shorter))
 
   pub on_truth : (vars : Vars) (temps : List ℤ) (x : ℤ) (trace : List ℤ) (go : List ℤ → EvaluationResult A) →
-      instr_at code at ≡ Some Truth → Next trace go (at + 1) vars (temps ++ truth (holds x) ∷ []) →
-      Follows e l n (quiet_cycle trace go) (wants code (run at below fs vars (temps ++ x ∷ [])) trace) k
+      instr_at program at ≡ Some Truth → Next trace go (at + 1) vars (temps ++ truth (holds x) ∷ []) →
+      Follows e l n (quiet_cycle trace go) (wants program (run at below fs vars (temps ++ x ∷ [])) trace) k
   on_truth vars temps x trace go here next =
       let s = run at below fs vars (temps ++ x ∷ []) in
       let z = truth (holds x) in
@@ -203,18 +203,18 @@ module _ (code : Program) (e l n : ℕ) (below : List ℤ) (fs : List Frame) {A 
       ∙ ap (λ (b : ℤ). words_of below vars.locals temps ++ truth (holds b) ∷ []) (top_one below vars.locals temps x)
       ∙ pushed below vars.locals temps (z ∷ [])
       in
-      ticks code s Truth here (one_word below vars.locals temps x) e l n true Quiet trace (λ reply rest. go rest) k refl
+      ticks program s Truth here (one_word below vars.locals temps x) e l n true Quiet trace (λ reply rest. go rest) k refl
       refl
       (λ reply rest shorter.
-      moved (done_with code reply s (Some Truth)) (run (at + 1) below fs vars (temps ++ z ∷ [])) (go rest) rest
+      moved (done_with program reply s (Some Truth)) (run (at + 1) below fs vars (temps ++ z ∷ [])) (go rest) rest
       (next_run at below fs vars (without 1 s.words ++ truth (holds (nth_word s.words 1)) ∷ []) (temps ++ z ∷ [])
       (temps ++ x ∷ []) words) (next rest shorter))
 
   pub on_store : (vars : Vars) (temps : List ℤ) (v : Var) (o : StoreOp) (x : ℤ) (trace : List ℤ)
-      (go : List ℤ → EvaluationResult A) → instr_at code at ≡ Some (Store v o) → HasSizes e l vars → IsVariable e l v →
+      (go : List ℤ → EvaluationResult A) → instr_at program at ≡ Some (Store v o) → HasSizes e l vars → IsVariable e l v →
       Next trace go (at + 1) (assigned vars v (stored o (value_of_variable vars v) x))
       (temps ++ stored o (value_of_variable vars v) x ∷ []) →
-      Follows e l n (quiet_cycle trace go) (wants code (run at below fs vars (temps ++ x ∷ [])) trace) k
+      Follows e l n (quiet_cycle trace go) (wants program (run at below fs vars (temps ++ x ∷ [])) trace) k
   on_store vars temps v o x trace go here sizes known next =
       let s = run at below fs vars (temps ++ x ∷ []) in
       let y = stored o (value_of_variable vars v) x in
@@ -229,12 +229,12 @@ module _ (code : Program) (e l n : ℕ) (below : List ℤ) (fs : List Frame) {A 
       ∙ pushed below (assigned vars v y).locals temps (y ∷ [])
       in
       let target = run (at + 1) below fs (assigned vars v y) (temps ++ y ∷ []) in
-      ticks code s (Store v o) here
+      ticks program s (Store v o) here
       (if_both (nat_lt 0 (length s.words)) (has_variable s v) (one_word below vars.locals temps x)
       (variable_known e l at below fs vars (temps ++ x ∷ []) v sizes known)) e l n true Quiet trace
       (λ reply rest. go rest) k refl refl
       (λ reply rest shorter.
-      moved (done_with code reply s (Some (Store v o))) target (go rest) rest
+      moved (done_with program reply s (Some (Store v o))) target (go rest) rest
       (ap (λ (z : ℤ). next_with (with_value s v z) (without 1 (with_value s v z).words ++ z ∷ [])) new
       ∙
       ap (λ (r : Machine). next_with r (without 1 r.words ++ y ∷ []))
@@ -244,15 +244,15 @@ module _ (code : Program) (e l n : ℕ) (below : List ℤ) (fs : List Frame) {A 
       (next rest shorter))
 
   pub on_branch : (vars : Vars) (temps : List ℤ) (to : ℕ) (x : ℤ) (trace : List ℤ) (go : List ℤ → EvaluationResult A) →
-      instr_at code at ≡ Some (Branch to) → Next trace go (if holds x then at + 1 else to) vars temps →
-      Follows e l n (quiet_cycle trace go) (wants code (run at below fs vars (temps ++ x ∷ [])) trace) k
+      instr_at program at ≡ Some (Branch to) → Next trace go (if holds x then at + 1 else to) vars temps →
+      Follows e l n (quiet_cycle trace go) (wants program (run at below fs vars (temps ++ x ∷ [])) trace) k
   on_branch vars temps to x trace go here next =
       let s = run at below fs vars (temps ++ x ∷ []) in
       let registers = λ (y : ℤ). if holds y then at + 1 else to in
-      ticks code s (Branch to) here (one_word below vars.locals temps x) e l n true Quiet trace (λ reply rest. go rest)
+      ticks program s (Branch to) here (one_word below vars.locals temps x) e l n true Quiet trace (λ reply rest. go rest)
       k refl refl
       (λ reply rest shorter.
-      moved (done_with code reply s (Some (Branch to))) (run (registers x) below fs vars temps) (go rest) rest
+      moved (done_with program reply s (Some (Branch to))) (run (registers x) below fs vars temps) (go rest) rest
       (ap
       (λ (y : ℤ). let t : Machine = record
       { at = registers y; home = length below; words = without 1 s.words; frames = fs; externals = vars.externals } in
@@ -282,29 +282,29 @@ back_with f below fs externals x = record {
   externals = externals;
 }
 
-module _ (code : Program) (e l n : ℕ) (below : List ℤ) (fs : List Frame) {A : Type 0} (at : ℕ)
+module _ (program : Program) (e l n : ℕ) (below : List ℤ) (fs : List Frame) {A : Type 0} (at : ℕ)
     (k : A → Vars → List ℤ → Option Want) where
   abbrev Reaches : List ℤ → (List ℤ → EvaluationResult A) → Machine → Type 0
   Reaches trace go s =
-      (rest : List ℤ) → suc (length rest) ≡ length trace → Follows e l n (go rest) (wants code s rest) k
+      (rest : List ℤ) → suc (length rest) ≡ length trace → Follows e l n (go rest) (wants program s rest) k
 
-  moves : (s t : Machine) (o : EvaluationResult A) (rest : List ℤ) → s ≡ t → Follows e l n o (wants code t rest) k →
-      Follows e l n o (wants code s rest) k
+  moves : (s t : Machine) (o : EvaluationResult A) (rest : List ℤ) → s ≡ t → Follows e l n o (wants program t rest) k →
+      Follows e l n o (wants program s rest) k
   moves s t o rest same f =
-      follows_from e l n o (wants code s rest) (wants code t rest) k (ap (λ (s : Machine). wants code s rest) same) f
+      follows_from e l n o (wants program s rest) (wants program t rest) k (ap (λ (s : Machine). wants program s rest) same) f
 
   pub on_frame : (vars : Vars) (temps : List ℤ) (depth frames : ℕ) (trace : List ℤ) (go : List ℤ → EvaluationResult A) →
-      instr_at code at ≡ Some instr.Frame → HasSizes e l vars → IsDepth l below temps depth → frames ≡ length fs →
+      instr_at program at ≡ Some instr.Frame → HasSizes e l vars → IsDepth l below temps depth → frames ≡ length fs →
       Reaches trace go (run (at + 1) below (opened below depth ∷ fs) vars temps) →
-      Follows e l n (tick (nat_lt frames code.profile.frames) Quiet trace (λ reply rest. go rest))
-      (wants code (run at below fs vars temps) trace) k
+      Follows e l n (tick (nat_lt frames program.profile.frames) Quiet trace (λ reply rest. go rest))
+      (wants program (run at below fs vars temps) trace) k
   on_frame vars temps depth frames trace go here sizes d count next =
       let s = run at below fs vars temps in
       let target = run (at + 1) below (opened below depth ∷ fs) vars temps in
-      ticks code s instr.Frame here refl e l n (nat_lt frames code.profile.frames) Quiet trace (λ reply rest. go rest) k
-      (ap (λ (m : ℕ). nat_lt m code.profile.frames) (sym count)) refl
+      ticks program s instr.Frame here refl e l n (nat_lt frames program.profile.frames) Quiet trace (λ reply rest. go rest) k
+      (ap (λ (m : ℕ). nat_lt m program.profile.frames) (sym count)) refl
       (λ reply rest shorter.
-      moves (done_with code reply s (Some instr.Frame)) target (go rest) rest
+      moves (done_with program reply s (Some instr.Frame)) target (go rest) rest
       (ap
       (λ (m : ℕ). let t : Machine = record {
         at = at + 1;
@@ -316,16 +316,16 @@ module _ (code : Program) (e l n : ℕ) (below : List ℤ) (fs : List Frame) {A 
       (next rest shorter))
 
   pub on_ask : (vars : Vars) (temps arguments : List ℤ) (depth : ℕ) (i : Intrinsic) (trace : List ℤ)
-      (go : ℤ → List ℤ → EvaluationResult A) → instr_at code at ≡ Some (Fcall (callee.Intrinsic i)) → HasSizes e l vars →
+      (go : ℤ → List ℤ → EvaluationResult A) → instr_at program at ≡ Some (Fcall (callee.Intrinsic i)) → HasSizes e l vars →
       IsDepth l below temps depth →
       ((reply : ℤ) → Reaches trace (go reply) (run (at + 1) below fs vars (temps ++ reply ∷ []))) →
-      Follows e l n (tick (nat_le (depth + 1) code.profile.words) (Ask i (asked_words i arguments)) trace go)
-      (wants code (run at below (opened below depth ∷ fs) vars (temps ++ arguments)) trace) k
+      Follows e l n (tick (nat_le (depth + 1) program.profile.words) (Ask i (asked_words i arguments)) trace go)
+      (wants program (run at below (opened below depth ∷ fs) vars (temps ++ arguments)) trace) k
   on_ask vars temps arguments depth i trace go here sizes d next =
       let s = run at below (opened below depth ∷ fs) vars (temps ++ arguments) in
       let is : depth ≡ length (words_of below vars.locals temps) =
       sym (length-words e l below vars temps depth sizes d) in
-      ticks code s (Fcall (callee.Intrinsic i)) here (if_both (nat_lt 0 (length s.frames))
+      ticks program s (Fcall (callee.Intrinsic i)) here (if_both (nat_lt 0 (length s.frames))
       (nat_le depth (length s.words)) (lt_test 0 (length s.frames) (omega arith))
       (le_test depth (length s.words)
       (omega (
@@ -335,10 +335,10 @@ module _ (code : Program) (e l n : ℕ) (below : List ℤ) (fs : List Frame) {A 
         length-words_of below vars.locals (temps ++ arguments),
         length-append temps arguments,
       )))) e l n
-      (nat_le (depth + 1) code.profile.words) (Ask i (asked_words i arguments)) trace go k
+      (nat_le (depth + 1) program.profile.words) (Ask i (asked_words i arguments)) trace go k
       refl (ap (λ (xs : List ℤ). Ask i (asked_words i xs)) (above below vars.locals temps arguments depth is))
       (λ reply rest shorter.
-      moves (done_with code reply s (Some (Fcall (callee.Intrinsic i))))
+      moves (done_with program reply s (Some (Fcall (callee.Intrinsic i))))
       (run (at + 1) below fs vars (temps ++ reply ∷ [])) (go reply rest) rest
       (ap
       (λ (words : List ℤ). let t : Machine = record
@@ -348,25 +348,25 @@ module _ (code : Program) (e l n : ℕ) (below : List ℤ) (fs : List Frame) {A 
       (next reply rest shorter))
 
   pub on_call : (vars : Vars) (temps arguments : List ℤ) (depth j : ℕ) (trace : List ℤ) (go : List ℤ → EvaluationResult A) →
-      instr_at code at ≡ Some (Fcall (callee.Function j)) → j < length code.functions → HasSizes e l vars →
+      instr_at program at ≡ Some (Fcall (callee.Function j)) → j < length program.functions → HasSizes e l vars →
       IsDepth l below temps depth →
       Reaches trace go
-      (run (address_at code j) (words_of below vars.locals temps) (entered below depth (at + 1) ∷ fs)
+      (run (address_at program j) (words_of below vars.locals temps) (entered below depth (at + 1) ∷ fs)
       (record {
         externals = vars.externals;
-        locals = variables_of (parameters_at code j) (variables_at code j) arguments;
+        locals = variables_of (parameters_at program j) (variables_at program j) arguments;
       }) []) →
-      Follows e l n (tick (nat_le (depth + variables_at code j) code.profile.words) Quiet trace (λ reply rest. go rest))
-      (wants code (run at below (opened below depth ∷ fs) vars (temps ++ arguments)) trace) k
+      Follows e l n (tick (nat_le (depth + variables_at program j) program.profile.words) Quiet trace (λ reply rest. go rest))
+      (wants program (run at below (opened below depth ∷ fs) vars (temps ++ arguments)) trace) k
   on_call vars temps arguments depth j trace go here there sizes d next =
       let s = run at below (opened below depth ∷ fs) vars (temps ++ arguments) in
       let is : depth ≡ length (words_of below vars.locals temps) =
       sym (length-words e l below vars temps depth sizes d) in
-      let own = λ (xs : List ℤ). variables_of (parameters_at code j) (variables_at code j) xs in
+      let own = λ (xs : List ℤ). variables_of (parameters_at program j) (variables_at program j) xs in
       let base = words_of below vars.locals temps in
       let make =
       λ (home : ℕ) (words : List ℤ). let t : Machine = record {
-        at = address_at code j;
+        at = address_at program j;
         home = home;
         words = words;
         frames = entered below depth (at + 1) ∷ fs;
@@ -377,9 +377,9 @@ module _ (code : Program) (e l n : ℕ) (below : List ℤ) (fs : List Frame) {A 
       ∙ ap (λ (xs : List ℤ). base ++ own xs) (above below vars.locals temps arguments depth is)
       ∙ ap (λ (xs : List ℤ). base ++ xs) (sym (append-nil (own arguments)))
       in
-      ticks code s (Fcall (callee.Function j)) here (if_both (nat_lt j (length code.functions))
+      ticks program s (Fcall (callee.Function j)) here (if_both (nat_lt j (length program.functions))
       (if nat_lt 0 (length s.frames) then nat_le depth (length s.words) else false)
-      (lt_test j (length code.functions) there)
+      (lt_test j (length program.functions) there)
       (if_both (nat_lt 0 (length s.frames)) (nat_le depth (length s.words)) (lt_test 0 (length s.frames) (omega arith))
       (le_test depth (length s.words)
       (omega (
@@ -389,32 +389,32 @@ module _ (code : Program) (e l n : ℕ) (below : List ℤ) (fs : List Frame) {A 
         length-words_of below vars.locals (temps ++ arguments),
         length-append temps arguments,
       ))))) e l n
-      (nat_le (depth + variables_at code j) code.profile.words) Quiet trace (λ reply rest. go rest) k
+      (nat_le (depth + variables_at program j) program.profile.words) Quiet trace (λ reply rest. go rest) k
       refl refl
       (λ reply rest shorter.
-      moves (done_with code reply s (Some (Fcall (callee.Function j))))
+      moves (done_with program reply s (Some (Fcall (callee.Function j))))
       (make (length base) (base ++ (own arguments ++ []))) (go rest) rest
       (ap (λ (l : List ℤ). make depth l) words ∙ ap (λ (home : ℕ). make home (base ++ (own arguments ++ []))) is)
       (next rest shorter))
 
   pub on_retsub : (f : Frame) (vars : Vars) (temps : List ℤ) (frames : ℕ) (x : ℤ) (trace : List ℤ)
-      (go : List ℤ → EvaluationResult A) → instr_at code at ≡ Some Retsub → f.base ≡ length below → frames ≡ length (f ∷ fs) →
+      (go : List ℤ → EvaluationResult A) → instr_at program at ≡ Some Retsub → f.base ≡ length below → frames ≡ length (f ∷ fs) →
       Reaches trace go (back_with f below fs vars.externals x) →
       Follows e l n (tick (nat_lt 1 frames) Quiet trace (λ reply rest. go rest))
-      (wants code (run at below (f ∷ fs) vars (temps ++ x ∷ [])) trace) k
+      (wants program (run at below (f ∷ fs) vars (temps ++ x ∷ [])) trace) k
   on_retsub f vars temps frames x trace go here base count next =
       let s = run at below (f ∷ fs) vars (temps ++ x ∷ []) in
       let make =
       λ (words : List ℤ). let t : Machine = record
       { at = f.back; home = f.home; words = words; frames = fs; externals = vars.externals } in t in
-      ticks code s Retsub here (if_both (nat_lt 0 (length s.frames)) (nat_lt f.base (length s.words))
+      ticks program s Retsub here (if_both (nat_lt 0 (length s.frames)) (nat_lt f.base (length s.words))
       (lt_test 0 (length s.frames) (omega arith))
       (lt_test f.base (length s.words)
       (omega (arith, base, length-words_of below vars.locals (temps ++ x ∷ []), length-append temps (x ∷ []))))) e l n
       (nat_lt 1 frames) Quiet trace (λ reply rest. go rest) k
       (ap (λ (m : ℕ). nat_lt 1 m) (sym count)) refl
       (λ reply rest shorter.
-      moves (done_with code reply s (Some Retsub)) (back_with f below fs vars.externals x) (go rest) rest
+      moves (done_with program reply s (Some Retsub)) (back_with f below fs vars.externals x) (go rest) rest
       (ap (λ (y : ℤ). make (take f.base s.words ++ y ∷ [])) (top_one below vars.locals temps x)
       ∙ ap (λ (m : ℕ). make (take m s.words ++ x ∷ [])) base
       ∙ ap (λ (l : List ℤ). make (l ++ x ∷ [])) (take-append_seam below (vars.locals ++ (temps ++ x ∷ []))))
@@ -422,14 +422,14 @@ module _ (code : Program) (e l n : ℕ) (below : List ℤ) (fs : List Frame) {A 
 
   -- main does not return
   pub on_retsub_of_main : (f : Frame) (vars : Vars) (temps : List ℤ) (frames : ℕ) (x : ℤ) (trace : List ℤ)
-      (go : List ℤ → EvaluationResult A) → instr_at code at ≡ Some Retsub → f.base ≡ length below → frames ≡ length (f ∷ []) →
+      (go : List ℤ → EvaluationResult A) → instr_at program at ≡ Some Retsub → f.base ≡ length below → frames ≡ length (f ∷ []) →
       Follows e l n (tick (nat_lt 1 frames) Quiet trace (λ reply rest. go rest))
-      (wants code (run at below (f ∷ []) vars (temps ++ x ∷ [])) trace) k
+      (wants program (run at below (f ∷ []) vars (temps ++ x ∷ [])) trace) k
   on_retsub_of_main f vars temps frames x trace go here base count =
       let s = run at below (f ∷ []) vars (temps ++ x ∷ []) in
-      subst (λ (m : ℕ). Follows e l n (tick (nat_lt 1 m) Quiet trace (λ reply rest. go rest)) (wants code s trace) k)
+      subst (λ (m : ℕ). Follows e l n (tick (nat_lt 1 m) Quiet trace (λ reply rest. go rest)) (wants program s trace) k)
       (sym count)
-      (ticks_not code s Retsub here (if_both (nat_lt 0 (length s.frames)) (nat_lt f.base (length s.words))
+      (ticks_not program s Retsub here (if_both (nat_lt 0 (length s.frames)) (nat_lt f.base (length s.words))
       (lt_test 0 (length s.frames) (omega arith))
       (lt_test f.base (length s.words)
       (omega (arith, base, length-words_of below vars.locals (temps ++ x ∷ []), length-append temps (x ∷ []))))) e l

@@ -15,11 +15,11 @@ use Rattle.code.specs.Machine.{no_counts}
 counted : (file : File) → length (map counts_of (pools_of file).functions) ≡ length file.functions
 counted file = length-map (pools_of file).functions counts_of ∙ length-map file.functions names_of_function
 
-pub addresses_of_file : (code : Program) → IsOfSomeFile code → length code.addresses ≡ length code.functions
-addresses_of_file code of =
+pub addresses_of_file : (program : Program) → IsOfSomeFile program → length program.addresses ≡ length program.functions
+addresses_of_file program of =
     let n = length of.file.functions in
     ap (λ (c : Program). length c.addresses) of.is
-    ∙ length-map (range_with_len 0 n) (λ k. address_in code.profile of.file k of.file.order 0)
+    ∙ length-map (range_with_len 0 n) (λ k. address_in program.profile of.file k of.file.order 0)
     ∙ length-range_with_len 0 n
     ∙ sym (counted of.file)
     ∙ sym (ap (λ (c : Program). length c.functions) of.is)
@@ -32,8 +32,8 @@ counts_is (g ∷ fs) zero f e h = e
 counts_is (g ∷ fs) (suc k) f e h = counts_is fs k f e (omega (arith, h))
 
 -- main is one of the functions
-pub main_is_known : (code : Program) → IsOfSomeFile code → code.main < length code.functions
-main_is_known code of =
+pub main_is_known : (program : Program) → IsOfSomeFile program → program.main < length program.functions
+main_is_known program of =
     let known = of.resolved.main in
     let main = ap (λ (c : Program). c.main) of.is in
     let functions = ap (λ (c : Program). length c.functions) of.is in

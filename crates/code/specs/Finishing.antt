@@ -30,9 +30,9 @@ pub record RepresentsSomeFile (maker : Maker) (names : Pools) : Type 0 where
 
 -- The code is that of a resolved file by its profile, within the profile's limit, and the function of main's number is
 -- named main.
-pub record IsOfSomeFile (code : Program) : Type 0 where
+pub record IsOfSomeFile (program : Program) : Type 0 where
   pub file : File
   pub resolved : IsResolved file
-  pub is : IsProgramOf code code.profile file
-  pub limit : length code.instructions ≤ code.profile.instructions
-  pub main : IsMain (pools_of file) code.main
+  pub is : IsProgramOf program program.profile file
+  pub limit : length program.instructions ≤ program.profile.instructions
+  pub main : IsMain (pools_of file) program.main

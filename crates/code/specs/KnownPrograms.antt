@@ -7,7 +7,7 @@ use Rattle.grammar.specs.declared.resolved_names.Var.TheVariants as var
 use Rattle.arith.specs.declared.operators.Op.{Op}
 use Rattle.arith.specs.declared.operators.Op.TheVariants as op
 use Rattle.grammar.specs.declared.operators.StoreOp.{StoreOp}
-use Rattle.grammar.specs.declared.operators.StoreOp.TheVariants as store
+use Rattle.grammar.specs.declared.operators.StoreOp.TheVariants as store_op
 use Rattle.grammar.specs.KnownSources.{call_of, constant, file_of_main, late_read_file, local, main_of, shot_tree}
 use Rattle.grammar.specs.Profile.{Profile, first_profile, second_profile}
 use Rattle.grammar.specs.Tree.{Expr, Args, NoMore, Argument, Assign, Binary, Postfix, Body, Call, Done, ExpressionStatement, IfStatement, File, Function, Return, While}
@@ -55,7 +55,7 @@ defined_behind_file = record {
         parameters = 0;
         variables = [];
         body = ExpressionStatement
-            (Assign store.Subtract (var.External 0) (Binary op.Subtract (constant 0) (constant 1))) Done;
+            (Assign store_op.Subtract (var.External 0) (Binary op.Subtract (constant 0) (constant 1))) Done;
       }
       ∷ record { name = codes "f"; parameters = 0; variables = []; body = Done }
       ∷ [];
@@ -160,7 +160,7 @@ passing_file = file_of_two
 -- main(){int x; x=45; cannon(x OP 3,x);}
 abbrev pub storing_file : StoreOp → File
 storing_file o =
-    says_then (codes "x" ∷ []) (Assign store.Set (var.Local 0) (constant 45))
+    says_then (codes "x" ∷ []) (Assign store_op.Set (var.Local 0) (constant 45))
     (cannon_of (Assign o (var.Local 0) (constant 3)) (local 0))
 
 -- the variable's new value is the assignment's value too
@@ -178,27 +178,27 @@ pub record KnownValues : Type 0 where
   pub no_argument : InCycle first_profile (says [] (ask intrinsic.Drive NoMore)) 2
       (asks intrinsic.Drive (pos 0) (pos 0))
   pub arguments_in_order :
-      InCycle first_profile (says (codes "x" ∷ []) (cannon_of (Postfix store.Add (var.Local 0)) (local 0))) 7
+      InCycle first_profile (says (codes "x" ∷ []) (cannon_of (Postfix store_op.Add (var.Local 0)) (local 0))) 7
       (asks_cannon (pos 0) (pos 1))
   pub assignment_of_assignment :
       InCycle first_profile
       (says_then (codes "x" ∷ codes "y" ∷ [])
-      (Assign store.Set (var.Local 0) (Assign store.Set (var.Local 1) (constant 2))) (cannon_of (local 0) (local 1)))
+      (Assign store_op.Set (var.Local 0) (Assign store_op.Set (var.Local 1) (constant 2))) (cannon_of (local 0) (local 1)))
       8 (asks_cannon (pos 2) (pos 2))
   pub sides_in_order :
       InCycle first_profile (says [] (cannon_of (Binary op.Subtract (constant 7) (constant 2))
       (Binary op.ShiftLeft (constant 1) (constant 3)))) 8 (asks_cannon (pos 5) (pos 8))
-  pub set : Stores store.Set 3
-  pub add : Stores store.Add 48
-  pub subtract : Stores store.Subtract 42
-  pub multiply : Stores store.Multiply 135
-  pub divide : Stores store.Divide 15
-  pub remainder : Stores store.Remainder 0
-  pub shift_left : Stores store.ShiftLeft 360
-  pub shift_right : Stores store.ShiftRight 5
-  pub bit_and : Stores store.BitAnd 1
-  pub bit_xor : Stores store.BitXor 46
-  pub bit_or : Stores store.BitOr 47
+  pub set : Stores store_op.Set 3
+  pub add : Stores store_op.Add 48
+  pub subtract : Stores store_op.Subtract 42
+  pub multiply : Stores store_op.Multiply 135
+  pub divide : Stores store_op.Divide 15
+  pub remainder : Stores store_op.Remainder 0
+  pub shift_left : Stores store_op.ShiftLeft 360
+  pub shift_right : Stores store_op.ShiftRight 5
+  pub bit_and : Stores store_op.BitAnd 1
+  pub bit_xor : Stores store_op.BitXor 46
+  pub bit_or : Stores store_op.BitOr 47
 
 abbrev pub is_restart : Want → Bool
 is_restart Quiet = false

@@ -1,7 +1,7 @@
 -- The opened files ran, and so the program ends as the definition says.
 use Rattle.std.proofs.Common.{◌≡◌, ◌⊎◌, List, ℕ, Option, Result, Ok, Err, map, refl, subst, inl, inr}
 use Rattle.series.specs.declared.run_results.RunFault.{RunFault}
-use Rattle.series.specs.declared.run_results.RunFault.TheVariants as fault
+use Rattle.series.specs.declared.run_results.RunFault.TheVariants as run_fault
 use Rattle.series.specs.declared.run_results.Status.{Status}
 use Rattle.series.specs.declared.run_results.Status.TheVariants as status
 use Rattle.series.specs.Pieces.{Taken}
@@ -20,10 +20,10 @@ ending_of : (fails more : List ℕ → Type 0) (words : List (List ℕ)) (answer
     IsEndingOf more words answer ending
 ending_of fails more words (Ok status.Done) ending so is = is
 ending_of fails more words (Ok status.Faulty) ending so is = is
-ending_of fails more words (Err (fault.Read place)) ending so (word, is, here, failed) =
+ending_of fails more words (Err (run_fault.Read place)) ending so (word, is, here, failed) =
     (word, is, here, so word.now failed)
-ending_of fails more words (Err fault.Write) ending so is = is
-ending_of fails more words (Err fault.Memory) ending so is = is
+ending_of fails more words (Err run_fault.Write) ending so is = is
+ending_of fails more words (Err run_fault.Memory) ending so is = is
 
 pub ends_by_run : (files : Files) (asked : Result Settings UseFault) (settings : Settings) (fails : List ℕ → Type 0)
     (known : List (Option (List ℕ))) (ending : Ending) (before after : Taken) (failed failed_after : Failures)

@@ -2,13 +2,13 @@
 use Rattle.std.specs.Prelude.{◌≡◌, ◌⊎◌, ℕ, ◌+◌, List, [], ◌∷◌, ◌++◌, codes}
 use Rattle.sinks.specs.Portions.{Takes, TakesPrefix, SinkState}
 use Rattle.std.specs.declared.io.ErrorKind.{ErrorKind}
-use Rattle.std.specs.declared.io.ErrorKind.TheVariants as kind
+use Rattle.std.specs.declared.io.ErrorKind.TheVariants as error_kind
 use Rattle.command.specs.declared.endings.Ending.{Ending}
 use Rattle.command.specs.declared.endings.Ending.TheVariants.{Done, Faulty, WrongUsage, CannotOpen, CannotRead, CannotWrite, OutOfMemory}
 
 -- how the program ends if its words were not read: words that are no text are wrong usage
 abbrev pub unread_ending : ErrorKind → Ending
-unread_ending kind.OutOfMemory = OutOfMemory
+unread_ending error_kind.OutOfMemory = OutOfMemory
 unread_ending _ = WrongUsage
 
 -- the exit status

@@ -2,7 +2,7 @@
 use Rattle.std.specs.Prelude.{◌≡◌, ◌⊎◌, ◌<◌, ◌≤◌, ℕ, List, Option, Some, Result, Ok, Err, All, IsErr, map, slice_get, take}
 use Rattle.std.specs.Borrow.{Bor}
 use Rattle.series.specs.declared.run_results.RunFault.{RunFault}
-use Rattle.series.specs.declared.run_results.RunFault.TheVariants as fault
+use Rattle.series.specs.declared.run_results.RunFault.TheVariants as run_fault
 use Rattle.series.specs.declared.run_results.Status.{Status}
 use Rattle.series.specs.declared.run_results.Status.TheVariants as status
 use Rattle.series.specs.Compiling.{SourceFile}
@@ -28,9 +28,9 @@ IsUnread fails words place ending = (word : Bor (List ℕ)) × (ending ≡ Canno
 abbrev pub IsEndingOf : (List ℕ → Type 0) → List (List ℕ) → Result Status RunFault → Ending → Type 0
 IsEndingOf fails words (Ok status.Done) ending = ending ≡ Done
 IsEndingOf fails words (Ok status.Faulty) ending = ending ≡ Faulty
-IsEndingOf fails words (Err (fault.Read place)) ending = IsUnread fails words place ending
-IsEndingOf fails words (Err fault.Write) ending = ending ≡ CannotWrite
-IsEndingOf fails words (Err fault.Memory) ending = ending ≡ OutOfMemory
+IsEndingOf fails words (Err (run_fault.Read place)) ending = IsUnread fails words place ending
+IsEndingOf fails words (Err run_fault.Write) ending = ending ≡ CannotWrite
+IsEndingOf fails words (Err run_fault.Memory) ending = ending ≡ OutOfMemory
 
 -- a run over files whose contents are known so ended in this way
 pub record RunsTo (fails : List ℕ → Type 0) (settings : Settings) (known : List (Option (List ℕ))) (ending : Ending)

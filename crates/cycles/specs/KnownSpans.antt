@@ -4,7 +4,7 @@ use Rattle.grammar.specs.declared.resolved_names.Callee.TheVariants as callee
 use Rattle.grammar.specs.declared.resolved_names.Intrinsic.TheVariants as intrinsic
 use Rattle.grammar.specs.declared.resolved_names.Var.TheVariants as var
 use Rattle.arith.specs.declared.operators.Op.TheVariants as op
-use Rattle.grammar.specs.declared.operators.StoreOp.TheVariants as store
+use Rattle.grammar.specs.declared.operators.StoreOp.TheVariants as store_op
 use Rattle.grammar.specs.KnownSources.{call_of, constant, file_of_main, local, main_of, shot_tree}
 use Rattle.grammar.specs.Profile.{Profile, first_profile, second_profile}
 use Rattle.grammar.specs.Tree.{Expr, Assign, Body, Call, Done, ExpressionStatement, File, IfElseStatement, IfStatement, NoMore, Postfix, Return, While}
@@ -27,12 +27,12 @@ damage = Call (callee.Intrinsic intrinsic.Damage) NoMore
 -- main(){int x; if(x) x=1;}
 abbrev pub set_file : File
 set_file = file_of_main (codes "x" ∷ [])
-    (IfStatement (local 0) (ExpressionStatement (Assign store.Set (var.Local 0) (constant 1)) Done) Done)
+    (IfStatement (local 0) (ExpressionStatement (Assign store_op.Set (var.Local 0) (constant 1)) Done) Done)
 
 -- main(){int x; if(x) x++; else return 3;}
 abbrev pub step_file : File
 step_file = file_of_main (codes "x" ∷ [])
-    (IfElseStatement (local 0) (ExpressionStatement (Postfix store.Add (var.Local 0)) Done) (Return (constant 3) Done)
+    (IfElseStatement (local 0) (ExpressionStatement (Postfix store_op.Add (var.Local 0)) Done) (Return (constant 3) Done)
     Done)
 
 -- main(){f();} f(){g();} g(){int x; if(x) f();}

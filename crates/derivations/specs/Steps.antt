@@ -8,7 +8,7 @@ use Rattle.grammar.specs.Grammar as table
 use Rattle.derivations.specs.Table.{item_of}
 use Rattle.derivations.specs.declared.locations.Located.{Located}
 use Rattle.derivations.specs.declared.steps.StepEnd.{StepEnd}
-use Rattle.derivations.specs.declared.steps.StepEnd.TheVariants as outcome
+use Rattle.derivations.specs.declared.steps.StepEnd.TheVariants as step_end
 use Rattle.derivations.specs.declared.steps.Move.{Move}
 use Rattle.derivations.specs.declared.steps.Move.TheVariants as move
 use Rattle.derivations.specs.declared.steps.Pending.{Pending}
@@ -30,22 +30,22 @@ has_step table.Close next after = true
 has_step item next after = is_wanted item next
 
 abbrev pub stepped_if : Bool → StepEnd
-stepped_if fits = if fits then outcome.Stepped else outcome.Misfit
+stepped_if fits = if fits then step_end.Stepped else step_end.Misfit
 
 -- how a step ends with this item in front: a lexical error fits nothing
 abbrev pub decided_of : table.Item → Token → Token → StepEnd
-decided_of item next after = if is_lexical_error next then outcome.Misfit else stepped_if (has_step item next after)
+decided_of item next after = if is_lexical_error next then step_end.Misfit else stepped_if (has_step item next after)
 
 -- how a step ends
 abbrev pub outcome_of : Option Pending → Token → Token → StepEnd
-outcome_of None next after = outcome.Done
+outcome_of None next after = step_end.Done
 outcome_of (Some pending) next after = decided_of (item_of pending.item) next after
 
 -- how a step of this kind ends
 abbrev pub end_of : Move → StepEnd
-end_of (move.Pass tokens) = outcome.Stepped
-end_of (move.Replace production) = outcome.Stepped
-end_of move.Misfit = outcome.Misfit
+end_of (move.Pass tokens) = step_end.Stepped
+end_of (move.Replace production) = step_end.Stepped
+end_of move.Misfit = step_end.Misfit
 
 -- the token of an index: after the last one, the end
 abbrev pub token_of : Option Located → Token

@@ -5,7 +5,7 @@ use Rattle.derivations.specs.declared.symbols.Role.TheVariants as role
 use Rattle.derivations.specs.declared.symbols.Symbol.{Symbol}
 use Rattle.derivations.specs.declared.symbols.Symbol.TheVariants as symbol
 use Rattle.derivations.specs.declared.symbols.SemanticAction.{SemanticAction}
-use Rattle.derivations.specs.declared.symbols.SemanticAction.TheVariants as making
+use Rattle.derivations.specs.declared.symbols.SemanticAction.TheVariants as semantic_action
 use Rattle.derivations.specs.declared.symbols.Item.{Item}
 use Rattle.derivations.specs.declared.symbols.Item.TheVariants as item
 
@@ -41,24 +41,24 @@ symbol_of symbol.Arguments = table.Arguments
 symbol_of symbol.MoreArguments = table.MoreArguments
 
 abbrev pub action_of : SemanticAction → table.SemanticAction
-action_of (making.Operate o) = table.Operate o
-action_of making.Negate = table.Negate
-action_of making.Not = table.Not
-action_of making.Complement = table.Complement
-action_of making.Fetch = table.Fetch
-action_of (making.Store o) = table.Store o
-action_of (making.PrefixIncrement o) = table.PrefixIncrement o
-action_of (making.PostfixIncrement o) = table.PostfixIncrement o
-action_of making.Pass = table.AddArgument
-action_of making.Invoke = table.Invoke
-action_of making.Empty = table.Empty
-action_of making.Evaluate = table.Evaluate
-action_of making.Decide = table.Decide
-action_of making.DecideElse = table.DecideElse
-action_of making.Repeat = table.Repeat
-action_of making.Zero = table.Zero
-action_of making.GiveBack = table.GiveBack
-action_of making.Define = table.Define
+action_of (semantic_action.Operate o) = table.Operate o
+action_of semantic_action.Negate = table.Negate
+action_of semantic_action.Not = table.Not
+action_of semantic_action.Complement = table.Complement
+action_of semantic_action.Fetch = table.Fetch
+action_of (semantic_action.Store o) = table.Store o
+action_of (semantic_action.PrefixIncrement o) = table.PrefixIncrement o
+action_of (semantic_action.PostfixIncrement o) = table.PostfixIncrement o
+action_of semantic_action.Pass = table.AddArgument
+action_of semantic_action.Invoke = table.Invoke
+action_of semantic_action.Empty = table.Empty
+action_of semantic_action.Evaluate = table.Evaluate
+action_of semantic_action.Decide = table.Decide
+action_of semantic_action.DecideElse = table.DecideElse
+action_of semantic_action.Repeat = table.Repeat
+action_of semantic_action.Zero = table.Zero
+action_of semantic_action.GiveBack = table.GiveBack
+action_of semantic_action.Define = table.Define
 
 abbrev pub item_of : Item → table.Item
 item_of (item.Exactly m) = table.Exactly m

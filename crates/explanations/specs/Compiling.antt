@@ -1,7 +1,7 @@
 -- Whether a source compiles.
 use Rattle.std.specs.Prelude.{ℕ, ◌≡◌, List, Result, Ok, Err}
 use Rattle.grammar.specs.declared.diagnostics.ParseFault.{ParseFault}
-use Rattle.grammar.specs.declared.diagnostics.ParseFault.TheVariants as refusal
+use Rattle.grammar.specs.declared.diagnostics.ParseFault.TheVariants as parse_fault
 use Rattle.grammar.specs.Compiled.{compiled}
 use Rattle.grammar.specs.Profile.{Profile}
 use Rattle.grammar.specs.Tree.{File}
@@ -13,6 +13,6 @@ pub record Compiles (profile : Profile) (bytes : List ℕ) : Type 0 where
 
 -- the fault of a refusal is the source's first one
 abbrev pub IsFirstFault : Profile → List ℕ → ParseFault → Type 0
-IsFirstFault profile bytes (refusal.Source d) = compiled profile bytes ≡ Err d
-IsFirstFault profile bytes refusal.Device = Unit {0}
-IsFirstFault profile bytes refusal.Memory = ⊥
+IsFirstFault profile bytes (parse_fault.Source d) = compiled profile bytes ≡ Err d
+IsFirstFault profile bytes parse_fault.Device = Unit {0}
+IsFirstFault profile bytes parse_fault.Memory = ⊥

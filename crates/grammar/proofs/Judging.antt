@@ -2,7 +2,7 @@
 use Rattle.std.proofs.Common.{◌≡◌, ℕ, refl, subst, false}
 use Rattle.std.specs.Prelude.{Result, Ok, Err}
 use Rattle.grammar.specs.declared.build.BuildFault.{BuildFault}
-use Rattle.grammar.specs.declared.build.BuildFault.TheVariants as fault
+use Rattle.grammar.specs.declared.build.BuildFault.TheVariants as build_fault
 use Rattle.grammar.specs.declared.actions.Action.{Action}
 use Rattle.grammar.specs.declared.actions.Action.TheVariants.{EndFunction}
 use Rattle.grammar.specs.Actions.{ends_function}
@@ -25,10 +25,10 @@ judges_other result denied before action e refuses = refuses
 pub measures_fitting : {A : Type 0} (result : Result A BuildFault) (denied : Type 0) (before : Representation) →
     FitsWithin before → Refuses result denied → Measures result denied before
 measures_fitting (Ok x) denied before fits refuses = fits
-measures_fitting (Err fault.Memory) denied before fits refuses = (refuses, fits)
-measures_fitting (Err fault.Full) denied before fits refuses = absurd refuses
+measures_fitting (Err build_fault.Memory) denied before fits refuses = (refuses, fits)
+measures_fitting (Err build_fault.Full) denied before fits refuses = absurd refuses
 
 -- what each refusal of the end of a function says
 pub measured_over : {A : Type 0} (result : Result A BuildFault) (denied : Type 0) (before : Representation) →
-    Measures result denied before → result ≡ Err fault.Full → IsOver before
+    Measures result denied before → result ≡ Err build_fault.Full → IsOver before
 measured_over result denied before m is = subst (λ r. Measures r denied before) is m

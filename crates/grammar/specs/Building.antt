@@ -1,7 +1,7 @@
 -- What an action does to the lists of actions that a builder represents.
 use Rattle.std.specs.Prelude.{◌≡◌, ◌+◌, ◌<◌, ◌≤◌, List, [], ◌∷◌, ◌++◌, Some, Result, Ok, Err}
 use Rattle.grammar.specs.declared.build.BuildFault.{BuildFault}
-use Rattle.grammar.specs.declared.build.BuildFault.TheVariants as fault
+use Rattle.grammar.specs.declared.build.BuildFault.TheVariants as build_fault
 use Rattle.grammar.specs.declared.actions.Action.{Action}
 use Rattle.grammar.specs.declared.actions.Action.TheVariants.{EndFunction}
 use Rattle.grammar.specs.Actions.{code_length}
@@ -55,15 +55,15 @@ IsOver before = (profile : Profile) (acts : List Action) → before profile acts
 -- the one refusal is of memory, and then memory was refused
 abbrev pub Refuses : {A : Type 0} → Result A BuildFault → Type 0 → Type 0
 Refuses (Ok x) denied = Unit {0}
-Refuses (Err fault.Memory) denied = denied
-Refuses (Err fault.Full) denied = ⊥
+Refuses (Err build_fault.Memory) denied = denied
+Refuses (Err build_fault.Full) denied = ⊥
 
 -- What the end of a function says of the code so far: `Ok` that it fits with the last NOP, `Full` that it is over the
 -- limit, and `Memory` that it fits and memory was refused.
 abbrev pub Measures : {A : Type 0} → Result A BuildFault → Type 0 → Representation → Type 0
 Measures (Ok x) denied before = FitsWithin before
-Measures (Err fault.Full) denied before = IsOver before
-Measures (Err fault.Memory) denied before = denied × FitsWithin before
+Measures (Err build_fault.Full) denied before = IsOver before
+Measures (Err build_fault.Memory) denied before = denied × FitsWithin before
 
 -- What the answer to an action says: only the end of a function measures the code. Any other action is refused only for
 -- want of memory.

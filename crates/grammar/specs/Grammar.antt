@@ -13,7 +13,7 @@ use Rattle.tokens.specs.declared.located_tokens.Token.{Token}
 use Rattle.tokens.specs.declared.located_tokens.Token.TheVariants as token
 use Rattle.arith.specs.declared.operators.Op.{Op}
 use Rattle.grammar.specs.declared.operators.StoreOp.{StoreOp}
-use Rattle.grammar.specs.declared.operators.StoreOp.TheVariants as store
+use Rattle.grammar.specs.declared.operators.StoreOp.TheVariants as store_op
 use Rattle.grammar.specs.Operators.{operator_at, store_of}
 
 -- what a name is there for
@@ -180,18 +180,18 @@ choice Unary (token.Punctuator punctuator.Not) after =
 choice Unary (token.Punctuator punctuator.Tilde) after =
     Some (Exactly punctuator.Tilde ∷ Part Unary ∷ Make Complement ∷ Close ∷ [])
 choice Unary (token.Punctuator punctuator.PlusPlus) after =
-    Some (Exactly punctuator.PlusPlus ∷ AName Mentioned ∷ Make (PrefixIncrement store.Add) ∷ [])
+    Some (Exactly punctuator.PlusPlus ∷ AName Mentioned ∷ Make (PrefixIncrement store_op.Add) ∷ [])
 choice Unary (token.Punctuator punctuator.MinusMinus) after =
-    Some (Exactly punctuator.MinusMinus ∷ AName Mentioned ∷ Make (PrefixIncrement store.Subtract) ∷ [])
+    Some (Exactly punctuator.MinusMinus ∷ AName Mentioned ∷ Make (PrefixIncrement store_op.Subtract) ∷ [])
 choice Unary next after = Some (Part Primary ∷ [])
 choice Primary (token.Constant value) after = Some (AConstant ∷ [])
 choice Primary (token.Name name) (token.Punctuator punctuator.OpenRound) =
     Some (AName Called ∷ Exactly punctuator.OpenRound ∷ Part Arguments ∷ Exactly punctuator.CloseRound ∷ Make Invoke
     ∷ Close ∷ [])
 choice Primary (token.Name name) (token.Punctuator punctuator.PlusPlus) =
-    Some (AName Mentioned ∷ Exactly punctuator.PlusPlus ∷ Make (PostfixIncrement store.Add) ∷ [])
+    Some (AName Mentioned ∷ Exactly punctuator.PlusPlus ∷ Make (PostfixIncrement store_op.Add) ∷ [])
 choice Primary (token.Name name) (token.Punctuator punctuator.MinusMinus) =
-    Some (AName Mentioned ∷ Exactly punctuator.MinusMinus ∷ Make (PostfixIncrement store.Subtract) ∷ [])
+    Some (AName Mentioned ∷ Exactly punctuator.MinusMinus ∷ Make (PostfixIncrement store_op.Subtract) ∷ [])
 choice Primary (token.Name name) after = Some (AName Mentioned ∷ Make Fetch ∷ [])
 choice Primary (token.Punctuator punctuator.OpenRound) after =
     Some (Exactly punctuator.OpenRound ∷ Part Expression ∷ Exactly punctuator.CloseRound ∷ Close ∷ [])

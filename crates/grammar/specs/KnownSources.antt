@@ -15,7 +15,7 @@ use Rattle.grammar.specs.declared.resolved_names.Callee.TheVariants as callee
 use Rattle.grammar.specs.declared.resolved_names.Intrinsic.TheVariants as intrinsic
 use Rattle.grammar.specs.declared.resolved_names.Var.TheVariants as var
 use Rattle.arith.specs.declared.operators.Op.TheVariants as op
-use Rattle.grammar.specs.declared.operators.StoreOp.TheVariants as store
+use Rattle.grammar.specs.declared.operators.StoreOp.TheVariants as store_op
 use Rattle.grammar.specs.declared.actions.Action.{Action}
 use Rattle.grammar.specs.declared.actions.Action.TheVariants.{PushConstant, FetchVariable, ApplyBinop, LogicMiddle}
 use Rattle.grammar.specs.declared.actions.Action.TheVariants.{BeginCall, EndCall, IfTest, ElsePart, GiveBack, Chop}
@@ -150,8 +150,8 @@ abbrev pub sum_of_postfix : List Token
 sum_of_postfix = x ∷ equals ∷ a ∷ token.Punctuator punctuator.PlusPlus ∷ token.Punctuator punctuator.Plus ∷ b ∷ end ∷ []
 
 abbrev pub sum_of_postfix_tree : Body
-sum_of_postfix_tree = ExpressionStatement (Assign store.Set (var.Local 0)
-    (Binary op.Add (Postfix store.Add (var.Local 1)) (local 2))) Done
+sum_of_postfix_tree = ExpressionStatement (Assign store_op.Set (var.Local 0)
+    (Binary op.Add (Postfix store_op.Add (var.Local 1)) (local 2))) Done
 
 -- d(x,y) int x,y; { return(x*x+y*y); } main() { d(3); }
 abbrev pub square : Token → List Token
@@ -210,7 +210,7 @@ shot_tree = ExpressionStatement (Call (callee.Intrinsic intrinsic.Cannon)
 
 abbrev pub late_read_body : Body
 late_read_body =
-    ExpressionStatement (Assign store.Add (var.External 0) (Call (callee.Function 0) NoMore))
+    ExpressionStatement (Assign store_op.Add (var.External 0) (Call (callee.Function 0) NoMore))
     (IfStatement (Binary op.Equal (Variable (var.External 0)) (constant 2)) shot_tree (While (constant 1) Done Done))
 
 abbrev pub late_read_file : File
@@ -221,7 +221,7 @@ late_read_file = record {
         name = codes "f";
         parameters = 0;
         variables = [];
-        body = ExpressionStatement (Assign store.Set (var.External 0) (constant 1)) (Return (constant 1) Done);
+        body = ExpressionStatement (Assign store_op.Set (var.External 0) (constant 1)) (Return (constant 1) Done);
       }
       ∷ main_of [] late_read_body ∷ [];
   order = 0 ∷ 1 ∷ [];
@@ -241,9 +241,9 @@ unary_trees =
     ExpressionStatement (Binary op.Subtract (constant 0) (local 0))
     (ExpressionStatement (Binary op.Equal (local 0) (constant 0))
     (ExpressionStatement (Binary op.BitXor (local 0) (Constant (negsuc 0)))
-    (ExpressionStatement (Assign store.Add (var.Local 0) (constant 1))
-    (ExpressionStatement (Assign store.Subtract (var.Local 0) (constant 1))
-    (ExpressionStatement (Postfix store.Subtract (var.Local 0))
+    (ExpressionStatement (Assign store_op.Add (var.Local 0) (constant 1))
+    (ExpressionStatement (Assign store_op.Subtract (var.Local 0) (constant 1))
+    (ExpressionStatement (Postfix store_op.Subtract (var.Local 0))
     (Return (constant 0) Done))))))
 
 -- int x; main(){ x; { int x; x; } ; x; }: a name is what it is at its token

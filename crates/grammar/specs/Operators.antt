@@ -8,7 +8,7 @@ use Rattle.grammar.specs.declared.operators.BinaryOperator.{BinaryOperator}
 use Rattle.arith.specs.declared.operators.Op.{Op}
 use Rattle.arith.specs.declared.operators.Op.TheVariants as op
 use Rattle.grammar.specs.declared.operators.StoreOp.{StoreOp}
-use Rattle.grammar.specs.declared.operators.StoreOp.TheVariants as store
+use Rattle.grammar.specs.declared.operators.StoreOp.TheVariants as store_op
 
 abbrev pub at_level : ℕ → Op → Option BinaryOperator
 at_level n o = Some (record { level = n; op = o })
@@ -72,46 +72,46 @@ operator_of _ = None
 
 -- the operator of an assignment that a punctuator spells
 abbrev pub store_of : Punctuator → Option StoreOp
-store_of punctuator.Equals = Some store.Set
-store_of punctuator.PlusEquals = Some store.Add
-store_of punctuator.MinusEquals = Some store.Subtract
-store_of punctuator.StarEquals = Some store.Multiply
-store_of punctuator.SlashEquals = Some store.Divide
-store_of punctuator.PercentEquals = Some store.Remainder
-store_of punctuator.ShiftLeftEquals = Some store.ShiftLeft
-store_of punctuator.ShiftRightEquals = Some store.ShiftRight
-store_of punctuator.AndEquals = Some store.BitAnd
-store_of punctuator.XorEquals = Some store.BitXor
-store_of punctuator.OrEquals = Some store.BitOr
+store_of punctuator.Equals = Some store_op.Set
+store_of punctuator.PlusEquals = Some store_op.Add
+store_of punctuator.MinusEquals = Some store_op.Subtract
+store_of punctuator.StarEquals = Some store_op.Multiply
+store_of punctuator.SlashEquals = Some store_op.Divide
+store_of punctuator.PercentEquals = Some store_op.Remainder
+store_of punctuator.ShiftLeftEquals = Some store_op.ShiftLeft
+store_of punctuator.ShiftRightEquals = Some store_op.ShiftRight
+store_of punctuator.AndEquals = Some store_op.BitAnd
+store_of punctuator.XorEquals = Some store_op.BitXor
+store_of punctuator.OrEquals = Some store_op.BitOr
 store_of _ = None
 
 -- the punctuator that spells an assignment's operator
 abbrev pub store_punctuator : StoreOp → Punctuator
-store_punctuator store.Set = punctuator.Equals
-store_punctuator store.Add = punctuator.PlusEquals
-store_punctuator store.Subtract = punctuator.MinusEquals
-store_punctuator store.Multiply = punctuator.StarEquals
-store_punctuator store.Divide = punctuator.SlashEquals
-store_punctuator store.Remainder = punctuator.PercentEquals
-store_punctuator store.ShiftLeft = punctuator.ShiftLeftEquals
-store_punctuator store.ShiftRight = punctuator.ShiftRightEquals
-store_punctuator store.BitAnd = punctuator.AndEquals
-store_punctuator store.BitXor = punctuator.XorEquals
-store_punctuator store.BitOr = punctuator.OrEquals
+store_punctuator store_op.Set = punctuator.Equals
+store_punctuator store_op.Add = punctuator.PlusEquals
+store_punctuator store_op.Subtract = punctuator.MinusEquals
+store_punctuator store_op.Multiply = punctuator.StarEquals
+store_punctuator store_op.Divide = punctuator.SlashEquals
+store_punctuator store_op.Remainder = punctuator.PercentEquals
+store_punctuator store_op.ShiftLeft = punctuator.ShiftLeftEquals
+store_punctuator store_op.ShiftRight = punctuator.ShiftRightEquals
+store_punctuator store_op.BitAnd = punctuator.AndEquals
+store_punctuator store_op.BitXor = punctuator.XorEquals
+store_punctuator store_op.BitOr = punctuator.OrEquals
 
 -- the binary operator by which an assignment works out the new value: none for =
 abbrev pub op_of : StoreOp → Option Op
-op_of store.Set = None
-op_of store.Add = Some op.Add
-op_of store.Subtract = Some op.Subtract
-op_of store.Multiply = Some op.Multiply
-op_of store.Divide = Some op.Divide
-op_of store.Remainder = Some op.Remainder
-op_of store.ShiftLeft = Some op.ShiftLeft
-op_of store.ShiftRight = Some op.ShiftRight
-op_of store.BitAnd = Some op.BitAnd
-op_of store.BitXor = Some op.BitXor
-op_of store.BitOr = Some op.BitOr
+op_of store_op.Set = None
+op_of store_op.Add = Some op.Add
+op_of store_op.Subtract = Some op.Subtract
+op_of store_op.Multiply = Some op.Multiply
+op_of store_op.Divide = Some op.Divide
+op_of store_op.Remainder = Some op.Remainder
+op_of store_op.ShiftLeft = Some op.ShiftLeft
+op_of store_op.ShiftRight = Some op.ShiftRight
+op_of store_op.BitAnd = Some op.BitAnd
+op_of store_op.BitXor = Some op.BitXor
+op_of store_op.BitOr = Some op.BitOr
 
 -- the operator of an assignment that a token spells
 abbrev pub store_operator : Token → Option StoreOp

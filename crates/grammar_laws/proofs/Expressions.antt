@@ -7,7 +7,7 @@ use Rattle.tokens.specs.declared.located_tokens.Token.TheVariants as token
 use Rattle.grammar.specs.declared.resolved_names.Callee.{Callee}
 use Rattle.arith.specs.declared.operators.Op.{Op}
 use Rattle.grammar.specs.declared.operators.StoreOp.{StoreOp}
-use Rattle.grammar.specs.declared.operators.StoreOp.TheVariants as store
+use Rattle.grammar.specs.declared.operators.StoreOp.TheVariants as store_op
 use Rattle.grammar.specs.Derivation.{PartialTree, AnExpr, AVariable, ACall, Definition}
 use Rattle.grammar.specs.Grammar as grammar
 use Rattle.grammar.specs.Grammar.{Item, Exactly, AName, Part, Make, Close, Mentioned, Level, Unary, Primary, MoreArguments, SemanticAction, Operate, Negate, Complement, Store, AddArgument, Invoke, choice}
@@ -162,7 +162,7 @@ assignment_begins : (o : StoreOp) (name : List ℕ) (tokens : List Token) (stack
     scope functions)
     (at (Part grammar.Expression ∷ Make (Store o) ∷ Close ∷ stack) tokens (AVariable (variable_of name scope) ∷ values)
     (mentioned name scope) functions)
-assignment_begins store.Set name tokens stack values scope functions = record { steps = 3; leads = refl }
+assignment_begins store_op.Set name tokens stack values scope functions = record { steps = 3; leads = refl }
 assignment_begins o name tokens stack values scope functions = record { steps = 3; leads = refl }
 
 assignment : (o : StoreOp) (name : List ℕ) (e : Expression) → IsOperand e → IsTaken (Assign o name e)

@@ -10,7 +10,7 @@ use Rattle.tokens.specs.declared.located_tokens.Keyword.TheVariants as keyword
 use Rattle.arith.specs.declared.operators.Op.{Op}
 use Rattle.arith.specs.declared.operators.Op.TheVariants as op
 use Rattle.grammar.specs.declared.operators.StoreOp.{StoreOp}
-use Rattle.grammar.specs.declared.operators.StoreOp.TheVariants as store
+use Rattle.grammar.specs.declared.operators.StoreOp.TheVariants as store_op
 use Rattle.grammar.specs.declared.actions.Action.{Action}
 use Rattle.grammar.specs.declared.actions.Action.TheVariants.{PushConstant, StoreVariable, ApplyBinop, BeginCall}
 use Rattle.grammar.specs.declared.actions.Action.TheVariants.{EndCall}
@@ -166,12 +166,12 @@ unary_tells A (token.Punctuator punctuator.Tilde) after stack values scope n k d
     (λ a. omega arith) f (constant_fits A (inner stack) (negsuc 0)))
     _ (compared acts (expr_actions e) (negsuc 0) op.BitXor)
 unary_tells A (token.Punctuator punctuator.PlusPlus) after stack values scope n k ds acts h = λ v i.
-    h (tree.Assign store.Add v (tree.Constant (pos 1)))
-    (assign_fits A (room_in stack) (room_in stack) store.Add v (tree.Constant (pos 1)) (λ a. omega arith) i
+    h (tree.Assign store_op.Add v (tree.Constant (pos 1)))
+    (assign_fits A (room_in stack) (room_in stack) store_op.Add v (tree.Constant (pos 1)) (λ a. omega arith) i
     (constant_fits A (room_in stack) (pos 1)))
 unary_tells A (token.Punctuator punctuator.MinusMinus) after stack values scope n k ds acts h = λ v i.
-    h (tree.Assign store.Subtract v (tree.Constant (pos 1)))
-    (assign_fits A (room_in stack) (room_in stack) store.Subtract v (tree.Constant (pos 1)) (λ a. omega arith) i
+    h (tree.Assign store_op.Subtract v (tree.Constant (pos 1)))
+    (assign_fits A (room_in stack) (room_in stack) store_op.Subtract v (tree.Constant (pos 1)) (λ a. omega arith) i
     (constant_fits A (room_in stack) (pos 1)))
 unary_tells A next after stack values scope n k ds acts h = h
 
@@ -196,9 +196,9 @@ primary_tells A (token.Name name) (token.Punctuator punctuator.OpenRound) stack 
           _ (called acts (args_actions args) (EndCall c));
     }
 primary_tells A (token.Name name) (token.Punctuator punctuator.PlusPlus) stack values n k ds acts level h =
-    λ v i. h (tree.Postfix store.Add v) (postfix_fits A (room_in stack) store.Add v i)
+    λ v i. h (tree.Postfix store_op.Add v) (postfix_fits A (room_in stack) store_op.Add v i)
 primary_tells A (token.Name name) (token.Punctuator punctuator.MinusMinus) stack values n k ds acts level h =
-    λ v i. h (tree.Postfix store.Subtract v) (postfix_fits A (room_in stack) store.Subtract v i)
+    λ v i. h (tree.Postfix store_op.Subtract v) (postfix_fits A (room_in stack) store_op.Subtract v i)
 primary_tells A (token.Name name) after stack values n k ds acts level h =
     λ v i. h (tree.Variable v) (variable_fits A (room_in stack) v i)
 primary_tells A (token.Punctuator punctuator.OpenRound) after stack values n k ds acts level h =

@@ -7,7 +7,7 @@ use Rattle.tokens.specs.declared.located_tokens.Token.TheVariants as token
 use Rattle.tokens.specs.declared.located_tokens.Keyword.TheVariants as keyword
 use Rattle.grammar.specs.declared.resolved_names.Var.TheVariants as var
 use Rattle.arith.specs.declared.operators.Op.TheVariants as op
-use Rattle.grammar.specs.declared.operators.StoreOp.TheVariants as store
+use Rattle.grammar.specs.declared.operators.StoreOp.TheVariants as store_op
 use Rattle.grammar.specs.declared.actions.Action.{Action}
 use Rattle.grammar.specs.declared.actions.Action.TheVariants.{PushConstant, FetchVariable, StoreVariable, ApplyBinop}
 use Rattle.grammar.specs.declared.actions.Action.TheVariants.{LogicMiddle, BeginWhile, WhileTest, EndWhile, GiveBack}
@@ -40,7 +40,7 @@ loop_actions =
     BeginFunction 0 1
     ∷ BeginWhile ∷ FetchVariable (var.Local 0) ∷ LogicMiddle op.And ∷ PushConstant (pos 1) ∷ ApplyBinop op.And
     ∷ WhileTest ∷ PushConstant (pos 0) ∷ FetchVariable (var.Local 0) ∷ ApplyBinop op.Subtract
-    ∷ StoreVariable (var.Local 1) store.Set ∷ Chop ∷ EndWhile
+    ∷ StoreVariable (var.Local 1) store_op.Set ∷ Chop ∷ EndWhile
     ∷ PushConstant (pos 0) ∷ GiveBack ∷ EndFunction 2 ∷ []
 
 pub record KnownEmissions : Type 0 where

@@ -8,7 +8,7 @@ use Rattle.grammar.specs.declared.resolved_names.Callee.TheVariants as callee
 use Rattle.grammar.specs.declared.resolved_names.Intrinsic.TheVariants as intrinsic
 use Rattle.grammar.specs.declared.resolved_names.Var.TheVariants as var
 use Rattle.arith.specs.declared.operators.Op.TheVariants as op
-use Rattle.grammar.specs.declared.operators.StoreOp.TheVariants as store
+use Rattle.grammar.specs.declared.operators.StoreOp.TheVariants as store_op
 use Rattle.grammar.specs.KnownSources.{a, b, f, x, scan, number, return, ro, rc, co, cc, end, comma, equals}
 use Rattle.grammar.specs.Tree as tree
 use Rattle.grammar.specs.Tree.{Expr, Args, Body}
@@ -27,7 +27,7 @@ variable n = tree.Variable (var.Local n)
 -- x = a - (b - 1)
 abbrev pub difference : Expression
 difference =
-    Assign store.Set (codes "x")
+    Assign store_op.Set (codes "x")
     (Binary op.Subtract (Variable (codes "a")) (Binary op.Subtract (Variable (codes "b")) (Constant 1)))
 
 -- x = (a - (b - 1))
@@ -35,7 +35,7 @@ abbrev pub difference_tokens : List Token
 difference_tokens = x ∷ equals ∷ ro ∷ a ∷ minus ∷ ro ∷ b ∷ minus ∷ number 1 ∷ rc ∷ rc ∷ []
 
 abbrev pub difference_tree : Expr
-difference_tree = tree.Assign store.Set (var.Local 0)
+difference_tree = tree.Assign store_op.Set (var.Local 0)
     (tree.Binary op.Subtract (variable 1) (tree.Binary op.Subtract (variable 2) (tree.Constant (pos 1))))
 
 -- f(x, x++) || -scan()
@@ -55,7 +55,7 @@ abbrev pub calls_tree : Expr
 calls_tree =
     tree.Binary op.Or
     (tree.Call (callee.Function 1) (tree.Argument (variable 0)
-    (tree.Argument (tree.Postfix store.Add (var.Local 0)) tree.NoMore)))
+    (tree.Argument (tree.Postfix store_op.Add (var.Local 0)) tree.NoMore)))
     (tree.Binary op.Subtract (tree.Constant (pos 0)) (tree.Call (callee.Intrinsic intrinsic.Scan) tree.NoMore))
 
 -- if (a < b) { while (a) { } } else { x; return; }

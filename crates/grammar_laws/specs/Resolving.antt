@@ -2,7 +2,7 @@
 use Rattle.std.specs.Prelude.{ℕ, pos, negsuc, List}
 use Rattle.arith.specs.declared.operators.Op.TheVariants as op
 use Rattle.grammar.specs.declared.operators.StoreOp.{StoreOp}
-use Rattle.grammar.specs.declared.operators.StoreOp.TheVariants as store
+use Rattle.grammar.specs.declared.operators.StoreOp.TheVariants as store_op
 use Rattle.grammar.specs.Grammar.{Called, Mentioned}
 use Rattle.grammar.specs.Scope.{Scope, scope_after_name, variable_of, callee_of}
 use Rattle.grammar.specs.Tree as tree
@@ -43,8 +43,8 @@ signed Not e = tree.Binary op.Equal e (tree.Constant (pos 0))
 signed Tilde e = tree.Binary op.BitXor e (tree.Constant (negsuc 0))
 
 abbrev pub step_op : Step → StoreOp
-step_op Up = store.Add
-step_op Down = store.Subtract
+step_op Up = store_op.Add
+step_op Down = store_op.Subtract
 
 -- an expression's tree, if these names are known before it
 abbrev mutual

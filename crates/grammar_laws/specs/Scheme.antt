@@ -11,7 +11,7 @@ use Rattle.tokens.specs.declared.located_tokens.Keyword.TheVariants as word
 use Rattle.tokens.specs.declared.located_tokens.Token.{Token}
 use Rattle.tokens.specs.declared.located_tokens.Token.TheVariants as token
 use Rattle.arith.specs.declared.operators.Op.TheVariants as op
-use Rattle.grammar.specs.declared.operators.StoreOp.TheVariants as store
+use Rattle.grammar.specs.declared.operators.StoreOp.TheVariants as store_op
 use Rattle.grammar.specs.Grammar.{Role, Defined, External, Parameter, Typed, Local, Called, Mentioned, Symbol, Source}
 use Rattle.grammar.specs.Grammar.{Types, Head, More, Parameters, ParameterTypes, FunctionBlock, Block, Declarations}
 use Rattle.grammar.specs.Grammar.{Statements, Statement, ElsePart, Back, Expression, Level, Tail, Unary, Primary}
@@ -37,17 +37,17 @@ action_rows =
     ∷ ("elsepart", "else stmt", (1, Make Empty) ∷ (2, Make DecideElse) ∷ [])
     ∷ ("elsepart", "", (0, Make Decide) ∷ [])
     ∷ ("back", "", (0, Make Zero) ∷ [])
-    ∷ ("expr", "name = expr", (3, Make (Store store.Set)) ∷ (3, Close) ∷ [])
-    ∷ ("expr", "name += expr", (3, Make (Store store.Add)) ∷ (3, Close) ∷ [])
-    ∷ ("expr", "name -= expr", (3, Make (Store store.Subtract)) ∷ (3, Close) ∷ [])
-    ∷ ("expr", "name *= expr", (3, Make (Store store.Multiply)) ∷ (3, Close) ∷ [])
-    ∷ ("expr", "name /= expr", (3, Make (Store store.Divide)) ∷ (3, Close) ∷ [])
-    ∷ ("expr", "name %= expr", (3, Make (Store store.Remainder)) ∷ (3, Close) ∷ [])
-    ∷ ("expr", "name <<= expr", (3, Make (Store store.ShiftLeft)) ∷ (3, Close) ∷ [])
-    ∷ ("expr", "name >>= expr", (3, Make (Store store.ShiftRight)) ∷ (3, Close) ∷ [])
-    ∷ ("expr", "name &= expr", (3, Make (Store store.BitAnd)) ∷ (3, Close) ∷ [])
-    ∷ ("expr", "name ^= expr", (3, Make (Store store.BitXor)) ∷ (3, Close) ∷ [])
-    ∷ ("expr", "name |= expr", (3, Make (Store store.BitOr)) ∷ (3, Close) ∷ [])
+    ∷ ("expr", "name = expr", (3, Make (Store store_op.Set)) ∷ (3, Close) ∷ [])
+    ∷ ("expr", "name += expr", (3, Make (Store store_op.Add)) ∷ (3, Close) ∷ [])
+    ∷ ("expr", "name -= expr", (3, Make (Store store_op.Subtract)) ∷ (3, Close) ∷ [])
+    ∷ ("expr", "name *= expr", (3, Make (Store store_op.Multiply)) ∷ (3, Close) ∷ [])
+    ∷ ("expr", "name /= expr", (3, Make (Store store_op.Divide)) ∷ (3, Close) ∷ [])
+    ∷ ("expr", "name %= expr", (3, Make (Store store_op.Remainder)) ∷ (3, Close) ∷ [])
+    ∷ ("expr", "name <<= expr", (3, Make (Store store_op.ShiftLeft)) ∷ (3, Close) ∷ [])
+    ∷ ("expr", "name >>= expr", (3, Make (Store store_op.ShiftRight)) ∷ (3, Close) ∷ [])
+    ∷ ("expr", "name &= expr", (3, Make (Store store_op.BitAnd)) ∷ (3, Close) ∷ [])
+    ∷ ("expr", "name ^= expr", (3, Make (Store store_op.BitXor)) ∷ (3, Close) ∷ [])
+    ∷ ("expr", "name |= expr", (3, Make (Store store_op.BitOr)) ∷ (3, Close) ∷ [])
     ∷ ("tail1", "|| level2 tail1", (2, Make (Operate op.Or)) ∷ [])
     ∷ ("tail2", "&& level3 tail2", (2, Make (Operate op.And)) ∷ [])
     ∷ ("tail3", "| level4 tail3", (2, Make (Operate op.BitOr)) ∷ [])
@@ -69,11 +69,11 @@ action_rows =
     ∷ ("unary", "- unary", (2, Make Negate) ∷ (2, Close) ∷ [])
     ∷ ("unary", "! unary", (2, Make Not) ∷ (2, Close) ∷ [])
     ∷ ("unary", "~ unary", (2, Make Complement) ∷ (2, Close) ∷ [])
-    ∷ ("unary", "++ name", (2, Make (PrefixIncrement store.Add)) ∷ [])
-    ∷ ("unary", "-- name", (2, Make (PrefixIncrement store.Subtract)) ∷ [])
+    ∷ ("unary", "++ name", (2, Make (PrefixIncrement store_op.Add)) ∷ [])
+    ∷ ("unary", "-- name", (2, Make (PrefixIncrement store_op.Subtract)) ∷ [])
     ∷ ("primary", "name ( args )", (4, Make Invoke) ∷ (4, Close) ∷ [])
-    ∷ ("primary", "name ++", (2, Make (PostfixIncrement store.Add)) ∷ [])
-    ∷ ("primary", "name --", (2, Make (PostfixIncrement store.Subtract)) ∷ [])
+    ∷ ("primary", "name ++", (2, Make (PostfixIncrement store_op.Add)) ∷ [])
+    ∷ ("primary", "name --", (2, Make (PostfixIncrement store_op.Subtract)) ∷ [])
     ∷ ("primary", "name", (1, Make Fetch) ∷ [])
     ∷ ("primary", "( expr )", (3, Close) ∷ [])
     ∷ ("args", "expr moreargs", (1, Make AddArgument) ∷ [])

@@ -41,19 +41,19 @@ asks_if true w k a asks = (refl, asks)
 asks_if false w k a asks = absurd (cc)
 
 -- after it the reply is on top
-reply_done : (code : Program) (reply : ℤ) (s : Machine) (o : Option Instr) (k : Intrinsic) (a : List ℤ)
-    → event_of s o ≡ Ask k a → last_of (done_with code reply s o).words ≡ reply
-reply_done code reply s (Some (Fcall (callee.Intrinsic i))) k a asks =
+reply_done : (program : Program) (reply : ℤ) (s : Machine) (o : Option Instr) (k : Intrinsic) (a : List ℤ)
+    → event_of s o ≡ Ask k a → last_of (done_with program reply s o).words ≡ reply
+reply_done program reply s (Some (Fcall (callee.Intrinsic i))) k a asks =
     last_one (take (frame_of s.frames).base s.words) reply
-reply_done code reply s _ k a asks = absurd (cc)
+reply_done program reply s _ k a asks = absurd (cc)
 
-reply_on_top : (code : Program) (reply : ℤ) (s : Machine) (k : Intrinsic) (a : List ℤ)
-    → want_next code s ≡ Ask k a → last_of (machine_after code reply s).words ≡ reply
-reply_on_top code reply s k a asks =
-    let o = instr_at code s.at in
-    let asked = asks_if (is_fitting code s o) (event_of s o) k a asks in
-    ap (λ (fits : Bool). last_of (if fits then done_with code reply s o else s).words) asked.0
-    ∙ reply_done code reply s o k a asked.1
+reply_on_top : (program : Program) (reply : ℤ) (s : Machine) (k : Intrinsic) (a : List ℤ)
+    → want_next program s ≡ Ask k a → last_of (machine_after program reply s).words ≡ reply
+reply_on_top program reply s k a asks =
+    let o = instr_at program s.at in
+    let asked = asks_if (is_fitting program s o) (event_of s o) k a asks in
+    ap (λ (fits : Bool). last_of (if fits then done_with program reply s o else s).words) asked.0
+    ∙ reply_done program reply s o k a asked.1
 
 -- a question has the reply that is given, and no other want has one
 asked_alike : (w : Want) (cycle : ℕ) (one other : ℤ)

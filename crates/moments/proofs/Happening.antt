@@ -21,18 +21,18 @@ use Rattle.moments.specs.Searches.{Happens, IsGlanced, IsOneCall, Seems, Shows, 
 use Rattle.moments.proofs.Asking.{reply_is, wanted_is}
 
 -- two glances see a robot at two stages
-pub record See (robots : List Behaviour) (code : Program) (i : ℕ) (sought : Sought) (now later : BattleState)
+pub record See (robots : List Behaviour) (program : Program) (i : ℕ) (sought : Sought) (now later : BattleState)
     (before after : Glance) : Type 0 where
   pub want : before.wanted ≡ wanted robots i now
   pub damage : before.damage ≡ damage_of (robot_at now.field i)
   pub damage_then : after.damage ≡ damage_of (robot_at later.field i)
-  pub value : before.value ≡ value_of sought (state_at code i now)
-  pub value_then : after.value ≡ value_of sought (state_at code i later)
-  pub address : before.address ≡ (state_at code i now).at
-  pub address_then : after.address ≡ (state_at code i later).at
-  pub home : before.home ≡ (state_at code i now).home
-  pub home_then : after.home ≡ (state_at code i later).home
-  pub frames : after.frames ≡ length (state_at code i later).frames
+  pub value : before.value ≡ value_of sought (state_at program i now)
+  pub value_then : after.value ≡ value_of sought (state_at program i later)
+  pub address : before.address ≡ (state_at program i now).at
+  pub address_then : after.address ≡ (state_at program i later).at
+  pub home : before.home ≡ (state_at program i now).home
+  pub home_then : after.home ≡ (state_at program i later).home
+  pub frames : after.frames ≡ length (state_at program i later).frames
   pub word : (k : Intrinsic) (a : List ℤ) → wanted robots i now ≡ Ask k a → after.word ≡ last_of (replies_of later i)
 
 -- one call stays one where the numbers are the same
@@ -41,59 +41,59 @@ one_call : (marks : List Bool) (a b c d a' b' c' d' : ℕ) → a ≡ a' → b �
 one_call marks a b c d a' b' c' d' p q r t (here, there, same) =
     (ap (λ n. get_or marks n false) (sym p) ∙ here, ap (λ n. get_or marks n false) (sym r) ∙ there, sym q ∙ same ∙ t)
 
-pub shows_so : (sought : Sought) (robots : List Behaviour) (code : Program) (i : ℕ) (now later : BattleState)
-    (before after : Glance) → See robots code i sought now later before after → Seems sought before after
-    → Shows sought robots code i now later
-shows_so (Place marks most) robots code i now later before after see (here, few) =
+pub shows_so : (sought : Sought) (robots : List Behaviour) (program : Program) (i : ℕ) (now later : BattleState)
+    (before after : Glance) → See robots program i sought now later before after → Seems sought before after
+    → Shows sought robots program i now later
+shows_so (Place marks most) robots program i now later before after see (here, few) =
     (ap (λ n. get_or marks.now n false) (sym see.address_then) ∙ here, omega (arith, see.frames, few))
-shows_so (Question k least most) robots code i now later before after see ((a, asks), low, high) =
+shows_so (Question k least most) robots program i now later before after see ((a, asks), low, high) =
     let asked = sym see.want ∙ asks in
     let word = see.word k a asked in ((a, asked), rw word at low, rw word at high)
-shows_so Restart robots code i now later before after see restarts = sym see.want ∙ restarts
-shows_so Hurt robots code i now later before after see grows = omega (arith, see.damage, see.damage_then, grows)
-shows_so (Change variable) robots code i now later before after see differs =
+shows_so Restart robots program i now later before after see restarts = sym see.want ∙ restarts
+shows_so Hurt robots program i now later before after see grows = omega (arith, see.damage, see.damage_then, grows)
+shows_so (Change variable) robots program i now later before after see differs =
     λ same. differs (see.value_then ∙ same ∙ sym see.value)
-shows_so (Value variable value) robots code i now later before after see is = sym see.value_then ∙ is
-shows_so (LocalChange marks number) robots code i now later before after see (one, differs) = (
-  one_call marks.now before.address before.home after.address after.home (state_at code i now).at
-      (state_at code i now).home (state_at code i later).at (state_at code i later).home see.address see.home
+shows_so (Value variable value) robots program i now later before after see is = sym see.value_then ∙ is
+shows_so (LocalChange marks number) robots program i now later before after see (one, differs) = (
+  one_call marks.now before.address before.home after.address after.home (state_at program i now).at
+      (state_at program i now).home (state_at program i later).at (state_at program i later).home see.address see.home
       see.address_then see.home_then one,
   λ same. differs (see.value_then ∙ same ∙ sym see.value),
 )
-shows_so (LocalValue marks number value) robots code i now later before after see (here, is) =
+shows_so (LocalValue marks number value) robots program i now later before after see (here, is) =
     (ap (λ n. get_or marks.now n false) (sym see.address_then) ∙ here, sym see.value_then ∙ is)
 
-pub seems_so : (sought : Sought) (robots : List Behaviour) (code : Program) (i : ℕ) (now later : BattleState)
-    (before after : Glance) → See robots code i sought now later before after → Shows sought robots code i now later
+pub seems_so : (sought : Sought) (robots : List Behaviour) (program : Program) (i : ℕ) (now later : BattleState)
+    (before after : Glance) → See robots program i sought now later before after → Shows sought robots program i now later
     → Seems sought before after
-seems_so (Place marks most) robots code i now later before after see (here, few) =
+seems_so (Place marks most) robots program i now later before after see (here, few) =
     (ap (λ n. get_or marks.now n false) see.address_then ∙ here, omega (arith, see.frames, few))
-seems_so (Question k least most) robots code i now later before after see ((a, asked), low, high) =
+seems_so (Question k least most) robots program i now later before after see ((a, asked), low, high) =
     let word = see.word k a asked in ((a, see.want ∙ asked), rw word low, rw word high)
-seems_so Restart robots code i now later before after see restarts = see.want ∙ restarts
-seems_so Hurt robots code i now later before after see grows = omega (arith, see.damage, see.damage_then, grows)
-seems_so (Change variable) robots code i now later before after see differs =
+seems_so Restart robots program i now later before after see restarts = see.want ∙ restarts
+seems_so Hurt robots program i now later before after see grows = omega (arith, see.damage, see.damage_then, grows)
+seems_so (Change variable) robots program i now later before after see differs =
     λ same. differs (sym see.value_then ∙ same ∙ see.value)
-seems_so (Value variable value) robots code i now later before after see is = see.value_then ∙ is
-seems_so (LocalChange marks number) robots code i now later before after see (one, differs) = (
-  one_call marks.now (state_at code i now).at (state_at code i now).home (state_at code i later).at
-      (state_at code i later).home before.address before.home after.address after.home (sym see.address) (sym see.home)
+seems_so (Value variable value) robots program i now later before after see is = see.value_then ∙ is
+seems_so (LocalChange marks number) robots program i now later before after see (one, differs) = (
+  one_call marks.now (state_at program i now).at (state_at program i now).home (state_at program i later).at
+      (state_at program i later).home before.address before.home after.address after.home (sym see.address) (sym see.home)
       (sym see.address_then) (sym see.home_then) one,
   λ same. differs (sym see.value_then ∙ same ∙ see.value),
 )
-seems_so (LocalValue marks number value) robots code i now later before after see (here, is) =
+seems_so (LocalValue marks number value) robots program i now later before after see (here, is) =
     (ap (λ n. get_or marks.now n false) see.address_then ∙ here, see.value_then ∙ is)
 
 -- glances before and after a cycle do so
 pub glances_see : (codes : List Program) (robots : List Behaviour) (s : BattleState) (seats others : List Pilot) (i : ℕ)
-    (none new : Pilot) (game next : Game) (code : Program) (sought : Sought) (before after : Glance)
+    (none new : Pilot) (game next : Game) (program : Program) (sought : Sought) (before after : Glance)
     → AreRobotsOf (exes_of codes) robots → codes_of seats ≡ codes → codes_of others ≡ codes → i < length seats
     → HasCome codes robots s seats game → HasCome codes robots s others next
-    → next.ending.cycles ≡ game.ending.cycles + 1 → (get_or seats i none).code ≡ code
+    → next.ending.cycles ≡ game.ending.cycles + 1 → (get_or seats i none).code ≡ program
     → IsGlanced game (get_or seats i none) i sought before → IsGlanced next (get_or others i new) i sought after
-    → See robots code i sought (state_after robots s game.ending.cycles)
+    → See robots program i sought (state_after robots s game.ending.cycles)
     (state_after robots s (game.ending.cycles + 1)) before after
-glances_see codes robots s seats others i none new game next code sought before after are same still inside come came
+glances_see codes robots s seats others i none new game next program sought before after are same still inside come came
     one is first second =
     let now = state_after robots s game.ending.cycles in
     let later = state_after robots s (game.ending.cycles + 1) in
@@ -101,10 +101,10 @@ glances_see codes robots s seats others i none new game next code sought before 
     let seat = get_or others i new in
     let count : length others ≡ length seats =
     sym (robots_as_seats codes robots others are still) ∙ robots_as_seats codes robots seats are same in
-    let old_at : old.state ≡ state_at code i now =
+    let old_at : old.state ≡ state_at program i now =
     rw is at (seat_reached codes seats game.arena now i none same inside come.played) in
-    let kept : seat.code ≡ code = code_same codes seats others i none new same still inside ∙ is in
-    let new_at : seat.state ≡ state_at code i later =
+    let kept : seat.code ≡ program = code_same codes seats others i none new same still inside ∙ is in
+    let new_at : seat.state ≡ state_at program i later =
     rw (one, kept) at (seat_reached codes others next.arena (state_after robots s next.ending.cycles) i new still
     (omega (arith, inside, count)) came.played) in
     record {
@@ -124,34 +124,34 @@ glances_see codes robots s seats others i none new game next code sought before 
     }
 
 -- the program of the robot of a number
-pub code_is : (seats : List Pilot) (i : ℕ) (none : Pilot) (code : Program) → i < length seats
-    → slice_get (codes_of seats) i ≡ Some code → (get_or seats i none).code ≡ code
-code_is seats i none code inside here =
+pub code_is : (seats : List Pilot) (i : ℕ) (none : Pilot) (program : Program) → i < length seats
+    → slice_get (codes_of seats) i ≡ Some program → (get_or seats i none).code ≡ program
+code_is seats i none program inside here =
     some_same (sym (slice_get-map (λ (seat : Pilot). seat.code) seats i
     ∙ ap (option_map (λ (seat : Pilot). seat.code)) (slice_get-get_or seats i none inside)) ∙ here)
 
 -- So what seems to happen happens, and nothing else does.
 pub happens_so : (codes : List Program) (robots : List Behaviour) (s : BattleState) (seats others : List Pilot) (i : ℕ)
-    (none new : Pilot) (game next : Game) (code : Program) (sought : Sought) (before after : Glance)
+    (none new : Pilot) (game next : Game) (program : Program) (sought : Sought) (before after : Glance)
     → AreRobotsOf (exes_of codes) robots → codes_of seats ≡ codes → codes_of others ≡ codes → i < length seats
     → HasCome codes robots s seats game → HasCome codes robots s others next
-    → next.ending.cycles ≡ game.ending.cycles + 1 → slice_get codes i ≡ Some code
+    → next.ending.cycles ≡ game.ending.cycles + 1 → slice_get codes i ≡ Some program
     → IsGlanced game (get_or seats i none) i sought before → IsGlanced next (get_or others i new) i sought after
-    → ((before.is_alive ≡ true) × Seems sought before after → Happens robots code s i sought game.ending.cycles)
-    × (Happens robots code s i sought game.ending.cycles → (before.is_alive ≡ true) × Seems sought before after)
-happens_so codes robots s seats others i none new game next code sought before after are same still inside come came one
+    → ((before.is_alive ≡ true) × Seems sought before after → Happens robots program s i sought game.ending.cycles)
+    × (Happens robots program s i sought game.ending.cycles → (before.is_alive ≡ true) × Seems sought before after)
+happens_so codes robots s seats others i none new game next program sought before after are same still inside come came one
     here first second =
     let now = state_after robots s game.ending.cycles in
     let later = state_after robots s (game.ending.cycles + 1) in
-    let is = code_is seats i none code inside (rw same here) in
+    let is = code_is seats i none program inside (rw same here) in
     let see =
-    glances_see codes robots s seats others i none new game next code sought before after are same still inside
+    glances_see codes robots s seats others i none new game next program sought before after are same still inside
     come came one is first second in
     let lives_now = first.alive ∙ lives_are game.arena now.field i come.played.field in (
       λ seems. record {
         lives = sym lives_now ∙ seems.0;
-        shows = shows_so sought robots code i now later before after see seems.1;
+        shows = shows_so sought robots program i now later before after see seems.1;
       },
       λ happens.
-          (lives_now ∙ happens.lives, seems_so sought robots code i now later before after see happens.shows),
+          (lives_now ∙ happens.lives, seems_so sought robots program i now later before after see happens.shows),
     )

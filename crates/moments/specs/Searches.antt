@@ -19,7 +19,7 @@ use Rattle.moments.specs.Moments.{last_of, replies_of, wanted}
 
 -- where a robot's program is at a stage
 abbrev pub state_at : Program → ℕ → BattleState → Machine
-state_at code i stage = reached code (started_machine code) (replies_of stage i)
+state_at program i stage = reached program (started_machine program) (replies_of stage i)
 
 -- two instructions are both marked, in one call of a function: its variables begin at the same word
 abbrev pub IsOneCall : List Bool → (at home at' home' : ℕ) → Type 0
@@ -27,29 +27,29 @@ IsOneCall marks at home at' home' = (get_or marks at false ≡ true) × (get_or 
 
 -- what is sought shows between the stages before and after a cycle
 abbrev pub Shows : Sought → List Behaviour → Program → ℕ → (before after : BattleState) → Type 0
-Shows (Place marks most) robots code i before after =
-    (get_or marks.now (state_at code i after).at false ≡ true) × (length (state_at code i after).frames ≤ most)
-Shows (Question function least most) robots code i before after =
+Shows (Place marks most) robots program i before after =
+    (get_or marks.now (state_at program i after).at false ≡ true) × (length (state_at program i after).frames ≤ most)
+Shows (Question function least most) robots program i before after =
     ((arguments : List ℤ) × (wanted robots i before ≡ Ask function arguments))
     × (least ≤ℤ last_of (replies_of after i)) × (last_of (replies_of after i) ≤ℤ most)
-Shows Restart robots code i before after = wanted robots i before ≡ want.Restart
-Shows Hurt robots code i before after = damage_of (robot_at before.field i) < damage_of (robot_at after.field i)
-Shows (Change variable) robots code i before after =
-    read_variable (state_at code i after) variable ≢ read_variable (state_at code i before) variable
-Shows (Value variable value) robots code i before after = read_variable (state_at code i after) variable ≡ value
-Shows (LocalChange marks number) robots code i before after =
-    IsOneCall marks.now (state_at code i before).at (state_at code i before).home (state_at code i after).at
-    (state_at code i after).home
-    × (read_variable (state_at code i after) (Local number) ≢ read_variable (state_at code i before) (Local number))
-Shows (LocalValue marks number value) robots code i before after =
-    (get_or marks.now (state_at code i after).at false ≡ true)
-    × (read_variable (state_at code i after) (Local number) ≡ value)
+Shows Restart robots program i before after = wanted robots i before ≡ want.Restart
+Shows Hurt robots program i before after = damage_of (robot_at before.field i) < damage_of (robot_at after.field i)
+Shows (Change variable) robots program i before after =
+    read_variable (state_at program i after) variable ≢ read_variable (state_at program i before) variable
+Shows (Value variable value) robots program i before after = read_variable (state_at program i after) variable ≡ value
+Shows (LocalChange marks number) robots program i before after =
+    IsOneCall marks.now (state_at program i before).at (state_at program i before).home (state_at program i after).at
+    (state_at program i after).home
+    × (read_variable (state_at program i after) (Local number) ≢ read_variable (state_at program i before) (Local number))
+Shows (LocalValue marks number value) robots program i before after =
+    (get_or marks.now (state_at program i after).at false ≡ true)
+    × (read_variable (state_at program i after) (Local number) ≡ value)
 
 -- it happens to a robot in the cycle after so many: the robot lives to begin it, and it shows
-pub record Happens (robots : List Behaviour) (code : Program) (opening : BattleState) (i : ℕ) (sought : Sought) (n : ℕ) :
+pub record Happens (robots : List Behaviour) (program : Program) (opening : BattleState) (i : ℕ) (sought : Sought) (n : ℕ) :
     Type 0 where
   pub lives : is_live_at (state_after robots opening n).field i ≡ true
-  pub shows : Shows sought robots code i (state_after robots opening n) (state_after robots opening (n + 1))
+  pub shows : Shows sought robots program i (state_after robots opening n) (state_after robots opening (n + 1))
 
 -- The least cycle later than one, up to a match's last, in which something happens: `Happens n` is of cycle n + 1.
 abbrev pub IsNext : (ℕ → Type 0) → (after last : ℕ) → Option ℕ → Type 0

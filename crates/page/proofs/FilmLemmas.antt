@@ -11,7 +11,7 @@ use Rattle.series.specs.Compiling.{files_of, compile_status}
 use Rattle.series.specs.Pieces.{on_both}
 use Rattle.series.specs.CompiledFiles.{Compiles}
 use Rattle.series.specs.declared.run_results.RunFault.{RunFault}
-use Rattle.series.specs.declared.run_results.RunFault.TheVariants as fault
+use Rattle.series.specs.declared.run_results.RunFault.TheVariants as run_fault
 use Rattle.series.specs.declared.run_results.Status.TheVariants as status
 use Rattle.page.specs.declared.films.Shown.{Shown}
 use Rattle.page.specs.declared.films.Shown.TheVariants.{Over, GoesOn, Faulty}
@@ -111,7 +111,7 @@ codes_good law order robots (Ok (Some kept)) codes compiled faults files is (wri
 -- a film is taken whole, or its sheet was full
 pub films_taken : (order : Order) (robots : List RobotFile) (stretch : Option Stretch) (ran : Result Shown RunFault)
     (shown : Option Shown) (film faults : Sheet) → IfOk ran (λ whole. (shown ≡ Some whole) × (film.failures ≡ 0))
-    → IfErr ran (λ stopped. (stopped ≡ fault.Write) × (0 < film.failures))
+    → IfErr ran (λ stopped. (stopped ≡ run_fault.Write) × (0 < film.failures))
     → ((whole : Shown) → shown ≡ Some whole → film.failures ≡ 0 →
     FilmsRobots order robots stretch (Ok whole) film faults)
     → FilmsRobots order robots stretch ran film faults
@@ -151,15 +151,15 @@ is_film order robots stretch (Some (Ok Faulty)) film faults (status, lines, whol
   lines = λ is. lines;
   full = λ is. absurd (omega (arith, is));
 }
-is_film order robots stretch (Some (Err fault.Write)) film faults (writes, full) = record {
+is_film order robots stretch (Some (Err run_fault.Write)) film faults (writes, full) = record {
   faulty = λ is. absurd (omega (arith, is));
   good = λ is. absurd (omega (arith, is));
   whole = λ is. absurd (omega (arith, is));
   lines = λ is. absurd (omega (arith, is));
   full = λ is. full;
 }
-is_film order robots stretch (Some (Err (fault.Read file))) film faults (writes, full) = absurd (cc writes)
-is_film order robots stretch (Some (Err fault.Memory)) film faults (writes, full) = absurd (cc writes)
+is_film order robots stretch (Some (Err (run_fault.Read file))) film faults (writes, full) = absurd (cc writes)
+is_film order robots stretch (Some (Err run_fault.Memory)) film faults (writes, full) = absurd (cc writes)
 
 -- a film that isn't of a stretch never says that its match goes on
 abbrev IsWhole : Option (Result Shown RunFault) → Type 0
@@ -172,9 +172,9 @@ of_film order robots stretch None film faults films whole = inl (search rules)
 of_film order robots stretch (Some (Ok Over)) film faults films whole = inl (search rules)
 of_film order robots stretch (Some (Ok GoesOn)) film faults films whole = absurd (whole refl)
 of_film order robots stretch (Some (Ok Faulty)) film faults films whole = inl (search rules)
-of_film order robots stretch (Some (Err fault.Write)) film faults films whole = inr refl
-of_film order robots stretch (Some (Err (fault.Read file))) film faults (writes, full) whole = absurd (cc writes)
-of_film order robots stretch (Some (Err fault.Memory)) film faults (writes, full) whole = absurd (cc writes)
+of_film order robots stretch (Some (Err run_fault.Write)) film faults films whole = inr refl
+of_film order robots stretch (Some (Err (run_fault.Read file))) film faults (writes, full) whole = absurd (cc writes)
+of_film order robots stretch (Some (Err run_fault.Memory)) film faults (writes, full) whole = absurd (cc writes)
 
 pub of_run : (order : Order) (robots : List RobotFile) (stretch : Option Stretch)
     (ran : Option (Result Shown RunFault)) (film faults : Sheet) → IsSome ran
@@ -183,9 +183,9 @@ of_run order robots stretch None film faults some films whole = absurd (cc some)
 of_run order robots stretch (Some (Ok Over)) film faults some films whole = inl (search rules)
 of_run order robots stretch (Some (Ok GoesOn)) film faults some films whole = absurd (whole refl)
 of_run order robots stretch (Some (Ok Faulty)) film faults some films whole = inl (search rules)
-of_run order robots stretch (Some (Err fault.Write)) film faults some films whole = inr refl
-of_run order robots stretch (Some (Err (fault.Read file))) film faults some (writes, full) whole = absurd (cc writes)
-of_run order robots stretch (Some (Err fault.Memory)) film faults some (writes, full) whole = absurd (cc writes)
+of_run order robots stretch (Some (Err run_fault.Write)) film faults some films whole = inr refl
+of_run order robots stretch (Some (Err (run_fault.Read file))) film faults some (writes, full) whole = absurd (cc writes)
+of_run order robots stretch (Some (Err run_fault.Memory)) film faults some (writes, full) whole = absurd (cc writes)
 
 -- what the code of a film of windows says of them
 pub of_stretch : (order : Order) (robots : List RobotFile) (ran : Option (Result Shown RunFault)) (film faults : Sheet)
@@ -207,9 +207,9 @@ of_stretch order robots (Some (Ok Faulty)) film faults films = record {
   over = λ is. absurd (omega (arith, is));
   goes_on = λ is. absurd (omega (arith, is));
 }
-of_stretch order robots (Some (Err fault.Write)) film faults films = record {
+of_stretch order robots (Some (Err run_fault.Write)) film faults films = record {
   over = λ is. absurd (omega (arith, is));
   goes_on = λ is. absurd (omega (arith, is));
 }
-of_stretch order robots (Some (Err (fault.Read file))) film faults (writes, full) = absurd (cc writes)
-of_stretch order robots (Some (Err fault.Memory)) film faults (writes, full) = absurd (cc writes)
+of_stretch order robots (Some (Err (run_fault.Read file))) film faults (writes, full) = absurd (cc writes)
+of_stretch order robots (Some (Err run_fault.Memory)) film faults (writes, full) = absurd (cc writes)

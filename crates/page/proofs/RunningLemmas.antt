@@ -12,7 +12,7 @@ use Rattle.series.specs.Failures.{FailsAsAnswered, Failures, SinkFailed, failing
 use Rattle.tokens.specs.Feed.{FailureCount, failed_again}
 use Rattle.series.specs.Pieces.{Channel, Piece, Taken, Text, Faults, Writes, TakesOn, on_both}
 use Rattle.series.specs.declared.run_results.RunFault.{RunFault}
-use Rattle.series.specs.declared.run_results.RunFault.TheVariants as fault
+use Rattle.series.specs.declared.run_results.RunFault.TheVariants as run_fault
 use Rattle.series.specs.declared.run_results.Status.{Status}
 use Rattle.series.specs.declared.run_results.Status.TheVariants.{Done, Faulty}
 use Rattle.sinks.specs.Portions.{KnownPortions, Portions, Takes}
@@ -125,9 +125,9 @@ pub is_output : (order : Order) (robots : List RobotFile) (ran : Option (Result 
 is_output order robots None text faults runs = λ small. absurd (omega arith)
 is_output order robots (Some (Ok status)) text faults (writes, is) = λ small.
     (ap status_code is, held (output_of order robots) text faults writes)
-is_output order robots (Some (Err (fault.Read file))) text faults runs = λ small. absurd (omega arith)
-is_output order robots (Some (Err fault.Write)) text faults runs = λ small. absurd (omega arith)
-is_output order robots (Some (Err fault.Memory)) text faults runs = λ small. absurd (omega arith)
+is_output order robots (Some (Err (run_fault.Read file))) text faults runs = λ small. absurd (omega arith)
+is_output order robots (Some (Err run_fault.Write)) text faults runs = λ small. absurd (omega arith)
+is_output order robots (Some (Err run_fault.Memory)) text faults runs = λ small. absurd (omega arith)
 
 -- what is true of all sources with the robots' names and bytes, on blank sheets, is true of those of the robots
 pub by_robots : (R : Settings → List SourceFile → Taken → Type 0) (order : Order) (robots : List RobotFile)
@@ -170,22 +170,22 @@ pub only_writes : {X A : Type 0} →
     →
     FailsAsAnswered ran (failing (map (λ _. no_device) olds) text faults)
     (failing (map (λ _. no_device) news) later_text later_faults)
-    → IfErr ran (λ stopped. (stopped ≡ fault.Write) × ((0 < later_text) ⊎ (0 < later_faults)))
+    → IfErr ran (λ stopped. (stopped ≡ run_fault.Write) × ((0 < later_text) ⊎ (0 < later_faults)))
 only_writes olds news (Ok answer) text faults later_text later_faults accounts = tt
-only_writes olds news (Err (fault.Read file)) text faults later_text later_faults (within, is) =
+only_writes olds news (Err (run_fault.Read file)) text faults later_text later_faults (within, is) =
     let feeds : List FailureCount = map (λ _. no_device) olds in
     let here = ap (λ (f : Failures). get_or f.feeds file no_device) is in
     let there = get_or-set_same feeds file (failed_again (get_or feeds file no_device)) no_device within in
     let counts : 0 ≡ (get_or feeds file no_device).failures + 1 =
     ap (λ (a : FailureCount). a.failures) (sym (never_failed news file) ∙ here ∙ there) in
     absurd (omega (arith, counts))
-only_writes olds news (Err fault.Write) text faults later_text later_faults accounts =
+only_writes olds news (Err run_fault.Write) text faults later_text later_faults accounts =
     (refl, sink_failed _ _ accounts)
-only_writes olds news (Err fault.Memory) text faults later_text later_faults accounts = absurd accounts
+only_writes olds news (Err run_fault.Memory) text faults later_text later_faults accounts = absurd accounts
 
 -- a full sheet is what stopped a run
 abbrev StopsFull : {A : Type 0} → Option (Result A RunFault) → Sheet → Sheet → Type 0
-StopsFull ran text faults = IfSome ran (λ ran. IfErr ran (λ stopped. (stopped ≡ fault.Write) × IsFull text faults))
+StopsFull ran text faults = IfSome ran (λ ran. IfErr ran (λ stopped. (stopped ≡ run_fault.Write) × IsFull text faults))
 
 -- a run whose code is 4 has left a full sheet
 pub is_full : (ran : Option (Result Status RunFault)) (text faults : Sheet) → StopsFull ran text faults
@@ -201,6 +201,6 @@ pub is_of_run : (ran : Option (Result Status RunFault)) (text faults : Sheet) �
 is_of_run None text faults some stopped = absurd (cc some)
 is_of_run (Some (Ok Done)) text faults some stopped = inl (search rules)
 is_of_run (Some (Ok Faulty)) text faults some stopped = inl (search rules)
-is_of_run (Some (Err fault.Write)) text faults some stopped = inr refl
-is_of_run (Some (Err (fault.Read file))) text faults some (writes, full) = absurd (cc writes)
-is_of_run (Some (Err fault.Memory)) text faults some (writes, full) = absurd (cc writes)
+is_of_run (Some (Err run_fault.Write)) text faults some stopped = inr refl
+is_of_run (Some (Err (run_fault.Read file))) text faults some (writes, full) = absurd (cc writes)
+is_of_run (Some (Err run_fault.Memory)) text faults some (writes, full) = absurd (cc writes)

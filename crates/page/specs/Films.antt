@@ -7,7 +7,7 @@ use Rattle.grammar.specs.Tree.{File}
 use Rattle.series.specs.Compiling.{compiling, files_of}
 use Rattle.series.specs.Pieces.{Faults}
 use Rattle.series.specs.declared.run_results.RunFault.{RunFault}
-use Rattle.series.specs.declared.run_results.RunFault.TheVariants as fault
+use Rattle.series.specs.declared.run_results.RunFault.TheVariants as run_fault
 use Rattle.series.specs.declared.run_results.Status.{Status}
 use Rattle.series.specs.declared.run_results.Status.TheVariants as status
 use Rattle.grammar.specs.Profile.{profile_numbered}
@@ -80,7 +80,7 @@ FilmsRobots order robots stretch (Ok shown) film faults = (status_shown shown �
     × (concat (told faults) ≡ diagnostics order robots)
     × (shown ≢ Faulty → film.failures ≡ 0)
     × OfMatch order robots (λ cycles. Shows stretch cycles shown)
-FilmsRobots order robots stretch (Err stopped) film faults = (stopped ≡ fault.Write) × IsFull film faults
+FilmsRobots order robots stretch (Err stopped) film faults = (stopped ≡ run_fault.Write) × IsFull film faults
 
 -- What a film's code says: 1 of a faulty source, 0 and 6 of good ones and a whole film, 4 of a full sheet. The sheet of
 -- faults has the diagnostics unless it was full.

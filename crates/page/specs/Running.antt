@@ -4,7 +4,7 @@ use Rattle.std.specs.List.{concat, flat_map}
 use Rattle.series.specs.Output.{Output, Runs, output}
 use Rattle.series.specs.Pieces.{Channel, Piece, Taken, Text, Faults, on_both}
 use Rattle.series.specs.declared.run_results.RunFault.{RunFault}
-use Rattle.series.specs.declared.run_results.RunFault.TheVariants as fault
+use Rattle.series.specs.declared.run_results.RunFault.TheVariants as run_fault
 use Rattle.series.specs.declared.run_results.Status.{Status}
 use Rattle.series.specs.declared.run_results.Status.TheVariants.{Done, Faulty}
 use Rattle.sinks.specs.Portions.{Portions}
@@ -75,9 +75,9 @@ status_code Faulty = 1
 
 -- the code of what stopped a run: 3 for a read, 4 for a write, 5 for memory
 abbrev pub fault_code : RunFault → ℕ
-fault_code (fault.Read file) = 3
-fault_code fault.Write = 4
-fault_code fault.Memory = 5
+fault_code (run_fault.Read file) = 3
+fault_code run_fault.Write = 4
+fault_code run_fault.Memory = 5
 
 abbrev pub ran_code : Result Status RunFault → ℕ
 ran_code (Ok status) = status_code status

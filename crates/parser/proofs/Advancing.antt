@@ -3,7 +3,7 @@ use Rattle.std.proofs.Common.{◌≡◌, List, [], ◌∷◌, ◌++◌, refl, sy
 use Rattle.tokens.specs.declared.located_tokens.LocatedToken.{LocatedToken}
 use Rattle.grammar.specs.declared.diagnostics.Diagnostic.{Diagnostic}
 use Rattle.grammar.specs.declared.diagnostics.ParseFault.{ParseFault}
-use Rattle.grammar.specs.declared.diagnostics.ParseFault.TheVariants as refusal
+use Rattle.grammar.specs.declared.diagnostics.ParseFault.TheVariants as parse_fault
 use Rattle.grammar.specs.declared.actions.Action.{Action}
 use Rattle.grammar.specs.Actions.{function_actions}
 use Rattle.grammar.specs.Building.{Representation}
@@ -92,7 +92,7 @@ telling_back after profile s t stop consumed is p h = record {
 
 -- before a further function is defined
 pub telling_inside : (after : Representation) (profile : Profile) (s : State) (stop : Stop) →
-    (refusal.Device ≡ stop.fault → HasReported after profile s.functions) → StopsInside profile s stop →
+    (parse_fault.Device ≡ stop.fault → HasReported after profile s.functions) → StopsInside profile s stop →
     StopsTelling after profile s stop
 telling_inside after profile s stop told h = record {
   stops = h.stops;
@@ -167,13 +167,13 @@ pub reading_fails_at_next : (before after : Representation) (front : List Item) 
     IsNearTo at.lookahead.cursor used →
     ((tail : List LocatedToken) (profile : Profile) (functions : List Definition) →
     Fails profile (state front (next_at at ∷ tail) [] (scope_at at) functions) d) →
-    StopsPart before after front at (stop_with (refusal.Source d) used)
+    StopsPart before after front at (stop_with (parse_fault.Source d) used)
 reading_fails_at_next before after front at d used near fails located_tokens is profile functions h =
     let b : Begins at.lookahead.cursor located_tokens = told_begins at located_tokens is in
     let here : Fails profile (state front located_tokens [] (scope_at at) functions) d =
     rw b.is (fails b.tail profile functions) in
     record {
       stops = stops_here profile (state front located_tokens [] (scope_at at) functions)
-          (stop_with (refusal.Source d) used) here (near_told at located_tokens used is near);
+          (stop_with (parse_fault.Source d) used) here (near_told at located_tokens used is near);
       told = λ device. absurd (cc);
     }

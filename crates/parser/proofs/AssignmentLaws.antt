@@ -10,7 +10,7 @@ use Rattle.grammar.specs.declared.diagnostics.Code.TheVariants as code
 use Rattle.grammar.specs.declared.diagnostics.ParseFault.{ParseFault}
 use Rattle.grammar.specs.declared.resolved_names.Var.{Var}
 use Rattle.grammar.specs.declared.operators.StoreOp.{StoreOp}
-use Rattle.grammar.specs.declared.diagnostics.ParseFault.TheVariants as refusal
+use Rattle.grammar.specs.declared.diagnostics.ParseFault.TheVariants as parse_fault
 use Rattle.grammar.specs.declared.actions.Action.TheVariants.{StoreVariable}
 use Rattle.grammar.specs.Actions.{expr_actions}
 use Rattle.grammar.specs.Building.{Representation, AppendsAll, MayFollow}
@@ -156,7 +156,7 @@ store_enters_level at o a s after more =
 pub store_too_deep : (at : UnreadPosition) (used : ℕ) (near : IsNearTo at.lookahead.cursor used) (depth : ℕ) (o : StoreOp) →
     IsAssignment at o → 64 ≤ depth →
     FailsAt depth (Part Expression ∷ []) [] at
-    (stop_with (refusal.Source (diagnostic (next_at at).line code.NestedTooDeeply)) used)
+    (stop_with (parse_fault.Source (diagnostic (next_at at).line code.NestedTooDeeply)) used)
 store_too_deep at used near depth o a deep =
     let s : SpellsStore o (after_at at) = sign_of at o a in
     let n : (next_at at).token ≡ token.Name a.named.name = a.named.is in

@@ -9,7 +9,7 @@ use Rattle.tokens.specs.declared.located_tokens.Token.TheVariants as token
 use Rattle.grammar.specs.declared.diagnostics.Code.TheVariants as code
 use Rattle.grammar.specs.declared.diagnostics.Diagnostic.{Diagnostic}
 use Rattle.grammar.specs.declared.diagnostics.ParseFault.{ParseFault}
-use Rattle.grammar.specs.declared.diagnostics.ParseFault.TheVariants as refusal
+use Rattle.grammar.specs.declared.diagnostics.ParseFault.TheVariants as parse_fault
 use Rattle.grammar.specs.declared.actions.Action.{Action}
 use Rattle.grammar.specs.declared.actions.Action.TheVariants.{BeginFunction, EndFunction}
 use Rattle.grammar.specs.Actions.{body_actions, code_length, function_actions, last_return}
@@ -168,10 +168,10 @@ renamed at new ready is = rw is (record {
 -- a refusal that is not the device's, at a cursor that did nothing
 pub short : (f : ParseFault) (at : ScopedCursor) (before : Representation) (line : ℕ) (denied : Type 0) →
     RefusesEnd before line denied f → Stopped f at at
-short (refusal.Source d) at before line denied ends =
+short (parse_fault.Source d) at before line denied ends =
     record { borrows = refl; account = refl; took = record { rest = λ total h. h } }
-short refusal.Device at before line denied ends = absurd ends
-short refusal.Memory at before line denied ends =
+short parse_fault.Device at before line denied ends = absurd ends
+short parse_fault.Memory at before line denied ends =
     record { borrows = refl; account = refl; took = record { rest = λ total h. h } }
 
 goes_ended : (brace ended : UnreadPosition) (rest : List LocatedToken) → IsEnded brace ended → MayContinue ended rest →
@@ -248,7 +248,7 @@ heading_refused used before at f more =
     refused_map used _ _ ⊥ more f (λ d. heading_stops before at d) (λ never. absurd never)
 
 block_stops : (before after : Representation) (at now : UnreadPosition) (d : Stop) → Derives 0 header_items [] [] [] at now →
-    (refusal.Device ≡ d.fault → HasGrown before after) → FailsAt 0 (Part FunctionBlock ∷ []) [] now d →
+    (parse_fault.Device ≡ d.fault → HasGrown before after) → FailsAt 0 (Part FunctionBlock ∷ []) [] now d →
     StopsPart before after at_definition at d
 block_stops before after at now d h grown fails located_tokens is profile functions k =
     telling_inside after profile _ d (λ device. told_grown before after profile functions (grown device) k)
@@ -258,29 +258,29 @@ block_stops before after at now d h grown fails located_tokens is profile functi
 pub block_refused : (used : ℕ) (before second after : Representation) (at now : UnreadPosition) (number parameters : ℕ)
     (f : ParseFault)
     (denied : Type 0) → Derives 0 header_items [] [] [] at now →
-    AppendsAll before second (BeginFunction number parameters ∷ []) → (refusal.Device ≡ f → HasGrown second after) →
+    AppendsAll before second (BeginFunction number parameters ∷ []) → (parse_fault.Device ≡ f → HasGrown second after) →
     Refused (FailsAt 0 (Part FunctionBlock ∷ []) [] now) denied used f →
     Refused (StopsPart before after at_definition at) denied used f
 block_refused used before second after at now number parameters f denied h told = by_fault f
   where
-    by_fault : (f : ParseFault) → (refusal.Device ≡ f → HasGrown second after) →
+    by_fault : (f : ParseFault) → (parse_fault.Device ≡ f → HasGrown second after) →
         Refused (FailsAt 0 (Part FunctionBlock ∷ []) [] now) denied used f →
         Refused (StopsPart before after at_definition at) denied used f
-    by_fault (refusal.Source d) grown fails =
-        block_stops before after at now (stop_with (refusal.Source d) used) h (λ device. absurd (cc)) fails
-    by_fault refusal.Device grown fails =
-        block_stops before after at now (stop_with refusal.Device used) h
+    by_fault (parse_fault.Source d) grown fails =
+        block_stops before after at now (stop_with (parse_fault.Source d) used) h (λ device. absurd (cc)) fails
+    by_fault parse_fault.Device grown fails =
+        block_stops before after at now (stop_with parse_fault.Device used) h
         (λ device. grown_behind before second after _ told (grown refl)) fails
-    by_fault refusal.Memory grown fails =
-        (fails.0, block_stops before after at now (stop_with refusal.Memory used) h (λ device. absurd (cc)) fails.1)
+    by_fault parse_fault.Memory grown fails =
+        (fails.0, block_stops before after at now (stop_with parse_fault.Memory used) h (λ device. absurd (cc)) fails.1)
 
 -- the builder was refused memory
 pub definition_halts : (before after : Representation) (pending : List Item) (left : List PartialTree) (at now : UnreadPosition)
     (used : ℕ) →
     Derives 0 definition_items pending [] left at now → IsNearTo now.lookahead.cursor used →
-    StopsPart before after at_definition at (stop_with refusal.Memory used)
+    StopsPart before after at_definition at (stop_with parse_fault.Memory used)
 definition_halts before after pending left at now used d near located_tokens is profile functions k =
-    telling_inside after profile _ (stop_with refusal.Memory used) (λ device. absurd (cc))
+    telling_inside after profile _ (stop_with parse_fault.Memory used) (λ device. absurd (cc))
     (halts 0 definition_items pending [] left at now used d near located_tokens is profile at_source [] functions
     refl)
 
@@ -290,7 +290,7 @@ too_much_stops : (first second third after : Representation) (at now brace : Unr
     (b : AddsBlock second third now brace) →
     AppendsAll first second (BeginFunction number parameters ∷ []) → is_lexical_error (next_at brace).token ≡ false →
     is_punctuator punctuator.CloseCurly (next_at brace).token ≡ true → IsTooMuch third (next_at brace).line d →
-    StopsPart first after at_definition at (stop_with (refusal.Source d) used)
+    StopsPart first after at_definition at (stop_with (parse_fault.Source d) used)
 too_much_stops first second third after at now brace number parameters d used near h b told sound closed much
     located_tokens is profile functions k =
     let s : Derives 0 definition_items at_brace [] (ABody b.tree ∷ []) at brace =
@@ -306,9 +306,9 @@ too_much_stops first second third after at now brace number parameters d used ne
     (too_long profile (Close ∷ at_source) (next_at brace) x.tail (ABody b.tree ∷ []) (scope_at brace) functions
     sound closed (rw long refl)) in
     let stop : Stops profile (state (at_brace ++ at_source) t.rest (ABody b.tree ∷ []) (scope_at brace) functions)
-    (stop_with (refusal.Source d) used) =
+    (stop_with (parse_fault.Source d) used) =
     stops_here profile (state (at_brace ++ at_source) t.rest (ABody b.tree ∷ []) (scope_at brace) functions)
-    (stop_with (refusal.Source d) used) (rw much.is fails) (near_told brace t.rest used t.shows near) in
+    (stop_with (parse_fault.Source d) used) (rw much.is fails) (near_told brace t.rest used t.shows near) in
     rw t.is
     (telling_back after profile _ _ _ s.consumed refl
     (s.passes t.rest (told_goes brace t.rest t.shows) profile at_source [] functions refl)
@@ -327,10 +327,10 @@ too_much_refused used first second third after at now brace number parameters f 
   where
     by_fault : (f : ParseFault) → RefusesEnd third (next_at brace).line denied f →
         Refused (StopsPart first after at_definition at) denied used f
-    by_fault (refusal.Source d) much =
+    by_fault (parse_fault.Source d) much =
         too_much_stops first second third after at now brace number parameters d used near h b told sound closed much
-    by_fault refusal.Device never = absurd never
-    by_fault refusal.Memory asks = (
+    by_fault parse_fault.Device never = absurd never
+    by_fault parse_fault.Memory asks = (
       asks,
       definition_halts first after at_brace (ABody b.tree ∷ []) at brace used
           (braced second third at now brace h b) near,

@@ -7,7 +7,7 @@ use Rattle.tokens.specs.declared.located_tokens.Token.TheVariants as token
 use Rattle.grammar.specs.declared.diagnostics.Code.TheVariants as code
 use Rattle.grammar.specs.declared.diagnostics.ParseFault.{ParseFault}
 use Rattle.grammar.specs.declared.resolved_names.Callee.{Callee}
-use Rattle.grammar.specs.declared.diagnostics.ParseFault.TheVariants as refusal
+use Rattle.grammar.specs.declared.diagnostics.ParseFault.TheVariants as parse_fault
 use Rattle.grammar.specs.declared.actions.Action.{Action}
 use Rattle.grammar.specs.declared.actions.Action.TheVariants.{BeginCall, EndCall}
 use Rattle.grammar.specs.Actions.{args_actions, expr_actions}
@@ -266,7 +266,7 @@ call_enters at n fits after more =
 pub call_too_deep : (at : UnreadPosition) (used : ℕ) (near : IsNearTo at.lookahead.cursor used) (depth : ℕ) →
     IsNamed (next_at at).token → is_punctuator punctuator.OpenRound (after_at at) ≡ true → 64 ≤ depth →
     FailsAt depth (Part Primary ∷ []) [] at
-    (stop_with (refusal.Source (diagnostic (next_at at).line code.NestedTooDeeply)) used)
+    (stop_with (parse_fault.Source (diagnostic (next_at at).line code.NestedTooDeeply)) used)
 call_too_deep at used near depth n fits deep =
     name_too_deep at used near depth Primary Called n.name
     (Exactly punctuator.OpenRound ∷ Part Arguments ∷ Exactly punctuator.CloseRound ∷ Make Invoke ∷ Close ∷ [])
@@ -309,7 +309,7 @@ callee_past at now depth callee c item =
 -- the builder was refused memory after the name
 pub callee_halts : (used : ℕ) (at now : UnreadPosition) (depth : ℕ) (callee : Callee) → IsCall at depth →
     DerivesItem (AName Called) [] (ACall callee NoMore ∷ []) at now → IsNearTo now.lookahead.cursor used →
-    FailsAt depth (Part Primary ∷ []) [] at (stop_with refusal.Memory used)
+    FailsAt depth (Part Primary ∷ []) [] at (stop_with parse_fault.Memory used)
 callee_halts used at now depth callee c item near =
     halts depth (Part Primary ∷ [])
     (Exactly punctuator.OpenRound ∷ Part Arguments ∷ Exactly punctuator.CloseRound ∷ Make Invoke ∷ Close ∷ []) []

@@ -7,7 +7,7 @@ use Rattle.tokens.specs.declared.located_tokens.Token.{Token}
 use Rattle.tokens.specs.declared.located_tokens.Token.TheVariants as token
 use Rattle.tokens.specs.declared.located_tokens.Keyword.TheVariants as keyword
 use Rattle.grammar.specs.declared.diagnostics.ParseFault.{ParseFault}
-use Rattle.grammar.specs.declared.diagnostics.ParseFault.TheVariants as refusal
+use Rattle.grammar.specs.declared.diagnostics.ParseFault.TheVariants as parse_fault
 use Rattle.grammar.specs.Building.{Representation}
 use Rattle.grammar.specs.Compiled.{diagnostic}
 use Rattle.grammar.specs.Derivation.{next_token}
@@ -71,7 +71,7 @@ pub source_misfits : (before : Representation) (at : UnreadPosition) (used : ℕ
     is_lexical_error (next_at at).token ≡ false → ((next_at at).token ≡ token.End → ⊥) →
     is_keyword keyword.Type (next_at at).token ≡ false → ((name : List ℕ) → (next_at at).token ≡ token.Name name → ⊥) →
     StopsPart before before at_source at
-    (stop_with (refusal.Source (diagnostic (next_at at).line (unexpected_token_code (next_at at).token))) used)
+    (stop_with (parse_fault.Source (diagnostic (next_at at).line (unexpected_token_code (next_at at).token))) used)
 source_misfits before at used near sound end type name =
     reading_fails_at_next before before at_source at _ used near
     (λ tail profile functions. no_part profile Source [] (next_at at ∷ tail) [] (scope_at at) functions sound
@@ -183,7 +183,7 @@ head_none (token.Fault lexical_error) after name = refl
 pub head_misfits : (before : Representation) (at : UnreadPosition) (used : ℕ) (near : IsNearTo at.lookahead.cursor used) →
     is_lexical_error (next_at at).token ≡ false → ((name : List ℕ) → (next_at at).token ≡ token.Name name → ⊥) →
     StopsPart before before at_head at
-    (stop_with (refusal.Source (diagnostic (next_at at).line (unexpected_token_code (next_at at).token))) used)
+    (stop_with (parse_fault.Source (diagnostic (next_at at).line (unexpected_token_code (next_at at).token))) used)
 head_misfits before at used near sound name =
     reading_fails_at_next before before at_head at _ used near
     (λ tail profile functions. no_part profile Head at_source (next_at at ∷ tail) [] (scope_at at) functions sound

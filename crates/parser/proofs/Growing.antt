@@ -2,9 +2,9 @@
 use Rattle.std.proofs.Common.{◌≡◌, List, [], ◌++◌, sym, subst, append_assoc, append-nil}
 use Rattle.std.specs.Prelude.{Err}
 use Rattle.grammar.specs.declared.build.BuildFault.{BuildFault}
-use Rattle.grammar.specs.declared.build.BuildFault.TheVariants as fault
+use Rattle.grammar.specs.declared.build.BuildFault.TheVariants as build_fault
 use Rattle.grammar.specs.declared.diagnostics.Diagnostic.{Diagnostic}
-use Rattle.grammar.specs.declared.diagnostics.ParseFault.TheVariants as refusal
+use Rattle.grammar.specs.declared.diagnostics.ParseFault.TheVariants as parse_fault
 use Rattle.grammar.specs.declared.actions.Action.{Action}
 use Rattle.grammar.specs.Building.{Representation, AppendsAll, Refuses}
 use Rattle.parser.specs.Growing.{HasGrown}
@@ -42,14 +42,14 @@ unknown profile acts = Unit {0}
 
 -- it asks for memory
 pub refuses : (e : BuildFault) (denied : Type 0) → Refuses {A = Unit {0}} (Err e) denied → denied
-refuses fault.Memory denied h = h
-refuses fault.Full denied h = absurd h
+refuses build_fault.Memory denied h = h
+refuses build_fault.Full denied h = absurd h
 
 -- It is asked how a builder has grown only if the device failed.
 
-pub source_grown : (before after : Representation) (d : Diagnostic) → refusal.Device ≡ refusal.Source d →
+pub source_grown : (before after : Representation) (d : Diagnostic) → parse_fault.Device ≡ parse_fault.Source d →
     HasGrown before after
 source_grown before after d other = absurd (cc)
 
-pub memory_grown : (before after : Representation) → refusal.Device ≡ refusal.Memory → HasGrown before after
+pub memory_grown : (before after : Representation) → parse_fault.Device ≡ parse_fault.Memory → HasGrown before after
 memory_grown before after other = absurd (cc)

@@ -8,7 +8,7 @@ use Rattle.tokens.specs.declared.located_tokens.Token.TheVariants as token
 use Rattle.tokens.specs.declared.located_tokens.Keyword.{Keyword}
 use Rattle.grammar.specs.declared.diagnostics.Code.{Code}
 use Rattle.grammar.specs.declared.diagnostics.ParseFault.{ParseFault}
-use Rattle.grammar.specs.declared.diagnostics.ParseFault.TheVariants as refusal
+use Rattle.grammar.specs.declared.diagnostics.ParseFault.TheVariants as parse_fault
 use Rattle.grammar.specs.Compiled.{diagnostic}
 use Rattle.grammar.specs.Derivation.{PartialTree, name_of_token, name_tree}
 use Rattle.grammar.specs.Faults.{unexpected_token_code}
@@ -55,7 +55,7 @@ punctuator_stops cursor known more m sound fits d stop depth =
 pub punctuator_misfits : {n : ℕ} (at : UnreadPosition) (m : Punctuator) → IsNearTo at.lookahead.cursor n →
     is_lexical_error (next_at at).token ≡ false → is_punctuator m (next_at at).token ≡ false →
     FailsItem (Exactly m) at
-    (stop_with (refusal.Source (diagnostic (next_at at).line (unexpected_token_code (next_at at).token))) n)
+    (stop_with (parse_fault.Source (diagnostic (next_at at).line (unexpected_token_code (next_at at).token))) n)
 punctuator_misfits at m near sound misses depth =
     fails_at_next depth (Exactly m ∷ []) [] at _ _ near
     (λ tail b profile stack values functions depths. no_punctuator profile m stack (next_at at ∷ tail) values
@@ -90,7 +90,7 @@ word_stops cursor known more w sound fits d stop depth =
 pub word_misfits : {n : ℕ} (at : UnreadPosition) (w : Keyword) → IsNearTo at.lookahead.cursor n →
     is_lexical_error (next_at at).token ≡ false → is_keyword w (next_at at).token ≡ false →
     FailsItem (AKeyword w) at
-    (stop_with (refusal.Source (diagnostic (next_at at).line (unexpected_token_code (next_at at).token))) n)
+    (stop_with (parse_fault.Source (diagnostic (next_at at).line (unexpected_token_code (next_at at).token))) n)
 word_misfits at w near sound misses depth =
     fails_at_next depth (AKeyword w ∷ []) [] at _ _ near
     (λ tail b profile stack values functions depths. no_word profile w stack (next_at at ∷ tail) values
@@ -134,7 +134,7 @@ name_stops cursor known learnt more role bytes is knows d stop depth =
 -- the name has a fault in its role
 pub name_refused : {n : ℕ} (at : UnreadPosition) (role : Role) (bytes : List ℕ) (c : Code) → IsNearTo at.lookahead.cursor n →
     (next_at at).token ≡ token.Name bytes → RefusesName role bytes (scope_at at) c →
-    FailsItem (AName role) at (stop_with (refusal.Source (diagnostic (next_at at).line c)) n)
+    FailsItem (AName role) at (stop_with (parse_fault.Source (diagnostic (next_at at).line c)) n)
 name_refused at role bytes c near is fails depth =
     fails_at_next depth (AName role ∷ []) [] at _ _ near
     (λ tail b profile stack values functions depths. name_fails profile role bytes c stack (next_at at) tail values
@@ -146,7 +146,7 @@ pub name_misfits : (n : ℕ) (at : UnreadPosition) (role : Role) (f : ParseFault
 name_misfits n at role f near none = rw none.is (fails)
   where
     fails : FailsItem (AName role) at
-        (stop_with (refusal.Source (diagnostic (next_at at).line (unexpected_token_code (next_at at).token))) n)
+        (stop_with (parse_fault.Source (diagnostic (next_at at).line (unexpected_token_code (next_at at).token))) n)
     fails depth =
         fails_at_next depth (AName role ∷ []) [] at _ _ near
         (λ tail b profile stack values functions depths. no_name profile role stack (next_at at ∷ tail) values

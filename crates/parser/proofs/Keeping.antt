@@ -2,7 +2,7 @@
 use Rattle.std.proofs.Common.{◌≡◌, ℕ, ◌+◌, ◌-◌, List, refl, ◌∙◌, arith}
 use Rattle.std.specs.Prelude.{Option}
 use Rattle.grammar.specs.declared.diagnostics.ParseFault.{ParseFault}
-use Rattle.grammar.specs.declared.diagnostics.ParseFault.TheVariants as refusal
+use Rattle.grammar.specs.declared.diagnostics.ParseFault.TheVariants as parse_fault
 use Rattle.grammar.specs.declared.actions.Action.{Action}
 use Rattle.grammar.specs.Pools.{Pools}
 use Rattle.grammar.specs.Profile.{Profile}
@@ -49,11 +49,11 @@ pub refused_left : (before after left : Representation) (denied : Type 0) (told 
     →
     ((profile : Profile) (acts : List Action) → left profile acts → after profile acts) →
     ParseIsRefused before left denied told to_come fault → ParseIsRefused before after denied told to_come fault
-refused_left before after left denied told to_come (refusal.Source d) same h = h
-refused_left before after left denied told to_come refusal.Device same h = λ bytes e profile start.
+refused_left before after left denied told to_come (parse_fault.Source d) same h = h
+refused_left before after left denied told to_come parse_fault.Device same h = λ bytes e profile start.
     let built = h bytes e profile start in
     record { count = built.count; took = built.took; more = built.more; stands = same profile _ built.stands }
-refused_left before after left denied told to_come refusal.Memory same h = h
+refused_left before after left denied told to_come parse_fault.Memory same h = h
 
 -- a level that was opened is closed
 pub shut : (depth opened : ℕ) → opened ≡ depth + 1 → opened - 1 ≡ depth

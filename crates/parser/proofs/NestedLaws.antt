@@ -7,7 +7,7 @@ use Rattle.tokens.specs.declared.located_tokens.Token.{Token}
 use Rattle.tokens.specs.declared.located_tokens.Token.TheVariants as token
 use Rattle.grammar.specs.declared.diagnostics.Code.TheVariants as code
 use Rattle.grammar.specs.declared.diagnostics.ParseFault.{ParseFault}
-use Rattle.grammar.specs.declared.diagnostics.ParseFault.TheVariants as refusal
+use Rattle.grammar.specs.declared.diagnostics.ParseFault.TheVariants as parse_fault
 use Rattle.grammar.specs.Building.{Representation}
 use Rattle.grammar.specs.Compiled.{diagnostic}
 use Rattle.grammar.specs.Derivation.{AnExpr}
@@ -20,9 +20,9 @@ use Rattle.parser.specs.Stopping.{stop_with}
 use Rattle.parser.specs.Segment.{Derives, DerivesItem, FailsAt, FailsItem, GoesPast, Refused, StopsAt}
 use Rattle.parser.proofs.Segments.{exit, exit_item, joined}
 use Rattle.parser.specs.declared.unary_ops.UnaryOp.{UnaryOp}
-use Rattle.parser.specs.declared.unary_ops.UnaryOp.TheVariants as sign
+use Rattle.parser.specs.declared.unary_ops.UnaryOp.TheVariants as unary_op
 use Rattle.parser.specs.declared.unary_ops.IncrementOp.{IncrementOp}
-use Rattle.parser.specs.declared.unary_ops.IncrementOp.TheVariants as step
+use Rattle.parser.specs.declared.unary_ops.IncrementOp.TheVariants as increment_op
 use Rattle.parser.specs.Expressions.{AddsExpr}
 use Rattle.parser.specs.UnaryOps.{unary_punctuator, increment_punctuator}
 use Rattle.parser.proofs.Parts.{punctuator_is, close_stands}
@@ -50,7 +50,7 @@ open_enters at fits after more =
 pub bracket_too_deep : (at : UnreadPosition) (used : ℕ) (near : IsNearTo at.lookahead.cursor used) (depth : ℕ) →
     is_punctuator punctuator.OpenRound (next_at at).token ≡ true → 64 ≤ depth →
     FailsAt depth (Part Primary ∷ []) [] at
-    (stop_with (refusal.Source (diagnostic (next_at at).line code.NestedTooDeeply)) used)
+    (stop_with (parse_fault.Source (diagnostic (next_at at).line code.NestedTooDeeply)) used)
 bracket_too_deep at used near depth fits deep =
     punctuator_too_deep at used near depth Primary punctuator.OpenRound
     (Part Expression ∷ Exactly punctuator.CloseRound ∷ Close ∷ []) (open_chooses at fits) (open_enters at fits) fits
@@ -141,40 +141,40 @@ primary_choice : (t after : Token) → ((s : UnaryOp) → is_punctuator (unary_p
     ((s : IncrementOp) → is_punctuator (increment_punctuator s) t ≡ false) →
     choice Unary t after ≡ Some (Part Primary ∷ [])
 primary_choice (token.Punctuator punctuator.Minus) after signs steps =
-    let e : is_punctuator (unary_punctuator sign.Negation) (token.Punctuator punctuator.Minus) ≡ false =
-    signs sign.Negation in
+    let e : is_punctuator (unary_punctuator unary_op.Negation) (token.Punctuator punctuator.Minus) ≡ false =
+    signs unary_op.Negation in
     absurd (cc)
 primary_choice (token.Punctuator punctuator.Not) after signs steps =
-    let e : is_punctuator (unary_punctuator sign.Denial) (token.Punctuator punctuator.Not) ≡ false =
-    signs sign.Denial in
+    let e : is_punctuator (unary_punctuator unary_op.Denial) (token.Punctuator punctuator.Not) ≡ false =
+    signs unary_op.Denial in
     absurd (cc)
 primary_choice (token.Punctuator punctuator.Tilde) after signs steps =
-    let e : is_punctuator (unary_punctuator sign.Complement) (token.Punctuator punctuator.Tilde) ≡ false =
-    signs sign.Complement in
+    let e : is_punctuator (unary_punctuator unary_op.Complement) (token.Punctuator punctuator.Tilde) ≡ false =
+    signs unary_op.Complement in
     absurd (cc)
 primary_choice (token.Punctuator punctuator.PlusPlus) after signs steps =
-    let e : is_punctuator (increment_punctuator step.Increment) (token.Punctuator punctuator.PlusPlus) ≡ false =
-    steps step.Increment in
+    let e : is_punctuator (increment_punctuator increment_op.Increment) (token.Punctuator punctuator.PlusPlus) ≡ false =
+    steps increment_op.Increment in
     absurd (cc)
 primary_choice (token.Punctuator punctuator.MinusMinus) after signs steps =
-    let e : is_punctuator (increment_punctuator step.Decrement) (token.Punctuator punctuator.MinusMinus) ≡ false =
-    steps step.Decrement in
+    let e : is_punctuator (increment_punctuator increment_op.Decrement) (token.Punctuator punctuator.MinusMinus) ≡ false =
+    steps increment_op.Decrement in
     absurd (cc)
 primary_choice t after signs steps = refl
 
 primary_enters : (t after : Token) → ((s : UnaryOp) → is_punctuator (unary_punctuator s) t ≡ false) →
     enters Unary t after ≡ false
 primary_enters (token.Punctuator punctuator.Minus) after signs =
-    let e : is_punctuator (unary_punctuator sign.Negation) (token.Punctuator punctuator.Minus) ≡ false =
-    signs sign.Negation in
+    let e : is_punctuator (unary_punctuator unary_op.Negation) (token.Punctuator punctuator.Minus) ≡ false =
+    signs unary_op.Negation in
     absurd (cc)
 primary_enters (token.Punctuator punctuator.Not) after signs =
-    let e : is_punctuator (unary_punctuator sign.Denial) (token.Punctuator punctuator.Not) ≡ false =
-    signs sign.Denial in
+    let e : is_punctuator (unary_punctuator unary_op.Denial) (token.Punctuator punctuator.Not) ≡ false =
+    signs unary_op.Denial in
     absurd (cc)
 primary_enters (token.Punctuator punctuator.Tilde) after signs =
-    let e : is_punctuator (unary_punctuator sign.Complement) (token.Punctuator punctuator.Tilde) ≡ false =
-    signs sign.Complement in
+    let e : is_punctuator (unary_punctuator unary_op.Complement) (token.Punctuator punctuator.Tilde) ≡ false =
+    signs unary_op.Complement in
     absurd (cc)
 primary_enters t after signs = refl
 
@@ -249,7 +249,7 @@ no_primary_enters t after n = refl
 pub primary_misfits : (at : UnreadPosition) (used : ℕ) (near : IsNearTo at.lookahead.cursor used) (depth : ℕ) →
     is_lexical_error (next_at at).token ≡ false → NoPrimary (next_at at).token →
     FailsAt depth (Part Primary ∷ []) [] at
-    (stop_with (refusal.Source (diagnostic (next_at at).line (unexpected_token_code (next_at at).token))) used)
+    (stop_with (parse_fault.Source (diagnostic (next_at at).line (unexpected_token_code (next_at at).token))) used)
 primary_misfits at used near depth sound n =
     none_chosen at used near depth Primary sound (λ after more. no_primary (next_at at).token after n)
     (λ after more. no_primary_enters (next_at at).token after n)

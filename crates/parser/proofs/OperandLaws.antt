@@ -9,7 +9,7 @@ use Rattle.tokens.specs.declared.located_tokens.Token.TheVariants as token
 use Rattle.grammar.specs.declared.diagnostics.ParseFault.{ParseFault}
 use Rattle.grammar.specs.declared.resolved_names.Var.{Var}
 use Rattle.grammar.specs.declared.operators.StoreOp.{StoreOp}
-use Rattle.grammar.specs.declared.diagnostics.ParseFault.TheVariants as refusal
+use Rattle.grammar.specs.declared.diagnostics.ParseFault.TheVariants as parse_fault
 use Rattle.grammar.specs.declared.actions.Action.TheVariants.{Chop, FetchVariable, PushConstant, StoreVariable}
 use Rattle.grammar.specs.Actions.{expr_actions}
 use Rattle.grammar.specs.Building.{Representation, AppendsAll, MayFollow, MayFollowAll}
@@ -28,7 +28,7 @@ use Rattle.parser.specs.Stopping.{stop_with}
 use Rattle.parser.specs.Segment.{Derives, DerivesItem, FailsItem, GoesPast, Refused, StopsAt}
 use Rattle.parser.proofs.Segments.{Leads, joined, past, refused_map, stops, halts}
 use Rattle.parser.specs.declared.unary_ops.IncrementOp.{IncrementOp}
-use Rattle.parser.specs.declared.unary_ops.IncrementOp.TheVariants as step
+use Rattle.parser.specs.declared.unary_ops.IncrementOp.TheVariants as increment_op
 use Rattle.parser.specs.Expressions.{AddsExpr}
 use Rattle.parser.specs.UnaryOps.{increment_punctuator, increment_store_op}
 use Rattle.parser.proofs.Parts.{MakesOnly, make_stands, punctuator_is}
@@ -166,7 +166,7 @@ fetch_chooses at n call none = record {
   sound = named_sound (next_at at).token n;
   is =
       λ after more. rw (n.is, after_name at after n more)
-      (fetch_choice n.name (after_at at) call (none step.Increment) (none step.Decrement));
+      (fetch_choice n.name (after_at at) call (none increment_op.Increment) (none increment_op.Decrement));
 }
 
 fetch_stands : (at : UnreadPosition) → IsNamed (next_at at).token → is_punctuator punctuator.OpenRound (after_at at) ≡ false →
@@ -217,13 +217,13 @@ fetch_adds before after at there v n call none item numbered sound told depth = 
 behind_choice : (name : List ℕ) (s : IncrementOp) →
     choice Primary (token.Name name) (token.Punctuator (increment_punctuator s)) ≡
     Some (AName Mentioned ∷ Exactly (increment_punctuator s) ∷ Make (PostfixIncrement (increment_store_op s)) ∷ [])
-behind_choice name step.Increment = refl
-behind_choice name step.Decrement = refl
+behind_choice name increment_op.Increment = refl
+behind_choice name increment_op.Decrement = refl
 
 behind_enters : (name : List ℕ) (s : IncrementOp) →
     enters Primary (token.Name name) (token.Punctuator (increment_punctuator s)) ≡ false
-behind_enters name step.Increment = refl
-behind_enters name step.Decrement = refl
+behind_enters name increment_op.Increment = refl
+behind_enters name increment_op.Decrement = refl
 
 behind_chooses : (at : UnreadPosition) (s : IncrementOp) → IsNamed (next_at at).token →
     is_punctuator (increment_punctuator s) (after_at at) ≡ true →
@@ -278,7 +278,7 @@ behind_past_name at now s v n fits item depth =
 pub behind_halts : (used : ℕ) (at now : UnreadPosition) (s : IncrementOp) (v : Var) → IsNamed (next_at at).token →
     is_punctuator (increment_punctuator s) (after_at at) ≡ true →
     DerivesItem (AName Mentioned) [] (AVariable v ∷ []) at now →
-    IsNearTo now.lookahead.cursor used → FailsItem (Part Primary) at (stop_with refusal.Memory used)
+    IsNearTo now.lookahead.cursor used → FailsItem (Part Primary) at (stop_with parse_fault.Memory used)
 behind_halts used at now s v n fits item near depth =
     halts depth (Part Primary ∷ [])
     (Exactly (increment_punctuator s) ∷ Make (PostfixIncrement (increment_store_op s)) ∷ []) []
@@ -339,13 +339,13 @@ behind_adds before a b c after at now there s v n fits item sign numbered sound 
 before_choice : (s : IncrementOp) (after : Token) →
     choice Unary (token.Punctuator (increment_punctuator s)) after ≡
     Some (Exactly (increment_punctuator s) ∷ AName Mentioned ∷ Make (PrefixIncrement (increment_store_op s)) ∷ [])
-before_choice step.Increment after = refl
-before_choice step.Decrement after = refl
+before_choice increment_op.Increment after = refl
+before_choice increment_op.Decrement after = refl
 
 before_enters : (s : IncrementOp) (after : Token) →
     enters Unary (token.Punctuator (increment_punctuator s)) after ≡ false
-before_enters step.Increment after = refl
-before_enters step.Decrement after = refl
+before_enters increment_op.Increment after = refl
+before_enters increment_op.Decrement after = refl
 
 before_stands : (at : UnreadPosition) (s : IncrementOp) → is_punctuator (increment_punctuator s) (next_at at).token ≡ true →
     (depth : ℕ) →

@@ -11,7 +11,7 @@ use Rattle.tokens.specs.contracts.located_tokens.Punctuator as punctuators
 use Rattle.tokens.specs.contracts.located_tokens.Keyword as keywords
 use denote.Enum.Bare.{same_true}
 use Rattle.grammar.specs.declared.diagnostics.Code.TheVariants as code
-use Rattle.grammar.specs.declared.diagnostics.ParseFault.TheVariants as refusal
+use Rattle.grammar.specs.declared.diagnostics.ParseFault.TheVariants as parse_fault
 use Rattle.grammar.specs.Compiled.{diagnostic}
 use Rattle.grammar.specs.Derivation.{State, PartialTree, Definition, scope_after_action, functions_defined, trees_after, next_token, state}
 use Rattle.grammar.specs.Faults.{fault, item_faults, nesting_faults, nested_count, only_if}
@@ -179,7 +179,7 @@ pub word_too_deep : (at : UnreadPosition) (n : ℕ) (near : IsNearTo at.lookahea
     Chooses symbol (next_at at).token (AKeyword w ∷ items) → is_keyword w (next_at at).token ≡ true →
     ((after : Token) → enters symbol (next_at at).token after ≡ true) → 64 ≤ depth →
     FailsAt depth (Part symbol ∷ []) trees at
-    (stop_with (refusal.Source (diagnostic (next_at at).line code.NestedTooDeeply)) n)
+    (stop_with (parse_fault.Source (diagnostic (next_at at).line code.NestedTooDeeply)) n)
 word_too_deep at n near depth symbol w items trees sound chosen fits opened deep =
     fails_at_next depth (Part symbol ∷ []) trees at _ n near (λ tail b profile stack values functions depths.
     too_deep_word profile symbol w items stack (next_at at) tail _ (scope_at at) functions sound
@@ -193,7 +193,7 @@ pub punctuator_too_deep : (at : UnreadPosition) (n : ℕ) (near : IsNearTo at.lo
     Chooses symbol (next_at at).token (Exactly m ∷ items) → is_punctuator m (next_at at).token ≡ true →
     ((after : Token) → enters symbol (next_at at).token after ≡ true) → 64 ≤ depth →
     FailsAt depth (Part symbol ∷ []) trees at
-    (stop_with (refusal.Source (diagnostic (next_at at).line code.NestedTooDeeply)) n)
+    (stop_with (parse_fault.Source (diagnostic (next_at at).line code.NestedTooDeeply)) n)
 punctuator_too_deep at n near depth symbol m items trees sound chosen fits opened deep =
     fails_at_next depth (Part symbol ∷ []) trees at _ n near (λ tail b profile stack values functions depths.
     too_deep profile symbol m items stack (next_at at) tail _ (scope_at at) functions sound (chosen (next_token tail))

@@ -12,7 +12,7 @@ use Rattle.tokens.specs.declared.located_tokens.Token.TheVariants as token
 use denote.Enum.Declared.{tag_of}
 use Rattle.grammar.specs.declared.diagnostics.Code.TheVariants as code
 use Rattle.grammar.specs.declared.diagnostics.ParseFault.{ParseFault}
-use Rattle.grammar.specs.declared.diagnostics.ParseFault.TheVariants as refusal
+use Rattle.grammar.specs.declared.diagnostics.ParseFault.TheVariants as parse_fault
 use Rattle.grammar.specs.Compiled.{diagnostic}
 use Rattle.grammar.specs.Derivation.{PartialTree, name_of_token, next_token}
 use Rattle.grammar.specs.Faults.{fault, nested_count, unexpected_token_code, only_if}
@@ -111,7 +111,7 @@ pub punctuator_too_deep : (at : UnreadPosition) (used : ℕ) (near : IsNearTo at
     EntersLevel at symbol →
     is_punctuator m (next_at at).token ≡ true → 64 ≤ depth →
     FailsAt depth (Part symbol ∷ []) [] at
-    (stop_with (refusal.Source (diagnostic (next_at at).line code.NestedTooDeeply)) used)
+    (stop_with (parse_fault.Source (diagnostic (next_at at).line code.NestedTooDeeply)) used)
 punctuator_too_deep at used near depth symbol m items c opened fits deep =
     fails_at_next depth (Part symbol ∷ []) [] at _ used near (λ tail b profile stack values functions depths.
     too_deep profile symbol m items stack (next_at at) tail values (scope_at at) functions c.sound
@@ -124,7 +124,7 @@ pub name_too_deep : (at : UnreadPosition) (used : ℕ) (near : IsNearTo at.looka
     (role : Role) (name : List ℕ) (items : List Item) → Chooses at symbol (AName role ∷ items) → EntersLevel at symbol →
     name_of_token (next_at at).token ≡ Some name → 64 ≤ depth →
     FailsAt depth (Part symbol ∷ []) [] at
-    (stop_with (refusal.Source (diagnostic (next_at at).line code.NestedTooDeeply)) used)
+    (stop_with (parse_fault.Source (diagnostic (next_at at).line code.NestedTooDeeply)) used)
 name_too_deep at used near depth symbol role name items c opened fits deep =
     fails_at_next depth (Part symbol ∷ []) [] at _ used near (λ tail b profile stack values functions depths.
     too_deep_name profile symbol role name items stack (next_at at) tail values (scope_at at) functions c.sound
@@ -137,7 +137,7 @@ pub none_chosen : (at : UnreadPosition) (used : ℕ) (near : IsNearTo at.lookahe
     is_lexical_error (next_at at).token ≡ false → WithAfter at (λ after. choice symbol (next_at at).token after ≡ None) →
     EntersNone at symbol →
     FailsAt depth (Part symbol ∷ []) [] at
-    (stop_with (refusal.Source (diagnostic (next_at at).line (unexpected_token_code (next_at at).token))) used)
+    (stop_with (parse_fault.Source (diagnostic (next_at at).line (unexpected_token_code (next_at at).token))) used)
 none_chosen at used near depth symbol sound none opened =
     fails_at_next depth (Part symbol ∷ []) [] at _ used near (λ tail b profile stack values functions depths.
     no_part profile symbol stack (next_at at ∷ tail) values (scope_at at) functions sound

@@ -8,7 +8,7 @@ use Rattle.tokens.specs.declared.located_tokens.LocatedToken.{LocatedToken}
 use Rattle.tokens.specs.declared.located_tokens.Token.{Token}
 use Rattle.grammar.specs.declared.diagnostics.Diagnostic.{Diagnostic}
 use Rattle.grammar.specs.declared.diagnostics.ParseFault.{ParseFault}
-use Rattle.grammar.specs.declared.diagnostics.ParseFault.TheVariants as refusal
+use Rattle.grammar.specs.declared.diagnostics.ParseFault.TheVariants as parse_fault
 use Rattle.grammar.specs.Compiled.{diagnostic}
 use Rattle.grammar.specs.Derivation.{State, derived, state, PartialTree, Definition, next_token, line_at}
 use Rattle.grammar.specs.Faults.{unexpected_token_code, nested_count}
@@ -185,9 +185,9 @@ stops_here profile s stop fails taken = record {
 
 fails_back : (profile : Profile) (s t : State) (f : ParseFault) → DerivesWithoutFault profile s t → IfSource f (Fails profile t) →
     IfSource f (Fails profile s)
-fails_back profile s t (refusal.Source d) p h = back profile s t d p h
-fails_back profile s t refusal.Device p h = tt
-fails_back profile s t refusal.Memory p h = tt
+fails_back profile s t (parse_fault.Source d) p h = back profile s t d p h
+fails_back profile s t parse_fault.Device p h = tt
+fails_back profile s t parse_fault.Memory p h = tt
 
 pub none_back : (profile : Profile) (s t : State) (rest : List LocatedToken) → DerivesWithoutFault profile s t →
     NoFaultBefore profile t rest → NoFaultBefore profile s rest
@@ -271,14 +271,14 @@ pub fails_at_next : (depth : ℕ) (front : List Item) (taken : List PartialTree)
     (profile : Profile) (stack : List Item) (values : List PartialTree) (functions : List Definition) →
     nested_count stack ≡ depth →
     Fails profile (state (front ++ stack) (next_at at ∷ tail) (taken ++ values) (scope_at at) functions) d) →
-    FailsAt depth front taken at (stop_with (refusal.Source d) n)
+    FailsAt depth front taken at (stop_with (parse_fault.Source d) n)
 fails_at_next depth front taken at d n near fails located_tokens is profile stack values functions depths =
     let b : Begins at.lookahead.cursor located_tokens = told_begins at located_tokens is in
     let bound : n ≤ reach_of located_tokens + 4096 = near_told at located_tokens n is near in
     let here : Fails profile (state (front ++ stack) located_tokens (taken ++ values) (scope_at at) functions) d =
     rw b.is (fails b.tail b.behind profile stack values functions depths) in
     inside_here profile (state (front ++ stack) located_tokens (taken ++ values) (scope_at at) functions)
-    (stop_with (refusal.Source d) n) here bound
+    (stop_with (parse_fault.Source d) n) here bound
 
 -- the token after the one that was passed is a lexical error, or the device failed
 pub stops : (cursor : Cursor) (known learnt : Scope) (more : Option (List ℕ)) (d : Stop) (depth : ℕ)
@@ -304,9 +304,9 @@ stops cursor known learnt more d depth front pending taken left leads stop locat
     lexical_error_fails : (f : ParseFault) (tail others : List LocatedToken) → tail ≡ cursor.after ∷ others →
         IfSource f (HasLexicalError (position_of (record { cursor = cursor; scope = learnt }) more)) →
         IfSource f (Fails profile (state (pending ++ stack) tail (left ++ values) learnt functions))
-    lexical_error_fails refusal.Device tail others behind h = tt
-    lexical_error_fails refusal.Memory tail others behind h = tt
-    lexical_error_fails (refusal.Source e) tail others behind h =
+    lexical_error_fails parse_fault.Device tail others behind h = tt
+    lexical_error_fails parse_fault.Memory tail others behind h = tt
+    lexical_error_fails (parse_fault.Source e) tail others behind h =
         let same : e ≡ diagnostic (line_at tail) (unexpected_token_code (next_token tail)) = h.is ∙ rw behind refl in
         let lexical_error : is_lexical_error (next_token tail) ≡ true = rw behind h.lexical_error in
         rw same (at_fault profile _ tail _ learnt functions lexical_error)
@@ -387,26 +387,26 @@ fails_behind depth inner front mid below taken between under at now d a opens fa
 
 -- at this position
 pub halts_here : (depth : ℕ) (front : List Item) (taken : List PartialTree) (at : UnreadPosition) (n : ℕ) →
-    IsNearTo at.lookahead.cursor n → FailsAt depth front taken at (stop_with refusal.Memory n)
+    IsNearTo at.lookahead.cursor n → FailsAt depth front taken at (stop_with parse_fault.Memory n)
 halts_here depth front taken at n near located_tokens is profile stack values functions depths =
     inside_here profile (state (front ++ stack) located_tokens (taken ++ values) (scope_at at) functions)
-    (stop_with refusal.Memory n) tt (near_told at located_tokens n is near)
+    (stop_with parse_fault.Memory n) tt (near_told at located_tokens n is near)
 
 -- after a segment
 pub halts : (depth : ℕ) (front mid : List Item) (taken between : List PartialTree) (at now : UnreadPosition) (n : ℕ) →
     Derives depth front mid taken between at now → IsNearTo now.lookahead.cursor n →
-    FailsAt depth front taken at (stop_with refusal.Memory n)
+    FailsAt depth front taken at (stop_with parse_fault.Memory n)
 halts depth front mid taken between at now n d near =
-    fails_then depth front mid taken between at now (stop_with refusal.Memory n) d
+    fails_then depth front mid taken between at now (stop_with parse_fault.Memory n) d
     (halts_here depth mid between now n near)
 
 -- Refusals.
 
 pub refused_map : (n : ℕ) (P Q : Stop → Type 0) (denied more : Type 0) (f : ParseFault) → ((d : Stop) → P d → Q d) →
     (denied → more) → Refused P denied n f → Refused Q more n f
-refused_map n P Q denied more (refusal.Source d) each memory h = each (stop_with (refusal.Source d) n) h
-refused_map n P Q denied more refusal.Device each memory h = each (stop_with refusal.Device n) h
-refused_map n P Q denied more refusal.Memory each memory h = (memory h.0, each (stop_with refusal.Memory n) h.1)
+refused_map n P Q denied more (parse_fault.Source d) each memory h = each (stop_with (parse_fault.Source d) n) h
+refused_map n P Q denied more parse_fault.Device each memory h = each (stop_with parse_fault.Device n) h
+refused_map n P Q denied more parse_fault.Memory each memory h = (memory h.0, each (stop_with parse_fault.Memory n) h.1)
 
 -- a refusal of a callee after a segment is one of the caller's
 pub exit : (n : ℕ) (depth inner : ℕ) (front mid below : List Item) (taken between under : List PartialTree)
@@ -437,7 +437,7 @@ exit_item n depth inner front item below taken under at now more f a opens =
 pub no_opening : (told told' : Option (List ℕ)) →
     ((bytes : List ℕ) → told ≡ Some bytes →
     (count : ℕ) × (told' ≡ Some (drop count bytes)) × (count ≤ undecided_reach_of (tokens bytes))) →
-    StopsAtFirst told told' refusal.Device
+    StopsAtFirst told told' parse_fault.Device
 no_opening None told' h = record {
   taken = 0;
   took = λ bytes e. absurd (cc);
@@ -461,7 +461,7 @@ pub opens_at_lexical_error : (cursor : Cursor) (told told' : Option (List ℕ)) 
     shown cursor told' ≡ option_map tokens told → told' ≡ option_map (drop (bytes_taken cursor)) told → IsNear cursor →
     bytes_taken cursor ≤ 1048577 →
     is_lexical_error cursor.next.token ≡ true →
-    StopsAtFirst told told' (refusal.Source (diagnostic cursor.next.line (unexpected_token_code cursor.next.token)))
+    StopsAtFirst told told' (parse_fault.Source (diagnostic cursor.next.line (unexpected_token_code cursor.next.token)))
 opens_at_lexical_error cursor told told' shows took near limited lexical_error = record {
   taken = bytes_taken cursor;
   took = λ bytes e. took ∙ rw e refl;

@@ -5,7 +5,7 @@ use Rattle.tokens.specs.declared.located_tokens.Token.{Token}
 use Rattle.tokens.specs.declared.located_tokens.Token.TheVariants as token
 use Rattle.grammar.specs.declared.diagnostics.Code.TheVariants as code
 use Rattle.grammar.specs.declared.diagnostics.ParseFault.{ParseFault}
-use Rattle.grammar.specs.declared.diagnostics.ParseFault.TheVariants as refusal
+use Rattle.grammar.specs.declared.diagnostics.ParseFault.TheVariants as parse_fault
 use Rattle.grammar.specs.declared.actions.Action.{Action}
 use Rattle.grammar.specs.declared.actions.Action.TheVariants.{PushConstant}
 use Rattle.grammar.specs.Actions.{expr_actions}
@@ -24,7 +24,7 @@ use Rattle.parser.specs.Stopping.{stop_with}
 use Rattle.parser.specs.Segment.{Derives, FailsAt, GoesPast, Refused, StopsAt}
 use Rattle.parser.proofs.Segments.{exit, exit_item, joined}
 use Rattle.parser.specs.declared.unary_ops.UnaryOp.{UnaryOp}
-use Rattle.parser.specs.declared.unary_ops.UnaryOp.TheVariants as sign
+use Rattle.parser.specs.declared.unary_ops.UnaryOp.TheVariants as unary_op
 use Rattle.parser.specs.Expressions.{AddsExpr}
 use Rattle.parser.specs.UnaryOps.{actions_before_operand, actions_after_operand, unary_punctuator, unary_action, unary_tree}
 use Rattle.parser.proofs.Parts.{MakesOnly, punctuator_is}
@@ -38,14 +38,14 @@ use Rattle.tokens.specs.Cursors.{IsNearTo}
 sign_choice : (s : UnaryOp) (after : Token) →
     choice Unary (token.Punctuator (unary_punctuator s)) after ≡
     Some (Exactly (unary_punctuator s) ∷ Part Unary ∷ Make (unary_action s) ∷ Close ∷ [])
-sign_choice sign.Negation after = refl
-sign_choice sign.Denial after = refl
-sign_choice sign.Complement after = refl
+sign_choice unary_op.Negation after = refl
+sign_choice unary_op.Denial after = refl
+sign_choice unary_op.Complement after = refl
 
 sign_enters : (s : UnaryOp) (after : Token) → enters Unary (token.Punctuator (unary_punctuator s)) after ≡ true
-sign_enters sign.Negation after = refl
-sign_enters sign.Denial after = refl
-sign_enters sign.Complement after = refl
+sign_enters unary_op.Negation after = refl
+sign_enters unary_op.Denial after = refl
+sign_enters unary_op.Complement after = refl
 
 sign_chooses : (at : UnreadPosition) (s : UnaryOp) → is_punctuator (unary_punctuator s) (next_at at).token ≡ true →
     Chooses at Unary (Exactly (unary_punctuator s) ∷ Part Unary ∷ Make (unary_action s) ∷ Close ∷ [])
@@ -65,21 +65,21 @@ sign_enters_level at s fits after more =
     rw t (sign_enters s after)
 
 sign_makes : (s : UnaryOp) (e : Expr) → MakesOnly (unary_action s) (AnExpr e ∷ []) (AnExpr (unary_tree s e) ∷ [])
-sign_makes sign.Negation e =
+sign_makes unary_op.Negation e =
     record {
       makes = λ values. refl;
       clean = λ profile stack rest values scope functions. refl;
       learns = λ scope. refl;
       defines = λ values scope. refl;
     }
-sign_makes sign.Denial e =
+sign_makes unary_op.Denial e =
     record {
       makes = λ values. refl;
       clean = λ profile stack rest values scope functions. refl;
       learns = λ scope. refl;
       defines = λ values scope. refl;
     }
-sign_makes sign.Complement e =
+sign_makes unary_op.Complement e =
     record {
       makes = λ values. refl;
       clean = λ profile stack rest values scope functions. refl;
@@ -90,7 +90,7 @@ sign_makes sign.Complement e =
 pub sign_too_deep : (at : UnreadPosition) (used : ℕ) (near : IsNearTo at.lookahead.cursor used) (depth : ℕ) (s : UnaryOp) →
     is_punctuator (unary_punctuator s) (next_at at).token ≡ true → 64 ≤ depth →
     FailsAt depth (Part Unary ∷ []) [] at
-    (stop_with (refusal.Source (diagnostic (next_at at).line code.NestedTooDeeply)) used)
+    (stop_with (parse_fault.Source (diagnostic (next_at at).line code.NestedTooDeeply)) used)
 sign_too_deep at used near depth s fits deep =
     punctuator_too_deep at used near depth Unary (unary_punctuator s) (Part Unary ∷ Make (unary_action s) ∷ Close ∷ [])
     (sign_chooses at s fits) (sign_enters_level at s fits) fits deep
@@ -136,46 +136,46 @@ operand_refused used at now depth s denied f fits shallow goes =
 
 sign_actions : (s : UnaryOp) (e : Expr) →
     expr_actions (unary_tree s e) ≡ actions_before_operand s ++ (expr_actions e ++ actions_after_operand s)
-sign_actions sign.Negation e = refl
-sign_actions sign.Denial e = refl
-sign_actions sign.Complement e = refl
+sign_actions unary_op.Negation e = refl
+sign_actions unary_op.Denial e = refl
+sign_actions unary_op.Complement e = refl
 
 sign_numbered : (s : UnaryOp) (e : Expr) → InExpr 64 64 64 e → InExpr 64 64 64 (unary_tree s e)
-sign_numbered sign.Negation e h = (tt, h)
-sign_numbered sign.Denial e h = (h, tt)
-sign_numbered sign.Complement e h = (h, tt)
+sign_numbered unary_op.Negation e h = (tt, h)
+sign_numbered unary_op.Denial e h = (h, tt)
+sign_numbered unary_op.Complement e h = (h, tt)
 
 sign_narrow : (s : UnaryOp) (e : Expr) (n : ℕ) → nesting e ≤ n → nesting (unary_tree s e) ≤ n
-sign_narrow sign.Negation e n h = omega arith
-sign_narrow sign.Denial e n h = omega arith
-sign_narrow sign.Complement e n h = omega arith
+sign_narrow unary_op.Negation e n h = omega arith
+sign_narrow unary_op.Denial e n h = omega arith
+sign_narrow unary_op.Complement e n h = omega arith
 
 pub before_follows : (before : Representation) (s : UnaryOp) (n : ℕ) → HasRoom before n →
     MayFollowAll before (actions_before_operand s)
-before_follows before sign.Negation n h =
+before_follows before unary_op.Negation n h =
     all_follow before (h.outer ∷ h.opened) (AValue (Number (pos 0)) ∷ h.outer ∷ h.opened) (PushConstant (pos 0) ∷ [])
     h.stands
     (act (PushConstant (pos 0)) (h.outer ∷ h.opened) (AValue (Number (pos 0)) ∷ h.outer ∷ h.opened) refl
     (let few : open_count (h.outer ∷ h.opened) + n ≤ 200 = h.few in omega arith))
-before_follows before sign.Denial n h =
+before_follows before unary_op.Denial n h =
     all_follow before (h.outer ∷ h.opened) (h.outer ∷ h.opened) [] h.stands (record { is = refl })
-before_follows before sign.Complement n h =
+before_follows before unary_op.Complement n h =
     all_follow before (h.outer ∷ h.opened) (h.outer ∷ h.opened) [] h.stands (record { is = refl })
 
 pub operand_room : (before now : Representation) (s : UnaryOp) (depth : ℕ) → depth < 64 →
     HasRoom before (room depth 11) →
     AppendsAll before now (actions_before_operand s) → HasRoom now (room (depth + 1) 11)
-operand_room before now sign.Negation depth shallow h told =
+operand_room before now unary_op.Negation depth shallow h told =
     let few : open_count (h.outer ∷ h.opened) + room depth 11 ≤ 200 = h.few in
     room_behind before now (room (depth + 1) 11) (PushConstant (pos 0) ∷ []) (h.outer ∷ h.opened)
     (AValue (Number (pos 0))) (h.outer ∷ h.opened) h.stands told
     (act (PushConstant (pos 0)) (h.outer ∷ h.opened) (AValue (Number (pos 0)) ∷ h.outer ∷ h.opened) refl (omega arith))
     (omega arith)
-operand_room before now sign.Denial depth shallow h told =
+operand_room before now unary_op.Denial depth shallow h told =
     let few : open_count (h.outer ∷ h.opened) + room depth 11 ≤ 200 = h.few in
     room_behind before now (room (depth + 1) 11) [] (h.outer ∷ h.opened) h.outer h.opened h.stands told
     (record { is = refl }) (omega arith)
-operand_room before now sign.Complement depth shallow h told =
+operand_room before now unary_op.Complement depth shallow h told =
     let few : open_count (h.outer ∷ h.opened) + room depth 11 ≤ 200 = h.few in
     room_behind before now (room (depth + 1) 11) [] (h.outer ∷ h.opened) h.outer h.opened h.stands told
     (record { is = refl }) (omega arith)

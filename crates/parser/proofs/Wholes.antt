@@ -12,7 +12,7 @@ use Rattle.tokens.specs.declared.located_tokens.Token.TheVariants as token
 use Rattle.grammar.specs.declared.diagnostics.Code.TheVariants as code
 use Rattle.grammar.specs.declared.diagnostics.Diagnostic.{Diagnostic}
 use Rattle.grammar.specs.declared.diagnostics.ParseFault.{ParseFault}
-use Rattle.grammar.specs.declared.diagnostics.ParseFault.TheVariants as refusal
+use Rattle.grammar.specs.declared.diagnostics.ParseFault.TheVariants as parse_fault
 use Rattle.grammar.specs.declared.actions.Action.{Action}
 use Rattle.grammar.specs.Building.{Representation, LeavesOpen}
 use Rattle.grammar.specs.Compiled.{compiled, compiled_tokens, diagnostic, last_line, main_name, resolved}
@@ -182,14 +182,14 @@ lacking before after told to_come at there f denied w (AMain defined none same) 
 
 stops_bytes : (before after : Representation) (told : Option (List ℕ)) (at : UnreadPosition) (d : Diagnostic) (used : ℕ) →
     scope_at at ≡ no_names → tokens_at at ≡ option_map tokens told →
-    StopsPart before after at_source at (stop_with (refusal.Source d) used) → FailsBytes before told d
+    StopsPart before after at_source at (stop_with (parse_fault.Source d) used) → FailsBytes before told d
 stops_bytes before after told at d used nothing tells stops bytes shows profile h =
     compiled_as profile bytes (tokens bytes) (Err d) refl
     (fault_verdict profile (tokens bytes) d
     (rw (sym nothing) (stops (tokens bytes) (tells ∙ ap (option_map tokens) shows) profile [] h).stops.fails))
 
 first_fails : (before : Representation) (told told' : Option (List ℕ)) (d : Diagnostic) →
-    StopsAtFirst told told' (refusal.Source d) → FailsBytes before told d
+    StopsAtFirst told told' (parse_fault.Source d) → FailsBytes before told d
 first_fails before told told' d stops bytes shows profile h =
     let s : (is_lexical_error (next_token (tokens bytes)) ≡ true) ×
     (d ≡ diagnostic (line_at (tokens bytes)) (unexpected_token_code (next_token (tokens bytes)))) =
@@ -250,38 +250,38 @@ pub stops_taking : (used : ℕ) (before after : Representation) (told to_come : 
     (denied : Type 0) → scope_at at ≡ no_names → tokens_at at ≡ option_map tokens told →
     HasTaken used told to_come → Refused (StopsPart before after at_source at) denied used f →
     StopsTaking before told to_come f
-stops_taking used before after told to_come at (refusal.Source d) denied nothing tells taken h =
+stops_taking used before after told to_come at (parse_fault.Source d) denied nothing tells taken h =
     λ bytes shows profile stands.
     let s =
-    stops_reading before after told at (stop_with (refusal.Source d) used) nothing tells h bytes shows profile stands
+    stops_reading before after told at (stop_with (parse_fault.Source d) used) nothing tells h bytes shows profile stands
     in
     takes_up_to profile bytes to_come used 4096 s.passed s.rest s.is s.none_before (taken.took bytes shows)
     taken.limited s.taken
-stops_taking used before after told to_come at refusal.Device denied nothing tells taken h =
+stops_taking used before after told to_come at parse_fault.Device denied nothing tells taken h =
     λ bytes shows profile stands.
     let s =
-    stops_reading before after told at (stop_with refusal.Device used) nothing tells h bytes shows profile stands in
+    stops_reading before after told at (stop_with parse_fault.Device used) nothing tells h bytes shows profile stands in
     leaves_open profile bytes to_come used s.passed s.rest s.is s.none_before (taken.took bytes shows) taken.limited
     s.taken
-stops_taking used before after told to_come at refusal.Memory denied nothing tells taken h =
+stops_taking used before after told to_come at parse_fault.Memory denied nothing tells taken h =
     λ bytes shows profile stands.
     let s =
-    stops_reading before after told at (stop_with refusal.Memory used) nothing tells h.1 bytes shows profile stands in
+    stops_reading before after told at (stop_with parse_fault.Memory used) nothing tells h.1 bytes shows profile stands in
     takes_up_to profile bytes to_come used 4096 s.passed s.rest s.is s.none_before (taken.took bytes shows)
     taken.limited s.taken
 
 pub first_taking : (before : Representation) (told to_come : Option (List ℕ)) (f : ParseFault) →
     StopsAtFirst told to_come f →
     StopsTaking before told to_come f
-first_taking before told to_come (refusal.Source d) stops = λ bytes shows profile stands.
+first_taking before told to_come (parse_fault.Source d) stops = λ bytes shows profile stands.
     takes_up_to profile bytes to_come stops.taken 4096 [] (tokens bytes) refl
     (none_before profile (initial_state (tokens bytes))) (stops.took bytes shows) stops.limited
     (stops.refused.taken (tokens bytes) (ap (option_map tokens) shows))
-first_taking before told to_come refusal.Device stops = λ bytes shows profile stands.
+first_taking before told to_come parse_fault.Device stops = λ bytes shows profile stands.
     leaves_open profile bytes to_come stops.taken [] (tokens bytes) refl
     (none_before profile (initial_state (tokens bytes)))
     (stops.took bytes shows) stops.limited (stops.refused.taken (tokens bytes) (ap (option_map tokens) shows))
-first_taking before told to_come refusal.Memory stops = absurd stops.refused.0
+first_taking before told to_come parse_fault.Memory stops = absurd stops.refused.0
 
 -- a file that was read to its end
 pub whole_takes : (used : ℕ) (before after : Representation) (told to_come : Option (List ℕ)) (at there : UnreadPosition) →
@@ -316,7 +316,7 @@ lacks_taking used before after told to_come at there f w (AMain defined none sam
 -- What was built if the device failed.
 
 builds_by : (after : Representation) (profile : Profile) (bytes : List ℕ) (to_come : Option (List ℕ)) (used : ℕ)
-    (s : Stops profile (initial_state (tokens bytes)) (stop_with refusal.Device used)) →
+    (s : Stops profile (initial_state (tokens bytes)) (stop_with parse_fault.Device used)) →
     to_come ≡ Some (drop used bytes) →
     HasReported after profile (derived s.steps (initial_state (tokens bytes))).functions →
     HasBuilt after profile bytes to_come
@@ -335,13 +335,13 @@ builds_by after profile bytes to_come used s took told =
 
 stops_building : (used : ℕ) (before after : Representation) (told to_come : Option (List ℕ)) (at : UnreadPosition) →
     scope_at at ≡ no_names → tokens_at at ≡ option_map tokens told →
-    HasTaken used told to_come → StopsPart before after at_source at (stop_with refusal.Device used) →
+    HasTaken used told to_come → StopsPart before after at_source at (stop_with parse_fault.Device used) →
     BuildsAhead before after told to_come
 stops_building used before after told to_come at nothing tells taken stops bytes shows profile h =
-    let s : StopsTelling after profile (initial_state (tokens bytes)) (stop_with refusal.Device used) =
+    let s : StopsTelling after profile (initial_state (tokens bytes)) (stop_with parse_fault.Device used) =
     subst
     (λ (known : Scope). StopsTelling after profile (state at_source (tokens bytes) [] known [])
-    (stop_with refusal.Device used)) nothing
+    (stop_with parse_fault.Device used)) nothing
     (stops (tokens bytes) (tells ∙ ap (option_map tokens) shows) profile [] h) in
     builds_by after profile bytes to_come used s.stops (taken.took bytes shows) (s.told refl)
 
@@ -351,33 +351,33 @@ pub stopped : (used : ℕ) (before after : Representation) (told to_come : Optio
     (denied : Type 0) → scope_at at ≡ no_names → tokens_at at ≡ option_map tokens told →
     HasTaken used told to_come → Refused (StopsPart before after at_source at) denied used f →
     ParseIsRefused before after denied told to_come f
-stopped used before after told to_come at (refusal.Source d) denied nothing tells taken h =
+stopped used before after told to_come at (parse_fault.Source d) denied nothing tells taken h =
     stops_bytes before after told at d used nothing tells h
-stopped used before after told to_come at refusal.Device denied nothing tells taken h =
+stopped used before after told to_come at parse_fault.Device denied nothing tells taken h =
     stops_building used before after told to_come at nothing tells taken h
-stopped used before after told to_come at refusal.Memory denied nothing tells taken h = h.0
+stopped used before after told to_come at parse_fault.Memory denied nothing tells taken h = h.0
 
 opening_builds : (before : Representation) (told to_come : Option (List ℕ)) (used : ℕ) → HasTaken used told to_come →
-    StopsFirst (option_map tokens told) (stop_with refusal.Device used) → BuildsAhead before before told to_come
+    StopsFirst (option_map tokens told) (stop_with parse_fault.Device used) → BuildsAhead before before told to_come
 opening_builds before told to_come used taken stops bytes shows profile h =
     let some : used ≤ undecided_reach_of (tokens bytes) = stops.taken (tokens bytes) (ap (option_map tokens) shows) in
-    let s : Stops profile (initial_state (tokens bytes)) (stop_with refusal.Device used) =
-    stops_here profile (initial_state (tokens bytes)) (stop_with refusal.Device used) tt some in
+    let s : Stops profile (initial_state (tokens bytes)) (stop_with parse_fault.Device used) =
+    stops_here profile (initial_state (tokens bytes)) (stop_with parse_fault.Device used) tt some in
     builds_by before profile bytes to_come used s (taken.took bytes shows) (first_told before profile bytes used some h)
   where
     first_told : (before : Representation) (profile : Profile) (bytes : List ℕ) (used : ℕ)
         (some : used ≤ undecided_reach_of (tokens bytes)) → before profile [] →
         HasReported before profile
-        (derived (stops_here profile (initial_state (tokens bytes)) (stop_with refusal.Device used) tt some).steps
+        (derived (stops_here profile (initial_state (tokens bytes)) (stop_with parse_fault.Device used) tt some).steps
         (initial_state (tokens bytes))).functions
     first_told before profile bytes used some h =
-        rw (functions_here profile (initial_state (tokens bytes)) (stop_with refusal.Device used) tt some)
+        rw (functions_here profile (initial_state (tokens bytes)) (stop_with parse_fault.Device used) tt some)
         (record { more = []; stands = h })
 
 -- the same at the first token, when nothing was told
 pub first_refused : (before : Representation) (told to_come : Option (List ℕ)) (f : ParseFault) (denied : Type 0) →
     StopsAtFirst told to_come f → ParseIsRefused before before denied told to_come f
-first_refused before told to_come (refusal.Source d) denied stops = first_fails before told to_come d stops
-first_refused before told to_come refusal.Device denied stops =
+first_refused before told to_come (parse_fault.Source d) denied stops = first_fails before told to_come d stops
+first_refused before told to_come parse_fault.Device denied stops =
     opening_builds before told to_come stops.taken (record { took = stops.took; limited = stops.limited }) stops.refused
-first_refused before told to_come refusal.Memory denied stops = absurd stops.refused.0
+first_refused before told to_come parse_fault.Memory denied stops = absurd stops.refused.0

@@ -1,7 +1,7 @@
 -- What a builder was told by the time a part of a file was refused.
 use Rattle.std.specs.Prelude.{ℕ, ◌≡◌, List}
 use Rattle.grammar.specs.declared.diagnostics.ParseFault.{ParseFault}
-use Rattle.grammar.specs.declared.diagnostics.ParseFault.TheVariants as refusal
+use Rattle.grammar.specs.declared.diagnostics.ParseFault.TheVariants as parse_fault
 use Rattle.grammar.specs.declared.actions.Action.{Action}
 use Rattle.grammar.specs.Building.{Representation, AppendsAll}
 use Rattle.parser.specs.Segment.{Refused}
@@ -18,4 +18,4 @@ pub record BreaksOff (stops : Stop → Type 0) (denied : Type 0) (before after :
     (fault : ParseFault)
     : Type 0 where
   pub refused : Refused stops denied taken fault
-  pub grown : refusal.Device ≡ fault → HasGrown before after
+  pub grown : parse_fault.Device ≡ fault → HasGrown before after

@@ -6,7 +6,7 @@ use Rattle.tokens.specs.Tokens.{tokens}
 use Rattle.tokens.specs.WindowLimits.{most_taken_bytes, window_bytes}
 use Rattle.grammar.specs.declared.diagnostics.Diagnostic.{Diagnostic}
 use Rattle.grammar.specs.declared.diagnostics.ParseFault.{ParseFault}
-use Rattle.grammar.specs.declared.diagnostics.ParseFault.TheVariants as refusal
+use Rattle.grammar.specs.declared.diagnostics.ParseFault.TheVariants as parse_fault
 use Rattle.grammar.specs.declared.actions.Action.{Action}
 use Rattle.grammar.specs.Actions.{actions}
 use Rattle.grammar.specs.Building.{Representation, LeavesOpen}
@@ -76,9 +76,9 @@ LeavesSourceUndecided before told to_come =
 -- What was taken if no file is answered: at most a window past what decides the source; if the device failed, so few
 -- bytes that they may leave the source open.
 abbrev pub StopsTaking : Representation → (told to_come : Option (List ℕ)) → ParseFault → Type 0
-StopsTaking before told to_come (refusal.Source d) = TakesNoMore before told to_come window_bytes
-StopsTaking before told to_come refusal.Device = LeavesSourceUndecided before told to_come
-StopsTaking before told to_come refusal.Memory = TakesNoMore before told to_come window_bytes
+StopsTaking before told to_come (parse_fault.Source d) = TakesNoMore before told to_come window_bytes
+StopsTaking before told to_come parse_fault.Device = LeavesSourceUndecided before told to_come
+StopsTaking before told to_come parse_fault.Memory = TakesNoMore before told to_come window_bytes
 
 -- what was taken, by the answer: of a file at most a window past what decides it
 abbrev pub TakesEnough : {A : Type 0} → Result A ParseFault → Representation → (told to_come : Option (List ℕ)) → Type 0
@@ -105,6 +105,6 @@ BuildsAhead before after told to_come =
 abbrev pub ParseIsRefused : (before after : Representation) (denied : Type 0) (told to_come : Option (List ℕ)) →
     ParseFault
     → Type 0
-ParseIsRefused before after denied told to_come (refusal.Source d) = FailsBytes before told d
-ParseIsRefused before after denied told to_come refusal.Device = BuildsAhead before after told to_come
-ParseIsRefused before after denied told to_come refusal.Memory = denied
+ParseIsRefused before after denied told to_come (parse_fault.Source d) = FailsBytes before told d
+ParseIsRefused before after denied told to_come parse_fault.Device = BuildsAhead before after told to_come
+ParseIsRefused before after denied told to_come parse_fault.Memory = denied

@@ -2,7 +2,7 @@
 use Rattle.std.specs.Prelude.{ℕ, ◌≡◌, ◌≤◌, [], Result, Ok, Err}
 use Rattle.grammar.specs.declared.diagnostics.Code.TheVariants as code
 use Rattle.grammar.specs.declared.diagnostics.ParseFault.{ParseFault}
-use Rattle.grammar.specs.declared.diagnostics.ParseFault.TheVariants as refusal
+use Rattle.grammar.specs.declared.diagnostics.ParseFault.TheVariants as parse_fault
 use Rattle.grammar.specs.Building.{Representation, LeavesOpen}
 use Rattle.grammar.specs.Compiled.{diagnostic}
 use Rattle.grammar.specs.declared.name_limits.TheConstants.{MOST_NESTED}
@@ -16,7 +16,7 @@ use Rattle.parser.specs.Stopping.{Stop}
 -- the most levels are open, and the next token is refused for that
 pub record IsTooDeep {F B : Type 0} (at : Parser F B) (fault : ParseFault) : Type 0 where
   pub deep : MOST_NESTED ≤ at.depth
-  pub is : fault ≡ refusal.Source (diagnostic (next_at at.tokens.position).line code.NestedTooDeeply)
+  pub is : fault ≡ parse_fault.Source (diagnostic (next_at at.tokens.position).line code.NestedTooDeeply)
 
 -- What a method needs: room in the builder for the operators from this level on, at the depth at which the parser is, a
 -- scoped cursor that is ready, and these next tokens.

@@ -11,7 +11,7 @@ use Rattle.grammar.specs.Actions.{body_actions, code_length, last_return}
 use Rattle.grammar.specs.Building.{Representation, AppendsAll, LeavesOpen}
 use Rattle.grammar.specs.declared.diagnostics.Diagnostic.{Diagnostic}
 use Rattle.grammar.specs.declared.diagnostics.ParseFault.{ParseFault}
-use Rattle.grammar.specs.declared.diagnostics.ParseFault.TheVariants as refusal
+use Rattle.grammar.specs.declared.diagnostics.ParseFault.TheVariants as parse_fault
 use Rattle.grammar.specs.declared.name_limits.TheConstants.{MOST_NAMES}
 use Rattle.grammar.specs.Compiled.{diagnostic, main_name}
 use Rattle.grammar.specs.Derivation.{ABody, Definition, State, is_end, derived, state}
@@ -56,7 +56,7 @@ pub record HasReported (after : Representation) (profile : Profile) (functions :
 -- The derivation from s stops so. If the device failed, the builder was told the functions defined up to there.
 pub record StopsTelling (after : Representation) (profile : Profile) (s : State) (stop : Stop) : Type 0 where
   pub stops : Stops profile s stop
-  pub told : refusal.Device ≡ stop.fault → HasReported after profile (derived stops.steps s).functions
+  pub told : parse_fault.Device ≡ stop.fault → HasReported after profile (derived stops.steps s).functions
 
 -- if the tokens are known, the derivation from these items on stops so
 abbrev pub StopsPart : (before after : Representation) → List Item → UnreadPosition → Stop → Type 0
@@ -118,9 +118,9 @@ pub record IsTooMuch (before : Representation) (line : ℕ) (d : Diagnostic) : T
 
 -- what a refusal says at a function's end, whose closing brace is on this line
 abbrev pub RefusesEnd : (before : Representation) (line : ℕ) (denied : Type 0) → ParseFault → Type 0
-RefusesEnd before line denied (refusal.Source d) = IsTooMuch before line d
-RefusesEnd before line denied refusal.Device = ⊥
-RefusesEnd before line denied refusal.Memory = denied
+RefusesEnd before line denied (parse_fault.Source d) = IsTooMuch before line d
+RefusesEnd before line denied parse_fault.Device = ⊥
+RefusesEnd before line denied parse_fault.Memory = denied
 
 -- what the end of a function says, by its result
 abbrev pub EndsFunction : {A F B : Type 0} → Result A ParseFault → (denied : Type 0) → (B → Representation) →
@@ -139,10 +139,10 @@ pub record IsComplete (scope : Scope) : Type 0 where
 -- A function is not defined, or else there is no main function.
 pub data LacksDefinition (position : Lookahead) (fault : ParseFault) : Type 0 where
   ADefinition : (line : ℕ) → line_of_undefined 0 position.scope.lines position.scope.begun ≡ Some line →
-      fault ≡ refusal.Source (diagnostic line code.FunctionNotDefined) → LacksDefinition position fault
+      fault ≡ parse_fault.Source (diagnostic line code.FunctionNotDefined) → LacksDefinition position fault
   AMain : line_of_undefined 0 position.scope.lines position.scope.begun ≡ None →
       is_some (function_number main_name position.scope) ≡ false →
-      fault ≡ refusal.Source (diagnostic position.cursor.next.line code.NoMainFunction) → LacksDefinition position fault
+      fault ≡ parse_fault.Source (diagnostic position.cursor.next.line code.NoMainFunction) → LacksDefinition position fault
 
 -- What the parse of a file's parts says, by its result.
 

@@ -9,7 +9,7 @@ use Rattle.tokens.specs.declared.located_tokens.LocatedToken.{LocatedToken}
 use Rattle.grammar.specs.declared.diagnostics.Code.{Code}
 use Rattle.grammar.specs.declared.diagnostics.Diagnostic.{Diagnostic}
 use Rattle.grammar.specs.declared.diagnostics.ParseFault.{ParseFault}
-use Rattle.grammar.specs.declared.diagnostics.ParseFault.TheVariants as refusal
+use Rattle.grammar.specs.declared.diagnostics.ParseFault.TheVariants as parse_fault
 use Rattle.grammar.specs.declared.name_limits.TheConstants.{MOST_NAMES}
 use Rattle.grammar.specs.Compiled.{diagnostic}
 use Rattle.grammar.specs.Derivation.{state, PartialTree, Definition, line_at, name_of_token, next_token}
@@ -88,13 +88,13 @@ pub record StopsFirst (told : Option (List LocatedToken)) (stop : Stop) : Type 0
 pub record IsNoName (next : LocatedToken) (fault : ParseFault) : Type 0 where
   pub sound : is_lexical_error next.token ≡ false
   pub other : name_of_token next.token ≡ None
-  pub is : fault ≡ refusal.Source (diagnostic next.line (unexpected_token_code next.token))
+  pub is : fault ≡ parse_fault.Source (diagnostic next.line (unexpected_token_code next.token))
 
 -- the name was refused in its role, at the next token
 pub record NameIsRefused {T : Type 0} (answer : Result T Code) (next : LocatedToken) (fault : ParseFault) : Type 0 where
   pub code : Code
   pub answered : answer ≡ Err code
-  pub is : fault ≡ refusal.Source (diagnostic next.line code)
+  pub is : fault ≡ parse_fault.Source (diagnostic next.line code)
 
 -- the definition of the function of this number began
 pub record BeginsDefinition (number : ℕ) (old new : Lookahead) : Type 0 where
@@ -106,9 +106,9 @@ pub record BeginsDefinition (number : ℕ) (old new : Lookahead) : Type 0 where
 -- What a refusal says with `taken` bytes taken: where the derivation stops; of memory also that the builder was refused
 -- it.
 abbrev pub Refused : (Stop → Type 0) → Type 0 → ℕ → ParseFault → Type 0
-Refused stops denied taken (refusal.Source d) = stops (stop_with (refusal.Source d) taken)
-Refused stops denied taken refusal.Device = stops (stop_with refusal.Device taken)
-Refused stops denied taken refusal.Memory = denied × stops (stop_with refusal.Memory taken)
+Refused stops denied taken (parse_fault.Source d) = stops (stop_with (parse_fault.Source d) taken)
+Refused stops denied taken parse_fault.Device = stops (stop_with parse_fault.Device taken)
+Refused stops denied taken parse_fault.Memory = denied × stops (stop_with parse_fault.Memory taken)
 
 -- what a refusal at the first token says, by the bytes to come before and after
 pub record StopsAtFirst (told told' : Option (List ℕ)) (fault : ParseFault) : Type 0 where
@@ -119,9 +119,9 @@ pub record StopsAtFirst (told told' : Option (List ℕ)) (fault : ParseFault) : 
 
 -- the account of the device after this refusal: one more read has failed if the device failed
 abbrev pub account_after : FailureCount → ParseFault → FailureCount
-account_after account refusal.Device = failed_again account
-account_after account (refusal.Source d) = account
-account_after account refusal.Memory = account
+account_after account parse_fault.Device = failed_again account
+account_after account (parse_fault.Source d) = account
+account_after account parse_fault.Memory = account
 
 abbrev pub CountsRefusal : {A : Type 0} → Result A ParseFault → FailureCount → FailureCount → Type 0
 CountsRefusal (Ok x) before behind = behind ≡ before

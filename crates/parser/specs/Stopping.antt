@@ -5,7 +5,7 @@ use Rattle.tokens.specs.declared.token_limits.TheConstants.{WINDOW_BYTES}
 use Rattle.tokens.specs.declared.located_tokens.LocatedToken.{LocatedToken}
 use Rattle.grammar.specs.declared.diagnostics.Diagnostic.{Diagnostic}
 use Rattle.grammar.specs.declared.diagnostics.ParseFault.{ParseFault}
-use Rattle.grammar.specs.declared.diagnostics.ParseFault.TheVariants as refusal
+use Rattle.grammar.specs.declared.diagnostics.ParseFault.TheVariants as parse_fault
 use Rattle.grammar.specs.Derivation.{State, derived}
 use Rattle.grammar.specs.Faults.{Fault}
 use Rattle.grammar.specs.Laws.Parsing.{Fails, IsFault}
@@ -21,16 +21,16 @@ stop_with fault taken = record { fault = fault; taken = taken }
 
 -- what is said of a source's fault, and of no other refusal
 abbrev pub IfSource : ParseFault → (Diagnostic → Type 0) → Type 0
-IfSource (refusal.Source d) says = says d
-IfSource refusal.Device says = Unit {0}
-IfSource refusal.Memory says = Unit {0}
+IfSource (parse_fault.Source d) says = says d
+IfSource parse_fault.Device says = Unit {0}
+IfSource parse_fault.Memory says = Unit {0}
 
 -- How many bytes may have been taken if these tokens are next. If the device failed, no more than may leave the second
 -- of them open; else a window past it.
 abbrev pub most_taken : ParseFault → List LocatedToken → ℕ
-most_taken (refusal.Source d) rest = reach_of rest + WINDOW_BYTES
-most_taken refusal.Device rest = undecided_reach_of rest
-most_taken refusal.Memory rest = reach_of rest + WINDOW_BYTES
+most_taken (parse_fault.Source d) rest = reach_of rest + WINDOW_BYTES
+most_taken parse_fault.Device rest = undecided_reach_of rest
+most_taken parse_fault.Memory rest = reach_of rest + WINDOW_BYTES
 
 -- no fault of the derivation is before these last tokens of the source
 pub record NoFaultBefore (profile : Profile) (s : State) (rest : List LocatedToken) : Type 0 where

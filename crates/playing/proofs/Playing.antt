@@ -32,13 +32,13 @@ use Rattle.playing.specs.Games.{Game, HasCome, HaveRun}
 use Rattle.playing.specs.Played.{EndsAt, HavePlayed, HaveUpdated, codes_of, engine_of, exes_of, plainly, runner_of, runners_of}
 
 -- what a want makes of the field and of the machine
-granted_takes : (code : Program) (i : ℕ) (trace : List ℤ) (w : Want) (machine : Machine) (before after : Arena)
-    (f : Field) → TakesTurn code i trace w machine before after → RepresentsField before f
-    → RepresentsField after (after_want w i f trace).0 × IsReached machine code (after_want w i f trace).1
+granted_takes : (program : Program) (i : ℕ) (trace : List ℤ) (w : Want) (machine : Machine) (before after : Arena)
+    (f : Field) → TakesTurn program i trace w machine before after → RepresentsField before f
+    → RepresentsField after (after_want w i f trace).0 × IsReached machine program (after_want w i f trace).1
 unfolding after_want
-granted_takes code i trace Quiet machine before after f (at, same) stands = (rw same stands, at)
-granted_takes code i trace Restart machine before after f (at, same) stands = (rw same stands, at)
-granted_takes code i trace (Ask intrinsic arguments) machine before after f takes stands =
+granted_takes program i trace Quiet machine before after f (at, same) stands = (rw same stands, at)
+granted_takes program i trace Restart machine before after f (at, same) stands = (rw same stands, at)
+granted_takes program i trace (Ask intrinsic arguments) machine before after f takes stands =
     let taken = takes f stands in (taken.1, taken.0)
 
 -- a live robot and a dead one
@@ -53,47 +53,47 @@ unfolding robot_turn
 step_dead r i f trace dead = rw dead refl
 
 -- a robot wants what its program wants
-pub wants_code : (r : Behaviour) (code : Program) (trace : List ℤ) → IsRobotOf (plainly code) r →
-    r trace ≡ want_code code trace
-wants_code r code trace is =
+pub wants_code : (r : Behaviour) (program : Program) (trace : List ℤ) → IsRobotOf (plainly program) r →
+    r trace ≡ want_code program trace
+wants_code r program trace is =
     ap (λ (q : Behaviour). q trace) is.wants ∙ sym (want_code_is_want is.profile is.file is.resolved trace)
     ∙ ap (λ (c : Program). want_code c trace) (sym is.program)
 
 -- a pilot's turn, of a live robot and of a dead one
-pub record HasTurned (i : ℕ) (code : Program) (old new : Machine) (before after : Arena) : Type 0 where
+pub record HasTurned (i : ℕ) (program : Program) (old new : Machine) (before after : Arena) : Type 0 where
   pub live : (f : Field) → RepresentsField before f → is_live before i ≡ is_live_at f i
   pub dead : is_live before i ≡ false → (new ≡ old) × (after ≡ before)
-  pub lives : is_live before i ≡ true → (trace : List ℤ) → IsReached old code trace
-      → TakesTurn code i trace (want_code code trace) new before after
+  pub lives : is_live before i ≡ true → (trace : List ℤ) → IsReached old program trace
+      → TakesTurn program i trace (want_code program trace) new before after
 
 -- is the robot's step
-turn_steps : (i : ℕ) (code : Program) (old new : Machine) (before after : Arena) (r : Behaviour) (f : Field)
-    (trace : List ℤ) → HasTurned i code old new before after → IsRobotOf (plainly code) r → RepresentsField before f
-    → IsReached old code trace
-    → RepresentsField after (robot_turn r i f trace).0 × IsReached new code (robot_turn r i f trace).1
-turn_steps i code old new before after r f trace turned is stands at = elim (cases_Bool (is_live before i)) [
+turn_steps : (i : ℕ) (program : Program) (old new : Machine) (before after : Arena) (r : Behaviour) (f : Field)
+    (trace : List ℤ) → HasTurned i program old new before after → IsRobotOf (plainly program) r → RepresentsField before f
+    → IsReached old program trace
+    → RepresentsField after (robot_turn r i f trace).0 × IsReached new program (robot_turn r i f trace).1
+turn_steps i program old new before after r f trace turned is stands at = elim (cases_Bool (is_live before i)) [
   | inl live ↦
       let stepped = step_live r i f trace (sym (turned.live f stands) ∙ live) in
-      let wanted = wants_code r code trace is in
+      let wanted = wants_code r program trace is in
       rw (stepped, wanted)
-      (granted_takes code i trace (want_code code trace) new before after f (turned.lives live trace at) stands)
+      (granted_takes program i trace (want_code program trace) new before after f (turned.lives live trace at) stands)
   | inr dead ↦
       let same = turned.dead dead in
       rw (step_dead r i f trace (sym (turned.live f stands) ∙ dead), same.0, same.1) (stands, at)
 ]
 
-pub has_stepped : (i : ℕ) (code : Program) (old new : Machine) (before after : Arena)
-    → HasTurned i code old new before after
-    → HasStepped i (plainly code) (record { machine = engine_of old; ahead = 0 })
+pub has_stepped : (i : ℕ) (program : Program) (old new : Machine) (before after : Arena)
+    → HasTurned i program old new before after
+    → HasStepped i (plainly program) (record { machine = engine_of old; ahead = 0 })
     (record { machine = engine_of new; ahead = 0 }) before after
-has_stepped i code old new before after turned = record {
+has_stepped i program old new before after turned = record {
   field = λ r f trace is stands at.
-      (turn_steps i code old new before after r f trace turned is stands
-      (sym (end_at (record { machine = engine_of old; ahead = 0 }) (plainly code) trace refl at))).0;
+      (turn_steps i program old new before after r f trace turned is stands
+      (sym (end_at (record { machine = engine_of old; ahead = 0 }) (plainly program) trace refl at))).0;
   trace = λ r f trace is stands at.
-      at_end (engine_of new) 0 (plainly code) _ refl
-      (sym (turn_steps i code old new before after r f trace turned is stands
-      (sym (end_at (record { machine = engine_of old; ahead = 0 }) (plainly code) trace refl at))).1);
+      at_end (engine_of new) 0 (plainly program) _ refl
+      (sym (turn_steps i program old new before after r f trace turned is stands
+      (sym (end_at (record { machine = engine_of old; ahead = 0 }) (plainly program) trace refl at))).1);
 }
 
 -- one cycle more, without an update
@@ -306,9 +306,9 @@ code_here seats i none inside =
     slice_get-map (λ (seat : Pilot). seat.code) seats i
     ∙ ap (option_map (λ (seat : Pilot). seat.code)) (slice_get-get_or seats i none inside)
 
-exe_here : (codes : List Program) (i : ℕ) (code : Program) → slice_get codes i ≡ Some code
-    → slice_get (exes_of codes) i ≡ Some (plainly code)
-exe_here codes i code here = slice_get-map plainly codes i ∙ ap (option_map plainly) here
+exe_here : (codes : List Program) (i : ℕ) (program : Program) → slice_get codes i ≡ Some program
+    → slice_get (exes_of codes) i ≡ Some (plainly program)
+exe_here codes i program here = slice_get-map plainly codes i ∙ ap (option_map plainly) here
 
 -- the robots so far have had their turns, and one more
 pub one_turned : (codes : List Program) (robots : List Behaviour) (seats : List Pilot) (i : ℕ) (none new : Pilot)
@@ -336,11 +336,11 @@ pub one_begun : (codes : List Program) (seats : List Pilot) (i : ℕ) (none new 
     → EachIsAheadOf (runners_of (take i seats)) (take i (exes_of codes)) (replicate i [])
     → EachIsAheadOf (runners_of (take (i + 1) (set seats i new))) (take (i + 1) (exes_of codes)) (replicate (i + 1) [])
 one_begun codes seats i none new same inside begins begun =
-    let code = (get_or seats i none).code in
-    let here : slice_get codes i ≡ Some code = rw same at (code_here seats i none inside) in
+    let program = (get_or seats i none).code in
+    let here : slice_get codes i ≡ Some program = rw same at (code_here seats i none inside) in
     rw (take_more_set seats i new inside, map-append runner_of (take i seats) (new ∷ []))
-    (stands_more (runners_of (take i seats)) (exes_of codes) i (runner_of new) (plainly code) begun
-    (exe_here codes i code here) (at_end (engine_of new.state) 0 (plainly code) [] refl (sym begins)))
+    (stands_more (runners_of (take i seats)) (exes_of codes) i (runner_of new) (plainly program) begun
+    (exe_here codes i program here) (at_end (engine_of new.state) 0 (plainly program) [] refl (sym begins)))
 
 each_length : (runners : List Runner) (exes : List Executable) (traces : List (List ℤ)) →
     EachIsAheadOf runners exes traces
@@ -368,10 +368,10 @@ pub robot_wants : (codes : List Program) (robots : List Behaviour) (seats : List
     → behaviour_at robots i trace ≡ want_code (get_or seats i none).code trace
 unfolding behaviour_at
 robot_wants codes robots seats i none trace are same inside =
-    let code = (get_or seats i none).code in
-    let here : slice_get codes i ≡ Some code = rw same at (code_here seats i none inside) in
-    wants_code (get_or robots i (λ trace. Quiet)) code trace
-    (robot_at (exes_of codes) robots i (plainly code) (λ trace. Quiet) are (exe_here codes i code here))
+    let program = (get_or seats i none).code in
+    let here : slice_get codes i ≡ Some program = rw same at (code_here seats i none inside) in
+    wants_code (get_or robots i (λ trace. Quiet)) program trace
+    (robot_at (exes_of codes) robots i (plainly program) (λ trace. Quiet) are (exe_here codes i program here))
 
 pub some_same : {A : Type 0} {x y : A} → Some x ≡ Some y → x ≡ y
 some_same e = cc
@@ -403,7 +403,7 @@ lives_are g f i stands = ap (λ (b : Robot). nat_lt b.damage 100) (body_at g f i
 -- what plain machines run has these codes, so their robots want what the files' trees want
 plain_programs : (codes : List Program) → map (λ (e : Executable). e.program) (exes_of codes) ≡ codes
 plain_programs [] = refl
-plain_programs (code ∷ codes) = ap (λ (l : List Program). code ∷ l) (plain_programs codes)
+plain_programs (program ∷ codes) = ap (λ (l : List Program). program ∷ l) (plain_programs codes)
 
 pub plain_robots : (codes : List Program) (p : Profile) (files : List File) → AreProgramsOf codes p files
     → AreRobotsOf (exes_of (paired codes)) (robots_of p files)

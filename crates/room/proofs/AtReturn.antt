@@ -53,48 +53,48 @@ same_fitting s i true false same = absurd (never_restart s i same)
 same_fitting s i false true same = absurd (never_restart s i (sym same))
 
 -- machines that want the same along all replies are at the same place
-same_reached : (code : Program) (q : Profile) (s : Machine) (trace : List ℤ) →
-    ((t : List ℤ) → want_next code (reached code s t) ≡ want_next (by_profile code q) (reached (by_profile code q) s t))
+same_reached : (program : Program) (q : Profile) (s : Machine) (trace : List ℤ) →
+    ((t : List ℤ) → want_next program (reached program s t) ≡ want_next (by_profile program q) (reached (by_profile program q) s t))
     →
-    reached code s trace ≡ reached (by_profile code q) s trace
-same_reached code q s [] alike = refl
-same_reached code q s (reply ∷ rest) alike =
-    let other = by_profile code q in
-    let i = instr_at code s.at in
-    let fit : is_fitting code s i ≡ is_fitting other s i =
-    same_fitting s i (is_fitting code s i) (is_fitting other s i) (alike []) in
-    let step : machine_after code reply s ≡ machine_after other reply s =
-    ap (λ (b : Bool). if b then done_with code reply s i else s) fit in
-    same_reached code q (machine_after code reply s) rest
+    reached program s trace ≡ reached (by_profile program q) s trace
+same_reached program q s [] alike = refl
+same_reached program q s (reply ∷ rest) alike =
+    let other = by_profile program q in
+    let i = instr_at program s.at in
+    let fit : is_fitting program s i ≡ is_fitting other s i =
+    same_fitting s i (is_fitting program s i) (is_fitting other s i) (alike []) in
+    let step : machine_after program reply s ≡ machine_after other reply s =
+    ap (λ (b : Bool). if b then done_with program reply s i else s) fit in
+    same_reached program q (machine_after program reply s) rest
     (λ t. alike (reply ∷ t) ∙ ap (λ (s : Machine). want_next other (reached other s t)) (sym step))
     ∙ ap (λ (s : Machine). reached other s rest) step
 
 -- how many words an instruction takes up at most, with those that are there
 abbrev called_words : Program → Option Instr → ℕ
-called_words code (Some (Fcall (callee.Function k))) = variables_at code k
-called_words code i = 0
+called_words program (Some (Fcall (callee.Function k))) = variables_at program k
+called_words program i = 0
 
 -- all words that are there, those below the last frame once more, and one
 abbrev more_words : Program → Machine → Option Instr → ℕ
-more_words code s i = length s.words + ((frame_of s.frames).base + (called_words code i + 1))
+more_words program s i = length s.words + ((frame_of s.frames).base + (called_words program i + 1))
 
 -- with so much room only a return is refused
-lacks_none : (code : Program) (p : Profile) (s : Machine) (i : Option Instr) → is_ready code s i ≡ true →
-    is_fitting (by_profile code (wider p (more_words code s i) (length s.frames + 1))) s i ≡ false →
+lacks_none : (program : Program) (p : Profile) (s : Machine) (i : Option Instr) → is_ready program s i ≡ true →
+    is_fitting (by_profile program (wider p (more_words program s i) (length s.frames + 1))) s i ≡ false →
     lacking i ≡ cause.Returned
-lacks_none code p s None ready unfit = absurd (cc)
-lacks_none code p s (Some (Fetch v)) ready unfit = absurd (grind (arith, nat_tests, unfit))
-lacks_none code p s (Some (Store v o)) ready unfit = absurd (cc)
-lacks_none code p s (Some (Const n)) ready unfit = absurd (grind (arith, nat_tests, unfit))
-lacks_none code p s (Some (Binop o)) ready unfit = absurd (cc)
-lacks_none code p s (Some (Fcall (callee.Function k))) ready unfit = absurd (grind (arith, nat_tests, unfit))
-lacks_none code p s (Some (Fcall (callee.Intrinsic n))) ready unfit = absurd (grind (arith, nat_tests, unfit))
-lacks_none code p s (Some Retsub) ready unfit = refl
-lacks_none code p s (Some (Branch to)) ready unfit = absurd (cc)
-lacks_none code p s (Some Chop) ready unfit = absurd (cc)
-lacks_none code p s (Some instr.Frame) ready unfit = absurd (grind (arith, nat_tests, unfit))
-lacks_none code p s (Some Truth) ready unfit = absurd (cc)
-lacks_none code p s (Some Nop) ready unfit = absurd (cc)
+lacks_none program p s None ready unfit = absurd (cc)
+lacks_none program p s (Some (Fetch v)) ready unfit = absurd (grind (arith, nat_tests, unfit))
+lacks_none program p s (Some (Store v o)) ready unfit = absurd (cc)
+lacks_none program p s (Some (Const n)) ready unfit = absurd (grind (arith, nat_tests, unfit))
+lacks_none program p s (Some (Binop o)) ready unfit = absurd (cc)
+lacks_none program p s (Some (Fcall (callee.Function k))) ready unfit = absurd (grind (arith, nat_tests, unfit))
+lacks_none program p s (Some (Fcall (callee.Intrinsic n))) ready unfit = absurd (grind (arith, nat_tests, unfit))
+lacks_none program p s (Some Retsub) ready unfit = refl
+lacks_none program p s (Some (Branch to)) ready unfit = absurd (cc)
+lacks_none program p s (Some Chop) ready unfit = absurd (cc)
+lacks_none program p s (Some instr.Frame) ready unfit = absurd (grind (arith, nat_tests, unfit))
+lacks_none program p s (Some Truth) ready unfit = absurd (cc)
+lacks_none program p s (Some Nop) ready unfit = absurd (cc)
 
 -- a profile that gives more
 within_wider : (p : Profile) (words frames : ℕ) (need : Option Room) → IsWithin p.words p.frames need →
@@ -103,9 +103,9 @@ within_wider p words frames None within = within
 within_wider p words frames (Some r) within = (omega (arith, within.0), omega (arith, within.1))
 
 -- what is refused, and why
-refused : (code : Program) (s : Machine) (i : Option Instr) (c : Cause) → cause_if code s i ≡ Some c →
-    (is_fitting code s i ≡ false) × (c ≡ lacking i)
-refused code s i c is = by (is_fitting code s i) is
+refused : (program : Program) (s : Machine) (i : Option Instr) (c : Cause) → cause_if program s i ≡ Some c →
+    (is_fitting program s i ≡ false) × (c ≡ lacking i)
+refused program s i c is = by (is_fitting program s i) is
   where
     by : (b : Bool) → (if b then None else Some (lacking i)) ≡ Some c → (b ≡ false) × (c ≡ lacking i)
     by true is = absurd (cc)
@@ -120,21 +120,21 @@ same_wants p q file resolved alike first second trace =
 
 pub restarts_at_return : RestartsAtReturn
 restarts_at_return p file resolved has_room trace c is =
-    let code = code_of p file in
-    let s = reached code (started_machine code) trace in
-    let i = instr_at code s.at in
-    let q = wider p (more_words code s i) (length s.frames + 1) in
+    let program = code_of p file in
+    let s = reached program (started_machine program) trace in
+    let i = instr_at program s.at in
+    let q = wider p (more_words program s i) (length s.frames + 1) in
     let wide : HasRoom q file =
-    within_wider p (more_words code s i) (length s.frames + 1) (need_of p file) has_room in
-    let code_is : by_profile code q ≡ code_of q file = same_code p q refl file in
-    let alike : (t : List ℤ) → want_next code (reached code (started_machine code) t) ≡
-    want_next (by_profile code q) (reached (by_profile code q) (started_machine code) t) =
+    within_wider p (more_words program s i) (length s.frames + 1) (need_of p file) has_room in
+    let code_is : by_profile program q ≡ code_of q file = same_code p q refl file in
+    let alike : (t : List ℤ) → want_next program (reached program (started_machine program) t) ≡
+    want_next (by_profile program q) (reached (by_profile program q) (started_machine program) t) =
     λ t. same_wants p q file resolved refl has_room wide t
     ∙ ap (λ (c : Program). want_next c (reached c (started_machine c) t)) (sym code_is) in
-    let there : reached code (started_machine code) trace ≡ reached (by_profile code q) (started_machine code) trace =
-    same_reached code q (started_machine code) trace alike in
-    let no = refused code s i c is in
-    let fit : is_fitting code s i ≡ is_fitting (by_profile code q) s i =
-    same_fitting s i (is_fitting code s i) (is_fitting (by_profile code q) s i)
-    (alike trace ∙ ap (λ (t : Machine). want_next (by_profile code q) t) (sym there)) in
-    no.1 ∙ lacks_none code p s i (never_stuck p file resolved trace) (sym fit ∙ no.0)
+    let there : reached program (started_machine program) trace ≡ reached (by_profile program q) (started_machine program) trace =
+    same_reached program q (started_machine program) trace alike in
+    let no = refused program s i c is in
+    let fit : is_fitting program s i ≡ is_fitting (by_profile program q) s i =
+    same_fitting s i (is_fitting program s i) (is_fitting (by_profile program q) s i)
+    (alike trace ∙ ap (λ (t : Machine). want_next (by_profile program q) t) (sym there)) in
+    no.1 ∙ lacks_none program p s i (never_stuck p file resolved trace) (sym fit ∙ no.0)

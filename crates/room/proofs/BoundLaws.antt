@@ -2,7 +2,7 @@
 use Rattle.std.specs.Prelude.{ℕ, ◌≡◌, List, [], map, unwrap_or, Bool, true, Option, Some, None, Result, Ok, Err}
 use Rattle.std.proofs.Common.{ap, sym, ◌∙◌, subst, arith}
 use Rattle.grammar.specs.declared.diagnostics.ParseFault.{ParseFault}
-use Rattle.grammar.specs.declared.diagnostics.ParseFault.TheVariants as refusal
+use Rattle.grammar.specs.declared.diagnostics.ParseFault.TheVariants as parse_fault
 use Rattle.grammar.specs.Actions.{actions}
 use Rattle.grammar.specs.Building.{Representation, LeavesOpen}
 use Rattle.grammar.specs.Profile.{Profile, IsProfile}
@@ -37,21 +37,21 @@ pub takes : {A : Type 0} (result : Result A ParseFault) (m : TreeMaker) (p : Pro
     TakesEnough result (goes_by p) told to_come
 takes (Ok x) m p told to_come new took =
     λ bytes is q by. took bytes is q (subst (λ (q : Profile). TreeMakerRepresents m q []) (sym by) new)
-takes (Err (refusal.Source d)) m p told to_come new took =
+takes (Err (parse_fault.Source d)) m p told to_come new took =
     λ bytes is q by. took bytes is q (subst (λ (q : Profile). TreeMakerRepresents m q []) (sym by) new)
-takes (Err refusal.Device) m p told to_come new took =
+takes (Err parse_fault.Device) m p told to_come new took =
     λ bytes is q by. took bytes is q (subst (λ (q : Profile). TreeMakerRepresents m q []) (sym by) new)
-takes (Err refusal.Memory) m p told to_come new took =
+takes (Err parse_fault.Memory) m p told to_come new took =
     λ bytes is q by. took bytes is q (subst (λ (q : Profile). TreeMakerRepresents m q []) (sym by) new)
 
 pub refuses : (fault : ParseFault) (m : TreeMaker) (p : Profile) (after : Representation) (denied : Type 0)
     (told to_come : Option (List ℕ)) → TreeMakerRepresents m p [] →
     ParseIsRefused (λ p acts. TreeMakerRepresents m p acts) after denied told to_come fault →
     IsRefusedSource p told fault
-refuses (refusal.Source d) m p after denied told to_come new fails =
+refuses (parse_fault.Source d) m p after denied told to_come new fails =
     λ bytes is q by. fails bytes is q (subst (λ (q : Profile). TreeMakerRepresents m q []) (sym by) new)
-refuses refusal.Device m p after denied told to_come new fails = tt
-refuses refusal.Memory m p after denied told to_come new fails = tt
+refuses parse_fault.Device m p after denied told to_come new fails = tt
+refuses parse_fault.Memory m p after denied told to_come new fails = tt
 
 -- the profiles give less than is counted
 pub counted_within : (p : Profile) (need : Option Room) → IsProfile p → IsWithin p.words p.frames (counted need) →

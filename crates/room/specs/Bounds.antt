@@ -1,7 +1,7 @@
 -- What is answered of a source: what its robot needs, or why it isn't a file.
 use Rattle.std.specs.Prelude.{◌≡◌, ℕ, List, true, Option, Some, Ok}
 use Rattle.grammar.specs.declared.diagnostics.ParseFault.{ParseFault}
-use Rattle.grammar.specs.declared.diagnostics.ParseFault.TheVariants as refusal
+use Rattle.grammar.specs.declared.diagnostics.ParseFault.TheVariants as parse_fault
 use Rattle.grammar.specs.Building.{Representation}
 use Rattle.grammar.specs.Compiled.{compiled}
 use Rattle.grammar.specs.Profile.{Profile}
@@ -40,6 +40,6 @@ pub record IsChainOf (profile : Profile) (told : Option (List ℕ)) (chain : Lis
 
 -- what a refusal says of a source: its first fault
 abbrev pub IsRefusedSource : Profile → Option (List ℕ) → ParseFault → Type 0
-IsRefusedSource profile told (refusal.Source d) = FailsBytes (goes_by profile) told d
-IsRefusedSource profile told refusal.Device = Unit {0}
-IsRefusedSource profile told refusal.Memory = Unit {0}
+IsRefusedSource profile told (parse_fault.Source d) = FailsBytes (goes_by profile) told d
+IsRefusedSource profile told parse_fault.Device = Unit {0}
+IsRefusedSource profile told parse_fault.Memory = Unit {0}

@@ -4,7 +4,7 @@ use Rattle.arith.specs.declared.operators.Op.TheVariants as op
 use Rattle.grammar.specs.declared.resolved_names.Callee.TheVariants as callee
 use Rattle.grammar.specs.declared.resolved_names.Intrinsic.TheVariants as intrinsic
 use Rattle.grammar.specs.declared.resolved_names.Var.TheVariants as var
-use Rattle.grammar.specs.declared.operators.StoreOp.TheVariants as store
+use Rattle.grammar.specs.declared.operators.StoreOp.TheVariants as store_op
 use Rattle.grammar.specs.KnownSources.{constant, file_of_main, local}
 use Rattle.grammar.specs.Profile.{first_profile, second_profile}
 use Rattle.grammar.specs.Tree.{Expr, Binary, Assign, Postfix, Call, Args, NoMore, Argument, Body, Done}
@@ -42,7 +42,7 @@ empty_main = file_of_main [] Done
 
 -- main(){int a, b; a = 1+(2+3);}
 abbrev pub two_variables : File
-two_variables = says (codes "a" ∷ codes "b" ∷ []) (Assign store.Set (var.Local 0) (sum 1 (sum 2 (constant 3))))
+two_variables = says (codes "a" ∷ codes "b" ∷ []) (Assign store_op.Set (var.Local 0) (sum 1 (sum 2 (constant 3))))
 
 -- main(){1 && (2 || 3);}
 abbrev pub sides : File
@@ -51,7 +51,7 @@ sides = says [] (Binary op.And (constant 1) (Binary op.Or (constant 2) (constant
 -- main(){int a; while(1) a++;}
 abbrev pub counting : File
 counting = file_of_main (codes "a" ∷ [])
-    (While (constant 1) (ExpressionStatement (Postfix store.Add (var.Local 0)) Done) Done)
+    (While (constant 1) (ExpressionStatement (Postfix store_op.Add (var.Local 0)) Done) Done)
 
 -- main(){cannon(1, 2+3);}
 abbrev pub shooting : File

@@ -47,69 +47,69 @@ good_file before after profile bytes_told kept names new same file =
     }
 
 -- a good file's program
-pub good_code : (profile : Profile) (bytes : List ℕ) (file : File) (code : Program) →
+pub good_code : (profile : Profile) (bytes : List ℕ) (file : File) (program : Program) →
     compiled profile bytes ≡ Ok file
-    → code ≡ code_of profile file → compiled_program profile bytes ≡ Ok code
-good_code profile bytes file code is made = rw made (ap (program_or_fault profile) is)
+    → program ≡ code_of profile file → compiled_program profile bytes ≡ Ok program
+good_code profile bytes file program is made = rw made (ap (program_or_fault profile) is)
 
 -- a good file's program is kept
-pub good_kept : (profile : Profile) (bytes : List ℕ) (code : Program) (kept after : Option (List Program))
-    → compiled_program profile bytes ≡ Ok code → after ≡ and_program kept code →
+pub good_kept : (profile : Profile) (bytes : List ℕ) (program : Program) (kept after : Option (List Program))
+    → compiled_program profile bytes ≡ Ok program → after ≡ and_program kept program →
     after ≡ and_compiled kept (compiled_program profile bytes)
-good_kept profile bytes code kept after is adds = adds ∙ sym (ap (and_compiled kept) is)
+good_kept profile bytes program kept after is adds = adds ∙ sym (ap (and_compiled kept) is)
 
 -- one program more
-pub good_more : (code : Program) (kept after : Option (List Program)) → after ≡ and_program kept code →
+pub good_more : (program : Program) (kept after : Option (List Program)) → after ≡ and_program kept program →
     KeepsMore Done kept after
-good_more code None after adds = rw adds refl
-good_more code (Some kept) after adds = rw (adds, length-append kept (code ∷ [])) refl
+good_more program None after adds = rw adds refl
+good_more program (Some kept) after adds = rw (adds, length-append kept (program ∷ [])) refl
 
 -- the programs kept so far are of a good file's profile
-pub alike : (profile : Profile) (file : File) (code : Program) (kept : Option (List Program)) →
-    code ≡ code_of profile file
-    → IfSome kept (λ k. AreOfProfile profile k) → IfSome kept (λ k. AreOfProfile code.profile k)
-alike profile file code None made each = tt
-alike profile file code (Some kept) made each = rw (ap (λ (c : Program). c.profile) made) each
+pub alike : (profile : Profile) (file : File) (program : Program) (kept : Option (List Program)) →
+    program ≡ code_of profile file
+    → IfSome kept (λ k. AreOfProfile profile k) → IfSome kept (λ k. AreOfProfile program.profile k)
+alike profile file program None made each = tt
+alike profile file program (Some kept) made each = rw (ap (λ (c : Program). c.profile) made) each
 
 -- and with its program they are
-pub alike_more : (profile : Profile) (file : File) (code : Program) (kept after : Option (List Program)) →
-    code ≡ code_of profile file
-    → IfSome kept (λ k. AreOfProfile profile k) → after ≡ and_program kept code →
+pub alike_more : (profile : Profile) (file : File) (program : Program) (kept after : Option (List Program)) →
+    program ≡ code_of profile file
+    → IfSome kept (λ k. AreOfProfile profile k) → after ≡ and_program kept program →
     IfSome after (λ k. AreOfProfile profile k)
-alike_more profile file code None after made each adds = rw adds tt
-alike_more profile file code (Some kept) after made each adds =
+alike_more profile file program None after made each adds = rw adds tt
+alike_more profile file program (Some kept) after made each adds =
     rw adds
-    (All-push (λ (c : Program). c.profile ≡ profile) kept code each (ap (λ (c : Program). c.profile) made))
+    (All-push (λ (c : Program). c.profile ≡ profile) kept program each (ap (λ (c : Program). c.profile) made))
 
 -- whether a file is good
-pub good_status : (profile : Profile) (bytes : List ℕ) (code : Program) → compiled_program profile bytes ≡ Ok code
+pub good_status : (profile : Profile) (bytes : List ℕ) (program : Program) → compiled_program profile bytes ≡ Ok program
     → Done ≡ status_by (compiled_program profile bytes)
-good_status profile bytes code is = sym (ap status_by is)
+good_status profile bytes program is = sym (ap status_by is)
 
-at_end : (kept : List Program) (code : Program) → slice_get (kept ++ code ∷ []) (length kept) ≡ Some code
-at_end [] code = refl
-at_end (x ∷ kept) code = at_end kept code
+at_end : (kept : List Program) (program : Program) → slice_get (kept ++ program ∷ []) (length kept) ≡ Some program
+at_end [] program = refl
+at_end (x ∷ kept) program = at_end kept program
 
 -- what a good file's program gives was put
-pub good_put : (mode : Mode) (profile : Profile) (name bytes : List ℕ) (file : File) (names : Pools) (code : Program)
+pub good_put : (mode : Mode) (profile : Profile) (name bytes : List ℕ) (file : File) (names : Pools) (program : Program)
     (before after : Taken)
-    → compiled profile bytes ≡ Ok file → names ≡ pools_of file → code ≡ code_of profile file →
-    Writes before after (listed mode (listing_piece name names code))
+    → compiled profile bytes ≡ Ok file → names ≡ pools_of file → program ≡ code_of profile file →
+    Writes before after (listed mode (listing_piece name names program))
     → Writes before after (pieces_of mode profile name (compiled profile bytes))
-good_put mode profile name bytes file names code before after is named made writes =
+good_put mode profile name bytes file names program before after is named made writes =
     let P : Result File Diagnostic → Type 0 = λ r. Writes before after (pieces_of mode profile name r) in
     let Q : Pools → Program → Type 0 =
-    λ names code. Writes before after (listed mode (listing_piece name names code)) in
-    subst P (sym is) (subst (λ c. Q (pools_of file) c) made (subst (λ n. Q n code) named writes))
+    λ names program. Writes before after (listed mode (listing_piece name names program)) in
+    subst P (sym is) (subst (λ c. Q (pools_of file) c) made (subst (λ n. Q n program) named writes))
 
 -- it was cut
-pub good_cut : (mode : Mode) (profile : Profile) (name bytes : List ℕ) (file : File) (names : Pools) (code : Program)
+pub good_cut : (mode : Mode) (profile : Profile) (name bytes : List ℕ) (file : File) (names : Pools) (program : Program)
     (before after : Taken)
-    → compiled profile bytes ≡ Ok file → names ≡ pools_of file → code ≡ code_of profile file →
-    Begins before after (listed mode (listing_piece name names code))
+    → compiled profile bytes ≡ Ok file → names ≡ pools_of file → program ≡ code_of profile file →
+    Begins before after (listed mode (listing_piece name names program))
     → Begins before after (pieces_of mode profile name (compiled profile bytes))
-good_cut mode profile name bytes file names code before after is named made begins =
+good_cut mode profile name bytes file names program before after is named made begins =
     let P : Result File Diagnostic → Type 0 = λ r. Begins before after (pieces_of mode profile name r) in
     let Q : Pools → Program → Type 0 =
-    λ names code. Begins before after (listed mode (listing_piece name names code)) in
-    subst P (sym is) (subst (λ c. Q (pools_of file) c) made (subst (λ n. Q n code) named begins))
+    λ names program. Begins before after (listed mode (listing_piece name names program)) in
+    subst P (sym is) (subst (λ c. Q (pools_of file) c) made (subst (λ n. Q n program) named begins))

@@ -17,7 +17,7 @@ use Rattle.settings.specs.declared.settings.Mode.{Mode}
 use Rattle.settings.specs.declared.settings.Mode.TheVariants.{Listing, Matches}
 use Rattle.settings.specs.Settings.{Settings}
 use Rattle.series.specs.declared.run_results.RunFault.{RunFault}
-use Rattle.series.specs.declared.run_results.RunFault.TheVariants as fault
+use Rattle.series.specs.declared.run_results.RunFault.TheVariants as run_fault
 use Rattle.series.specs.declared.run_results.Status.{Status}
 use Rattle.series.specs.declared.run_results.Status.TheVariants.{Done, Faulty}
 use Rattle.series.specs.Compiling.{SourceFile, and_file, programs_of, compiling, files_of, compile_status}
@@ -140,7 +140,7 @@ pub plays_run : (settings : Settings) (sources : List SourceFile) (files : List 
     → files_of settings.profile sources ≡ Some files →
     Writes before now (compiling settings.mode settings.profile sources) →
     PutsPieces result now after (playing settings files)
-    → MatchResult result (λ status. status ≡ Done) (λ stopped. stopped ≡ fault.Write) →
+    → MatchResult result (λ status. status ≡ Done) (λ stopped. stopped ≡ run_fault.Write) →
     Runs settings sources result before after
 plays_run settings sources files before now after (Ok status) matches good first second is =
     let Ends : Status → Type 0 =
@@ -154,8 +154,8 @@ plays_run settings sources files before now after (Err stopped) matches good fir
 pub stops_run : (settings : Settings) (sources : List SourceFile) (stopped : RunFault) (before after : Taken) →
     StopsRun settings sources (compiling settings.mode settings.profile sources) stopped before after
     → StopsRun settings sources (output settings sources).pieces stopped before after
-stops_run settings sources (fault.Read file) before after writes = writes
-stops_run settings sources fault.Write before after begins =
+stops_run settings sources (run_fault.Read file) before after writes = writes
+stops_run settings sources run_fault.Write before after begins =
     begins_more before after (compiling settings.mode settings.profile sources)
     (played settings settings.mode (files_of settings.profile sources)) begins
-stops_run settings sources fault.Memory before after never = never
+stops_run settings sources run_fault.Memory before after never = never

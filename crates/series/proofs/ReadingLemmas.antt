@@ -7,7 +7,7 @@ use Rattle.grammar.specs.Profile.{Profile}
 use Rattle.settings.specs.declared.settings.Mode.{Mode}
 use Rattle.settings.specs.Settings.{Settings}
 use Rattle.series.specs.declared.run_results.RunFault.{RunFault}
-use Rattle.series.specs.declared.run_results.RunFault.TheVariants as fault
+use Rattle.series.specs.declared.run_results.RunFault.TheVariants as run_fault
 use Rattle.series.specs.declared.run_results.Status.{Status}
 use Rattle.series.specs.declared.run_results.Status.TheVariants.{Done}
 use Rattle.series.specs.Compiling.{SourceFile, compiling, source_pieces}
@@ -139,8 +139,8 @@ cut_behind mode profile sources count before now after pieces writes begins =
 pub reads_played : (settings : Settings) (result : Result Status RunFault) (told later : List (Option (List ℕ)))
     (before after : Taken)
     → ReadsFirst settings.profile told later (length told)
-    → MatchResult result (λ status. status ≡ Done) (λ stopped. stopped ≡ fault.Write)
-    → (result ≡ Err fault.Write → (sources : List SourceFile) → AreSources sources settings.file_words told
+    → MatchResult result (λ status. status ≡ Done) (λ stopped. stopped ≡ run_fault.Write)
+    → (result ≡ Err run_fault.Write → (sources : List SourceFile) → AreSources sources settings.file_words told
     → TakesPast before after (compiling settings.mode settings.profile (take (length told - 1) sources)))
     → ReadsSources settings result told later before after
 reads_played settings (Ok status) told later before after reads is puts = reads

@@ -5,7 +5,7 @@ use Rattle.sinks.specs.Portions.{SinkState}
 use Rattle.sinks.specs.Puts.{CanFail, CountsSink}
 use Rattle.series.specs.declared.compiling.CompileFault.{CompileFault}
 use Rattle.series.specs.declared.run_results.RunFault.{RunFault}
-use Rattle.series.specs.declared.run_results.RunFault.TheVariants as fault
+use Rattle.series.specs.declared.run_results.RunFault.TheVariants as run_fault
 use Rattle.series.specs.declared.run_results.Status.{Status}
 use Rattle.series.specs.SourceReading.{IfRead}
 
@@ -43,9 +43,9 @@ SinkFailed before after =
 
 -- a run was stopped by the one device that failed, and none is refused memory
 abbrev pub StoppedBy : RunFault → Failures → Failures → Type 0
-StoppedBy (fault.Read file) before after = (file < length before.feeds) × (after ≡ feed_failed before file)
-StoppedBy fault.Write before after = SinkFailed before after
-StoppedBy fault.Memory before after = ⊥
+StoppedBy (run_fault.Read file) before after = (file < length before.feeds) × (after ≡ feed_failed before file)
+StoppedBy run_fault.Write before after = SinkFailed before after
+StoppedBy run_fault.Memory before after = ⊥
 
 -- no device failed, or the one that stopped the run
 abbrev pub FailsAsAnswered : {A : Type 0} → Result A RunFault → Failures → Failures → Type 0

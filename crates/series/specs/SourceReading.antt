@@ -10,7 +10,7 @@ use Rattle.series.specs.SourceContents.{AreSources}
 use Rattle.series.specs.declared.compiling.CompileFault.{CompileFault}
 use Rattle.series.specs.declared.compiling.CompileFault.TheVariants as compile_fault
 use Rattle.series.specs.declared.run_results.RunFault.{RunFault}
-use Rattle.series.specs.declared.run_results.RunFault.TheVariants as fault
+use Rattle.series.specs.declared.run_results.RunFault.TheVariants as run_fault
 use Rattle.series.specs.declared.run_results.Status.{Status}
 
 -- of a file whose contents are known no more was taken than decides what it is, and so many more bytes
@@ -63,9 +63,9 @@ pub record FailsToPut (settings : Settings) (told later : List (Option (List ℕ
 
 -- what was read if a device stopped the run
 abbrev pub StopsReading : Settings → RunFault → (told later : List (Option (List ℕ))) → (before after : Taken) → Type 0
-StopsReading settings (fault.Read file) told later before after = FailsToRead settings.profile told later file
-StopsReading settings fault.Write told later before after = FailsToPut settings told later before after
-StopsReading settings fault.Memory told later before after = ⊥
+StopsReading settings (run_fault.Read file) told later before after = FailsToRead settings.profile told later file
+StopsReading settings run_fault.Write told later before after = FailsToPut settings told later before after
+StopsReading settings run_fault.Memory told later before after = ⊥
 
 -- what was read by the end, and of a failed write what the sinks had taken then
 abbrev pub ReadsSources : {T : Type 0} → Settings → Result T RunFault → (told later : List (Option (List ℕ)))

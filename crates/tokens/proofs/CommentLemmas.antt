@@ -9,7 +9,7 @@ use Rattle.tokens.specs.Tokens.{UnreadSource, ahead_after_byte, last_located_tok
 use Rattle.tokens.specs.Window.{Window, ahead, window_after, window_after_byte, window_after_plain, IsAtHandOrEnd}
 use Rattle.tokens.specs.Lexing.{to_read, in_comment, after_comment, closed_at}
 use Rattle.tokens.specs.declared.located_tokens.LexicalError.TheVariants.{CommentNotClosed}
-use Rattle.tokens.specs.declared.located_tokens.Token.TheVariants as variant
+use Rattle.tokens.specs.declared.located_tokens.Token.TheVariants as token
 use Rattle.tokens.specs.declared.windows.Beyond.{Beyond}
 use Rattle.tokens.specs.declared.windows.Beyond.TheVariants.{Unread}
 use Rattle.tokens.specs.declared.located_tokens.LocatedToken.{LocatedToken}
@@ -136,14 +136,14 @@ comment_element-ended began here to_come first ready f e =
     to_read-here (after_comment false began) (in_comment began) here to_come (λ to_come.
     let a = ahead here to_come in
     subst
-    (λ (xs : List ℕ). last_located_token (variant.Fault CommentNotClosed) began a ∷ [] ≡
+    (λ (xs : List ℕ). last_located_token (token.Fault CommentNotClosed) began a ∷ [] ≡
     closed_at (up_to_close xs) began (record { line = a.line; offset = a.offset; bytes = xs; too_long = a.too_long }))
     (sym (none-ahead here to_come ready (sym f ∙ e)))
     (subst
     (λ (xs : List ℕ).
-    last_located_token (variant.Fault CommentNotClosed) began
+    last_located_token (token.Fault CommentNotClosed) began
     (record { line = a.line; offset = a.offset; bytes = xs; too_long = a.too_long }) ∷ [] ≡
-    last_located_token (variant.Fault CommentNotClosed) began
+    last_located_token (token.Fault CommentNotClosed) began
     (record { line = a.line; offset = a.offset; bytes = []; too_long = a.too_long }) ∷ [])
     (sym (none-ahead here to_come ready (sym f ∙ e))) refl))
 

@@ -23,10 +23,10 @@ use Rattle.trees.specs.TreeStacks.{AddsStatement, above_call, below_innermost, b
 use Rattle.trees.specs.Trees.{arguments, expr_tree, statement_actions, body_tree}
 use Rattle.trees.specs.declared.tree_stack.OpenBody as body_type
 use Rattle.trees.specs.declared.tree_stack.BodyOwner.{BodyOwner}
-use Rattle.trees.specs.declared.tree_stack.BodyOwner.TheVariants as heading
+use Rattle.trees.specs.declared.tree_stack.BodyOwner.TheVariants as body_owner
 use Rattle.trees.specs.declared.tree_stack.OpenItem as entry
 use Rattle.trees.specs.declared.tree_stack.OpenItem.TheVariants.{Value, RightSide, Call, Test}
-use Rattle.trees.specs.declared.tree_stack.OpenItem.TheVariants as entry_of
+use Rattle.trees.specs.declared.tree_stack.OpenItem.TheVariants as open_item
 use Rattle.trees.specs.declared.tree.Expr.{Expr}
 use Rattle.trees.specs.declared.tree.Expr.TheVariants as expr
 use Rattle.trees.specs.declared.tree.Statement.{Statement}
@@ -52,10 +52,10 @@ last_left (s ∷ ss) ts n None long e some = let no : false ≡ true = some.1 (o
 place_adds : (h : BodyOwner) (ss : List Statement) (s : Statement) (o : Opened) →
     statement_done (returns_zero s) (open_of_owner h (body_tree ss) ∷ o) ≡
     Some (open_of_owner h (body_tree (ss ++ s ∷ [])) ∷ o)
-place_adds (heading.Function n p) ss s o = ap (λ b. Some (InFunction p b ∷ o)) (sym (body_ends ss s false))
-place_adds (heading.First c) ss s o = refl
-place_adds (heading.Second c t) ss s o = refl
-place_adds (heading.Loop c) ss s o = refl
+place_adds (body_owner.Function n p) ss s o = ap (λ b. Some (InFunction p b ∷ o)) (sym (body_ends ss s false))
+place_adds (body_owner.First c) ss s o = refl
+place_adds (body_owner.Second c t) ss s o = refl
+place_adds (body_owner.Loop c) ss s o = refl
 
 pub adds_follows : (s : Statement) (xs ys : List entry.OpenItem) → AddsStatement s xs ys →
     statement_done (returns_zero s) (opened_of xs) ≡ Some (opened_of ys)
@@ -82,10 +82,10 @@ statement_continues a s before xs ys added follows acts =
 
 chop_place : (h : BodyOwner) (b : Body) (origin : ValueCategory) (o : Opened) →
     follow Chop (AValue origin ∷ open_of_owner h b ∷ o) ≡ statement_done false (open_of_owner h b ∷ o)
-chop_place (heading.Function n p) b origin o = refl
-chop_place (heading.First c) b origin o = refl
-chop_place (heading.Second c t) b origin o = refl
-chop_place (heading.Loop c) b origin o = refl
+chop_place (body_owner.Function n p) b origin o = refl
+chop_place (body_owner.First c) b origin o = refl
+chop_place (body_owner.Second c t) b origin o = refl
+chop_place (body_owner.Loop c) b origin o = refl
 
 pub alone_continues : (e : Expr) (xs ys : List entry.OpenItem) → AddsStatement (statement.ExpressionStatement e) xs ys →
     Continues Chop (Value e ∷ xs) ys
@@ -102,27 +102,27 @@ return_continues e xs ys a =
     (rw (tree-Return e) refl)
     (rw (tree-Return e) (append_assoc (open_actions xs) (expr_actions (expr_tree e)) (GiveBack ∷ [])))
 
-pub when_continues : (b : body_type.OpenBody) (c : Expr) (xs ys : List entry.OpenItem) → b.heading ≡ heading.First c →
+pub when_continues : (b : body_type.OpenBody) (c : Expr) (xs ys : List entry.OpenItem) → b.heading ≡ body_owner.First c →
     AddsStatement (statement.IfStatement c b.statements) xs ys →
-    Continues EndIf (entry_of.Body b ∷ xs) ys
+    Continues EndIf (open_item.Body b ∷ xs) ys
 when_continues b c xs ys is a =
-    statement_continues EndIf (statement.IfStatement c b.statements) (entry_of.Body b ∷ xs) xs ys a
+    statement_continues EndIf (statement.IfStatement c b.statements) (open_item.Body b ∷ xs) xs ys a
     (rw (is, tree-IfStatement c b.statements) refl)
     (rw (is, tree-IfStatement c b.statements) (simp append_assoc refl))
 
 pub choose_continues : (b : body_type.OpenBody) (c : Expr) (s : Vec Statement Global) (xs ys : List entry.OpenItem) →
-    b.heading ≡ heading.Second c s → AddsStatement (statement.IfElseStatement c s b.statements) xs ys →
-    Continues EndIf (entry_of.Body b ∷ xs) ys
+    b.heading ≡ body_owner.Second c s → AddsStatement (statement.IfElseStatement c s b.statements) xs ys →
+    Continues EndIf (open_item.Body b ∷ xs) ys
 choose_continues b c s xs ys is a =
-    statement_continues EndIf (statement.IfElseStatement c s b.statements) (entry_of.Body b ∷ xs) xs ys a
+    statement_continues EndIf (statement.IfElseStatement c s b.statements) (open_item.Body b ∷ xs) xs ys a
     (rw (is, tree-IfElseStatement c s b.statements) refl)
     (rw (is, tree-IfElseStatement c s b.statements) (simp append_assoc refl))
 
-pub while_continues : (b : body_type.OpenBody) (c : Expr) (xs ys : List entry.OpenItem) → b.heading ≡ heading.Loop c →
+pub while_continues : (b : body_type.OpenBody) (c : Expr) (xs ys : List entry.OpenItem) → b.heading ≡ body_owner.Loop c →
     AddsStatement (statement.While c b.statements) xs ys →
-    Continues EndWhile (entry_of.Body b ∷ xs) ys
+    Continues EndWhile (open_item.Body b ∷ xs) ys
 while_continues b c xs ys is a =
-    statement_continues EndWhile (statement.While c b.statements) (entry_of.Body b ∷ xs) xs ys a
+    statement_continues EndWhile (statement.While c b.statements) (open_item.Body b ∷ xs) xs ys a
     (rw (is, tree-While c b.statements) refl)
     (rw (is, tree-While c b.statements) (simp append_assoc refl))
 
@@ -140,7 +140,7 @@ left_is (Value e ∷ xs) h k = absurd (cc)
 left_is (RightSide o ∷ xs) h k = refl
 left_is (Call ∷ xs) h k = absurd (cc)
 left_is (Test ∷ xs) h k = absurd (cc)
-left_is (entry_of.Body b ∷ xs) h k = absurd (cc)
+left_is (open_item.Body b ∷ xs) h k = absurd (cc)
 
 pub value_is_left : (xs : List entry.OpenItem) → ends_in_value xs ≡ true → past_middle xs ≡ xs
 value_is_left [] h = absurd (cc)
@@ -148,22 +148,22 @@ value_is_left (Value e ∷ xs) h = refl
 value_is_left (RightSide o ∷ xs) h = absurd (cc)
 value_is_left (Call ∷ xs) h = refl
 value_is_left (Test ∷ xs) h = refl
-value_is_left (entry_of.Body b ∷ xs) h = refl
+value_is_left (open_item.Body b ∷ xs) h = refl
 
 -- no operator is applied right in a body
 apply_place : (o : Op) (origin : ValueCategory) (g : BodyOwner) (b : Body) (q : Opened) →
     IsTrue (is_some (follow (ApplyBinop o) (AValue origin ∷ open_of_owner g b ∷ q))) → ⊥
-apply_place o origin (heading.Function n p) b q k = absurd (cc)
-apply_place o origin (heading.First c) b q k = absurd (cc)
-apply_place o origin (heading.Second c t) b q k = absurd (cc)
-apply_place o origin (heading.Loop c) b q k = absurd (cc)
+apply_place o origin (body_owner.Function n p) b q k = absurd (cc)
+apply_place o origin (body_owner.First c) b q k = absurd (cc)
+apply_place o origin (body_owner.Second c t) b q k = absurd (cc)
+apply_place o origin (body_owner.Loop c) b q k = absurd (cc)
 
 apply_right : (o p : Op) (origin : ValueCategory) (g : BodyOwner) (b : Body) (q : Opened) →
     IsTrue (is_some (follow (ApplyBinop o) (AValue origin ∷ BeforeRight p ∷ open_of_owner g b ∷ q))) → ⊥
-apply_right o p origin (heading.Function n m) b q k = absurd (cc)
-apply_right o p origin (heading.First c) b q k = absurd (cc)
-apply_right o p origin (heading.Second c t) b q k = absurd (cc)
-apply_right o p origin (heading.Loop c) b q k = absurd (cc)
+apply_right o p origin (body_owner.Function n m) b q k = absurd (cc)
+apply_right o p origin (body_owner.First c) b q k = absurd (cc)
+apply_right o p origin (body_owner.Second c t) b q k = absurd (cc)
+apply_right o p origin (body_owner.Loop c) b q k = absurd (cc)
 
 pub left_allowed : (o : Op) (right : Expr) (xs : List entry.OpenItem) → IsAllowed (ApplyBinop o) (Value right ∷ xs) →
     ends_in_value (past_middle xs) ≡ true
@@ -174,11 +174,11 @@ left_allowed o right (RightSide p ∷ Value left ∷ xs) h = refl
 left_allowed o right (RightSide p ∷ RightSide q ∷ xs) h = absurd (cc)
 left_allowed o right (RightSide p ∷ Call ∷ xs) h = absurd (cc)
 left_allowed o right (RightSide p ∷ Test ∷ xs) h = absurd (cc)
-left_allowed o right (RightSide p ∷ entry_of.Body b ∷ xs) h =
+left_allowed o right (RightSide p ∷ open_item.Body b ∷ xs) h =
     absurd (apply_right o p (origin_of (expr_tree right)) b.heading (body_tree b.statements.items) (opened_of xs) h)
 left_allowed o right (Call ∷ xs) h = absurd (cc)
 left_allowed o right (Test ∷ xs) h = absurd (cc)
-left_allowed o right (entry_of.Body b ∷ xs) h =
+left_allowed o right (open_item.Body b ∷ xs) h =
     absurd (apply_place o (origin_of (expr_tree right)) b.heading (body_tree b.statements.items) (opened_of xs) h)
 
 plain_sides : (o : Op) (logic : Bool) (q : Opened) → IsTrue (is_some (if logic then None else Some q)) → logic ≡ false
@@ -223,7 +223,7 @@ binop_continues o right left a b (RightSide p ∷ xs) ys h e is_left is_right =
     (subst (λ zs. IsAllowed (ApplyBinop o) (Value right ∷ RightSide p ∷ zs)) e h) is_left is_right)
 binop_continues o right left a b (Call ∷ xs) ys h e is_left is_right = absurd (cc)
 binop_continues o right left a b (Test ∷ xs) ys h e is_left is_right = absurd (cc)
-binop_continues o right left a b (entry_of.Body c ∷ xs) ys h e is_left is_right = absurd (cc)
+binop_continues o right left a b (open_item.Body c ∷ xs) ys h e is_left is_right = absurd (cc)
 
 -- The new value of v++ and v-- is dropped.
 
@@ -247,15 +247,15 @@ postfix_continues o v b (Value old ∷ xs) e h =
 postfix_continues o v b (RightSide p ∷ xs) e h = absurd (cc)
 postfix_continues o v b (Call ∷ xs) e h = absurd (cc)
 postfix_continues o v b (Test ∷ xs) e h = absurd (cc)
-postfix_continues o v b (entry_of.Body c ∷ xs) e h = absurd (cc)
+postfix_continues o v b (open_item.Body c ∷ xs) e h = absurd (cc)
 
 -- A call ends.
 
 call_place : (g : BodyOwner) (b : Body) (q : Opened) → IsTrue (is_some (call_done (open_of_owner g b ∷ q))) → ⊥
-call_place (heading.Function n m) b q k = absurd (cc)
-call_place (heading.First c) b q k = absurd (cc)
-call_place (heading.Second c t) b q k = absurd (cc)
-call_place (heading.Loop c) b q k = absurd (cc)
+call_place (body_owner.Function n m) b q k = absurd (cc)
+call_place (body_owner.First c) b q k = absurd (cc)
+call_place (body_owner.Second c t) b q k = absurd (cc)
+call_place (body_owner.Loop c) b q k = absurd (cc)
 
 call_follows : (xs : List entry.OpenItem) → IsTrue (is_some (call_done (opened_of xs))) →
     call_done (opened_of xs) ≡ Some (AValue Computed ∷ opened_of (below_call xs))
@@ -264,7 +264,7 @@ call_follows (Value e ∷ xs) h = call_follows xs h
 call_follows (RightSide p ∷ xs) h = absurd (cc)
 call_follows (Call ∷ xs) h = refl
 call_follows (Test ∷ xs) h = absurd (cc)
-call_follows (entry_of.Body b ∷ xs) h = absurd (call_place b.heading (body_tree b.statements.items) (opened_of xs) h)
+call_follows (open_item.Body b ∷ xs) h = absurd (call_place b.heading (body_tree b.statements.items) (opened_of xs) h)
 
 call_actions : (xs : List entry.OpenItem) → IsTrue (is_some (call_done (opened_of xs))) →
     open_actions xs ≡
@@ -277,7 +277,7 @@ call_actions (Value e ∷ xs) h =
 call_actions (RightSide p ∷ xs) h = absurd (cc)
 call_actions (Call ∷ xs) h = refl
 call_actions (Test ∷ xs) h = absurd (cc)
-call_actions (entry_of.Body b ∷ xs) h = absurd (call_place b.heading (body_tree b.statements.items) (opened_of xs) h)
+call_actions (open_item.Body b ∷ xs) h = absurd (call_place b.heading (body_tree b.statements.items) (opened_of xs) h)
 
 numbered_call : (f : Bool) (o : Option Opened) → IsTrue (is_some (if f then o else None)) →
     (f ≡ true) × IsTrue (is_some o)
@@ -309,9 +309,9 @@ nothing_open [] h = refl
 nothing_open (x ∷ xs) h = absurd (cc)
 
 pub function_ends : (b : body_type.OpenBody) (n p v : ℕ) (ts : Vec Statement Global) (xs : List entry.OpenItem) →
-    b.heading ≡ heading.Function n p → IsAllowed (EndFunction v) (entry_of.Body b ∷ xs) →
+    b.heading ≡ body_owner.Function n p → IsAllowed (EndFunction v) (open_item.Body b ∷ xs) →
     ts.items ≡ without_last b.statements.items →
-    EndsFunctionTree v (entry_of.Body b ∷ xs) xs (record { number = n; parameters = p; variables = v; body = ts })
+    EndsFunctionTree v (open_item.Body b ∷ xs) xs (record { number = n; parameters = p; variables = v; body = ts })
 function_ends b n p v ts xs is h left =
     let ss = b.statements.items in
     let k : IsTrue

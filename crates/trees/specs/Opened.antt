@@ -11,23 +11,23 @@ use Rattle.grammar.specs.Tree.{Body}
 use Rattle.trees.specs.Trees.{expr_tree, body_tree, function_tree}
 use Rattle.trees.specs.declared.tree.Function.{Function}
 use Rattle.trees.specs.declared.tree_stack.BodyOwner.{BodyOwner}
-use Rattle.trees.specs.declared.tree_stack.BodyOwner.TheVariants as heading
+use Rattle.trees.specs.declared.tree_stack.BodyOwner.TheVariants as body_owner
 use Rattle.trees.specs.declared.tree_stack.OpenItem as entry
-use Rattle.trees.specs.declared.tree_stack.OpenItem.TheVariants as entry_of
+use Rattle.trees.specs.declared.tree_stack.OpenItem.TheVariants as open_item
 
 -- what is open in a body
 abbrev pub open_of_owner : BodyOwner → Body → Open
-open_of_owner (heading.Function number parameters) body = InFunction parameters (ends_in_return false body)
-open_of_owner (heading.First c) body = InBranch
-open_of_owner (heading.Second c s) body = InElse
-open_of_owner (heading.Loop c) body = InLoopBody
+open_of_owner (body_owner.Function number parameters) body = InFunction parameters (ends_in_return false body)
+open_of_owner (body_owner.First c) body = InBranch
+open_of_owner (body_owner.Second c s) body = InElse
+open_of_owner (body_owner.Loop c) body = InLoopBody
 
 abbrev pub open_of : entry.OpenItem → Open
-open_of (entry_of.Value e) = AValue (origin_of (expr_tree e))
-open_of (entry_of.RightSide op) = BeforeRight op
-open_of entry_of.Call = InCall
-open_of entry_of.Test = BeforeTest
-open_of (entry_of.Body b) = open_of_owner b.heading (body_tree b.statements.items)
+open_of (open_item.Value e) = AValue (origin_of (expr_tree e))
+open_of (open_item.RightSide op) = BeforeRight op
+open_of open_item.Call = InCall
+open_of open_item.Test = BeforeTest
+open_of (open_item.Body b) = open_of_owner b.heading (body_tree b.statements.items)
 
 -- what is open, the innermost first
 abbrev pub opened_of : List entry.OpenItem → Opened
@@ -36,18 +36,18 @@ opened_of (x ∷ xs) = open_of x ∷ opened_of xs
 
 -- the actions before the first statement of a body
 abbrev pub heading_actions : BodyOwner → List Action
-heading_actions (heading.Function number parameters) = BeginFunction number parameters ∷ []
-heading_actions (heading.First c) = expr_actions (expr_tree c) ++ IfTest ∷ []
-heading_actions (heading.Second c s) = expr_actions (expr_tree c)
+heading_actions (body_owner.Function number parameters) = BeginFunction number parameters ∷ []
+heading_actions (body_owner.First c) = expr_actions (expr_tree c) ++ IfTest ∷ []
+heading_actions (body_owner.Second c s) = expr_actions (expr_tree c)
     ++ IfTest ∷ (body_actions (body_tree s.items) ++ ElsePart ∷ [])
-heading_actions (heading.Loop c) = BeginWhile ∷ (expr_actions (expr_tree c) ++ WhileTest ∷ [])
+heading_actions (body_owner.Loop c) = BeginWhile ∷ (expr_actions (expr_tree c) ++ WhileTest ∷ [])
 
 abbrev pub entry_actions : entry.OpenItem → List Action
-entry_actions (entry_of.Value e) = expr_actions (expr_tree e)
-entry_actions (entry_of.RightSide op) = middle op
-entry_actions entry_of.Call = BeginCall ∷ []
-entry_actions entry_of.Test = BeginWhile ∷ []
-entry_actions (entry_of.Body b) = heading_actions b.heading ++ body_actions (body_tree b.statements.items)
+entry_actions (open_item.Value e) = expr_actions (expr_tree e)
+entry_actions (open_item.RightSide op) = middle op
+entry_actions open_item.Call = BeginCall ∷ []
+entry_actions open_item.Test = BeginWhile ∷ []
+entry_actions (open_item.Body b) = heading_actions b.heading ++ body_actions (body_tree b.statements.items)
 
 -- the actions that made what is on the stack, the innermost last
 abbrev pub open_actions : List entry.OpenItem → List Action

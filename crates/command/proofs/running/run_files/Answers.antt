@@ -1,6 +1,6 @@
 use Rattle.std.proofs.Common.{◌<◌, Ok, Err, [], List, ℕ, Bor, length, refl, ap, inl, inr, arith}
 use Rattle.std.proofs.lemmas.List.{length-map}
-use Rattle.series.specs.declared.run_results.RunFault.TheVariants as fault
+use Rattle.series.specs.declared.run_results.RunFault.TheVariants as run_fault
 use Rattle.series.specs.declared.run_results.Status.TheVariants as status
 use Rattle.series.specs.Failures.{Failures}
 use Rattle.command.proofs.FilesLemmas.{word_at}
@@ -49,7 +49,7 @@ returns-in-Err-Read-clause-ran g c =
     let none : Bor (List ℕ) = record { ref_ptr = (0, 0); now = [] } in
     let here = rw c.file_words.ensures.value at (word_at c.file_words.result.now c.in-Err-Read.file none inside) in
     record {
-      answer = Err (fault.Read c.in-Err-Read.file);
+      answer = Err (run_fault.Read c.in-Err-Read.file);
       ends = (
         _,
         refl,
@@ -67,7 +67,7 @@ returns-in-Err-Read-clause-failures g c =
 
 pub returns-in-Err-Write-clause-ran : goal.returns-in-Err-Write-clause-ran
 returns-in-Err-Write-clause-ran g c = record {
-  answer = Err fault.Write;
+  answer = Err run_fault.Write;
   ends = refl;
   output = rw c.in-Err-Write.field-0-is at c.in-Err-Write.ensures.output;
   devices = rw c.in-Err-Write.field-0-is at c.in-Err-Write.ensures.failures;

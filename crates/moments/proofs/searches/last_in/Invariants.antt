@@ -20,9 +20,9 @@ invariant-loop l = record {
   battle : (robots : List Behaviour) (s : BattleState) → AreRobotsOf (exes_of (codes_of l.initial.pilots)) robots
       → HasCome (codes_of l.initial.pilots) robots s l.initial.pilots l.initial.game
       → HasCome (codes_of l.initial.pilots) robots s l.pilots l.game;
-  last : (robots : List Behaviour) (s : BattleState) (code : Program)
+  last : (robots : List Behaviour) (s : BattleState) (program : Program)
       → AreRobotsOf (exes_of (codes_of l.initial.pilots)) robots
-      → slice_get (codes_of l.initial.pilots) l.robot ≡ Some code
+      → slice_get (codes_of l.initial.pilots) l.robot ≡ Some program
       → HasCome (codes_of l.initial.pilots) robots s l.initial.pilots l.initial.game
-      → LastOf (Happens robots code s l.robot l.sought) l.counter l.found;
+      → LastOf (Happens robots program s l.robot l.sought) l.counter l.found;
 }

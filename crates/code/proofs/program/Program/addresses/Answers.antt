@@ -7,4 +7,4 @@ pub returns-clause-each : goal.returns-clause-each
 returns-clause-each c =
     ap (λ (xs : List ℕ). length xs) c.as_slice.ensures.value
     ∙ addresses_of_file _ c.self.invariant.1
-    ∙ ap (λ (code : Program). length code.functions) c.self.view_is
+    ∙ ap (λ (program : Program). length program.functions) c.self.view_is

@@ -4,7 +4,7 @@ use Rattle.std.specs.Prelude.{None, Some}
 use Rattle.std.proofs.lemmas.Result.{err_from_is_err_and}
 use Rattle.tokens.specs.declared.located_tokens.LocatedToken.{LocatedToken}
 use Rattle.tokens.specs.declared.located_tokens.Punctuator.TheVariants as punctuator
-use Rattle.grammar.specs.declared.diagnostics.ParseFault.TheVariants as refusal
+use Rattle.grammar.specs.declared.diagnostics.ParseFault.TheVariants as parse_fault
 use Rattle.grammar.specs.Grammar.{Expression, Level, Part, Unary, is_lexical_error, is_punctuator}
 use Rattle.grammar.specs.Operators.{operator_of}
 use Rattle.grammar.specs.Laws.Climbing.{operator_from}
@@ -749,7 +749,7 @@ unary_operation-returns-in_err-tell_before_operand-clause-parses g t c =
     c.from_residual-in_err-tell_before_operand.ensures.1 in
     rw (p.1, p.2) (record {
       refused =
-          operand_refused _ c.args.self.now.tokens.position _ c.args.self.now.depth c.args.sign _ refusal.Memory
+          operand_refused _ c.args.self.now.tokens.position _ c.args.self.now.depth c.args.sign _ parse_fault.Memory
           c.requires.at.is shallow
           c.in_ok-advance.ensures.consumes (
             refuses c.in_err-tell_before_operand.field-0.0 _ c.in_err-tell_before_operand.ensures.memory,
@@ -788,7 +788,7 @@ operand-returns-in_err-report_middle-clause-parses g t c =
     rw (p.1, p.2) (record {
       refused =
           right_refused _ c.args.self.now.tokens.position _ c.args.self.now.depth c.args.binary.level c.args.binary.op _
-          refusal.Memory
+          parse_fault.Memory
           (at_its_own _ c.args.binary c.requires.at.is) c.in_ok-advance.ensures.consumes (
             refuses c.in_err-report_middle.field-0.0 _ c.in_err-report_middle.ensures.memory,
             halts_here c.args.self.now.depth (Part (Level (c.args.binary.level + 1)) ∷ []) [] _ _

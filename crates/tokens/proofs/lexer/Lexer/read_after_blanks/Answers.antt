@@ -3,7 +3,7 @@ use Rattle.std.proofs.Common.{◌≡◌, ◌∙◌, sym, ap, refl, [], true, fal
 use Rattle.tokens.specs.Tokens.{is_last, located_tokens}
 use Rattle.tokens.specs.Window.{ahead}
 use Rattle.tokens.specs.Lexing.{to_read, followed, after_slash}
-use Rattle.tokens.specs.declared.located_tokens.Token.TheVariants as variant
+use Rattle.tokens.specs.declared.located_tokens.Token.TheVariants as token
 use Rattle.tokens.proofs.ToRead.{to_read-here, none-ahead}
 use Rattle.tokens.proofs.TokenLemmas.{nothing-left}
 use Rattle.tokens.proofs.BeginLemmas.{last-is_last, last-fits}
@@ -16,7 +16,7 @@ returns-in-None-clause-reads g c =
     let blanks = c.in_ok-skip_blanks.ensures in
     let end = c.put_source_end.ensures in
     let last : is_last c.put_source_end.new.here.token ≡ true =
-    ap (λ x. is_last x.token) (end.value []) ∙ last-is_last variant.End here.line (ahead here []) refl in
+    ap (λ x. is_last x.token) (end.value []) ∙ last-is_last token.End here.line (ahead here []) refl in
     record {
       tokens =
           to_read-here (followed c.put_source_end.new.here) located_tokens here _ (λ to_come.
@@ -27,7 +27,7 @@ returns-in-None-clause-reads g c =
       read = record {
         progress = λ e. absurd cc;
         reached = end.reached;
-        fits = rw (end.value []) (last-fits variant.End here.line (ahead here []) tt);
+        fits = rw (end.value []) (last-fits token.End here.line (ahead here []) tt);
       };
     }
 

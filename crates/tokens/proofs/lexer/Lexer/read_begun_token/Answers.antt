@@ -2,7 +2,7 @@ use Rattle.std.proofs.Common.{◌∙◌, ◌-◌, ◌∷◌, [], sym, ap, refl, 
 use Rattle.tokens.specs.Tokens.{UnreadSource, located_tokens}
 use Rattle.tokens.specs.Window.{ahead}
 use Rattle.tokens.specs.declared.located_tokens.LexicalError.TheVariants.{BadCharacter}
-use Rattle.tokens.specs.declared.located_tokens.Token.TheVariants as variant
+use Rattle.tokens.specs.declared.located_tokens.Token.TheVariants as token
 use Rattle.tokens.specs.declared.located_tokens.LocatedToken.{LocatedToken}
 use Rattle.tokens.specs.Lexing.{followed, token_ending, in_name, in_constant, in_punctuator}
 use Rattle.tokens.proofs.ToRead.{to_read-pass, to_read-here}
@@ -70,7 +70,7 @@ returns-then-ends_before-clause-reads g c =
 pub returns-in_default-of_byte-clause-reads : goal.returns-in_default-of_byte-clause-reads
 returns-in_default-of_byte-clause-reads g c =
     let b = c.args.first in
-    let bad : UnreadSource → List LocatedToken = λ a. followed (token_ending (variant.Fault BadCharacter) a) a in
+    let bad : UnreadSource → List LocatedToken = λ a. followed (token_ending (token.Fault BadCharacter) a) a in
     record {
       tokens =
           to_read-here (followed c.token_ending_here-in_default-of_byte.result) bad c.skip_byte.new.self _
