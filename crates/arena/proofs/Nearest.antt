@@ -19,7 +19,7 @@ strictly k i h differs = by_order (cases_lt i k)
     by_order (inl less) = omega (arith, less)
     by_order (inr most) = absurd (differs (omega (arith, h, most)))
 
--- the others of so many robots and one more: it is the one that scans, or one of them
+-- the others of n robots and one more: it is the one that scans, or one of them
 pub others_same : {X : Type 0} (xs : List X) (k i : ℕ) (d : X) → k < length xs → k ≡ i →
     others (take (k + 1) xs) i ≡ others (take k xs) i
 unfolding others

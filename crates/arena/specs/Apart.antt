@@ -27,7 +27,7 @@ abbrev pub sum_gap : Motion → Motion → ℕ
 sum_gap a b =
     max (abs_diff (unsigned_abs a.east) (unsigned_abs b.east)) (abs_diff (unsigned_abs a.north) (unsigned_abs b.north))
 
--- so far from each other that for so many updates no two robots come close: less than a metre on both axes
+-- so far from each other that for n updates no two robots come close: less than a metre on both axes
 pub record AreApartFor (updates : ℕ) (robots : List Robot) : Type 0 where
   pub gaps : (a b : ℕ) → a < b → b < length robots → 0 < updates
       → 10 + 200 * updates ≤ gap (robot_in robots a).motion (robot_in robots b).motion

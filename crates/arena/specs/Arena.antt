@@ -52,7 +52,7 @@ robot_of robot = record { motion = motion_of robot.leg; damage = damage_of robot
 unfoldable pub shot_of : ℕ → Missile → Shot
 shot_of owner missile = record { owner = owner; burst = missile.burst; x = missile.at.x; y = missile.at.y }
 
--- an arena counts so many updates at most: those of 1,000,000,000 cycles
+-- the most updates that an arena counts: those of 1,000,000,000 cycles
 abbrev pub most_updates : ℕ
 most_updates = 66666667
 

@@ -12,7 +12,7 @@ pub record IsAtMetres (x y : ℕ) (robot : FieldRobot) : Type 0 where
   pub east : x ≡ metres_x robot
   pub north : y ≡ metres_y robot
 
--- a way of so many metres east and north leads into an arc, or nowhere
+-- a way of n metres east and north leads into an arc, or nowhere
 unfoldable pub arc_contains : ℤ → ℤ → ℕ → ℕ → Bool
 arc_contains east north degree resolution =
     (int_eq east (pos 0) && int_eq north (pos 0)) || nat_le (apart (bearing_of east north) degree) resolution

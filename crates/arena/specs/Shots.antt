@@ -18,7 +18,7 @@ aimed_y from degree range = clamped last_place (along from (pos (10 * range) *�
 unfoldable pub flight : ℕ → ℕ
 flight range = max 1 (div_ceil range missile_speed)
 
--- a shot that a robot on this leg fires after so many updates
+-- a shot that a robot on this leg fires after n updates
 unfoldable pub shot : ℕ → ℕ → Leg → ℕ → ℕ → Shot
 shot updates owner leg degree range = record {
   owner = owner;
@@ -27,7 +27,7 @@ shot updates owner leg degree range = record {
   y = aimed_y (place_y leg) degree range;
 }
 
--- the shots of a robot that are in the air after so many updates
+-- the shots of a robot that are in the air after n updates
 unfoldable pub in_air : ℕ → ℕ → List Shot → List Shot
 in_air updates owner shots = filter (λ s. (s.owner == owner) && nat_lt updates s.burst) shots
 

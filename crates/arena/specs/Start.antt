@@ -35,7 +35,7 @@ drawn_robot seed number i =
     robot_at_rest (drawn_place (q % 2) (random_word seed number (1 + 2 * i)))
     (drawn_place (q / 2) (random_word seed number (2 + 2 * i)))
 
--- so many robots at drawn places
+-- n robots at drawn places
 unfoldable pub start : ℕ → ℕ → ℕ → Field
 start seed number n = record {
   seed = seed;

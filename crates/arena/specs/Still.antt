@@ -28,7 +28,7 @@ pub record IsStill (robots : List Robot) (slots : List (List Missile)) : Type 0 
   pub stay : All Stays robots
   pub none_flies : All (λ s. s ≡ []) slots
 
--- the field after so many updates
+-- the field after n updates
 unfoldable pub moved_times : ℕ → Field → Field
 moved_times zero field = field
 moved_times (suc n) field = moved (moved_times n field)

@@ -115,7 +115,7 @@ fn lies_within(way: Way, degree: u16, resolution: u16) -> bool
     way.is_none() || bears_within(way.east, way.north, degree, resolution)
 }
 
-/// Returns the degree that lies so many degrees further round the circle.
+/// Returns the degree that lies the given number of degrees further round the circle.
 fn degree_further(degree: u16, by: u16) -> u16
     requires degree { degree < 360 }
     requires by { by < 360 }

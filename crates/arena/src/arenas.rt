@@ -143,8 +143,8 @@ impl Arena {
         ))
     }
 
-    /// Has a live robot fire a missile to a degree, as far as a range in metres, which is brought into 0 to 700. Replies
-    /// 1, or 0 if two missiles of its own are in the air.
+    /// Has a live robot fire a missile to a degree, as far as a range in metres, which is brought into 0 to 700.
+    /// Replies 1, or 0 if two missiles of its own are in the air.
     pub fn cannon(&mut self, robot: usize, degree: i32, range: i32) -> i32
         requires { is_live self.old robot ≡ true }
         ensures { Answers self.old self.new robot Cannon (degree ∷ range ∷ []) result }
@@ -217,7 +217,7 @@ impl Arena {
         self.is_still
     }
 
-    /// Does so many updates of a still field at once.
+    /// Does the given number of updates of a still field at once.
     #[inline(always)]
     pub fn update_times(&mut self, updates: u32)
         requires still { IsStill self.old.robots self.old.slots }

@@ -19,8 +19,8 @@ pub struct Missile {
 }
 
 impl Missile {
-    /// Makes a missile that is fired after so many updates from a place, in the direction of a degree and at a range in
-    /// metres.
+    /// Makes a missile that is fired after the given number of updates from a place, in the direction of a degree and
+    /// at a range in metres.
     #[tactic(auto, unfolding(crate::specs::Shots::aimed_x, crate::specs::Shots::aimed_y))]
     pub fn new(updates: u32, from: Point, degree: u16, range: u16) -> Missile
         requires updates { updates ≤ most_updates }
@@ -65,8 +65,8 @@ pub fn flight(range: u16) -> u32
     u32::from(range.div_ceil(MISSILE_SPEED).max(1))
 }
 
-/// Returns where a missile bursts on an axis, from a place in tenths of a metre and at a range in metres, by the part of
-/// the range that lies on the axis.
+/// Returns where a missile bursts on an axis, from a place in tenths of a metre and at a range in metres, by the part
+/// of the range that lies on the axis.
 pub fn aimed(from: u16, range: u16, part: i32) -> u16
     requires from { from ≤ last_place }
     requires range { range ≤ MOST_RANGE }

@@ -41,7 +41,7 @@ impl Model for Missiles {
 }
 
 impl Missiles {
-    /// Makes the missiles of so many robots, none of them in the air.
+    /// Makes the missiles of the given number of robots, none of them in the air.
     pub fn none_in_air(robots: usize) -> Missiles
         requires { robots ≤ MOST_ROBOTS }
         ensures count { length result ≡ robots }

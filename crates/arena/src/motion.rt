@@ -18,8 +18,8 @@ use arith::{cosine_at, sine_at};
 use std::marker::Model;
 
 /// A robot's motion: where its leg leads on each axis, as a sum; how much these sums grow in an update; heading, speed,
-/// and what the robot wants. The way is never worked out anew from the leg's origin, and the place only if it is asked. A
-/// robot is steady if it wants the heading and the speed that it has.
+/// and what the robot wants. The way is never worked out anew from the leg's origin, and the place only if it is asked.
+/// A robot is steady if it wants the heading and the speed that it has.
 #[derive(Clone, Copy, Drop)]
 pub struct Motion {
     east: i32,
@@ -235,8 +235,8 @@ impl Motion {
             && self.speed == self.wanted_speed
     }
 
-    /// Turns and changes the speed, as far as the robot can in an update. A robot that only turns is steady then. This is
-    /// rare, so it stays out of the way of driving on.
+    /// Turns and changes the speed, as far as the robot can in an update. A robot that only turns is steady then. This
+    /// is rare, so it stays out of the way of driving on.
     #[inline(never)]
     fn adjust(&mut self)
         ensures leg { (leg : Leg) → self.old ≡ motion_of leg → self.new ≡ motion_of (sped (steered leg)) }

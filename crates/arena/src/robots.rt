@@ -219,7 +219,8 @@ impl Robot {
     }
 }
 
-/// Returns the damage in percent after so many other robots and so much damage by bursts hurt a robot.
+/// Returns the damage in percent after collisions with other robots and bursts hurt a robot, the first by their number,
+/// the others by their damage.
 pub fn damage_after(damage: u8, touched: usize, bursts: u8) -> u8
     requires damage { damage ≤ DEADLY }
     requires touched { touched ≤ MOST_ROBOTS }

@@ -101,8 +101,8 @@ fn range_at(square: u32) -> u16
 }
 
 /// Returns the whole root of a squared distance, by Newton's steps down from a guess that isn't below it. `arith::root`
-/// is the same number, with one or two divisions more: it begins further above the root, and ends with a step that leads
-/// no further down.
+/// is the same number, with one or two divisions more: it begins further above the root, and ends with a step that
+/// leads no further down.
 fn whole_root(square: u32) -> u16
     requires some { 0 < square }
     requires most { square ≤ MOST_SQUARE }
@@ -115,8 +115,8 @@ fn whole_root(square: u32) -> u16
     guess as u16
 }
 
-/// Returns a guess that isn't below the root of a squared distance, and hardly above it: two steps from a power of 2 near
-/// the root.
+/// Returns a guess that isn't below the root of a squared distance, and hardly above it: two steps from a power of 2
+/// near the root.
 fn near_root(square: u32) -> u32
     requires some { 0 < square }
     requires most { square ≤ MOST_SQUARE }

@@ -123,7 +123,7 @@ impl Slots {
     }
 }
 
-/// Makes the missiles of so many robots, none of them in the air.
+/// Makes the missiles of the given number of robots, none of them in the air.
 pub fn empty_slots(n: usize) -> ArrayVec<Slots, MOST_ROBOTS>
     requires { n ≤ MOST_ROBOTS }
     ensures count { length result.items ≡ n }

@@ -51,8 +51,8 @@ pub fn move_all_with_attempts(robots: &mut [Robot]) -> ArrayVec<AttemptedMove, M
     movers
 }
 
-/// Returns one robot after the update, from where it has moved on, given how many others it collides with and the bursts
-/// of the update.
+/// Returns one robot after the update, from where it has moved on, given how many others it collides with and the
+/// bursts of the update.
 fn robot_after(robot: &Robot, seen: &AttemptedMove, touched: usize, bursts: &[Burst]) -> Robot
     requires touched { touched ≤ MOST_ROBOTS }
     requires few { length bursts.now ≤ MOST_BURSTS }

@@ -16,7 +16,7 @@ use Rattle.battles.proofs.Commuting.{TurnsAlone}
 use Rattle.battles.proofs.TurnNumbers.{rest_all, rest_none, left_not, turn_numbers_one, turn_numbers_set, next_taken}
 use Rattle.battles.proofs.Stages.{robot_at, robots_length, stands_at, stands_set}
 
--- a robot has run alone for so many cycles
+-- a robot has run alone for n cycles
 unfoldable pub ran : List Behaviour → ℕ → BattleState → ℕ → BattleState
 ran robots i s n =
     let run = alone (behaviour_at robots i) i s.field (get_or s.traces i []) n in

@@ -142,7 +142,7 @@ to_begin free r i f trace most exe runner arena field at =
       };
     }
 
--- the machine runs so many quiet cycles
+-- the machine runs n quiet cycles
 pub to_coast : (free : Type 0) (r : Behaviour) (i : ℕ) (f : Field) (trace : List ℤ) (cycle most n : ℕ)
     (exe : Executable) (machine after : Engine) (arena : Arena)
     → Coasts exe machine n after → RunsTo free r i f trace cycle most exe machine arena →

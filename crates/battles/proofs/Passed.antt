@@ -31,7 +31,7 @@ goes_ahead runner exe r i f trace n arena within live is field at =
       at = rw (quiet_alone r i f trace n live quiet) (at_less runner n exe trace within at);
     }
 
--- So many robots have passed the interval; the others are at its begin.
+-- n robots have passed the interval; the others are at its begin.
 pub record HavePassed (robots : List Behaviour) (exes : List Executable) (k w : ℕ) (runners : List Runner)
     (arena : Arena) (opened : BattleState) : Type 0 where
   pub next : List ℕ

@@ -71,7 +71,7 @@ waited_at live (suc n) traces i low inside is = elim (cases_lt i n) [
       rw same (waited_last live i traces inside is)
 ]
 
--- and so many of them
+-- and n of them
 waits : (ℕ → Bool) → (n k : ℕ) → List (List ℤ) → List (List ℤ)
 waits live n zero traces = traces
 waits live n (suc k) traces = waited live n (waits live n k traces)
@@ -99,7 +99,7 @@ waits_plus live n k (suc j) traces =
     let more : k + suc j ≡ suc (k + j) = omega arith in
     rw more (ap (waited live n) (waits_plus live n k j traces))
 
--- each live robot is quiet for so many cycles
+-- each live robot is quiet for n cycles
 abbrev AreQuiet : Arena → List Behaviour → List (List ℤ) → ℕ → Type 0
 AreQuiet g robots traces k =
     (i : ℕ) → i < length robots → is_live g i ≡ true → IsQuiet (behaviour_at robots i) (get_or traces i []) k

@@ -57,7 +57,7 @@ updated number stage =
 unfoldable pub cycle : List Behaviour → ℕ → BattleState → BattleState
 cycle robots number stage = updated number (turns robots (length robots) stage)
 
--- the stage after so many cycles
+-- the stage after n cycles
 unfoldable pub state_after : List Behaviour → BattleState → ℕ → BattleState
 state_after robots first_state zero = first_state
 state_after robots first_state (suc n) = cycle robots (suc n) (state_after robots first_state n)
@@ -66,7 +66,7 @@ state_after robots first_state (suc n) = cycle robots (suc n) (state_after robot
 unfoldable pub is_over : ℕ → BattleState → Bool
 is_over number stage = is_due number && nat_le (live_count stage.field) 1
 
--- the least of the next so many numbers after n that passes, or the last of them
+-- the least of the next numbers after n that passes, or the last of them
 unfoldable pub first_passing : (ℕ → Bool) → ℕ → ℕ → ℕ
 first_passing passes n zero = n
 first_passing passes n (suc count) = if passes (n + 1) then n + 1 else first_passing passes (n + 1) count
@@ -75,11 +75,11 @@ first_passing passes n (suc count) = if passes (n + 1) then n + 1 else first_pas
 unfoldable pub last_cycle : List Behaviour → BattleState → ℕ → ℕ
 last_cycle robots first_state limit = first_passing (λ number. is_over number (state_after robots first_state number)) 0 limit
 
--- the stage at the start of the match of this number: so many robots, with no replies yet
+-- the stage at the start of the match of this number: its robots, with no replies yet
 unfoldable pub first_state : ℕ → ℕ → ℕ → BattleState
 first_state n seed number = record { field = start seed number n; traces = replicate n [] }
 
--- the damage of each of so many robots, in percent
+-- the damage of each of n robots, in percent
 unfoldable pub damages_of : ℕ → Field → List ℕ
 damages_of n field = map (λ i. damage_of (robot_at field i)) (range_with_len 0 n)
 

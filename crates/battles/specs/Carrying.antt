@@ -31,7 +31,7 @@ pub record Runner : Type 0 where
   pub machine : Engine
   pub ahead : ℕ
 
--- the robot asks nothing in its next so many cycles
+-- the robot asks nothing in its next n cycles
 abbrev pub IsQuiet : Behaviour → List ℤ → ℕ → Type 0
 IsQuiet robot trace n = (k : ℕ) → k < n → robot (trace ++ replicate k (pos 0)) ≡ Quiet
 

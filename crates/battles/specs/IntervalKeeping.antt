@@ -45,14 +45,14 @@ pub record KeepsPlayable (exe : Executable) (machine : Engine) (before after : A
   pub robots : length after.robots ≡ length before.robots
   pub updates : after.updates ≡ before.updates
 
--- How far from the begin of an interval of so many cycles a machine may run: to its end at least, and no further than
+-- How far from the begin of an interval of n cycles a machine may run: to its end at least, and no further than
 -- any machine runs that asks nothing. An interval is at most the cycles between two updates.
 pub record MayRunAhead (cycles farthest : ℕ) : Type 0 where
   pub within : cycles ≤ update_cycles
   pub far : cycles ≤ farthest
   pub near : farthest ≤ MOST_AHEAD
 
--- A robot ran for n cycles of at most so many. If it stopped before these were over, its machine waits.
+-- A robot ran for n cycles of at most a number. If it stopped before these were over, its machine waits.
 pub record RanWithin (limit n : ℕ) (exe : Executable) (runner : Runner) : Type 0 where
   pub most : n ≤ limit
   pub waits : n < limit → WaitsToDraw exe runner

@@ -27,8 +27,8 @@ impl Model for NextTurns {
 }
 
 impl NextTurns {
-    /// Makes the first turns of so many robots in an interval of so many cycles. Robots that aren't there have no turn
-    /// in it.
+    /// Makes the first turns of the robots in an interval, by their number and the interval's cycles. Robots that
+    /// aren't there have no turn in it.
     #[inline(always)]
     pub(crate) fn new(robots: usize, cycles: u32) -> NextTurns
         requires { cycles ≤ 1000 }
@@ -71,7 +71,7 @@ impl NextTurns {
             && (robot == 3 || end <= self.next[3])
     }
 
-    /// Lets a robot go on by so many cycles.
+    /// Lets a robot go on by the given number of cycles.
     #[inline(always)]
     pub(crate) fn advance(&mut self, robot: usize, cycles: u32)
         requires inside { robot < MOST_ROBOTS }

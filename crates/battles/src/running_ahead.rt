@@ -15,7 +15,8 @@ use crate::intervals::UPDATE_CYCLES;
 use crate::runners::Runner;
 use arena::Arena;
 
-/// Lets the robots go on by so many cycles if each live one's machine is that far ahead. Returns whether they do.
+/// Lets the robots go on by the given number of cycles if each live one's machine is that far ahead. Returns whether
+/// they do.
 #[inline(always)]
 pub(crate) fn advance_if_ahead(runners: &mut [Runner], arena: &Arena, cycles: u32) -> bool
     requires { HaveFieldRobots runners.old arena.now }
@@ -32,8 +33,8 @@ pub(crate) fn advance_if_ahead(runners: &mut [Runner], arena: &Arena, cycles: u3
     true
 }
 
-/// Skips intervals, each with its update, if the field is still: at most so many, and no more than each live robot's
-/// machine is ahead. Returns how many. Mostly not one can be skipped, which is seen before any division.
+/// Skips intervals, each with its update, if the field is still: at most the number given, and no more than each live
+/// robot's machine is ahead. Returns how many. Mostly not one can be skipped, which is seen before any division.
 #[inline(always)]
 pub(crate) fn skip_intervals(runners: &mut [Runner], arena: &mut Arena, most: u32) -> u32
     requires places { HaveFieldRobots runners.old arena.old }
@@ -73,7 +74,7 @@ fn intervals_ahead(runners: &[Runner], arena: &Arena, most: u32) -> u32
     intervals
 }
 
-/// Reports whether each live robot's machine is so many cycles ahead.
+/// Reports whether each live robot's machine is the given number of cycles ahead.
 #[inline(always)]
 fn are_ahead(runners: &[Runner], arena: &Arena, cycles: u32) -> bool
     requires manned { length arena.now.robots ≡ length runners.now }
@@ -88,7 +89,7 @@ fn are_ahead(runners: &[Runner], arena: &Arena, cycles: u32) -> bool
     true
 }
 
-/// Lets the robots go on by so many cycles.
+/// Lets the robots go on by the given number of cycles.
 #[inline(always)]
 fn advance_all(runners: &mut [Runner], arena: &Arena, cycles: u32)
     requires places { HaveFieldRobots runners.old arena.now }
@@ -103,7 +104,7 @@ fn advance_all(runners: &mut [Runner], arena: &Arena, cycles: u32)
     }
 }
 
-/// Lets a robot go on by so many cycles. A dead one does nothing in any of them.
+/// Lets a robot go on by the given number of cycles. A dead one does nothing in any of them.
 #[inline(always)]
 fn advance_one(runner: &mut Runner, arena: &Arena, robot: usize, cycles: u32)
     requires inside { robot < length arena.now.robots }

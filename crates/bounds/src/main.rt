@@ -1,5 +1,5 @@
-//! Says what is known of robots before they fight: how much of the stack each needs, whether it may ever restart for want
-//! of it, and what its functions and loops take at least and at most.
+//! Says what is known of robots before they fight: how much of the stack each needs, whether it may ever restart for
+//! want of it, and what its functions and loops take at least and at most.
 #![tactic(auto)]
 
 mod json;

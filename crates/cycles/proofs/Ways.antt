@@ -362,7 +362,7 @@ return_takes u fits run s tested =
 
 -- Calls, expressions and statements, by what is known of turns and calls.
 
--- what statements take, with at most so many calls inside one another
+-- what statements take, with at most n calls inside one another
 abbrev pub BodiesTake : Counted → Profile → File → BodyMeaning → Type 0
 BodiesTake u p file again = (fuel : ℕ) (b : Body) (vars : Vars) (depth frames : ℕ)
     → Spends u (λ (t : List ℤ). again b vars depth frames t)
@@ -395,7 +395,7 @@ closed_fits u ends (Returns x) m n one other =
     (first_takes ends.returns whole (m + n) (takes_none ends.returns m n one other))
 
 module _ (u : Counted) (p : Profile) (file : File) (again : BodyMeaning) (sooner : BodiesTake u p file again) where
-  -- a function's run, with at most so many calls inside it
+  -- a function's run, with at most n calls inside it
   function_takes : (fuel k : ℕ) (arguments : List ℤ) (vars : Vars) (depth frames : ℕ) →
       Spends u (λ (t : List ℤ). called p file again (callee.Function k) arguments vars depth frames t)
       (λ x. Some (run_of u (ends_of u p (run_within u p (body_at file) fuel) (body_at file k))))

@@ -13,7 +13,7 @@ use std::alloc::Global;
 /// What is sought.
 #[derive(Drop)]
 pub enum Aim {
-    /// The next instruction is one of those that are marked, and at most so many frames are open.
+    /// The next instruction is one of those that are marked, and at most the given number of frames are open.
     Place(Vec<bool>, usize),
     /// This function is asked, and the reply is at least the first number and at most the second.
     Question(Intrinsic, i32, i32),

@@ -23,8 +23,8 @@ pub fn instructions<'a>(
     some_of(marks, list)
 }
 
-/// Marks where the lines of a list are entered: the first instruction of a line, and where a call or a jump leads into it
-/// from another line, or back within it.
+/// Marks where the lines of a list are entered: the first instruction of a line, and where a call or a jump leads into
+/// it from another line, or back within it.
 pub fn entries<'a>(
     alloc: Global,
     session: &Session<'_>,

@@ -29,8 +29,8 @@ pub struct Session<'a> {
     pub limit: u32,
 }
 
-/// Reads commands from standard input, and writes the answer to each, up to `quit` or the end of input. A line about input
-/// that can't be read is written, with the name of the program.
+/// Reads commands from standard input, and writes the answer to each, up to `quit` or the end of input. A line about
+/// input that can't be read is written, with the name of the program.
 pub fn answer_all(
     rt: &HostRuntime,
     name: &str,

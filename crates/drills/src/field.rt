@@ -16,8 +16,8 @@ const DIFFERENCES: u32 = 2 * MOST_DIFFERENCE as u32 + 1;
 /// The number of updates after which the robots turn, and shoot again as far as they can: those of a missile's flight.
 const ROUND: u32 = 14;
 
-/// Lets four robots march to and fro for this number of updates, with two missiles each in the air. Returns the damage of
-/// the first one, in percent.
+/// Lets four robots march to and fro for this number of updates, with two missiles each in the air. Returns the damage
+/// of the first one, in percent.
 pub fn marches(updates: u32) -> u8 {
     let mut arena = far_apart();
     for update in 0..updates.min(MOST_UPDATES) {
@@ -31,8 +31,8 @@ pub fn marches(updates: u32) -> u8 {
     arena.damage(0)
 }
 
-/// Lets four robots stand still for this number of updates, with nothing in the air. Returns the damage of the first one,
-/// in percent.
+/// Lets four robots stand still for this number of updates, with nothing in the air. Returns the damage of the first
+/// one, in percent.
 pub fn rests(updates: u32) -> u8 {
     let mut arena = far_apart();
     for _update in 0..updates.min(MOST_UPDATES) {
@@ -41,8 +41,8 @@ pub fn rests(updates: u32) -> u8 {
     arena.damage(0)
 }
 
-/// Makes this number of scans that see three robots. Returns the last range in metres: that of the nearest robot. An update
-/// comes first, so that the compiler knows none of the places.
+/// Makes this number of scans that see three robots. Returns the last range in metres: that of the nearest robot. An
+/// update comes first, so that the compiler knows none of the places.
 pub fn scans(times: u32) -> i32 {
     let mut arena = in_a_row();
     arena.update();

@@ -22,7 +22,7 @@ pub struct Chain {
 }
 
 impl Chain {
-    /// Makes a chain of functions, of which the last one calls the one after so many of them, if it calls one.
+    /// Makes a chain of functions, of which the last one calls the one after a given number of them, if it calls one.
     pub fn new(links: Vec<Link>, again: Option<usize>) -> Chain {
         Chain { links, again }
     }
@@ -32,8 +32,8 @@ impl Chain {
         self.links.as_slice()
     }
 
-    /// Returns those of them that come back to themselves: the last one calls the first one. There are none if all calls
-    /// end.
+    /// Returns those of them that come back to themselves: the last one calls the first one. There are none if all
+    /// calls end.
     pub fn circle(&self) -> &[Link] {
         match self.again {
             Some(again) => self.links.as_slice().get(again..).unwrap_or(&[]),

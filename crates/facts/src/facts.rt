@@ -17,8 +17,8 @@ pub struct Facts {
     pub profile: Profile,
     /// The room that it needs.
     pub bound: Bound,
-    /// The functions that call one another where it needs most: most frames, if only of these its profile gives too few,
-    /// and else most words.
+    /// The functions that call one another where it needs most: most frames, if only of these its profile gives too
+    /// few, and else most words.
     pub chain: Chain,
     /// Its functions, in the order of the source.
     pub functions: Vec<Part>,

@@ -6,8 +6,8 @@ use grammar::Intrinsic;
 use std::alloc::{AllocError, Global};
 use tokens::{Keyword, Punctuator, Token};
 
-/// Where functions and loops begin, each in the order of the source: the line and the column of the name or the word. And
-/// which intrinsic functions are named.
+/// Where functions and loops begin, each in the order of the source: the line and the column of the name or the word.
+/// And which intrinsic functions are named.
 #[derive(Drop)]
 pub struct Places {
     functions: Vec<(u32, u32)>,

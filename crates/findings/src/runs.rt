@@ -107,8 +107,8 @@ impl Run {
         }
     }
 
-    /// Goes on to where the robot is after the next update. Returns what has to be told: nothing while the robot goes on
-    /// straight and evenly, and neither its speed nor its damage changes.
+    /// Goes on to where the robot is after the next update. Returns what has to be told: nothing while the robot goes
+    /// on straight and evenly, and neither its speed nor its damage changes.
     pub fn go_on(&mut self, stance: Stance) -> News
         ensures last { self.new.last ≡ Some stance }
         ensures first { self.old.last ≡ None → result.begin ≡ Some stance }

@@ -8,7 +8,7 @@ use Rattle.playing.specs.Played.{EndsAt}
 use Rattle.playing.specs.declared.games.PlayEnd.{PlayEnd}
 use Rattle.moments.specs.Searches.{IsFound, IsLast, IsNext}
 
--- nothing was found in so many cycles, in those later than one
+-- nothing was found in n cycles, in those later than one
 abbrev pub NoneIn : (ℕ → Type 0) → (after count : ℕ) → Type 0
 NoneIn H after count = (n : ℕ) → after ≤ n → n < count → H n → ⊥
 
@@ -59,7 +59,7 @@ ends_most last ending ends = elim (cases_Bool ending.is_over) [
   | inr on ↦ let before = ends.1 on in omega (arith, before)
 ]
 
--- the last one of so many cycles
+-- the last one of n cycles
 abbrev pub LastOf : (ℕ → Type 0) → ℕ → Option ℕ → Type 0
 LastOf H count found = IsLast H (count + 1) count found
 

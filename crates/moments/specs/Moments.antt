@@ -37,13 +37,13 @@ asked_in (Ask intrinsic arguments) cycle reply = Some (record {
 })
 asked_in _ cycle reply = None
 
--- the question that a robot asks in the cycle after so many: its reply is the last one that the robot has after it
+-- the question that a robot asks in the cycle after n: its reply is the last one that the robot has after it
 unfoldable pub question_in : List Behaviour → ℕ → BattleState → ℕ → Option Asked
 question_in robots i opening n =
     asked_in (wanted robots i (state_after robots opening n)) (n + 1)
     (last_of (replies_of (state_after robots opening (n + 1)) i))
 
--- the last question of the first so many cycles
+-- the last question of the first n cycles
 unfoldable pub last_question : List Behaviour → ℕ → BattleState → ℕ → Option Asked
 last_question robots i opening zero = None
 last_question robots i opening (suc n) =

@@ -45,7 +45,7 @@ Shows (LocalValue marks number value) robots program i before after =
     (get_or marks.now (state_at program i after).at false ≡ true)
     × (read_variable (state_at program i after) (Local number) ≡ value)
 
--- it happens to a robot in the cycle after so many: the robot lives to begin it, and it shows
+-- it happens to a robot in the cycle after n: the robot lives to begin it, and it shows
 pub record Happens (robots : List Behaviour) (program : Program) (opening : BattleState) (i : ℕ) (sought : Sought) (n : ℕ) :
     Type 0 where
   pub lives : is_live_at (state_after robots opening n).field i ≡ true
@@ -63,7 +63,7 @@ IsLast H limit last None = (n : ℕ) → n + 1 < limit → n < last → H n → 
 IsLast H limit last (Some cycle) = (before : ℕ) × (cycle ≡ before + 1) × (cycle < limit) × (before < last) × H before
     × ((n : ℕ) → before < n → n + 1 < limit → n < last → H n → ⊥)
 
--- it happens in the cycle after so many, which is later than another one, or isn't found there
+-- it happens in the cycle after n, which is later than another one, or isn't found there
 abbrev pub IsFound : (ℕ → Type 0) → (n after : ℕ) → Option ℕ → Type 0
 IsFound H n after None = after ≤ n → H n → ⊥
 IsFound H n after (Some cycle) = (cycle ≡ n + 1) × (after < cycle) × H n

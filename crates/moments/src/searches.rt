@@ -37,8 +37,8 @@ pub fn next_cycle(
     next_in(&mut game, pilots, robot, sought, after, limit)
 }
 
-/// Returns the last cycle before `before` in which what is sought happens to a robot, in the match of this number and seed
-/// of at most `limit` cycles. `None` if it happens in none.
+/// Returns the last cycle before `before` in which what is sought happens to a robot, in the match of this number and
+/// seed of at most `limit` cycles. `None` if it happens in none.
 pub fn previous_cycle(
     pilots: &mut [Pilot<'_>],
     robot: usize,

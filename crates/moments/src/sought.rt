@@ -17,7 +17,8 @@ use playing::{Game, Pilot};
 /// What is sought in the cycles of a robot. It happens in a cycle that the robot lives to begin.
 #[derive(Clone, Copy)]
 pub enum Sought<'a> {
-    /// After the cycle the next instruction has one of the addresses that are marked, and at most so many frames are open.
+    /// After the cycle the next instruction has one of the addresses that are marked, and at most the given number of
+    /// frames are open.
     Place(&'a [bool], usize),
     /// The robot asks this function, and the reply is at least the first number and at most the second.
     Question(Intrinsic, i32, i32),
@@ -32,8 +33,8 @@ pub enum Sought<'a> {
     /// The variable of this number of the function whose addresses are marked has another value after the cycle than
     /// before it, in one call of the function: the instructions before and after the cycle are both in it.
     LocalChange(&'a [bool], u8),
-    /// After the cycle the next instruction is in the function whose addresses are marked, and its variable of this number
-    /// has this value.
+    /// After the cycle the next instruction is in the function whose addresses are marked, and its variable of this
+    /// number has this value.
     LocalValue(&'a [bool], u8, i32),
 }
 

@@ -16,8 +16,8 @@ use std::str;
 use tools::{Draft, Text, add_signed};
 
 /// Adds where a robot is, whose machine this is: its cycle, its next instruction and what that asks, its last question,
-/// its calls with their variables, its externals, its stack, and the places of all robots. The only error is that memory
-/// is refused.
+/// its calls with their variables, its externals, its stack, and the places of all robots. The only error is that
+/// memory is refused.
 pub fn add_moment(
     text: &mut Draft,
     noted: &NotedProgram<'_>,

@@ -34,7 +34,8 @@ impl Note {
         }
     }
 
-    /// Returns the line that the instruction of an address of the file's program comes from, and the name of its function.
+    /// Returns the line that the instruction of an address of the file's program comes from, and the name of its
+    /// function.
     pub fn place(&self, program: &Program, address: usize) -> (u32, &str) {
         let function = function_at(program.addresses(), address);
         (self.line(address), self.function_name(function))
@@ -181,8 +182,8 @@ fn noted(
     })
 }
 
-/// Returns bytes as text on one line: a tab is a blank, and each other control character a question mark, as is each byte
-/// of what is no text.
+/// Returns bytes as text on one line: a tab is a blank, and each other control character a question mark, as is each
+/// byte of what is no text.
 pub fn plain(alloc: Global, bytes: &[u8]) -> Result<String, AllocError> {
     let mut plain = String::new(alloc);
     match str::from_utf8(bytes) {

@@ -17,8 +17,8 @@ pub fn add_words(text: &mut Draft, words: &[i32]) {
     }
 }
 
-/// Adds the instruction of an address as a listing has it. Adds nothing past the last one. The only error is that memory
-/// is refused.
+/// Adds the instruction of an address as a listing has it. Adds nothing past the last one. The only error is that
+/// memory is refused.
 pub fn add_instruction(
     text: &mut Draft,
     alloc: Global,

@@ -53,7 +53,7 @@ diagnostics order robots = bytes_on Faults (compiling (mode_by order.mode) (prof
 abbrev pub last_of : Stretch → ℕ
 last_of stretch = 15 * (stretch.from + stretch.windows)
 
--- What is shown of a stretch of a match that has so many cycles: the match goes on exactly if it has more than the
+-- What is shown of a stretch of a match that has n cycles: the match goes on exactly if it has more than the
 -- stretch. Of a whole match its end is shown.
 abbrev pub Shows : Option Stretch → ℕ → Shown → Type 0
 Shows stretch cycles Faulty = ⊥

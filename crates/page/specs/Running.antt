@@ -36,7 +36,7 @@ pub record IsAccepted (order : Order) (robots : List RobotFile) : Type 0 where
   pub within : AreWithin order
   pub named : AreNamed robots
 
--- so many sources of which none has ended, and two sheets that never failed
+-- n sources of which none has ended, and two sheets that never failed
 pub record AreFresh (count : ℕ) (feeds : List SourceFeed) (text faults : Sheet) : Type 0 where
   pub each : length feeds ≡ count
   pub not_ended : All (λ feed. feed.ended ≡ false) feeds

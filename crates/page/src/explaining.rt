@@ -27,8 +27,8 @@ pub enum Explained {
     Cut,
 }
 
-/// Explains the source of the first robot in the profile that an order asks for, on a sheet that is blank before: its first
-/// fault, or a line for each warning.
+/// Explains the source of the first robot in the profile that an order asks for, on a sheet that is blank before: its
+/// first fault, or a line for each warning.
 ///
 /// `None` if a number of the order is not within its limits, a name is no text, or there is no robot or over four.
 pub fn explain_robot(order: &Order, robots: &[RobotFile], sheet: &mut Sheet) -> Option<Explained>
@@ -69,8 +69,8 @@ fn explain_source(profile: Profile, source: &[u8], sheet: &mut Sheet) -> Explain
     }
 }
 
-/// Compiles a source, and drops the code, as `explanations::compile` does. That reads another kind of device, and would bring
-/// a second parser into the module.
+/// Compiles a source, and drops the code, as `explanations::compile` does. That reads another kind of device, and would
+/// bring a second parser into the module.
 fn compile(source: &[u8], profile: Profile) -> Result<(), ParseFault>
     ensures compiles { OnOk result (Compiles profile source.now) }
     ensures fault { IfErr result (IsFirstFault profile source.now) }

@@ -29,8 +29,8 @@ const SHEET_BYTES: usize = size_of::<Sheet>();
 /// Runs what the order asks for over one to four robots, and writes on the two sheets, as the program crobots does: the
 /// text that it writes on standard output, and the lines about faulty sources.
 ///
-/// Answers as the program's exit status: 0 if each source is good, 1 if one has a fault, 2 if a number is not within its
-/// limits, a name is no text, or there is no robot or over four, and 4 if a sheet is full.
+/// Answers as the program's exit status: 0 if each source is good, 1 if one has a fault, 2 if a number is not within
+/// its limits, a name is no text, or there is no robot or over four, and 4 if a sheet is full.
 #[unsafe(no_mangle)]
 pub extern "C" fn run(
     order: &Order,
@@ -46,8 +46,8 @@ pub extern "C" fn run(
     code(run_robots(order, robots, text, faults))
 }
 
-/// Plays the first match that the order asks for of one to four robots, and writes its film, or the diagnostics of faulty
-/// sources. Answers as `run` does.
+/// Plays the first match that the order asks for of one to four robots, and writes its film, or the diagnostics of
+/// faulty sources. Answers as `run` does.
 #[unsafe(no_mangle)]
 pub extern "C" fn film(
     order: &Order,
@@ -63,13 +63,13 @@ pub extern "C" fn film(
     film_code(film_robots(order, robots, None, text, faults))
 }
 
-/// Plays the first match that the order asks for of one to four robots up to so many updates, and films so many windows of
-/// 15 cycles after them: the order's `from` and `windows` may be any numbers.
+/// Plays the first match that the order asks for of one to four robots up to a number of updates, and films a number of
+/// windows of 15 cycles after them: the order's `from` and `windows` may be any numbers.
 ///
-/// The film has the rows that that of the whole match has of these windows. Where they begin and end it has a row `stands`
-/// for each robot, and where they begin a row `flies` for each missile in the air. If the match ends within them or before,
-/// it has the rows with which the whole film ends, and the answer is 0. If the match goes on, the answer is 6. Else it is
-/// that of `film`.
+/// The film has the rows that that of the whole match has of these windows. Where they begin and end it has a row
+/// `stands` for each robot, and where they begin a row `flies` for each missile in the air. If the match ends within
+/// them or before, it has the rows with which the whole film ends, and the answer is 0. If the match goes on, the
+/// answer is 6. Else it is that of `film`.
 #[unsafe(no_mangle)]
 pub extern "C" fn film_windows(
     order: &Order,
@@ -86,11 +86,11 @@ pub extern "C" fn film_windows(
     film_code(film_robots(order, robots, Some(order.stretch()), text, faults))
 }
 
-/// Explains the source of the first robot in the language profile that the order asks for, as the program crobots-why does,
-/// but without a name in front: its first fault, or a line for each warning.
+/// Explains the source of the first robot in the language profile that the order asks for, as the program crobots-why
+/// does, but without a name in front: its first fault, or a line for each warning.
 ///
-/// Answers 0 if it compiles, 1 if it has a fault, 2 as `run` does, and 4 if there is no room: the source has over 16,384
-/// tokens, or the sheet is full.
+/// Answers 0 if it compiles, 1 if it has a fault, 2 as `run` does, and 4 if there is no room: the source has over
+/// 16,384 tokens, or the sheet is full.
 #[unsafe(no_mangle)]
 pub extern "C" fn explain(order: &Order, robots: &[RobotFile], text: &mut Sheet) -> u32
     ensures explained { IsExplained order.now robots.now result }

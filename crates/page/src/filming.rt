@@ -31,8 +31,8 @@ use parser::parse;
 use playing::{Pilot, PlayEnd, UPDATE_CYCLES, play};
 use series::{MOST_FILES, Mode, Programs, RunFault, Settings, compile_files};
 
-/// Plays the first match that the order asks for of one to four robots, and writes on a sheet the film of a stretch of it,
-/// or of all of it; if it asks for listings, writes where their instructions come from. The other sheet takes the
+/// Plays the first match that the order asks for of one to four robots, and writes on a sheet the film of a stretch of
+/// it, or of all of it; if it asks for listings, writes where their instructions come from. The other sheet takes the
 /// diagnostics of faulty sources. Both are blank before.
 ///
 /// `None` if a number of the order is not within its limits, a name is no text, or there is no robot or over four.
@@ -138,8 +138,8 @@ fn functions_in(profile: Profile, source: &[u8]) -> Functions {
     functions
 }
 
-/// Plays the first match of these programs, and writes its film: of a stretch, or of all of it. `None` if it was cut off,
-/// since the sheet is full.
+/// Plays the first match of these programs, and writes its film: of a stretch, or of all of it. `None` if it was cut
+/// off, since the sheet is full.
 fn film_match(
     settings: &Settings<'_>,
     programs: &Programs,
@@ -161,8 +161,8 @@ fn film_match(
     Some(shown)
 }
 
-/// Returns what is shown of a stretch of a match that was played so far, or of all of it: over, or going on. `None` if it
-/// was stopped before there was all of that.
+/// Returns what is shown of a stretch of a match that was played so far, or of all of it: over, or going on. `None` if
+/// it was stopped before there was all of that.
 fn shown_by(stretch: Option<Stretch>, ending: PlayEnd) -> Option<Shown>
     ensures made { IfSome result (λ shown. shown ≢ Shown.Faulty) }
     ensures whole { stretch ≡ None → IfSome result (λ shown. shown ≢ Shown.GoesOn) }

@@ -34,7 +34,8 @@ pub enum Shown {
     Faulty,
 }
 
-/// What writes a film on a sheet as its match is played: of all of it, or of a stretch. A full sheet takes no more of it.
+/// What writes a film on a sheet as its match is played: of all of it, or of a stretch. A full sheet takes no more of
+/// it.
 #[derive(Drop)]
 pub(crate) struct Film<'a> {
     sheet: &'a mut Sheet,
@@ -49,8 +50,8 @@ pub(crate) struct Film<'a> {
 }
 
 impl<'a> Film<'a> {
-    /// Begins a film of a stretch, or of a whole match, on a sheet. These are the functions of each file, and the places of
-    /// its instructions. So many rows are left out.
+    /// Begins a film of a stretch, or of a whole match, on a sheet. These are the functions of each file, and the
+    /// places of its instructions. The given number of rows are left out.
     pub(crate) fn new(
         sheet: &'a mut Sheet,
         functions: &'a [Functions],
@@ -104,8 +105,8 @@ impl<'a> Film<'a> {
         self.sheet.add(Row::new(cycle, robot, event).as_slice());
     }
 
-    /// Returns the line that the instruction of an address comes from, 0 if it isn't known. A single file's program is that
-    /// of both robots.
+    /// Returns the line that the instruction of an address comes from, 0 if it isn't known. A single file's program is
+    /// that of both robots.
     fn line(&self, robot: usize, address: usize) -> u32 {
         let file = robot.min(self.places.len().saturating_sub(1));
         match self.places.get(file) {

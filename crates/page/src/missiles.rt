@@ -43,7 +43,7 @@ impl FiredMissile {
         }
     }
 
-    /// Reports whether it is in the air after so many updates.
+    /// Reports whether it is in the air after the given number of updates.
     pub(crate) fn flies(&self, updates: u32) -> bool {
         updates < self.burst
     }

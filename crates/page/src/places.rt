@@ -28,8 +28,8 @@ pub(crate) fn places_of(
     found
 }
 
-/// Finds the place of each instruction of a program in the source that it was made of. `None` if these are not as many as
-/// the program has.
+/// Finds the place of each instruction of a program in the source that it was made of. `None` if these are not as many
+/// as the program has.
 fn places_in(program: &Program, source: &[u8]) -> Option<SourcePositions>
     ensures each { IfSome result (λ places. length places ≡ length program.now.instructions) }
 {

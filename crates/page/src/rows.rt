@@ -5,7 +5,8 @@ use findings::{Event, Field};
 use std::fmt;
 use std::fmt::Write;
 
-/// The most bytes of a row. A row of five numbers is never so long; of a longer one the fields are left out that don't fit.
+/// The most bytes of a row. A row of five numbers is never so long; of a longer one the fields are left out that don't
+/// fit.
 pub(crate) const ROW_BYTES: usize = 200;
 
 /// A row.

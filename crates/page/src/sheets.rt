@@ -43,7 +43,8 @@ impl Sheet {
         self.failures = 0;
     }
 
-    /// Adds bytes, up to 255: to the last frame if that has room. A sheet that was full takes no more, and so do no bytes.
+    /// Adds bytes, up to 255: to the last frame if that has room. A sheet that was full takes no more, and so do no
+    /// bytes.
     pub(crate) fn add(&mut self, bytes: &[u8]) {
         if !bytes.is_empty() && self.failures == 0 && !self.fill(bytes) {
             let _ = self.put(bytes);

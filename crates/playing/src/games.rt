@@ -21,8 +21,8 @@ use std::marker::Model;
 pub struct PlayEnd {
     /// The number of the last cycle that was played.
     pub cycles: u32,
-    /// Whether the match is over: at most one robot lives after an update, or the limit of cycles is reached. If not, the
-    /// watcher wanted no more.
+    /// Whether the match is over: at most one robot lives after an update, or the limit of cycles is reached. If not,
+    /// the watcher wanted no more.
     pub is_over: bool,
 }
 
@@ -47,8 +47,8 @@ impl Model for Game {
 }
 
 impl Game {
-    /// Begins the match of this number and seed, of at most `limit` cycles: each pilot is put at the start of its program,
-    /// whatever it did before.
+    /// Begins the match of this number and seed, of at most `limit` cycles: each pilot is put at the start of its
+    /// program, whatever it did before.
     pub fn new(pilots: &mut [Pilot<'_>], seed: u64, number: u32, limit: u32) -> Game
         requires some { 2 ≤ length pilots.old }
         requires most { length pilots.old ≤ MOST_ROBOTS }
@@ -173,7 +173,8 @@ fn run<W: Watcher>(game: &mut Game, pilots: &mut [Pilot<'_>], watcher: &mut W)
     }
 }
 
-/// Runs one cycle: the turns of the robots, and after each 15th cycle the update. Reports whether that decides the match.
+/// Runs one cycle: the turns of the robots, and after each 15th cycle the update. Reports whether that decides the
+/// match.
 fn run_cycle<W: Watcher>(
     pilots: &mut [Pilot<'_>],
     arena: &mut Arena,

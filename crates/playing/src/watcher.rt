@@ -44,8 +44,8 @@ pub trait Watcher {
     /// A live robot is about to run a cycle.
     fn turn(&mut self, turn: Turn, pilot: &Pilot<'_>) {}
 
-    /// In its turn a robot has asked the field. Its machine doesn't have the reply yet. If this isn't written, it passes
-    /// on shots and scans.
+    /// In its turn a robot has asked the field. Its machine doesn't have the reply yet. If this isn't written, it
+    /// passes on shots and scans.
     fn asked(&mut self, turn: Turn, pilot: &Pilot<'_>, question: Exchange, arena: &Arena)
         requires inside { turn.robot < length arena.now.robots }
         requires cycle { turn.cycle ≤ MOST_CYCLES }

@@ -80,7 +80,7 @@ lt_test a b less = grind (arith, nat_tests)
 le_test : (a b : ℕ) → a ≤ b → nat_le a b ≡ true
 le_test a b less = grind (arith, nat_tests)
 
--- the profile gives so many words and frames
+-- the profile gives these words and frames
 pub record Grants (words frames : ℕ) (p : Profile) : Type 0 where
   pub words_are : words ≤ p.words
   pub frames_are : frames ≤ p.frames

@@ -1,10 +1,10 @@
--- What room is enough for, from a depth and so many open frames.
+-- What room is enough for, from a depth and a number of open frames.
 use Rattle.std.specs.Prelude.{ℕ, ◌+◌, ◌≡◌, Option, Some, None}
 use Rattle.std.proofs.Common.{arith}
 use Rattle.room.specs.declared.room.Room.{Room}
 use Rattle.room.specs.Rooms.{words, both, above, IsWithin}
 
--- from this depth and these frames on it is within so many words and frames
+-- from this depth and these frames on it is within these words and frames
 abbrev pub Fits : (words frames deep opened : ℕ) → Option Room → Type 0
 Fits words frames deep opened need = IsWithin words frames (above deep opened need)
 
@@ -20,7 +20,7 @@ fits_right w f d o (Some a) None fits = fits
 fits_right w f d o (Some a) (Some b) fits =
     (grind (arith, fits.0), grind (arith, fits.1))
 
--- further up, if so many more words and frames are in use
+-- further up, if a number of words and frames more are in use
 pub fits_above : (w f d o n m e g : ℕ) (a : Option Room) → e ≡ d + n → g ≡ o + m → Fits w f d o (above n m a) →
     Fits w f e g a
 fits_above w f d o n m e g None deep opened fits = fits

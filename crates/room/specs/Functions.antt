@@ -7,7 +7,7 @@ use Rattle.room.specs.declared.room.Room.{Room}
 use Rattle.room.specs.Rooms.{words, both, above, IsWithin}
 use Rattle.room.specs.Constructs.{body_need}
 
--- A function with its variables and its frame, if at most so many functions call one another inside of it, itself
+-- A function with its variables and its frame, if at most n functions call one another inside of it, itself
 -- counted. Its end pushes a word.
 abbrev pub function_need : Bool → File → ℕ → ℕ → Option Room
 function_need short file zero k = None

@@ -15,12 +15,12 @@ both None b = None
 both (Some a) None = None
 both (Some a) (Some b) = room (max a.words b.words) (max a.frames b.frames)
 
--- what is needed from below so many words and frames
+-- what is needed from below a number of words and frames
 abbrev pub above : ℕ → ℕ → Option Room → Option Room
 above words frames None = None
 above words frames (Some r) = room (words + r.words) (frames + r.frames)
 
--- it is known, and within so many words and frames
+-- it is known, and within these words and frames
 abbrev pub IsWithin : ℕ → ℕ → Option Room → Type 0
 IsWithin words frames None = ⊥
 IsWithin words frames (Some r) = (r.words ≤ words) × (r.frames ≤ frames)

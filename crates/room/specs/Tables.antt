@@ -23,7 +23,7 @@ entered short calls (f ∷ fs) table = entered short calls fs (set table f.numbe
 unfoldable pub blank : List (Option Room)
 blank = replicate 256 None
 
--- the table of these functions, if at most so many call one another
+-- the table of these functions, if at most n call one another
 abbrev pub table_within : Bool → List UnnamedFunction → ℕ → List (Option Room)
 table_within short fs zero = blank
 table_within short fs (suc n) = entered short (needs_in (table_within short fs n)) fs blank

@@ -48,11 +48,11 @@ pub fn bounds<F: Feed>(alloc: Global, feed: &mut F, profile: Profile) -> Result<
     Ok(Bound { need, has_room })
 }
 
-/// Reads a source as `bounds` does, and returns the numbers of the functions that call one another where its robot needs
-/// most, from `main` on: most frames, if only of these its profile gives too few, and else most words.
+/// Reads a source as `bounds` does, and returns the numbers of the functions that call one another where its robot
+/// needs most, from `main` on: most frames, if only of these its profile gives too few, and else most words.
 ///
-/// Each needs so much by its call of the next one. If a function can come back to itself, it stands twice, the second time
-/// as the last one.
+/// Each needs so much by its call of the next one. If a function can come back to itself, it stands twice, the second
+/// time as the last one.
 ///
 /// # Errors
 /// Those of `bounds`.

@@ -4,7 +4,7 @@ ghost use Rattle.std.specs.Prelude.{◌≡◌};
 ghost use Rattle.room.specs.Counting.{counted};
 ghost use Rattle.room.specs.Rooms.{above as above_room, both as both_rooms, words as word_room};
 
-/// So many words of the stack, and so many frames open at once.
+/// Words of the stack, and frames open at once.
 #[derive(Clone, Copy, Debug, Default, PartialEq, Eq)]
 pub struct Room {
     /// The words.
@@ -34,7 +34,7 @@ pub fn both(one: Option<Room>, other: Option<Room>) -> Option<Room>
     })
 }
 
-/// Returns what is needed from below so many words and frames.
+/// Returns what is needed from below a number of words and frames.
 pub fn above(words: u16, frames: u16, need: Option<Room>) -> Option<Room>
     ensures { result ≡ counted (above_room words frames need) }
 {

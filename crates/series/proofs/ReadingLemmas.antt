@@ -81,7 +81,7 @@ module _ {X : Type 0} where
   unread_of tells start feeds count same =
       drop-map tells count feeds ∙ ap (map tells) same ∙ sym (drop-map tells count start)
 
-  -- so many files were read
+  -- n files were read
   pub reads_first : (tells : X → Option (List ℕ)) (profile : Profile) (start feeds : List X) (count : ℕ) →
       drop count feeds ≡ drop count start
       → TakesOfFirst profile (map tells start) (map tells feeds) count →

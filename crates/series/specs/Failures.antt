@@ -19,7 +19,7 @@ pub record Failures : Type 0 where
 abbrev pub accounts : {F : Type 0} → (F → Device) → List F → List FailureCount
 accounts device feeds = map (λ feed. (device feed).account) feeds
 
--- so many failures of the sinks, and those of feeds
+-- n failures of the sinks, and those of feeds
 abbrev pub failing : List FailureCount → (text faults : ℕ) → Failures
 failing feeds text faults = record { feeds = feeds; text = text; faults = faults }
 
@@ -64,7 +64,7 @@ CountsSinks result text faults later_text later_faults = MatchResult result
     (λ _. ((later_text.failures ≡ text.failures + 1) × (later_faults.failures ≡ faults.failures))
     ⊎ ((later_text.failures ≡ text.failures) × (later_faults.failures ≡ faults.failures + 1)))
 
--- There are so many feeds, none of which has ended, and a further failure of each can be counted. So can one of each
+-- There are n feeds, none of which has ended, and a further failure of each can be counted. So can one of each
 -- sink.
 pub record AreReady {F : Type 0} (device : F → Device) (count : ℕ) (given : List F) (out err : SinkState) : Type 0 where
   pub files : length given ≡ count

@@ -13,7 +13,7 @@ use Rattle.series.specs.Totals.{score_of, totals}
 unfoldable pub outcome_of : Settings → List File → ℕ → Outcome
 outcome_of settings files k = battle (robots_of settings.profile files) settings.seed k settings.limit
 
--- the outcomes of so many matches, from the first on
+-- the outcomes of n matches, from the first on
 abbrev pub outcomes : Settings → List File → ℕ → List Outcome
 outcomes settings files count = map (outcome_of settings files) (range_with_len settings.first count)
 

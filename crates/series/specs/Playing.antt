@@ -9,7 +9,7 @@ use Rattle.series.specs.Pieces.{Piece, Text}
 abbrev pub text_piece : List ℕ → Piece
 text_piece text = record { channel = Text; bytes = text }
 
--- the reports of so many matches, from the first on
+-- the reports of n matches, from the first on
 abbrev pub reports : Settings → List File → ℕ → List Piece
 reports settings files count =
     map (λ k. text_piece (report_text settings files k)) (range_with_len settings.first count)

@@ -13,7 +13,7 @@ use Rattle.series.specs.declared.run_results.RunFault.{RunFault}
 use Rattle.series.specs.declared.run_results.RunFault.TheVariants as run_fault
 use Rattle.series.specs.declared.run_results.Status.{Status}
 
--- of a file whose contents are known no more was taken than decides what it is, and so many more bytes
+-- of a file whose contents are known no more was taken than decides what it is, and at most a number of bytes beside
 abbrev pub TakesOf : Profile → (told later : Option (List ℕ)) → ℕ → Type 0
 TakesOf profile told later more = (bytes : List ℕ) → told ≡ Some bytes → TakesUpTo profile bytes later more
 
@@ -37,7 +37,7 @@ abbrev pub TakesOfFirst : Profile → (told later : List (Option (List ℕ))) �
 TakesOfFirst profile told later count = (file : ℕ) → file < count
     → TakesOf profile (get_or told file None) (get_or later file None) window_bytes
 
--- so many files were read, and the others not
+-- n files were read, and the others not
 pub record ReadsFirst (profile : Profile) (told later : List (Option (List ℕ))) (count : ℕ) : Type 0 where
   pub read : TakesOfFirst profile told later count
   pub unread : drop count later ≡ drop count told

@@ -20,8 +20,8 @@ use tokens::DeviceFault;
 
 /// A series of matches between the robots of one to four programs. A single program plays against itself.
 ///
-/// It is of fixed size, and allocates nothing. Its machines are made once, and serve each match. It borrows its programs:
-/// they are large, and moving them takes stack.
+/// It is of fixed size, and allocates nothing. Its machines are made once, and serve each match. It borrows its
+/// programs: they are large, and moving them takes stack.
 #[derive(Drop)]
 pub struct Series<'a> {
     programs: &'a Programs,

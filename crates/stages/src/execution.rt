@@ -11,8 +11,8 @@ use tools::{Compiled, Draft, Text, add_left, add_right, add_signed};
 /// The first line.
 const HEAD: &str = " cycle    at instruction       stack, each frame in brackets\n";
 
-/// Returns a line for each of so many cycles: its number, the instruction with its address, and then the stack. Intrinsic
-/// functions reply what is listed, in order, and then 0.
+/// Returns a line for each of the given number of cycles: its number, the instruction with its address, and then the
+/// stack. Intrinsic functions reply what is listed, in order, and then 0.
 pub fn execution(
     alloc: Global,
     made: &Compiled,

@@ -39,7 +39,7 @@ pub enum Form {
     Bounds,
     /// Its code beside its lines, and what is known of it, as a page.
     Html,
-    /// So many cycles of its machine.
+    /// The given number of cycles of its machine.
     Run(u32),
 }
 

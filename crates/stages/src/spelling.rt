@@ -28,8 +28,8 @@ pub fn instruction_at(
     }
 }
 
-/// Returns the name that the instruction of an address speaks of by number: its variable, or the file's function that it
-/// calls.
+/// Returns the name that the instruction of an address speaks of by number: its variable, or the file's function that
+/// it calls.
 pub fn name_at(made: &Compiled, address: usize) -> Option<&str> {
     match made.program.instructions().get(address)? {
         &(Instr::Fetch(variable) | Instr::Store(variable, _)) => {

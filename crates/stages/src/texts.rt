@@ -29,8 +29,8 @@ pub fn lines_of(alloc: Global, source: &[u8]) -> Result<Vec<&[u8]>, AllocError> 
     Ok(lines)
 }
 
-/// Returns a line of a source as text: bytes that are no UTF-8, and control characters other than the tab, are replaced.
-/// A CR at its end is dropped.
+/// Returns a line of a source as text: bytes that are no UTF-8, and control characters other than the tab, are
+/// replaced. A CR at its end is dropped.
 pub fn shown(alloc: Global, line: &[u8]) -> Result<String, AllocError> {
     let line = match line {
         [before @ .., b'\r'] => before,

@@ -149,7 +149,7 @@ pub record BeginsName (first : ℕ) (rest name : List ℕ) : Type 0 where
   pub is : name ≡ first ∷ take (prefix_len is_name_byte rest) rest
   pub ended : prefix_len is_name_byte rest < length rest
 
--- the value of a constant that begins with a digit and has so many more of the rest, in which it ends
+-- the value of a constant that begins with a digit and has n more of the rest, in which it ends
 pub record BeginsConstant (first : ℕ) (rest : List ℕ) (value count : ℕ) : Type 0 where
   pub is : value ≡ fold (λ value digit. 10 * value + (digit - 48)) (first - 48) (take count rest)
   pub fits : value ≤ 2147483647

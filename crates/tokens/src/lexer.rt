@@ -23,10 +23,10 @@ pub struct Lexer {
     window: Window,
 }
 
-// Each call here that has the device as an argument may ask it: it needs `MayAsk`, and `MayHaveAsked` says what it leaves.
-// A call that reads a token has one more clause, on the token or on what it leaves if it fails: `ReadsToken` if it
-// starts before the token, `FindsToken` if it starts inside of it. One that relies on a byte that was seen requires it.
-// What is not inlined is kept out of the functions that read most tokens, so that these need no stack frame.
+// Each call here that has the device as an argument may ask it: it needs `MayAsk`, and `MayHaveAsked` says what it
+// leaves. A call that reads a token has one more clause, on the token or on what it leaves if it fails: `ReadsToken` if
+// it starts before the token, `FindsToken` if it starts inside of it. One that relies on a byte that was seen requires
+// it. What is not inlined is kept out of the functions that read most tokens, so that these need no stack frame.
 impl Lexer {
     /// Makes a lexer of a source of which nothing was read.
     pub fn new() -> Self

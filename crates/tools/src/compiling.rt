@@ -13,8 +13,8 @@ use parser::parse;
 use settings::{MOST_FILES, Settings};
 use tokens::{DeviceFault, Feed, FileFeed};
 
-/// Compiles the files of a match. Writes the diagnostic of each faulty one, or a line about the first that can't be opened
-/// or read, which begins with the name of the program.
+/// Compiles the files of a match. Writes the diagnostic of each faulty one, or a line about the first that can't be
+/// opened or read, which begins with the name of the program.
 pub fn programs(rt: &HostRuntime, program: &str, wish: &Settings<'_>) -> Result<Vec<Program>, Fault>
     ensures each { IfOk result (λ programs. length programs.items ≡ length wish.now.file_words) }
     ensures some { IfOk result (λ programs. 0 < length programs.items) }
@@ -74,8 +74,8 @@ pub fn compile<F: Feed>(
     }
 }
 
-/// Writes the diagnostic of the file of a word on standard error, as crobots does: its name, the line, the text. Control
-/// characters of the name are shown as question marks.
+/// Writes the diagnostic of the file of a word on standard error, as crobots does: its name, the line, the text.
+/// Control characters of the name are shown as question marks.
 pub fn tell_diagnostic(rt: &HostRuntime, word: &str, diagnostic: &Diagnostic) {
     let Diagnostic { line, code } = diagnostic;
     let _ = eprintln!(rt; "{}:{line}: {}", Plain(name_of(word)), code.text());

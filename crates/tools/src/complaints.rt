@@ -18,8 +18,8 @@ impl<'a> fmt::Display for Misread<'a> {
     }
 }
 
-/// Writes a line on what is wrong with the values of options, or with the files, on standard error, with the name of the
-/// program.
+/// Writes a line on what is wrong with the values of options, or with the files, on standard error, with the name of
+/// the program.
 pub fn tell_wrong(rt: &HostRuntime, program: &str, options: &Options<'_>, wrong: Wrong) {
     let _ = match wrong {
         Wrong::Number(name, least, most) => {

@@ -19,8 +19,8 @@ pub fn opened(rt: &HostRuntime, program: &str, word: &str) -> Result<File, Fault
     }
 }
 
-/// Reads the file of a word: all of it, or as many bytes as determine what it compiles to. If it can't be opened or read, a
-/// line with the program's name and the word is written.
+/// Reads the file of a word: all of it, or as many bytes as determine what it compiles to. If it can't be opened or
+/// read, a line with the program's name and the word is written.
 pub fn source_of(rt: &HostRuntime, program: &str, word: &str) -> Result<Vec<u8>, Fault> {
     let mut file = opened(rt, program, word)?;
     let source = read_whole(rt.alloc(), &mut file);

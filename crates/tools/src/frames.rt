@@ -30,9 +30,9 @@ pub struct ProgramFrame {
 }
 
 impl ProgramFrame {
-    /// Runs a program: reads the words of the command line, and does the work with the options that they give, or writes
-    /// its page of help or its version if these are asked for. If that has a fault, writes its lines on standard error.
-    /// Returns the status of the fault, 0 if there is none.
+    /// Runs a program: reads the words of the command line, and does the work with the options that they give, or
+    /// writes its page of help or its version if these are asked for. If that has a fault, writes its lines on standard
+    /// error. Returns the status of the fault, 0 if there is none.
     pub fn run<W: Work>(&self, rt: &HostRuntime, work: &W) -> ExitCode {
         match self.done(rt, work) {
             Ok(()) => ExitCode::SUCCESS,

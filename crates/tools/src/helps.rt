@@ -40,8 +40,8 @@ fn add_options(page: &mut Draft, options: &[Known]) {
     }
 }
 
-/// Adds the line of an option of this name, with the other names that the list has for it, and with its value unless that is
-/// called nothing.
+/// Adds the line of an option of this name, with the other names that the list has for it, and with its value unless
+/// that is called nothing.
 fn add_option(
     page: &mut Draft,
     options: &[Known],

@@ -5,7 +5,8 @@
 pub enum Known {
     /// An option without a value: its name, and what it does.
     Flag(&'static str, &'static str),
-    /// An option with a value: its name, what its value is called, and what it does. It is given as `-kVALUE`, `-k VALUE`,
+    /// An option with a value: its name, what its value is called, and what it does. It is given as `-kVALUE`, `-k
+    /// VALUE`,
     /// `--name=VALUE` or `--name VALUE`.
     Valued(&'static str, &'static str, &'static str),
     /// A name that stands for another option: this name, and that of the option.

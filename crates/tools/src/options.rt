@@ -42,8 +42,8 @@ impl<'a> Options<'a> {
         None
     }
 
-    /// Returns which of these options was given, by what stands beside its name: none if none was. Two of them are wrong
-    /// usage.
+    /// Returns which of these options was given, by what stands beside its name: none if none was. Two of them are
+    /// wrong usage.
     pub fn only<T: Copy>(&self, choices: &[(&'static str, T)]) -> Result<Option<T>, Fault> {
         let mut found = None;
         for (name, choice) in choices {

@@ -36,9 +36,10 @@ pub struct Span {
 }
 
 impl Span {
-    /// Reads the span of a match of this many robots that options ask for: `--robot`, its number, from 1, by default all robots;
-    /// `--from` and `--to`, the first and the last cycle, 0 to 1,000,000,000, by default all cycles. Other values, and a
-    /// last cycle before the first one, are wrong usage.
+    /// Reads the span of a match of this many robots that options ask for: `--robot`, its number, from 1, by default
+    /// all robots;
+    /// `--from` and `--to`, the first and the last cycle, 0 to 1,000,000,000, by default all cycles. Other values, and
+    /// a last cycle before the first one, are wrong usage.
     pub fn read(options: &Options<'_>, robots: usize) -> Result<Span, Fault>
         ensures robot { IfOk result (λ span. IsOfRobots span.robot robots) }
         ensures cycles { IfOk result (λ span. span.from ≤ span.to) }

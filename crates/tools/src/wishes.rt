@@ -34,9 +34,9 @@ const LIMITS: [(&str, u64, u64); 4] = [
     ("p", 1, MOST_PROFILE as u64),
 ];
 
-/// Reads the match that options ask for, as a series of one match: `-k`, its number, 1 to 1,000,000, by default 1; `-l`,
-/// its most cycles, 1 to 1,000,000,000, by default 500,000; `-s`, its seed, by default 1; `-p`, the profile, 1 or 2, by
-/// default 1; and one to four files. Other values, and another number of files, are wrong usage.
+/// Reads the match that options ask for, as a series of one match: `-k`, its number, 1 to 1,000,000, by default 1;
+/// `-l`, its most cycles, 1 to 1,000,000,000, by default 500,000; `-s`, its seed, by default 1; `-p`, the profile, 1 or
+/// 2, by default 1; and one to four files. Other values, and another number of files, are wrong usage.
 pub fn wish<'a>(options: &Options<'a>) -> Result<Settings<'a>, Fault> {
     let files = options.files();
     if files.is_empty() {

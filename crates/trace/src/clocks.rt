@@ -66,8 +66,9 @@ enum Running {
     Turn(usize, u32),
 }
 
-/// What measures a robot's calls and turns. A call goes from its `FCALL` to its `RETSUB`, a turn from the loop's test to the
-/// branch back. Only those are counted that end so: no turn is that leaves its loop, and nothing that a restart cuts off.
+/// What measures a robot's calls and turns. A call goes from its `FCALL` to its `RETSUB`, a turn from the loop's test
+/// to the branch back. Only those are counted that end so: no turn is that leaves its loop, and nothing that a restart
+/// cuts off.
 #[derive(Drop)]
 pub struct Clock {
     /// What the instruction of each address begins or ends.
@@ -135,7 +136,8 @@ impl Clock {
         }
     }
 
-    /// Ends the innermost call, and the turns in it. One that began before the first cycle that is looked at isn't known.
+    /// Ends the innermost call, and the turns in it. One that began before the first cycle that is looked at isn't
+    /// known.
     fn end_call(&mut self, cycle: u32) {
         for _ in 0..self.running.len() {
             if let Some(Running::Call(number, begun)) = self.running.pop() {
@@ -145,8 +147,8 @@ impl Clock {
         }
     }
 
-    /// Ends the turn of a loop, and those in it: their loops were left. One that began before the first cycle that is looked
-    /// at isn't known.
+    /// Ends the turn of a loop, and those in it: their loops were left. One that began before the first cycle that is
+    /// looked at isn't known.
     fn end_turn(&mut self, ended: usize, cycle: u32) {
         for _ in 0..self.running.len() {
             if let Some(Running::Turn(number, begun)) = self.running.pop()
@@ -204,7 +206,8 @@ fn mark_of(instruction: &Instr) -> Mark {
     }
 }
 
-/// Returns the addresses of each loop's test and of its branch back, in the order of the source. Only loops branch back.
+/// Returns the addresses of each loop's test and of its branch back, in the order of the source. Only loops branch
+/// back.
 fn loops(alloc: Global, instructions: &[Instr]) -> Result<Vec<(usize, usize)>, AllocError> {
     let mut loops = Vec::new(alloc);
     for (address, instruction) in instructions.iter().enumerate() {

@@ -91,8 +91,8 @@ impl<'a> Events<'a> {
         }
     }
 
-    /// Writes where the robots' ways end, and their damages after the last cycle of the match. Those of a film that ends
-    /// before it are another kind.
+    /// Writes where the robots' ways end, and their damages after the last cycle of the match. Those of a film that
+    /// ends before it are another kind.
     fn end(&mut self, cycle: u32) {
         for robot in 0..self.robots {
             if let Some(seen) = self.seen.get(robot)

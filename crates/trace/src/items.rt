@@ -37,8 +37,8 @@ impl Items {
         &mut self.all
     }
 
-    /// Adds the line to a report. Nothing is added if it has no items. The only error is that memory was refused as an item
-    /// was added.
+    /// Adds the line to a report. Nothing is added if it has no items. The only error is that memory was refused as an
+    /// item was added.
     pub fn end(self, report: &mut Draft) -> Result<(), AllocError> {
         let all = self.all.finish()?;
         if all.is_empty() {

@@ -15,8 +15,8 @@ const COLUMNS: &str = "   line   count   least    mean    most  proved      cycl
 /// The width of what is proved.
 const PROVED: usize = 12;
 
-/// Adds a row for each function that was called and for each loop: how often, the fewest cycles that it took, the mean, and
-/// the most, beside those that are proved. The only error is that memory was refused.
+/// Adds a row for each function that was called and for each loop: how often, the fewest cycles that it took, the mean,
+/// and the most, beside those that are proved. The only error is that memory was refused.
 pub fn add_measured(text: &mut Draft, subject: &Subject<'_>) -> Result<(), AllocError> {
     let profile = subject.program.profile();
     let Ok(facts) = Facts::of(text.alloc(), subject.note.text.as_slice(), profile) else {
@@ -63,7 +63,8 @@ fn add_row(
     Ok(())
 }
 
-/// Adds how often something was done, and the fewest cycles that it took, the mean and the most: none if it was never done.
+/// Adds how often something was done, and the fewest cycles that it took, the mean and the most: none if it was never
+/// done.
 fn add_taken(row: &mut Draft, taken: &Taken) {
     add_count(row, taken.count);
     for cycles in [taken.least, taken.mean(), taken.most] {

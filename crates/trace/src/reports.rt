@@ -159,7 +159,7 @@ fn add_shots(text: &mut Draft, tally: &RobotCounts) -> Result<(), AllocError> {
     items.end(text)
 }
 
-/// Adds an item of a number, and of what there are so many.
+/// Adds an item of a number, and how many of it there are.
 fn add_part(items: &mut Items, count: u64, what: &str) {
     let item = items.begin();
     item.number(count);

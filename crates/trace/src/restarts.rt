@@ -49,8 +49,8 @@ fn calls_to(frames: &[Frame], back: u16) -> usize {
     calls
 }
 
-/// Adds where and why a robot restarted, the most frequent places first. Those in one line of a function for one cause are
-/// one.
+/// Adds where and why a robot restarted, the most frequent places first. Those in one line of a function for one cause
+/// are one.
 pub fn add_restarts(text: &mut Draft, subject: &Subject<'_>) -> Result<(), AllocError> {
     let mut items = Items::new("restarts", text);
     let mut counts = restarts_by_place(text.alloc(), subject)?;
@@ -97,7 +97,7 @@ fn place_and_cause(address: usize, subject: &Subject<'_>) -> (u32, usize, Option
     (line, subject.function(address), cause)
 }
 
-/// Adds so many restarts at an address.
+/// Adds the given number of restarts at an address.
 fn add_restart(item: &mut Draft, address: usize, count: u64, subject: &Subject<'_>) {
     let Some(spot) = subject.tally.spots.get(address) else {
         return;

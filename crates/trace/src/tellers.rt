@@ -9,8 +9,8 @@ use tools::Fault;
 
 /// What tells a match as it is played.
 pub trait Teller: Watcher {
-    /// Tells what is left after the last cycle of the match that was asked for, and writes all that isn't written yet. These
-    /// pilots played it.
+    /// Tells what is left after the last cycle of the match that was asked for, and writes all that isn't written yet.
+    /// These pilots played it.
     fn finish(self, request: &Request<'_>, cycles: u32, pilots: &[Pilot<'_>]) -> Result<(), Fault>;
 }
 

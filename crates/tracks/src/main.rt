@@ -1,5 +1,5 @@
-//! Plays one match, and writes a picture of it as SVG: the robots' paths, their shots, their damage over time, and how it
-//! ended.
+//! Plays one match, and writes a picture of it as SVG: the robots' paths, their shots, their damage over time, and how
+//! it ended.
 #![tactic(auto)]
 
 mod field;

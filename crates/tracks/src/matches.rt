@@ -68,8 +68,8 @@ impl Track {
         }
     }
 
-    /// Records the robot's damage after the update of this number. Its death is in the first update after which it isn't
-    /// alive.
+    /// Records the robot's damage after the update of this number. Its death is in the first update after which it
+    /// isn't alive.
     fn suffer(&mut self, damage: u8, update: u32)
         ensures damage { self.new.damage ≡ damage }
         ensures death { self.new.death ≡ (if nat_lt damage DEADLY then self.old.death
@@ -167,8 +167,8 @@ impl MatchRecorder {
         }
     }
 
-    /// Marks the shots whose bursts in the update of this number hurt a robot: one whose damage grew in it, at the place
-    /// where it is after it.
+    /// Marks the shots whose bursts in the update of this number hurt a robot: one whose damage grew in it, at the
+    /// place where it is after it.
     fn mark(&mut self, arena: &Arena, update: u32) {
         for robot in 0..arena.robot_count() {
             if let Some(track) = self.tracks.as_slice().get(robot)

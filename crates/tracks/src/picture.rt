@@ -11,8 +11,8 @@ use crate::strip::add_strip;
 use std::alloc::{AllocError, Global};
 use tools::{Draft, Text};
 
-/// What comes before the field: the picture's size, the field's border, by which bursts are cut, and a burst, whose three
-/// rings are 40, 20 and 5 metres from it.
+/// What comes before the field: the picture's size, the field's border, by which bursts are cut, and a burst, whose
+/// three rings are 40, 20 and 5 metres from it.
 const HEAD: &str =
     "<svg xmlns=\"http://www.w3.org/2000/svg\" viewBox=\"0 0 1500 1100\" font-family=\"sans-serif\" font-size=\"18\">
 <defs><clipPath id=\"field\"><rect x=\"50\" y=\"50\" width=\"1000\" height=\"1000\"/></clipPath>

@@ -5,7 +5,8 @@ use crate::svg::{add_number, add_step, add_words};
 use tools::{Draft, Text};
 use trails::{Shot, column, row};
 
-/// Adds the shots: first all lines, then the dots of bursts that hurt nobody, and above them the rings of those that hurt.
+/// Adds the shots: first all lines, then the dots of bursts that hurt nobody, and above them the rings of those that
+/// hurt.
 pub fn add_shots(text: &mut Draft, shots: &[Shot], period: Period) {
     text.add("<g fill=\"none\" stroke-width=\"1.2\">\n");
     for shot in shots {

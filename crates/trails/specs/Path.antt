@@ -2,7 +2,7 @@
 use Rattle.std.specs.Prelude.{ℕ, ◌≡◌, ◌+◌, ◌*◌, List, length, slice_get}
 use Rattle.trails.specs.declared.places.Place.{Place}
 
--- each `stride`-th place is kept, and so many are dropped before the next one
+-- each `stride`-th place is kept, and a number of them are dropped before the next one
 pub record Path : Type 0 where
   pub places : List Place
   pub stride : ℕ

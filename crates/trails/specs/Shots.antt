@@ -7,7 +7,7 @@ use Rattle.arena.specs.Collisions.{square}
 use Rattle.trails.specs.declared.places.Place.{Place}
 use Rattle.trails.specs.declared.shots.Shot.{Shot}
 
--- the shot of a robot after so many updates, from a place in a direction: it bursts at the range asked for, at most 700
+-- the shot of a robot after n updates, from a place in a direction: it bursts at the range asked for, at most 700
 -- metres away, and has hurt nobody yet
 pub record IsShotOf (robot updates : ℕ) (from : Place) (degree range : ℤ) (shot : Shot) : Type 0 where
   pub owner : shot.robot ≡ robot

@@ -54,7 +54,7 @@ pub const STRIP_WIDTH: u32 = 350;
 /// The height of a percent in the strip of damage.
 pub const STRIP_PERCENT: u32 = 3;
 
-/// Returns the column in the strip of damage of what happened after so many of the match's cycles.
+/// Returns the column in the strip of damage of what happened after a number of the match's cycles.
 pub fn strip_column(cycle: u32, cycles: u32) -> u32
     ensures value { result ≡ STRIP_LEFT + STRIP_WIDTH * min cycle cycles / max cycles 1 }
     ensures left { STRIP_LEFT ≤ result }
@@ -64,7 +64,7 @@ pub fn strip_column(cycle: u32, cycles: u32) -> u32
     STRIP_LEFT + way as u32
 }
 
-/// Returns the row in the strip of damage of so many percent: more damage is higher up.
+/// Returns the row in the strip of damage of a damage in percent: more damage is higher up.
 pub fn strip_row(percent: u8) -> u32
     ensures value { result ≡ STRIP_TOP + STRIP_PERCENT * (100 - min percent 100) }
     ensures top { STRIP_TOP ≤ result }

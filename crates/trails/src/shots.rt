@@ -39,8 +39,8 @@ pub struct Shot {
 }
 
 impl Shot {
-    /// Makes the shot of a robot that calls `cannon` with these arguments after so many updates. It has hurt nobody
-    /// yet.
+    /// Makes the shot of a robot that calls `cannon` with these arguments after the given number of updates. It has
+    /// hurt nobody yet.
     #[tactic(auto, unfolding(arena::specs::Shots::aimed_x, arena::specs::Shots::aimed_y))]
     pub fn new(robot: usize, updates: u32, from: Place, arguments: [i32; 2]) -> Shot
         requires { updates ≤ most_updates }

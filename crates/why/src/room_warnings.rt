@@ -5,8 +5,8 @@ use grammar::Profile;
 use std::alloc::Global;
 use tools::{Draft, Fault, Text};
 
-/// Adds the warning about the robot of a source that compiles by this profile, if it may restart for want of room: a line
-/// as those of other warnings, about its `main`. Reports whether it may. The only fault is that memory is refused.
+/// Adds the warning about the robot of a source that compiles by this profile, if it may restart for want of room: a
+/// line as those of other warnings, about its `main`. Reports whether it may. The only fault is that memory is refused.
 pub fn add_want_of_room(
     text: &mut String,
     alloc: Global,

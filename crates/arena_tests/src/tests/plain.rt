@@ -297,7 +297,7 @@ impl Dice {
     }
 }
 
-/// Plays an arena and its plain model side by side for some updates, robots within so many tenths.
+/// Plays an arena and its plain model side by side for some updates, robots within a given number of tenths.
 fn play(rt: &impl Abort, places: &[(u16, u16)], updates: u32, dice: &mut Dice)
     requires some { 2 ≤ length places.now }
     requires most { length places.now ≤ 4 }

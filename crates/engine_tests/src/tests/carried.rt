@@ -5,7 +5,7 @@ use code::Profile;
 use std::alloc::{AllocError, Global};
 use std::test::Fail;
 
-/// Makes a source of so many statements that do nothing in two cycles each, and of another one after them.
+/// Makes a source of the given number of statements that do nothing in two cycles each, and of another one after them.
 fn carrying(alloc: Global, times: u16, last: &str) -> Result<String, AllocError> {
     let mut source = String::new(alloc);
     source.push_str("f(){} main(){int a;")?;
@@ -17,8 +17,8 @@ fn carrying(alloc: Global, times: u16, last: &str) -> Result<String, AllocError>
     Ok(source)
 }
 
-// To the `BRANCH` of the `if` its `FETCH` is carried, to the `FCALL` its `FRAME`, and to the `RETSUB` of main its `CONST`:
-// with the statements before them 251 to 261 cycles.
+// To the `BRANCH` of the `if` its `FETCH` is carried, to the `FCALL` its `FRAME`, and to the `RETSUB` of main its
+// `CONST`: with the statements before them 251 to 261 cycles.
 #[test]
 fn any_number_of_carried_cycles_is_counted(rt: HostRuntime) -> Result<(), Fail> {
     for last in ["if(a);", "f();", ""] {

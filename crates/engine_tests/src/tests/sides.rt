@@ -147,8 +147,8 @@ fn answer(
     question
 }
 
-/// Runs an engine for so many cycles, and a plain machine beside it, which has to ask the same in the same cycles. The
-/// replies differ from cycle to cycle. Returns how often each side asked.
+/// Runs an engine for the given number of cycles, and a plain machine beside it, which has to ask the same in the same
+/// cycles. The replies differ from cycle to cycle. Returns how often each side asked.
 fn both_run(rt: &impl Abort, exe: &Executable<'_>, program: &Program, cycles: u16) -> Sides {
     let (mut engine, mut machine) = (Engine::default(), Machine::new(program));
     engine.restart(exe);
@@ -171,7 +171,8 @@ fn both_run(rt: &impl Abort, exe: &Executable<'_>, program: &Program, cycles: u1
     sides
 }
 
-/// Compiles a good source, translates it if it can be, and returns how often each side asks in so many cycles.
+/// Compiles a good source, translates it if it can be, and returns how often each side asks in the given number of
+/// cycles.
 fn sides_of(rt: &impl Abort, profile: Profile, source: &[u8], cycles: u16) -> Result<Sides, Fail> {
     let program = program_of(profile, source)?;
     let operations = operations_of(&program);

@@ -80,7 +80,7 @@ fn sources_are_translated(rt: HostRuntime) -> Result<(), Fail> {
     Ok(())
 }
 
-/// Makes a source of so many statements, each of which assigns its number, from 0 on, to these variables.
+/// Makes a source of the given number of statements, each of which assigns its number, from 0 on, to these variables.
 fn assignments(alloc: Global, variables: &str, times: u16) -> Result<String, AllocError> {
     let mut source = String::new(alloc);
     source.push_str("main(){int a,b;")?;
@@ -91,7 +91,7 @@ fn assignments(alloc: Global, variables: &str, times: u16) -> Result<String, All
     Ok(source)
 }
 
-/// Checks that a source of so many such statements is translated, and that one with one more isn't.
+/// Checks that a source of the given number of such statements is translated, and that one with one more isn't.
 fn check_most(
     rt: &(impl Abort + AllocGlobal),
     profile: Profile,

@@ -41,7 +41,8 @@ pub fn text_of(alloc: Global, lines: &[&str]) -> Result<Vec<u8>, AllocError> {
     Ok(text)
 }
 
-/// Makes the text of a game of the file `a.r` alone: both robots end each of these matches alike, after so many cycles.
+/// Makes the text of a game of the file `a.r` alone: both robots end each of these matches alike, after the given
+/// number of cycles.
 /// `end` is how, and `count` is what the totals say of both.
 pub fn twin_game(
     alloc: Global,
@@ -131,7 +132,7 @@ pub fn run_into(
     })
 }
 
-/// Lists a file whose device gives at most so many bytes at a read.
+/// Lists a file whose device gives at most the given number of bytes at a read.
 pub fn list(alloc: Global, word: &str, source: &[u8], most: usize) -> Result<Ended, AllocError>
     requires { 0 < most }
 {
@@ -238,7 +239,7 @@ pub const ONE_MATCH: Game = Game {
     first: 1,
 };
 
-/// Asks for so many matches of 15 cycles.
+/// Asks for the given number of matches of 15 cycles.
 pub fn short_matches(matches: u32) -> Game {
     Game {
         matches,

@@ -309,7 +309,7 @@ fn externals_have_a_limit(rt: HostRuntime) -> Result<(), Fail> {
     check_fault(&rt, "a.r", &source, "a.r:10: too many variables")
 }
 
-/// Makes a source of parts, each so many times.
+/// Makes a source of parts, each a given number of times.
 fn source_of(alloc: Global, parts: &[(&[u8], usize)]) -> Result<Vec<u8>, AllocError> {
     let mut source = Vec::new(alloc);
     for (bytes, times) in parts {
@@ -320,7 +320,7 @@ fn source_of(alloc: Global, parts: &[(&[u8], usize)]) -> Result<Vec<u8>, AllocEr
     Ok(source)
 }
 
-/// Makes `main(){((..1..));}` with so many pairs of brackets.
+/// Makes `main(){((..1..));}` with the given number of pairs of brackets.
 pub fn in_brackets(alloc: Global, pairs: usize) -> Result<Vec<u8>, AllocError> {
     let (opening, closing) = ((b"(".as_slice(), pairs), (b")".as_slice(), pairs));
     source_of(
@@ -336,7 +336,7 @@ fn levels_have_a_limit(rt: HostRuntime) -> Result<(), Fail> {
     check_fault(&rt, "a.r", &deep, "a.r:1: nested too deeply")
 }
 
-/// Makes `main(){1;1;..}` with so many statements.
+/// Makes `main(){1;1;..}` with the given number of statements.
 pub fn ones(alloc: Global, statements: usize) -> Result<Vec<u8>, AllocError> {
     source_of(alloc, &[(b"main(){", 1), (b"1;", statements), (b"}", 1)])
 }
@@ -353,7 +353,7 @@ fn code_has_a_limit(rt: HostRuntime) -> Result<(), Fail> {
     check_fault(&rt, "a.r", &ones(rt.alloc(), 999)?, "a.r:1: too much code")
 }
 
-/// Makes `main(){}` and spaces, of so many bytes in all.
+/// Makes `main(){}` and spaces, of the given number of bytes in all.
 pub fn spaced(alloc: Global, len: usize) -> Result<Vec<u8>, AllocError> {
     source_of(alloc, &[(b"main(){}", 1), (b" ", len.saturating_sub(8))])
 }

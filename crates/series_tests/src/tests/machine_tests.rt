@@ -63,7 +63,7 @@ fn restarts_in_its_cycle(rt: HostRuntime) -> Result<(), Fail> {
     Ok(())
 }
 
-/// Goes on by so many cycles, in which the machine wants nothing.
+/// Goes on by the given number of cycles, in which the machine wants nothing.
 fn pass(rt: &impl Abort, machine: &mut Machine, program: &Program, cycles: u32)
     requires { IsReachable machine.old program.now }
     ensures { IsReachable machine.new program.now }

@@ -72,8 +72,8 @@ fn matches_are_numbered_from_the_first(rt: HostRuntime) -> Result<(), Fail> {
     Ok(())
 }
 
-/// Files whose shots and restarts show what their cycles do: the source, whether it is of the second profile, the cycles,
-/// and how both robots end.
+/// Files whose shots and restarts show what their cycles do: the source, whether it is of the second profile, the
+/// cycles, and how both robots end.
 const SHOTS: &[(&[u8], bool, u32, &str)] = &[
     // both sides of && are evaluated: shots in cycles 5 and 14
     (b"main(){0 && cannon(0,0);}", false, 15, "alive damage  20%"),

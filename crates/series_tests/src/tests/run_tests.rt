@@ -62,7 +62,7 @@ fn a_failed_write_leaves_a_beginning(rt: HostRuntime) -> Result<(), Fail> {
 /// The sources of three files, of which the second has a fault.
 const GOOD_FAULTY_GOOD: [&[u8]; 3] = [b"main(){}", b"main(){ f(); }", b"main(){}"];
 
-/// Runs a listing of them, whose sinks have room for so many bytes, and returns what they took.
+/// Runs a listing of them, whose sinks have room for the given number of bytes, and returns what they took.
 fn list_within(
     rt: &(impl Abort + AllocGlobal),
     most: usize,

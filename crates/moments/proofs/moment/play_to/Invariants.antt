@@ -6,7 +6,7 @@ use Rattle.playing.specs.Played.{codes_of, exes_of}
 use Rattle.moments.specs.Moments.{last_question}
 use Rattle.moments.proofs.moment.play_to.Given as goal
 
--- so many cycles were played of the same match, and this was the last question in them
+-- n cycles were played of the same match, and this was the last question in them
 abbrev pub invariant-loop : goal.invariant-loop
 invariant-loop l = record {
   manned : length l.game.arena.robots ≡ length l.pilots;

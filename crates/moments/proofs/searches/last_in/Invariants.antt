@@ -9,7 +9,7 @@ use Rattle.moments.specs.Searches.{Happens}
 use Rattle.moments.proofs.Searching.{LastOf}
 use Rattle.moments.proofs.searches.last_in.Given as goal
 
--- so many cycles of the same match were played, and this is the last one found
+-- n cycles of the same match were played, and this is the last one found
 abbrev pub invariant-loop : goal.invariant-loop
 invariant-loop l = record {
   manned : length l.game.arena.robots ≡ length l.pilots;

@@ -9,7 +9,7 @@ use Rattle.moments.specs.Searches.{Happens}
 use Rattle.moments.proofs.Searching.{NoneIn}
 use Rattle.moments.proofs.searches.next_in.Given as goal
 
--- so many cycles of the same match were played, and nothing was found later than the one
+-- n cycles of the same match were played, and nothing was found later than the one
 abbrev pub invariant-loop : goal.invariant-loop
 invariant-loop l = record {
   manned : length l.game.arena.robots ≡ length l.pilots;

@@ -5,7 +5,7 @@ use Rattle.playing.specs.Games.{EndsWell, HasCome}
 use Rattle.playing.specs.Played.{codes_of, exes_of}
 use Rattle.playing.proofs.games.run.Given as goal
 
--- so many cycles were played of the same match
+-- n cycles were played of the same match
 abbrev pub invariant-loop : goal.invariant-loop
 invariant-loop g l = record {
   manned : length l.game.arena.robots ≡ length l.pilots;

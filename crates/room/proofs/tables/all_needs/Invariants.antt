@@ -3,7 +3,7 @@ use Rattle.trees.specs.Laws.{told_trees}
 use Rattle.room.specs.Tables.{table_within}
 use Rattle.room.proofs.tables.all_needs.Given as goal
 
--- so many functions may call one another
+-- n functions may call one another
 abbrev pub invariant-loop-round : goal.invariant-loop-round
 invariant-loop-round l =
     record {

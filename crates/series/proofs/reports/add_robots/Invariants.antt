@@ -5,7 +5,7 @@ use Rattle.series.specs.Reports.{robot_lines}
 use Rattle.series.specs.Lines.{lines_text}
 use Rattle.series.proofs.reports.add_robots.Given as goal
 
--- the lines of so many robots are added
+-- the lines of n robots are added
 abbrev pub invariant-loop-robot : goal.invariant-loop-robot
 invariant-loop-robot g l =
     MayFail l.pen (g.S.Sink.written l.sink)

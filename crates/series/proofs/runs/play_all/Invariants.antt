@@ -6,7 +6,7 @@ use Rattle.series.specs.Playing.{reports}
 use Rattle.sinks.specs.Portions.{SinkState}
 use Rattle.series.proofs.runs.play_all.Given as goal
 
--- so many matches were played, and their reports written; no write has failed
+-- n matches were played, and their reports written; no write has failed
 abbrev pub invariant-loop : goal.invariant-loop
 invariant-loop g l = record {
   standing : l.series ≡ record { settings = l.fn.settings; programs = l.programs; played = l.counter; failed = false };

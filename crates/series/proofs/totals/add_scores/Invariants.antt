@@ -6,7 +6,7 @@ use Rattle.series.specs.Totals.{score_lines}
 use Rattle.series.specs.Lines.{lines_text}
 use Rattle.series.proofs.totals.add_scores.Given as goal
 
--- the lines of so many robots are added
+-- the lines of n robots are added
 abbrev pub invariant-loop-robot : goal.invariant-loop-robot
 invariant-loop-robot g l =
     MayFail l.pen (g.S.Sink.written l.sink)

@@ -4,7 +4,7 @@ use Rattle.series.specs.SeriesSteps.{no_score, with_match}
 use Rattle.series.specs.Totals.{survivors}
 use Rattle.series.proofs.totals.Tally.count_match.Given as goal
 
--- the scores of so many robots have one more match, and the others are as they were
+-- the scores of n robots have one more match, and the others are as they were
 abbrev pub invariant-loop-robot : goal.invariant-loop-robot
 invariant-loop-robot l = record {
   matches : l.self-inside.matches ≡ l.fn.self.matches + 1;
