@@ -18,11 +18,13 @@ use Rattle.arena.proofs.RobotUpdates.{dead_is, worn_is}
 
 -- a robot after the update
 moved_at : (f : Field) (i : ℕ) → i < length f.robots →
-    robot_at (moved f) i ≡ moved_robot (f.updates + 1) f.shots (collision_count (map attempted_move f.robots) i) (robot_at f i)
+    robot_at (moved f) i ≡
+    moved_robot (f.updates + 1) f.shots (collision_count (map attempted_move f.robots) i) (robot_at f i)
 unfolding robot_at moved
 moved_at f i inside =
     get_or-map-range_with_len
-    (λ k. moved_robot (f.updates + 1) f.shots (collision_count (map attempted_move f.robots) k) (get_or f.robots k no_robot)) 0
+    (λ k. moved_robot (f.updates + 1) f.shots (collision_count (map attempted_move f.robots) k)
+    (get_or f.robots k no_robot)) 0
     (length f.robots) i i no_robot inside (omega arith)
 
 live_takes : (r : FieldRobot) (update : ℕ) (shots : List Shot) (touched : ℕ) → is_alive r ≡ true →
@@ -186,7 +188,9 @@ dead_adds_up f i inside dead =
     let r = robot_at f i in
     let ks = range_with_len 0 (length f.robots) in
     let after =
-    ap damage_of (moved_at f i inside ∙ sym (dead_is r (f.updates + 1) f.shots (collision_count (map attempted_move f.robots) i) dead))
+    ap damage_of
+    (moved_at f i inside ∙
+    sym (dead_is r (f.updates + 1) f.shots (collision_count (map attempted_move f.robots) i) dead))
     in
     let wall : cond {A = ℕ} (is_alive r && hits_wall (tried r.leg)) 2 0 ≡ 0 = rw dead refl in
     let met : count_by (collides_with f i) ks ≡ 0 = sym (length-filter (collides_with f i) ks) ∙ none_met f i ks dead in

@@ -338,7 +338,8 @@ nearly_right dx dy b s side is east north near e = by_size (cases_lt s 90)
 not_deep : (z o : ℤ) → z ≡ neg_ℤ o → IsNearlyForward o → pos 3500000 ≤ℤ z → ⊥
 not_deep z o e near deep = omega (arith, ints)
 
-back : (dx dy : ℤ) (n opp : ℕ) → n < 360 → opp ≡ (n + 180) % 360 → projection_of dx dy n ≡ neg_ℤ (projection_of dx dy opp)
+back : (dx dy : ℤ) (n opp : ℕ) → n < 360 → opp ≡ (n + 180) % 360 →
+    projection_of dx dy n ≡ neg_ℤ (projection_of dx dy opp)
 back dx dy n opp round e =
     let there = opposite dx dy n round in
     rw e (omega (arith, ints, there))

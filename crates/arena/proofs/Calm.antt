@@ -155,11 +155,13 @@ calm f robots now size e nearby far i inside =
     let b_in : b < length f.robots = omega (arith, last, count) in
     let a_in : a < length f.robots = omega (arith, less, b_in) in
     let a_goes =
-    goes_to (get_or f.robots a no_robot) (get_or (map attempted_move f.robots) a (attempted_move no_robot)) (get_or now a none)
+    goes_to (get_or f.robots a no_robot) (get_or (map attempted_move f.robots) a (attempted_move no_robot))
+    (get_or now a none)
     (get_or-map attempted_move f.robots a no_robot (attempted_move no_robot) a_in)
     (ap (λ l. get_or l a none) e ∙ get_or-map robot_ahead f.robots a no_robot none a_in) in
     let b_goes =
-    goes_to (get_or f.robots b no_robot) (get_or (map attempted_move f.robots) b (attempted_move no_robot)) (get_or now b none)
+    goes_to (get_or f.robots b no_robot) (get_or (map attempted_move f.robots) b (attempted_move no_robot))
+    (get_or now b none)
     (get_or-map attempted_move f.robots b no_robot (attempted_move no_robot) b_in)
     (ap (λ l. get_or l b none) e ∙ get_or-map robot_ahead f.robots b no_robot none b_in) in
     not_close _ _ _ _ _ _ a_goes.0 a_goes.1 b_goes.0 b_goes.1 (nearby a (omega (arith, size, a_in)))

@@ -114,7 +114,8 @@ unfolding own_bursts burst_of bursts burst_damage
 harm_like_shots updates update n shots e owned x y =
     let own = own_bursts update updates shots in
     flat_sum (burst_damage x y) own 0 n ∙
-    totals_same (λ k. sum (map (burst_damage x y) (own (0 + k)))) (λ k. sum (bursts update (in_air updates k shots) x y)) n
+    totals_same (λ k. sum (map (burst_damage x y) (own (0 + k))))
+    (λ k. sum (bursts update (in_air updates k shots) x y)) n
     (λ k l.
     let same : 0 + k ≡ k = omega arith in ap (λ (j : ℕ). sum (map (burst_damage x y) (own j))) same ∙
     ap sum (map-map (burst_damage x y) burst_of (due_at update (in_air updates k shots))))

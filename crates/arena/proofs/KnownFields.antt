@@ -21,7 +21,8 @@ use Rattle.arena.specs.KnownFields.{KnownScans, KnownStarts, KnownDrives, KnownK
 pub scans : KnownScans
 unfolding answer scanned nearest sees in_arc east_to north_to apart range_of argument_at degree_of clamped robot_at
     others
-    placed robot_at_rest is_alive damage_of no_robot metres_x metres_y place_x place_y end_x end_y way_east way_north along
+    placed robot_at_rest is_alive damage_of no_robot metres_x metres_y place_x place_y end_x end_y way_east way_north
+    along
     square root_of root_by_quarters bearing_of first_greatest projections projection_of cosine_at sine_at sines
 scans = record {
   at_the_edge = refl;
@@ -47,9 +48,11 @@ starts = record {
 }
 
 pub drives : KnownDrives
-unfolding answer field_with_wanted with_wanted argument_at degree_of clamped robot_at placed robot_at_rest is_alive damage_of no_robot
+unfolding answer field_with_wanted with_wanted argument_at degree_of clamped robot_at placed robot_at_rest is_alive
+    damage_of no_robot
     place_x place_y end_x end_y way_east way_north along leg_anew steered approached sped travelled is_outside hits_wall
-    clamped_at_walls tried stopped_by_walls leg_alone attempted_move moves square is_close is_no_further collides others collision_count due_at ring bursts
+    clamped_at_walls tried stopped_by_walls leg_alone attempted_move moves square is_close is_no_further collides others
+    collision_count due_at ring bursts
     put_back leg_after knock_damages moved_robot moved moved_times cosine_at sine_at sines
 drives = record {
   six_updates = (refl, refl, refl);
@@ -62,9 +65,11 @@ drives = record {
 }
 
 pub knocks_ : KnownKnocks
-unfolding answer field_with_wanted with_wanted argument_at degree_of clamped robot_at placed robot_at_rest is_alive damage_of no_robot
+unfolding answer field_with_wanted with_wanted argument_at degree_of clamped robot_at placed robot_at_rest is_alive
+    damage_of no_robot
     place_x place_y metres_x end_x end_y way_east way_north along leg_anew steered approached sped travelled is_outside
-    hits_wall clamped_at_walls tried stopped_by_walls leg_alone attempted_move moves square is_close is_no_further collides others collision_count due_at
+    hits_wall clamped_at_walls tried stopped_by_walls leg_alone attempted_move moves square is_close is_no_further
+    collides others collision_count due_at
     ring bursts put_back leg_after knock_damages moved_robot moved moved_times cosine_at sine_at sines
 knocks_ = record {
   both_hurt = refl;
@@ -93,7 +98,8 @@ pub rings : KnownRings
 unfolding answer fired shot aimed_x aimed_y flight in_air argument_at degree_of clamped robot_at placed robot_at_rest
     is_alive
     damage_of no_robot place_x place_y end_x end_y way_east way_north along leg_anew steered approached sped travelled
-    is_outside hits_wall clamped_at_walls tried stopped_by_walls leg_alone attempted_move moves square is_close is_no_further collides others collision_count
+    is_outside hits_wall clamped_at_walls tried stopped_by_walls leg_alone attempted_move moves square is_close
+    is_no_further collides others collision_count
     due_at ring bursts put_back leg_after knock_damages moved_robot moved moved_times cosine_at sine_at sines
 rings = record {
   at_5_metres = refl;
@@ -108,10 +114,14 @@ rings = record {
 
 pub missiles : KnownMissiles
 unfolding answer scanned nearest sees in_arc east_to north_to apart range_of metres_x metres_y root_of root_by_quarters
-    bearing_of first_greatest projections projection_of fired shot aimed_x aimed_y flight in_air argument_at degree_of clamped
-    robot_at placed robot_at_rest is_alive damage_of no_robot place_x place_y end_x end_y way_east way_north along leg_anew
-    steered approached sped travelled is_outside hits_wall clamped_at_walls tried stopped_by_walls leg_alone attempted_move moves square is_close
-    is_no_further collides others collision_count due_at ring bursts put_back leg_after knock_damages moved_robot moved moved_times
+    bearing_of first_greatest projections projection_of fired shot aimed_x aimed_y flight in_air argument_at degree_of
+    clamped
+    robot_at placed robot_at_rest is_alive damage_of no_robot place_x place_y end_x end_y way_east way_north along
+    leg_anew
+    steered approached sped travelled is_outside hits_wall clamped_at_walls tried stopped_by_walls leg_alone
+    attempted_move moves square is_close
+    is_no_further collides others collision_count due_at ring bursts put_back leg_after knock_damages moved_robot moved
+    moved_times
     cosine_at sine_at sines
 missiles = record {
   first = refl;

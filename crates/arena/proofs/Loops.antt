@@ -30,16 +30,19 @@ pushed_map f g ys xs out more i y z d e inside at made so_far m =
 
 -- a robot after the update, from its number
 abbrev pub after_at : Field → ℕ → Robot
-after_at f i = robot_of (moved_robot (f.updates + 1) f.shots (collision_count (map attempted_move f.robots) i) (robot_at f i))
+after_at f i =
+    robot_of (moved_robot (f.updates + 1) f.shots (collision_count (map attempted_move f.robots) i) (robot_at f i))
 
 pub after_all : (f : Field) → map (after_at f) (range_with_len 0 (length f.robots)) ≡ map robot_of (moved f).robots
 unfolding moved
 after_all f =
     sym
-    (map-map robot_of (λ i. moved_robot (f.updates + 1) f.shots (collision_count (map attempted_move f.robots) i) (robot_at f i))
+    (map-map robot_of
+    (λ i. moved_robot (f.updates + 1) f.shots (collision_count (map attempted_move f.robots) i) (robot_at f i))
     (range_with_len 0 (length f.robots)))
 
-pub at_is : (f : Field) (i update touched : ℕ) → update ≡ f.updates + 1 → touched ≡ collision_count (map attempted_move f.robots) i →
+pub at_is : (f : Field) (i update touched : ℕ) → update ≡ f.updates + 1 →
+    touched ≡ collision_count (map attempted_move f.robots) i →
     robot_of (moved_robot update f.shots touched (get_or f.robots i no_robot)) ≡ after_at f i
 unfolding robot_at
 at_is f i update touched u t = rw (u, t) refl

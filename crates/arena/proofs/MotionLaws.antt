@@ -251,15 +251,18 @@ unfolding clamped_at_walls travelled
 stops_is t stopped leg east north x y out e f h p q s =
     let g = grown_is t leg east north out e f in
     let to_x : x ≡ clamped last_place (end_x (travelled leg)) =
-    p ∙ ap clamped_place_of g.goes_east ∙ near_is (sum_east (travelled leg)) (end_x (travelled leg)) (leads_east (travelled leg)) in
+    p ∙ ap clamped_place_of g.goes_east ∙
+    near_is (sum_east (travelled leg)) (end_x (travelled leg)) (leads_east (travelled leg)) in
     let to_y : y ≡ clamped last_place (end_y (travelled leg)) =
-    q ∙ ap clamped_place_of g.goes_north ∙ near_is (sum_north (travelled leg)) (end_y (travelled leg)) (leads_north (travelled leg)) in
+    q ∙ ap clamped_place_of g.goes_north ∙
+    near_is (sum_north (travelled leg)) (end_y (travelled leg)) (leads_north (travelled leg)) in
     rw (sym g.is_out ∙ h, sym to_x, sym to_y) s
 
 -- one that none stops
 pub drives_is : (t : Motion) (leg : Leg) (east north : ℤ) (out : Bool) → t ≡ motion_of leg → Forward t east north out →
     out ≡ false →
-    record t { east = east; north = north; x = place_of east; y = place_of north } ≡ motion_of (clamped_at_walls (travelled leg))
+    record t { east = east; north = north; x = place_of east; y = place_of north } ≡
+    motion_of (clamped_at_walls (travelled leg))
 unfolding clamped_at_walls motion_of travelled place_x place_y step_east step_north
 drives_is t leg east north out e f h =
     let g = grown_is t leg east north out e f in

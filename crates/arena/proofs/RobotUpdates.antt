@@ -19,7 +19,8 @@ unfolding moved_robot
 dead_is robot update shots touched h = rw h refl
 
 -- the damage counts all that hurts, up to 100
-sum_knocks : (leg : Leg) (touched : ℕ) → sum (knock_damages leg touched) ≡ cond (hits_wall (tried leg)) 2 0 + 2 * touched
+sum_knocks : (leg : Leg) (touched : ℕ) →
+    sum (knock_damages leg touched) ≡ cond (hits_wall (tried leg)) 2 0 + 2 * touched
 unfolding knock_damages
 sum_knocks leg touched = by_wall (hits_wall (tried leg))
   where
@@ -59,7 +60,8 @@ alive_is robot motion update shots touched walled burst damage live m w b d =
     b ∙ ap (λ (t : Motion). sum (bursts update shots t.x t.y)) m in
     let sum_is = worn_is robot.damages robot.leg touched (bursts update shots (place_x leg) (place_y leg)) in
     let damage_is : damage ≡
-    min (sum (robot.damages ++ knock_damages robot.leg touched ++ bursts update shots (place_x leg) (place_y leg))) 100 =
+    min (sum (robot.damages ++ knock_damages robot.leg touched ++ bursts update shots (place_x leg) (place_y leg))) 100
+    =
     omega (arith, d, wall, burst_is, sum_is) in
     rw (live, m, damage_is) refl
 
@@ -67,7 +69,8 @@ alive_is robot motion update shots touched walled burst damage live m w b d =
 pub dead_stays : (robot : FieldRobot) → is_alive robot ≡ false → robot_ahead robot ≡ robot_of robot
 unfolding robot_ahead leg_alone robot_of damage_of
 dead_stays robot dead =
-    let same : min (min (sum robot.damages) 100 + 0) 100 ≡ min (sum robot.damages) 100 = omega arith in rw (dead, same) refl
+    let same : min (min (sum robot.damages) 100 + 0) 100 ≡ min (sum robot.damages) 100 = omega arith in
+    rw (dead, same) refl
 
 -- one that touches none, with no burst, is where it drove on its own
 live_is : (robot : FieldRobot) (update : ℕ) (shots : List Shot) → ((x y : ℕ) → sum (bursts update shots x y) ≡ 0) →
@@ -114,7 +117,8 @@ dead_hurt : (robot : FieldRobot) (burst : ℕ) → is_alive robot ≡ false →
 unfolding robot_ahead leg_alone robot_of damage_of is_alive
 dead_hurt robot burst dead =
     let whole : 100 ≤ min (sum robot.damages) 100 = grind (arith, nat_tests, dead) in
-    let same : min (min (min (sum robot.damages) 100 + 0) 100 + burst) 100 ≡ min (sum robot.damages) 100 = omega arith in
+    let same : min (min (min (sum robot.damages) 100 + 0) 100 + burst) 100 ≡ min (sum robot.damages) 100 =
+    omega arith in
     rw (dead, same) refl
 
 pub hurt_is : (robot : FieldRobot) (update : ℕ) (shots : List Shot) (burst : ℕ) →

@@ -110,7 +110,8 @@ each_stays : (f : Field) (i : ℕ) → i < length f.robots → All Stays (map ro
 unfolding robot_at
 each_stays f i inside all none =
     let untouched =
-    touches_still (map attempted_move f.robots) i (omega (arith, length-map f.robots attempted_move)) (movers_still f.robots all) in
+    touches_still (map attempted_move f.robots) i (omega (arith, length-map f.robots attempted_move))
+    (movers_still f.robots all) in
     rw untouched
     (stays_as_is (get_or f.robots i no_robot) (f.updates + 1) f.shots (robot_stays f.robots i inside all) none)
 

@@ -17,7 +17,8 @@ pub touches_is : (movers : List Mover) (i : ℕ) (m : Mover) (before after : ℕ
     before + after ≡ collision_count movers i
 unfolding collision_count others
 touches_is movers i m before after inside at b a =
-    let same : m ≡ get_or movers i (attempted_move no_robot) = get_or_read movers i m inside at (attempted_move no_robot) in
+    let same : m ≡ get_or movers i (attempted_move no_robot) =
+    get_or_read movers i m inside at (attempted_move no_robot) in
     let rest = ap (count_by (collides m)) (take_rest movers (i + 1)) in
     let parts = sum_by-append (λ x. cond (collides m x) 1 0) (take i movers) (drop (i + 1) movers) in
     ap (λ x. x + after) b ∙ ap (λ x. count_by (collides m) (take i movers) + x) (a ∙ rest) ∙ sym parts ∙
@@ -30,7 +31,8 @@ none_passes p (x ∷ xs) h = rw (h 0 x (omega arith)) (none_passes p xs (λ k d 
 
 pub touches_none : (movers : List Mover) (i : ℕ) →
     All (λ m. collides (get_or movers i (attempted_move no_robot)) m ≡ false) (take i movers) →
-    All (λ m. collides (get_or movers i (attempted_move no_robot)) m ≡ false) (drop (i + 1) movers) → collision_count movers i ≡ 0
+    All (λ m. collides (get_or movers i (attempted_move no_robot)) m ≡ false) (drop (i + 1) movers) →
+    collision_count movers i ≡ 0
 unfolding collision_count others
 touches_none movers i before after =
     let p = collides (get_or movers i (attempted_move no_robot)) in
@@ -58,7 +60,8 @@ collides_not a b h = rw h (blocked a.live b.live (moves a || moves b) (is_no_fur
 
 -- if no pair is close, each touches none
 abbrev pub AreApart : List Mover → ℕ → ℕ → Type 0
-AreApart movers a b = is_close (get_or movers a (attempted_move no_robot)) (get_or movers b (attempted_move no_robot)) ≡ false
+AreApart movers a b =
+    is_close (get_or movers a (attempted_move no_robot)) (get_or movers b (attempted_move no_robot)) ≡ false
 
 pub untouched : (movers : List Mover) (i : ℕ) → i < length movers →
     ((a b : ℕ) → a < b → b < length movers → AreApart movers a b) → collision_count movers i ≡ 0
@@ -91,10 +94,13 @@ apart_more movers i m inside at before after a b l less last = by_place (cases_l
         let same : a ≡ i = omega arith in
         let k = b - (i + 1) in
         let b_is : i + 1 + k ≡ b = omega arith in
-        let here : m ≡ get_or movers i (attempted_move no_robot) = get_or_read movers i m inside at (attempted_move no_robot) in
+        let here : m ≡ get_or movers i (attempted_move no_robot) =
+        get_or_read movers i m inside at (attempted_move no_robot) in
         let apart = after k (attempted_move no_robot) (omega (arith, length-drop (i + 1) movers)) in
-        let there : get_or (drop (i + 1) movers) k (attempted_move no_robot) ≡ get_or movers b (attempted_move no_robot) =
-        get_or-drop (i + 1) movers k (attempted_move no_robot) ∙ ap (λ n. get_or movers n (attempted_move no_robot)) b_is in
+        let there : get_or (drop (i + 1) movers) k (attempted_move no_robot) ≡
+        get_or movers b (attempted_move no_robot) =
+        get_or-drop (i + 1) movers k (attempted_move no_robot) ∙
+        ap (λ n. get_or movers n (attempted_move no_robot)) b_is in
         let both : AreApart movers i b =
         subst (λ x. is_close (get_or movers i (attempted_move no_robot)) x ≡ false) there
         (subst (λ x. is_close x (get_or (drop (i + 1) movers) k (attempted_move no_robot)) ≡ false) here apart) in

@@ -46,7 +46,8 @@ unfoldable pub answer : Field → ℕ → Intrinsic → List ℤ → ℤ × Fiel
 answer field i Scan a =
     (pos (scanned field i (degree_of (argument_at a 0)) (clamped most_resolution (argument_at a 1))), field)
 answer field i Cannon a = fired field i (degree_of (argument_at a 0)) (clamped most_range (argument_at a 1))
-answer field i Drive a = (pos 1, field_with_wanted field i (degree_of (argument_at a 0)) (clamped most_speed (argument_at a 1)))
+answer field i Drive a =
+    (pos 1, field_with_wanted field i (degree_of (argument_at a 0)) (clamped most_speed (argument_at a 1)))
 answer field i Damage a = (pos (damage_of (robot_at field i)), field)
 answer field i Speed a = (pos (robot_at field i).leg.speed, field)
 answer field i LocX a = (pos (metres_x (robot_at field i)), field)

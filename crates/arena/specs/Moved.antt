@@ -2,10 +2,10 @@
 --  1. Heading: `steered` (Leg), which turns, or brakes for the turn.
 --  2. Speed: `sped` (Leg), by `approached`.
 --  3. Distance: `travelled` (Leg). The three make the leg that a robot tries to drive, `tried`.
---  4. Walls: `clamped_at_walls` (Leg) stops and clamps it if it `hits_wall`, which makes it `stopped_by_walls`, the candidate; `knock_damages` has
---     what the wall takes.
---  5. Collisions: `collision_count` (Collisions) counts the pairs; `leg_after` puts those back that are in one, and `knock_damages`
---     has what each takes.
+-- 4. Walls: `clamped_at_walls` (Leg) stops and clamps it if it `hits_wall`, which makes it `stopped_by_walls`, the
+-- candidate; `knock_damages` has     what the wall takes.
+-- 5. Collisions: `collision_count` (Collisions) counts the pairs; `leg_after` puts those back that are in one, and
+-- `knock_damages`     has what each takes.
 --  6. Bursts: `bursts` (Shots), of the shots that are due, at the place of the leg after that.
 --  7. Deaths: `damage_of` and `is_alive` (Field), from the sum of all hurts.
 use Rattle.std.specs.Prelude.{ℕ, ◌+◌, nat_lt, if◌then◌else◌, List, [], ◌∷◌, ◌++◌, length, map, replicate}

@@ -33,7 +33,8 @@ meets_wall field i = is_live_at field i && hits_wall (tried (robot_at field i).l
 
 -- two robots collide, and both are hurt
 unfoldable pub collides_with : Field → ℕ → ℕ → Bool
-collides_with field a b = not (a == b) && collides (attempted_move (robot_at field a)) (attempted_move (robot_at field b))
+collides_with field a b =
+    not (a == b) && collides (attempted_move (robot_at field a)) (attempted_move (robot_at field b))
 
 -- the leg that a live robot is on after the update
 unfoldable pub next_leg : Field → ℕ → Leg

@@ -8,8 +8,8 @@ ghost use Rattle.arena.specs.Due.{burst_damage};
 
 use crate::points::Point;
 use crate::rules::{
-    INNER_RING, LAST_RING, LAST_RING_DAMAGE, MIDDLE_RING, MIDDLE_RING_DAMAGE, MOST_BURSTS,
-    MOST_BURST_DAMAGE, MOST_UPDATE_DAMAGE, MOST_ROBOTS,
+    INNER_RING, LAST_RING, LAST_RING_DAMAGE, MIDDLE_RING, MIDDLE_RING_DAMAGE, MOST_BURST_DAMAGE,
+    MOST_BURSTS, MOST_ROBOTS, MOST_UPDATE_DAMAGE,
 };
 
 /// The squared radius of each ring.

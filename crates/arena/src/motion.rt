@@ -11,7 +11,7 @@ ghost use Rattle.arena.specs.Arena.{Motion, motion_of, is_steady};
 ghost use Rattle.arena.specs.Still.{IsAtRest, OnlyTurns};
 ghost use Rattle.arena.specs.Apart.{IsNearby, IsAtPlace, gap, sum_gap};
 
-use crate::axes::{leads_beyond, metres_of, clamped_place_of, place_of, sum_at, sum_step};
+use crate::axes::{clamped_place_of, leads_beyond, metres_of, place_of, sum_at, sum_step};
 use crate::points::Point;
 use crate::rules::{ACCELERATION, LAST_METRE, MOST_SPEED, TURNING_SPEED};
 use arith::{cosine_at, sine_at};

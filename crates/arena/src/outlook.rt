@@ -13,7 +13,7 @@ use crate::bursts::Burst;
 use crate::collisions::{AttemptedMove, robot_collision_count};
 use crate::points::Point;
 use crate::robots::Robot;
-use crate::rules::{MOST_BURSTS, MOST_BURST_DAMAGE, MOST_ROBOTS, MOST_SPEED};
+use crate::rules::{MOST_BURST_DAMAGE, MOST_BURSTS, MOST_ROBOTS, MOST_SPEED};
 use crate::updates::move_all_with_attempts;
 use arrayvec::ArrayVec;
 
@@ -67,7 +67,11 @@ impl Arena {
         requires b { b < length self.now.robots }
         ensures { (f : Field) → RepresentsField self.now f → result ≡ collides_with f a b }
     {
-        a != b && self.robot(a).attempted_move().collides(&self.robot(b).attempted_move())
+        a != b
+            && self
+                .robot(a)
+                .attempted_move()
+                .collides(&self.robot(b).attempted_move())
     }
 
     /// Returns what a burst takes from a robot in the next update, in percent, at the place where the robot then is: 0,

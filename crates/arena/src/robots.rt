@@ -16,7 +16,7 @@ use crate::collisions::AttemptedMove;
 use crate::motion::Motion;
 use crate::points::Point;
 use crate::rules::{
-    DEADLY, KNOCK_DAMAGE, LAST_METRE, MOST_UPDATE_DAMAGE, MOST_ROBOTS, MOST_SPEED, WALL_DAMAGE,
+    DEADLY, KNOCK_DAMAGE, LAST_METRE, MOST_ROBOTS, MOST_SPEED, MOST_UPDATE_DAMAGE, WALL_DAMAGE,
 };
 use std::marker::Model;
 

@@ -82,11 +82,7 @@ fn shorter(way: &Way, arc: &Arc, so_far: u32) -> u32
     if so_far <= square {
         return so_far;
     }
-    if arc.contains(way) {
-        square
-    } else {
-        so_far
-    }
+    if arc.contains(way) { square } else { so_far }
 }
 
 /// Returns the range in metres at a squared distance, at least 1, and 0 for none.

@@ -11,7 +11,7 @@ ghost use Rattle.arena.specs.Arena.{robot_of};
 use crate::points::Point;
 use crate::random::draw_word;
 use crate::robots::Robot;
-use crate::rules::{START_PLACES, FIRST_HIGH_START, FIRST_LOW_START, MOST_ROBOTS};
+use crate::rules::{FIRST_HIGH_START, FIRST_LOW_START, MOST_ROBOTS, START_PLACES};
 use arrayvec::ArrayVec;
 use rand_pcg::Pcg32;
 
@@ -54,7 +54,11 @@ fn drawn_place(half: u32, word: u32) -> u16
     ensures value { result ≡ drawn_place half word }
     ensures most { result ≤ last_place }
 {
-    let from = if half == 0 { FIRST_LOW_START } else { FIRST_HIGH_START };
+    let from = if half == 0 {
+        FIRST_LOW_START
+    } else {
+        FIRST_HIGH_START
+    };
     (from + word % START_PLACES) as u16
 }
 

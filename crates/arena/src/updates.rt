@@ -68,7 +68,12 @@ fn robot_after(robot: &Robot, seen: &AttemptedMove, touched: usize, bursts: &[Bu
 }
 
 /// Puts robots back that collide, and hurts those and the ones near a burst.
-fn put_back_and_hurt(robots: &mut [Robot], movers: &[AttemptedMove], missiles: &Missiles, update: u32)
+fn put_back_and_hurt(
+    robots: &mut [Robot],
+    movers: &[AttemptedMove],
+    missiles: &Missiles,
+    update: u32,
+)
     requires most { length robots.old ≤ MOST_ROBOTS }
     requires count { length movers.now ≡ length robots.old }
     ensures { (f : Field) → update ≡ f.updates + 1 → robots.old ≡ map robot_ahead f.robots

@@ -21,12 +21,14 @@ nearer false x y h = grind (arith, ints)
 leads_farther : (dx dy : ℤ) (degree other : ℕ) → projection_of dx dy other <ℤ projection_of dx dy degree →
     leads dx dy degree other ≡ true
 unfolding leads
-leads_farther dx dy degree other h = farther (nat_lt degree other) (projection_of dx dy degree) (projection_of dx dy other) h
+leads_farther dx dy degree other h =
+    farther (nat_lt degree other) (projection_of dx dy degree) (projection_of dx dy other) h
 
 trails_nearer : (dx dy : ℤ) (degree other : ℕ) → projection_of dx dy degree <ℤ projection_of dx dy other →
     leads dx dy degree other ≡ false
 unfolding leads
-trails_nearer dx dy degree other h = nearer (nat_lt degree other) (projection_of dx dy degree) (projection_of dx dy other) h
+trails_nearer dx dy degree other h =
+    nearer (nat_lt degree other) (projection_of dx dy degree) (projection_of dx dy other) h
 
 strictly : (a b : ℕ) → a ≤ b → b ≢ a → a < b
 strictly a b h differs = by_order (cases_lt a b)
@@ -41,7 +43,8 @@ unfolding leads
 bearing_leads dx dy b other is round differs = by_order (nat_lt b other) refl
   where
     by_order : (t : Bool) → nat_lt b other ≡ t →
-        cond t (int_le (projection_of dx dy other) (projection_of dx dy b)) (int_lt (projection_of dx dy other) (projection_of dx dy b)) ≡
+        cond t (int_le (projection_of dx dy other) (projection_of dx dy b))
+        (int_lt (projection_of dx dy other) (projection_of dx dy b)) ≡
         true
     by_order true e = let most = is.greatest other round in grind (arith, ints)
     by_order false e =
@@ -55,7 +58,8 @@ unfolding leads
 bearing_trails_none dx dy b degree is round differs = by_order (nat_lt degree b) refl
   where
     by_order : (t : Bool) → nat_lt degree b ≡ t →
-        cond t (int_le (projection_of dx dy b) (projection_of dx dy degree)) (int_lt (projection_of dx dy b) (projection_of dx dy degree)) ≡
+        cond t (int_le (projection_of dx dy b) (projection_of dx dy degree))
+        (int_lt (projection_of dx dy b) (projection_of dx dy degree)) ≡
         false
     by_order true e =
         let below : degree < b = grind (arith, nat_tests) in

@@ -138,7 +138,8 @@ first_greatest-map f n best is =
     (λ k l. let below : k < n = omega (arith, is.within) in rw (at k below) (is.least k l))
 
 -- the bearing is the first of the greatest reaches, and `bearing_of` names it
-pub bearing_is_first : (dx dy : ℤ) (degree : ℕ) → IsFirstGreatest (projection_of dx dy) 360 degree → IsBearing dx dy degree
+pub bearing_is_first : (dx dy : ℤ) (degree : ℕ) → IsFirstGreatest (projection_of dx dy) 360 degree →
+    IsBearing dx dy degree
 bearing_is_first dx dy degree is = record { on_the_round = is.within; greatest = is.greatest; least = is.least }
 
 pub bearing_of_is_first : (dx dy : ℤ) (degree : ℕ) → IsFirstGreatest (projection_of dx dy) 360 degree →
@@ -185,7 +186,8 @@ bearing_reach dx dy apart =
 -- each of eight lanes holds the greatest of its reaches in the first n chunks
 pub record IsMostSoFar (dx dy : ℤ) (lanes : List ℤ) (n : ℕ) : Type 0 where
   pub size : length lanes ≡ 8
-  pub bound : (chunk lane : ℕ) → chunk < n → lane < 8 → projection_of dx dy (8 * chunk + lane) ≤ℤ get_or lanes lane (pos 0)
+  pub bound : (chunk lane : ℕ) → chunk < n → lane < 8 →
+      projection_of dx dy (8 * chunk + lane) ≤ℤ get_or lanes lane (pos 0)
   pub reached : (lane : ℕ) → lane < 8 →
       (chunk : ℕ) × (chunk < n) × (projection_of dx dy (8 * chunk + lane) ≡ get_or lanes lane (pos 0))
 
@@ -210,7 +212,8 @@ most_at_first dx dy xs e = record {
   where
     at_first : (lane : ℕ) → lane < 8 → (chunk : ℕ) → chunk ≡ 0 →
         projection_of dx dy (8 * chunk + lane) ≤ℤ get_or xs lane (pos 0)
-    at_first lane l chunk c = rw (c, chunk_lane dx dy 0 lane xs (pos 0) e l) (≤ℤ_refl (projection_of dx dy (8 * 0 + lane)))
+    at_first lane l chunk c =
+        rw (c, chunk_lane dx dy 0 lane xs (pos 0) e l) (≤ℤ_refl (projection_of dx dy (8 * 0 + lane)))
 
 through : (a b c : ℤ) → a ≤ℤ b → b ≤ℤ c → a ≤ℤ c
 through a b c p q = omega (arith, ints)
@@ -242,7 +245,8 @@ most_of_more dx dy lanes xs n so_far e =
           (λ k below. rw (at lane l)
           (through _ _ _ (so_far.bound k lane below l)
           (max_bounds_left (get_or lanes lane (pos 0)) (get_or xs lane (pos 0)))))
-          (rw (at lane l, new lane l) (max_bounds_right (get_or lanes lane (pos 0)) (projection_of dx dy (8 * n + lane))))
+          (rw (at lane l, new lane l)
+          (max_bounds_right (get_or lanes lane (pos 0)) (projection_of dx dy (8 * n + lane))))
           chunk h;
       reached =
           λ lane l. either lane (at lane l) (new lane l) (so_far.reached lane l)
@@ -261,7 +265,8 @@ most_of_more dx dy lanes xs n so_far e =
     either lane at new (chunk, below, old) (inr m) = (n, omega arith, sym new ∙ sym m ∙ sym at)
 
 -- a degree of the round among the reaches
-reach_at : (dx dy : ℤ) (degree : ℕ) (d : ℤ) → degree < 360 → get_or (projections dx dy) degree d ≡ projection_of dx dy degree
+reach_at : (dx dy : ℤ) (degree : ℕ) (d : ℤ) → degree < 360 →
+    get_or (projections dx dy) degree d ≡ projection_of dx dy degree
 unfolding projections
 reach_at dx dy degree d l = get_or-map-range_with_len (projection_of dx dy) 0 360 degree degree d l (omega arith)
 

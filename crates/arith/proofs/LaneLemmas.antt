@@ -78,7 +78,8 @@ pub chunk_reaches_are : (dx dy : ℤ) → unsigned_abs dx ≤ 999 → unsigned_a
     cosines ≡ map round_sine (range_with_len (first + 90) 8) → sines ≡ map round_sine (range_with_len first 8) →
     map (to_z w32)
     (zip2 plus (zip2 times (replicate 8 (of_z w32 dx)) (map (of_z w32) cosines))
-    (zip2 times (replicate 8 (of_z w32 dy)) (map (of_z w32) sines))) ≡ map (projection_of dx dy) (range_with_len first 8)
+    (zip2 times (replicate 8 (of_z w32 dy)) (map (of_z w32) sines))) ≡
+    map (projection_of dx dy) (range_with_len first 8)
 chunk_reaches_are dx dy near_x near_y fit_x fit_y first h cosines sines c s =
     ap
     (λ xs. map (to_z w32)

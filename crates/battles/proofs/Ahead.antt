@@ -64,7 +64,8 @@ first_left next i end n are small within past j low =
     ]
 
 -- Its turns are no longer left: each was one that it does alone, or none of the others' was left.
-pub run_taken : (robots : List Behaviour) (next : List ℕ) (i end n : ℕ) (s : BattleState) → AreTurnNumbers next → i < 4 →
+pub run_taken : (robots : List Behaviour) (next : List ℕ) (i end n : ℕ) (s : BattleState) → AreTurnNumbers next →
+    i < 4 →
     i < length s.traces
     → get_or next i 0 + 4 * n < end + 4
     → RunsAlone (behaviour_at robots i) i s.field (get_or s.traces i []) n ⊎ OthersArePast end i next
@@ -256,7 +257,8 @@ closes robots exes next w runners arena s past come =
     (λ t from to. left_not next t (omega (arith, past (t % 4) (omega arith), to))) in
     let like : IsLike come.stage (cycles_without_updates robots w s) = rw done at come.ends in
     record {
-      field = stands_like arena come.stage.field (cycles_without_updates robots w s).field like.field come.reached.field;
+      field = stands_like arena come.stage.field (cycles_without_updates robots w s).field like.field
+          come.reached.field;
       traces = rw like.traces come.reached.traces;
     }
 

@@ -146,7 +146,8 @@ stages_trans s t u first second = record {
   traces = second.traces ∙ first.traces;
 }
 
-turn_like : (robots : List Behaviour) (i : ℕ) (s t : BattleState) → IsLike s t → IsLike (turn robots i s) (turn robots i t)
+turn_like : (robots : List Behaviour) (i : ℕ) (s t : BattleState) → IsLike s t →
+    IsLike (turn robots i s) (turn robots i t)
 unfolding turn
 turn_like robots i s t like =
     let stepped = step_like (behaviour_at robots i) s.field like.field.shots i (get_or s.traces i []) like.field.same in

@@ -78,7 +78,8 @@ ranges_same seen range l i j x none sight distance =
 -- so a scan doesn't depend on what was answered to others
 scans_same : (f : Field) (i j : ℕ) (intrinsic : Intrinsic) (a : List ℤ) (degree resolution : ℕ) → i ≢ j
     → scanned (answer f j intrinsic a).1 i degree resolution ≡ scanned f i degree resolution
-unfolding answer robot_at field_with_wanted with_wanted scanned sees range_of is_alive damage_of in_arc east_to north_to metres_x
+unfolding answer robot_at field_with_wanted with_wanted scanned sees range_of is_alive damage_of in_arc east_to north_to
+    metres_x
     metres_y place_x place_y end_x end_y way_east way_north
 scans_same f i j Cannon a degree resolution distinct =
     rw (robots_of_fired f j (degree_of (argument_at a 0)) (clamped 700 (argument_at a 1))) refl
@@ -195,7 +196,9 @@ set_swap (z ∷ l) (suc i) (suc j) x y distinct =
     ap (λ rest. z ∷ rest) (set_swap l i j x y (λ same. distinct (ap suc same)))
 
 driven_twice : (f : Field) (i j degree speed towards fast : ℕ) → i ≢ j
-    → field_with_wanted (field_with_wanted f i degree speed) j towards fast ≡ field_with_wanted (field_with_wanted f j towards fast) i degree speed
+    →
+    field_with_wanted (field_with_wanted f i degree speed) j towards fast ≡
+    field_with_wanted (field_with_wanted f j towards fast) i degree speed
 unfolding field_with_wanted robot_at
 driven_twice f i j degree speed towards fast distinct =
     let mine = record (robot_at f i) { leg = with_wanted (robot_at f i).leg degree speed } in
@@ -332,10 +335,12 @@ answer_lives Drive a i f =
     ap (λ hurts. nat_lt (min (sum hurts) 100) 100)
     (keeps_hurts f.robots i
     (record (robot_at f i)
-    { leg = with_wanted (robot_at f i).leg (degree_of (argument_at a 0)) (clamped 100 (argument_at a 1)) }) no_robot refl)
+    { leg = with_wanted (robot_at f i).leg (degree_of (argument_at a 0)) (clamped 100 (argument_at a 1)) }) no_robot
+    refl)
 answer_lives _ a i f = refl
 
-granted_lives : (want : Want) (i : ℕ) (f : Field) (trace : List ℤ) → is_live_at (after_want want i f trace).0 i ≡ is_live_at f i
+granted_lives : (want : Want) (i : ℕ) (f : Field) (trace : List ℤ) →
+    is_live_at (after_want want i f trace).0 i ≡ is_live_at f i
 unfolding after_want
 granted_lives (Ask intrinsic a) i f trace = answer_lives intrinsic a i f
 granted_lives _ i f trace = refl

@@ -132,7 +132,8 @@ one_passes robots exes k w runners arena s exe none after are few inside here pa
 
 pub all_passed : (robots : List Behaviour) (exes : List Executable) (w : ℕ) (runners : List Runner) (arena : Arena)
     (s : BattleState)
-    → HavePassed robots exes (length exes) w runners arena s → HasReached runners exes arena (cycles_without_updates robots w s)
+    → HavePassed robots exes (length exes) w runners arena s →
+    HasReached runners exes arena (cycles_without_updates robots w s)
 all_passed robots exes w runners arena s passed =
     closes robots exes passed.next w runners arena s (λ i small. elim (cases_lt i (length exes)) [
       | inl inside ↦ passed.done i inside

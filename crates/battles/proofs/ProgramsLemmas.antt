@@ -53,7 +53,8 @@ translated_more [] [] program o are one = (one, tt)
 translated_more [] (p ∷ others) program o are one = absurd are
 translated_more (c ∷ codes) [] program o are one = absurd are
 translated_more (c ∷ codes) (None ∷ others) program o are one = absurd are
-translated_more (c ∷ codes) (Some p ∷ others) program o are one = (are.0, translated_more codes others program o are.1 one)
+translated_more (c ∷ codes) (Some p ∷ others) program o are one =
+    (are.0, translated_more codes others program o are.1 one)
 
 pub translated_length : (codes : List Program) (kept : List (Option Operations)) → AreTranslated codes kept →
     length kept ≡ length codes

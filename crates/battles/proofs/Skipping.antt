@@ -120,7 +120,8 @@ turn_waits : (g : Arena) (robots : List Behaviour) (i : ℕ) (s : BattleState) �
 unfolding turn
 turn_waits g robots i s field quiet =
     ap (λ (after : Field × List ℤ). record { field = after.0; traces = set s.traces i after.1 })
-    (step_waits (behaviour_at robots i) i s.field (get_or s.traces i []) (is_live g i) (live_is g s.field i field) quiet)
+    (step_waits (behaviour_at robots i) i s.field (get_or s.traces i []) (is_live g i) (live_is g s.field i field)
+    quiet)
 
 turns_wait : (g : Arena) (robots : List Behaviour) (n : ℕ) (s : BattleState) → RepresentsField g s.field
     → ((i : ℕ) → i < n → is_live g i ≡ true → behaviour_at robots i (get_or s.traces i []) ≡ Quiet)
@@ -136,7 +137,9 @@ turns_wait g robots (suc n) s field quiet =
 rounds_wait : (g : Arena) (robots : List Behaviour) (k : ℕ) (s : BattleState) → RepresentsField g s.field →
     length robots ≤ length s.traces
     → AreQuiet g robots s.traces k
-    → cycles_without_updates robots k s ≡ record { field = s.field; traces = waits (is_live g) (length robots) k s.traces }
+    →
+    cycles_without_updates robots k s ≡
+    record { field = s.field; traces = waits (is_live g) (length robots) k s.traces }
 unfolding cycles_without_updates waits
 rounds_wait g robots zero s field all quiet = refl
 rounds_wait g robots (suc k) s field all quiet =
@@ -242,7 +245,8 @@ enough exes robots runners g s are reached =
     omega (arith, robots_length exes robots are, traces_length runners exes s.traces reached.traces)
 
 -- Where the cycles of some periods lead, and as many updates: to where the periods lead.
-pub skips : (exes : List Executable) (robots : List Behaviour) (runners after : List Runner) (g : Arena) (s : BattleState)
+pub skips : (exes : List Executable) (robots : List Behaviour) (runners after : List Runner) (g : Arena)
+    (s : BattleState)
     (k : ℕ)
     → AreRobotsOf exes robots → HasReached runners exes g s → IsStill g.robots g.slots
     → AreAhead (length runners) (15 * k) g runners → HasReached after exes g (cycles_without_updates robots (15 * k) s)
@@ -251,14 +255,16 @@ skips exes robots runners after g s k are reached still ahead gone =
     let all = enough exes robots runners g s are reached in
     let quiet = some_quiet exes robots runners g s (15 * k) are reached ahead in
     let run = rounds_wait g robots (15 * k) s reached.field all quiet in
-    let traces : EachIsAheadOf after exes (waits (is_live g) (length robots) (15 * k) s.traces) = rw run at gone.traces in
+    let traces : EachIsAheadOf after exes (waits (is_live g) (length robots) (15 * k) s.traces) =
+    rw run at gone.traces in
     rw (segments_wait g robots k s reached.field still all quiet) (record {
       field = only_rests g s.field k reached.field still;
       traces = traces;
     })
 
 -- as many robots live
-pub skips_alive : (exes : List Executable) (robots : List Behaviour) (runners : List Runner) (g : Arena) (s : BattleState)
+pub skips_alive : (exes : List Executable) (robots : List Behaviour) (runners : List Runner) (g : Arena)
+    (s : BattleState)
     (k n : ℕ)
     → AreRobotsOf exes robots → HasReached runners exes g s → IsStill g.robots g.slots
     → AreAhead (length runners) (15 * k) g runners → n ≤ k → live_count (periods robots n s).field ≡ live_count s.field

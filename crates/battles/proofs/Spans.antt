@@ -75,7 +75,8 @@ first_skips passes n (suc k) count none =
 over : (robots : List Behaviour) (s : BattleState) → ℕ → Bool
 over robots s n = is_over n (state_after robots s n)
 
-not_over : (robots : List Behaviour) (s : BattleState) (n j : ℕ) → n % 15 ≡ 0 → n < j → j < n + 15 → over robots s j ≡ false
+not_over : (robots : List Behaviour) (s : BattleState) (n j : ℕ) → n % 15 ≡ 0 → n < j → j < n + 15 →
+    over robots s j ≡ false
 unfolding over
 not_over robots s n j begins above below = goes_on j (state_after robots s j) (omega arith)
 
@@ -137,7 +138,8 @@ first_skipped robots s n (suc k) limit last within so undecided =
     undecided (suc k) (omega arith)))
 
 -- no update comes before the limit
-pub first_limit : (robots : List Behaviour) (s : BattleState) (n limit last : ℕ) → n % 15 ≡ 0 → n ≤ limit → limit < n + 15
+pub first_limit : (robots : List Behaviour) (s : BattleState) (n limit last : ℕ) → n % 15 ≡ 0 → n ≤ limit →
+    limit < n + 15
     → first_passing (λ k. is_over k (state_after robots s k)) n (limit - n) ≡ last → limit ≡ last
 unfolding over
 first_limit robots s n limit last begins within short so =

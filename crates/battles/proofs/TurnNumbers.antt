@@ -138,7 +138,8 @@ next_taken robots next i end s are inside within ready =
     let gone : get_or (set next i (get_or next i 0 + 4)) (get_or next i 0 % 4) 0 ≡ get_or next i 0 + 4 =
     ap (λ k. get_or (set next i (get_or next i 0 + 4)) k 0) turn_number ∙
     get_or-set_same next i (get_or next i 0 + 4) 0 (omega arith) in
-    takes robots (is_turn_left next) (is_turn_left (set next i (get_or next i 0 + 4))) i (get_or next i 0) 0 end s turn_number
+    takes robots (is_turn_left next) (is_turn_left (set next i (get_or next i 0 + 4))) i (get_or next i 0) 0 end s
+    turn_number
     (le_yes (get_or next (get_or next i 0 % 4) 0) (get_or next i 0) (omega (arith, here)))
     (le_no (get_or (set next i (get_or next i 0 + 4)) (get_or next i 0 % 4) 0) (get_or next i 0) (omega (arith, gone)))
     (λ k other. left_same next i k are inside other)

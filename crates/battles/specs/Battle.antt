@@ -73,7 +73,8 @@ first_passing passes n (suc count) = if passes (n + 1) then n + 1 else first_pas
 
 -- the least cycle after which the battle is over, or its limit
 unfoldable pub last_cycle : List Behaviour → BattleState → ℕ → ℕ
-last_cycle robots first_state limit = first_passing (λ number. is_over number (state_after robots first_state number)) 0 limit
+last_cycle robots first_state limit =
+    first_passing (λ number. is_over number (state_after robots first_state number)) 0 limit
 
 -- the stage at the start of the match of this number: its robots, with no replies yet
 unfoldable pub first_state : ℕ → ℕ → ℕ → BattleState

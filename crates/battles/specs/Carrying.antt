@@ -53,6 +53,7 @@ EachIsAheadOf (runner ∷ runners) (exe ∷ exes) (trace ∷ traces) =
     IsAheadOf runner exe trace × EachIsAheadOf runners exes traces
 EachIsAheadOf _ _ _ = ⊥
 
-pub record HasReached (runners : List Runner) (exes : List Executable) (arena : Arena) (stage : BattleState) : Type 0 where
-  pub field : RepresentsField arena stage.field
-  pub traces : EachIsAheadOf runners exes stage.traces
+pub record HasReached (runners : List Runner) (exes : List Executable) (arena : Arena) (stage : BattleState) : Type 0
+  where
+    pub field : RepresentsField arena stage.field
+    pub traces : EachIsAheadOf runners exes stage.traces

@@ -32,7 +32,8 @@ abbrev pub counting_file : File
 counting_file = record {
   externals = codes "n" ∷ [];
   functions = main_of [] (
-      ExpressionStatement (Assign store_op.Set (var.External 0) (Binary op.Add (Variable (var.External 0)) (constant 1)))
+      ExpressionStatement
+      (Assign store_op.Set (var.External 0) (Binary op.Add (Variable (var.External 0)) (constant 1)))
       (IfStatement (Binary op.Equal (Variable (var.External 0)) (constant 2)) shot_tree Done)) ∷ [];
   order = 0 ∷ [];
   main = 0;

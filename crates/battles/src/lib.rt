@@ -14,9 +14,9 @@ mod battles;
 mod intervals;
 mod next_turns;
 mod outcome;
-mod running_ahead;
 mod programs;
 mod runners;
+mod running_ahead;
 mod scheduler;
 mod turns;
 

@@ -9,8 +9,8 @@ ghost use Rattle.battles.specs.Intervals.{period};
 
 use crate::battle_executables::Executables;
 use crate::intervals::{MOST_AHEAD, UPDATE_CYCLES, play_interval};
-use crate::running_ahead::{advance_if_ahead, skip_intervals};
 use crate::runners::Runner;
+use crate::running_ahead::{advance_if_ahead, skip_intervals};
 use arena::Arena;
 use settings::MOST_CYCLES;
 

@@ -30,7 +30,8 @@ use Rattle.code.proofs.Pieces.{StandsAt, stands, ends, Tied, Evaluation, gone_on
 -- what is known of the functions of a file in its code
 pub record Holds (program : Program) (file : File) : Type 0 where
   pub placed : (k : ℕ) → k < length file.functions →
-      StandsAt program (address_at program k) (function_code program.profile (function_at file k) (address_at program k))
+      StandsAt program (address_at program k)
+      (function_code program.profile (function_at file k) (address_at program k))
   pub counted : (k : ℕ) → k < length file.functions →
       counts_at program k ≡ counts_of (names_of_function (function_at file k))
   pub known : (k : ℕ) → k < length file.functions → k < length program.functions
@@ -126,7 +127,8 @@ module _ (program : Program) (e l n : ℕ) {A : Type 0} where
       ((x : ℤ) (vars : Vars) (rest : List ℤ) → HasSizes e v vars → length rest ≤ n →
       Follows e l n (go x vars rest) (wants program (back_with f below (g ∷ fs) vars.externals x) rest) k) →
       (flow : Completion) (vars : Vars) (rest : List ℤ) → HasSizes e v vars → length rest ≤ n →
-      Follows e l n (end_of_function program.profile depth frames flow vars rest go) (flown program at below f (g ∷ fs) flow vars rest)
+      Follows e l n (end_of_function program.profile depth frames flow vars rest go)
+      (flown program at below f (g ∷ fs) flow vars rest)
       k
   closed_law v below f g fs at depth frames go k base deep count s next (Returns x) vars rest sizes short =
       next x vars rest sizes short

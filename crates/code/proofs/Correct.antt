@@ -71,20 +71,23 @@ module _ (program : Program) (file : File) (n : ℕ) (again : BodyMeaning) (hold
       (λ vars depth frames trace. effect program.profile file again next vars depth frames trace)
       (value_law a r.0) (effect_law next r.1)
   effect_law (IfStatement c s next) r =
-      when_law program e l n (expr_code program.profile c) (body_code program.profile s) (body_code program.profile next)
+      when_law program e l n (expr_code program.profile c) (body_code program.profile s)
+      (body_code program.profile next)
       (λ vars depth frames trace. value program.profile file again c vars depth frames trace)
       (λ vars depth frames trace. effect program.profile file again s vars depth frames trace)
       (λ vars depth frames trace. effect program.profile file again next vars depth frames trace)
       (value_law c r.0) (effect_law s r.1) (effect_law next r.2)
   effect_law (IfElseStatement c s t next) r =
       choose_law program e l n (expr_code program.profile c) (body_code program.profile s) (body_code program.profile t)
-      (body_code program.profile next) (λ vars depth frames trace. value program.profile file again c vars depth frames trace)
+      (body_code program.profile next)
+      (λ vars depth frames trace. value program.profile file again c vars depth frames trace)
       (λ vars depth frames trace. effect program.profile file again s vars depth frames trace)
       (λ vars depth frames trace. effect program.profile file again t vars depth frames trace)
       (λ vars depth frames trace. effect program.profile file again next vars depth frames trace)
       (value_law c r.0) (effect_law s r.1) (effect_law t r.2) (effect_law next r.3)
   effect_law (While c s next) r =
-      while_law program e l n (expr_code program.profile c) (body_code program.profile s) (body_code program.profile next)
+      while_law program e l n (expr_code program.profile c) (body_code program.profile s)
+      (body_code program.profile next)
       (λ vars depth frames trace. value program.profile file again c vars depth frames trace)
       (λ vars depth frames trace. effect program.profile file again s vars depth frames trace)
       (λ vars depth frames trace. effect program.profile file again next vars depth frames trace)
@@ -97,7 +100,8 @@ module _ (program : Program) (file : File) (n : ℕ) (again : BodyMeaning) (hold
 -- At each bound, along as many replies as the bound allows.
 pub bounded : (program : Program) (file : File) → Holds program file → (n : ℕ) →
     Follows_sooner program file n (effect_within program.profile file n)
-bounded program file holds zero l b r below f fs at vars depth frames trace base t short s = absurd (omega (arith, short))
+bounded program file holds zero l b r below f fs at vars depth frames trace base t short s =
+    absurd (omega (arith, short))
 bounded program file holds (suc n) l b r below f fs at vars depth frames trace base t short s =
     let e = length file.externals in
     let again = effect_within program.profile file n in
@@ -111,7 +115,8 @@ bounded program file holds (suc n) l b r below f fs at vars depth frames trace b
     follows_longer e l n (effect program.profile file again b vars depth frames trace)
     (wants program (run at below (f ∷ fs) vars []) trace)
     (flown program (at + length (body_code program.profile b at)) below f fs)
-    (effect_law program file n again holds (bounded program file holds n) l b r below f fs at vars depth frames trace base
+    (effect_law program file n again holds (bounded program file holds n) l b r below f fs at vars depth frames trace
+    base
     tied s)
 
 -- the part of a list after another part is there

@@ -110,7 +110,8 @@ module _ (program : Program) (e l n : ℕ) where
       Evaluates program e l n (only (Fetch v ∷ Const (pos 1) ∷ Store v o ∷ Chop ∷ []))
       (λ vars depth frames trace. push program.profile depth trace
       (λ rest. let x = value_of_variable vars v in push program.profile (depth + 1) rest
-      (λ rest. quiet_cycle rest (λ rest. quiet_cycle rest (λ rest. Gives x (assigned vars v (stored o x (pos 1))) rest)))))
+      (λ rest. quiet_cycle rest
+      (λ rest. quiet_cycle rest (λ rest. Gives x (assigned vars v (stored o x (pos 1))) rest)))))
   postfix_law o v known below fs at vars temps depth frames trace t s =
       let x = value_of_variable vars v in
       let y = stored o x (pos 1) in
@@ -118,13 +119,15 @@ module _ (program : Program) (e l n : ℕ) where
       let k = gone_on program end below fs temps in
       let last_of = λ (rest : List ℤ). Gives x (assigned vars v y) rest in
       on_fetch program e l n below fs at k vars temps depth v trace
-      (λ rest. push program.profile (depth + 1) rest (λ rest. quiet_cycle rest (λ rest. quiet_cycle rest last_of))) s.0 t.sizes known
+      (λ rest. push program.profile (depth + 1) rest (λ rest. quiet_cycle rest (λ rest. quiet_cycle rest last_of))) s.0
+      t.sizes known
       t.deep
       (λ r1 h1.
       on_const program e l n below fs (at + 1) k l vars (temps ++ x ∷ []) (depth + 1) (pos 1) r1
       (λ rest. quiet_cycle rest (λ rest. quiet_cycle rest last_of)) s.1.0 t.sizes (deeper x t.deep)
       (λ r2 h2.
-      on_store program e l n below fs (at + 1 + 1) k vars (temps ++ x ∷ []) v o (pos 1) r2 (λ rest. quiet_cycle rest last_of)
+      on_store program e l n below fs (at + 1 + 1) k vars (temps ++ x ∷ []) v o (pos 1) r2
+      (λ rest. quiet_cycle rest last_of)
       s.1.1.0 t.sizes known
       (λ r3 h3.
       on_chop program e l n below fs (at + 1 + 1 + 1) k (assigned vars v y) (temps ++ x ∷ []) y r3 last_of s.1.1.1.0
@@ -132,7 +135,8 @@ module _ (program : Program) (e l n : ℕ) where
       (assigned_sizes e l vars v y t.sizes) (omega (arith, h1, h2, h3, h4, t.short)) (omega arith)))))
 
   -- the left side decides, or the right side's truth is the value
-  and_law : (a b : CodeAt) (ev_a ev_b : Evaluation ℤ) → Evaluates program e l n a ev_a → Evaluates program e l n b ev_b →
+  and_law : (a b : CodeAt) (ev_a ev_b : Evaluation ℤ) → Evaluates program e l n a ev_a →
+      Evaluates program e l n b ev_b →
       Evaluates program e l n (short_code op.And a b)
       (λ vars depth frames trace. short program.profile op.And depth (ev_a vars depth frames trace)
       (λ vars depth rest. ev_b vars depth frames rest))
@@ -179,7 +183,8 @@ module _ (program : Program) (e l n : ℕ) where
             (λ y vars r2 sizes short.
             let z = truth (holds y) in
             on_truth program e l n below fs at2 k vars temps y r2
-            (λ rest. push program.profile (depth + 1) rest (λ rest. quiet_cycle rest (λ rest. Gives z vars rest))) sb.second.0
+            (λ rest. push program.profile (depth + 1) rest (λ rest. quiet_cycle rest (λ rest. Gives z vars rest)))
+            sb.second.0
             (λ r3 h3.
             on_const program e l n below fs (at2 + 1) k l vars (temps ++ z ∷ []) (depth + 1) (pos 0) r3
             (λ rest. quiet_cycle rest (λ rest. Gives z vars rest))
@@ -215,7 +220,8 @@ module _ (program : Program) (e l n : ℕ) where
       let last_is : at2 + 1 ≡ end_of at1 yes no = ends other b (only (Truth ∷ [])) in
       let k = gone_on program end below fs temps in
       let right = λ (vars : Vars) (rest : List ℤ).
-      and_then (ev_b vars depth frames rest) (λ y vars rest. quiet_cycle rest (λ rest. Gives (truth (holds y)) vars rest))
+      and_then (ev_b vars depth frames rest)
+      (λ y vars rest. quiet_cycle rest (λ rest. Gives (truth (holds y)) vars rest))
       in
       let left =
       λ (vars : Vars) (rest : List ℤ). push program.profile depth rest
@@ -241,7 +247,8 @@ module _ (program : Program) (e l n : ℕ) where
             on_const program e l n below fs (at1 + 1 + 1) k l vars (temps ++ pos 1 ∷ []) (depth + 1) (pos 0) r2
             (λ rest. quiet_cycle rest (λ rest. Gives (pos 1) vars rest)) se.zero sizes (deeper (pos 1) t.deep)
             (λ r3 h3.
-            on_branch program e l n below fs (at1 + 1 + 1 + 1) k vars (temps ++ pos 1 ∷ []) (end_of at1 yes no) (pos 0) r3
+            on_branch program e l n below fs (at1 + 1 + 1 + 1) k vars (temps ++ pos 1 ∷ []) (end_of at1 yes no) (pos 0)
+            r3
             (λ rest. Gives (pos 1) vars rest) se.jump
             (λ r4 h4. arrives program e l n below fs (end_of at1 yes no) end vars (temps ++ pos 1 ∷ []) r4 sizes
             (omega (arith, short, h1, h2, h3, h4)) end_is)))

@@ -20,17 +20,20 @@ pub record Arrives (e l n : ℕ) (vars : Vars) (rest : List ℤ) (w to : Option 
   pub short : length rest ≤ n
   pub same : w ≡ to
 
-abbrev pub Follows : {A : Type 0} (e l n : ℕ) → EvaluationResult A → Option Want → (A → Vars → List ℤ → Option Want) → Type 0
+abbrev pub Follows : {A : Type 0} (e l n : ℕ) → EvaluationResult A → Option Want → (A → Vars → List ℤ → Option Want) →
+    Type 0
 Follows e l n (Gives x vars rest) w k = Arrives e l n vars rest w (k x vars rest)
 Follows e l n (Awaits event) w k = w ≡ Some event
 
-pub follows_from : {A : Type 0} (e l n : ℕ) (o : EvaluationResult A) (v w : Option Want) (k : A → Vars → List ℤ → Option Want)
+pub follows_from : {A : Type 0} (e l n : ℕ) (o : EvaluationResult A) (v w : Option Want)
+    (k : A → Vars → List ℤ → Option Want)
     → v ≡ w → Follows e l n o w k → Follows e l n o v k
 follows_from e l n (Gives x vars rest) v w k same f = record { sizes = f.sizes; short = f.short; same = same ∙ f.same }
 follows_from e l n (Awaits event) v w k same f = same ∙ f
 
 -- an evaluation and what comes after it
-pub chain : {A B : Type 0} (e l e' l' n : ℕ) (o : EvaluationResult A) (w : Option Want) (k : A → Vars → List ℤ → Option Want)
+pub chain : {A B : Type 0} (e l e' l' n : ℕ) (o : EvaluationResult A) (w : Option Want)
+    (k : A → Vars → List ℤ → Option Want)
     (go : A → Vars → List ℤ → EvaluationResult B) (k' : B → Vars → List ℤ → Option Want) → Follows e' l' n o w k →
     ((x : A) (vars : Vars) (rest : List ℤ) → HasSizes e' l' vars → length rest ≤ n →
     Follows e l n (go x vars rest) (k x vars rest) k') → Follows e l n (and_then o go) w k'
@@ -39,7 +42,8 @@ chain e l e' l' n (Gives x vars rest) w k go k' f next =
 chain e l e' l' n (Awaits event) w k go k' f next = f
 
 -- the replies left may be more
-pub follows_longer : {A : Type 0} (e l n : ℕ) (o : EvaluationResult A) (w : Option Want) (k : A → Vars → List ℤ → Option Want)
+pub follows_longer : {A : Type 0} (e l n : ℕ) (o : EvaluationResult A) (w : Option Want)
+    (k : A → Vars → List ℤ → Option Want)
     → Follows e l n o w k → Follows e l (suc n) o w k
 follows_longer e l n (Gives x vars rest) w k f =
     record { sizes = f.sizes; short = omega (arith, f.short); same = f.same }
@@ -59,10 +63,13 @@ module _ (program : Program) (s : Machine) (i : Instr) (here : instr_at program 
       shown program s ≡ Some (if b then event_of s (Some i) else Restart)
   shown_when b fits =
       ap
-      (λ (o : Option Instr). if is_ready program s o then Some (if is_fitting program s o then event_of s o else Restart)
+      (λ (o : Option Instr). if is_ready program s o then Some
+      (if is_fitting program s o then event_of s o else Restart)
       else None) here
       ∙
-      ap (λ (r : Bool). if r then Some (if is_fitting program s (Some i) then event_of s (Some i) else Restart) else None)
+      ap
+      (λ (r : Bool). if r then Some (if is_fitting program s (Some i) then event_of s (Some i) else Restart) else
+      None)
       ready
       ∙ ap (λ (c : Bool). Some (if c then event_of s (Some i) else Restart)) fits
 
@@ -76,7 +83,8 @@ module _ (program : Program) (s : Machine) (i : Instr) (here : instr_at program 
   unfolding wants
   wants_restart unfit [] = shown_when false unfit
   wants_restart unfit (reply ∷ rest) =
-      ap (λ (t : Machine). shown program (reached program t rest)) (after_when false unfit reply) ∙ wants_restart unfit rest
+      ap (λ (t : Machine). shown program (reached program t rest)) (after_when false unfit reply) ∙
+      wants_restart unfit rest
 
   wants_now : is_fitting program s (Some i) ≡ true → wants program s [] ≡ Some (event_of s (Some i))
   unfolding wants
@@ -85,10 +93,12 @@ module _ (program : Program) (s : Machine) (i : Instr) (here : instr_at program 
   wants_behind : is_fitting program s (Some i) ≡ true → (reply : ℤ) (rest : List ℤ) →
       wants program s (reply ∷ rest) ≡ wants program (done_with program reply s (Some i)) rest
   unfolding wants
-  wants_behind fits reply rest = ap (λ (t : Machine). shown program (reached program t rest)) (after_when true fits reply)
+  wants_behind fits reply rest =
+      ap (λ (t : Machine). shown program (reached program t rest)) (after_when true fits reply)
 
   -- One instruction is one cycle of the tree.
-  pub ticks : {A : Type 0} (e l n : ℕ) (fit : Bool) (event : Want) (trace : List ℤ) (go : ℤ → List ℤ → EvaluationResult A)
+  pub ticks : {A : Type 0} (e l n : ℕ) (fit : Bool) (event : Want) (trace : List ℤ)
+      (go : ℤ → List ℤ → EvaluationResult A)
       (k : A → Vars → List ℤ → Option Want) → is_fitting program s (Some i) ≡ fit → event_of s (Some i) ≡ event →
       ((reply : ℤ) (rest : List ℤ) → suc (length rest) ≡ length trace →
       Follows e l n (go reply rest) (wants program (done_with program reply s (Some i)) rest) k) →

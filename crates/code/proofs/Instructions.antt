@@ -124,22 +124,26 @@ module _ (program : Program) (e l n : ℕ) (below : List ℤ) (fs : List Frame) 
   moved : (s t : Machine) (o : EvaluationResult A) (rest : List ℤ) → s ≡ t → Follows e l n o (wants program t rest) k →
       Follows e l n o (wants program s rest) k
   moved s t o rest same f =
-      follows_from e l n o (wants program s rest) (wants program t rest) k (ap (λ (s : Machine). wants program s rest) same) f
+      follows_from e l n o (wants program s rest) (wants program t rest) k
+      (ap (λ (s : Machine). wants program s rest) same) f
 
-  pub on_const : (m : ℕ) (vars : Vars) (temps : List ℤ) (depth : ℕ) (x : ℤ) (trace : List ℤ) (go : List ℤ → EvaluationResult A)
+  pub on_const : (m : ℕ) (vars : Vars) (temps : List ℤ) (depth : ℕ) (x : ℤ) (trace : List ℤ)
+      (go : List ℤ → EvaluationResult A)
       → instr_at program at ≡ Some (Const x) → HasSizes e m vars → IsDepth m below temps depth →
       Next trace go (at + 1) vars (temps ++ x ∷ []) →
       Follows e l n (push program.profile depth trace go) (wants program (run at below fs vars temps) trace) k
   on_const m vars temps depth x trace go here sizes d next =
       let s = run at below fs vars temps in
-      ticks program s (Const x) here refl e l n (nat_lt depth program.profile.words) Quiet trace (λ reply rest. go rest) k
+      ticks program s (Const x) here refl e l n (nat_lt depth program.profile.words) Quiet trace (λ reply rest. go rest)
+      k
       (ap (λ (m : ℕ). nat_lt m program.profile.words) (length-words e m below vars temps depth sizes d)) refl
       (λ reply rest shorter.
       moved (done_with program reply s (Some (Const x))) (run (at + 1) below fs vars (temps ++ x ∷ [])) (go rest) rest
       (next_run at below fs vars (s.words ++ x ∷ []) (temps ++ x ∷ []) temps (pushed below vars.locals temps (x ∷ [])))
       (next rest shorter))
 
-  pub on_fetch : (vars : Vars) (temps : List ℤ) (depth : ℕ) (v : Var) (trace : List ℤ) (go : List ℤ → EvaluationResult A) →
+  pub on_fetch : (vars : Vars) (temps : List ℤ) (depth : ℕ) (v : Var) (trace : List ℤ)
+      (go : List ℤ → EvaluationResult A) →
       instr_at program at ≡ Some (Fetch v) → HasSizes e l vars → IsVariable e l v → IsDepth l below temps depth →
       Next trace go (at + 1) vars (temps ++ value_of_variable vars v ∷ []) →
       Follows e l n (push program.profile depth trace go) (wants program (run at below fs vars temps) trace) k
@@ -161,7 +165,8 @@ module _ (program : Program) (e l n : ℕ) (below : List ℤ) (fs : List Frame) 
       Follows e l n (quiet_cycle trace go) (wants program (run at below fs vars (temps ++ x ∷ [])) trace) k
   on_chop vars temps x trace go here next =
       let s = run at below fs vars (temps ++ x ∷ []) in
-      ticks program s Chop here (one_word below vars.locals temps x) e l n true Quiet trace (λ reply rest. go rest) k refl
+      ticks program s Chop here (one_word below vars.locals temps x) e l n true Quiet trace (λ reply rest. go rest) k
+      refl
       refl
       (λ reply rest shorter.
       moved (done_with program reply s (Some Chop)) (run (at + 1) below fs vars temps) (go rest) rest
@@ -184,7 +189,8 @@ module _ (program : Program) (e l n : ℕ) (below : List ℤ) (fs : List Frame) 
       ∙ ap (λ (b : ℤ). words_of below vars.locals temps ++ value_of o x b ∷ []) (top_of_two below vars.locals temps x y)
       ∙ pushed below vars.locals temps (z ∷ [])
       in
-      ticks program s (Binop o) here (two_words below vars.locals temps x y) e l n true Quiet trace (λ reply rest. go rest)
+      ticks program s (Binop o) here (two_words below vars.locals temps x y) e l n true Quiet trace
+      (λ reply rest. go rest)
       k refl refl
       (λ reply rest shorter.
       moved (done_with program reply s (Some (Binop o))) (run (at + 1) below fs vars (temps ++ z ∷ [])) (go rest) rest
@@ -203,7 +209,8 @@ module _ (program : Program) (e l n : ℕ) (below : List ℤ) (fs : List Frame) 
       ∙ ap (λ (b : ℤ). words_of below vars.locals temps ++ truth (holds b) ∷ []) (top_one below vars.locals temps x)
       ∙ pushed below vars.locals temps (z ∷ [])
       in
-      ticks program s Truth here (one_word below vars.locals temps x) e l n true Quiet trace (λ reply rest. go rest) k refl
+      ticks program s Truth here (one_word below vars.locals temps x) e l n true Quiet trace (λ reply rest. go rest) k
+      refl
       refl
       (λ reply rest shorter.
       moved (done_with program reply s (Some Truth)) (run (at + 1) below fs vars (temps ++ z ∷ [])) (go rest) rest
@@ -211,7 +218,8 @@ module _ (program : Program) (e l n : ℕ) (below : List ℤ) (fs : List Frame) 
       (temps ++ x ∷ []) words) (next rest shorter))
 
   pub on_store : (vars : Vars) (temps : List ℤ) (v : Var) (o : StoreOp) (x : ℤ) (trace : List ℤ)
-      (go : List ℤ → EvaluationResult A) → instr_at program at ≡ Some (Store v o) → HasSizes e l vars → IsVariable e l v →
+      (go : List ℤ → EvaluationResult A) → instr_at program at ≡ Some (Store v o) → HasSizes e l vars →
+      IsVariable e l v →
       Next trace go (at + 1) (assigned vars v (stored o (value_of_variable vars v) x))
       (temps ++ stored o (value_of_variable vars v) x ∷ []) →
       Follows e l n (quiet_cycle trace go) (wants program (run at below fs vars (temps ++ x ∷ [])) trace) k
@@ -249,7 +257,8 @@ module _ (program : Program) (e l n : ℕ) (below : List ℤ) (fs : List Frame) 
   on_branch vars temps to x trace go here next =
       let s = run at below fs vars (temps ++ x ∷ []) in
       let registers = λ (y : ℤ). if holds y then at + 1 else to in
-      ticks program s (Branch to) here (one_word below vars.locals temps x) e l n true Quiet trace (λ reply rest. go rest)
+      ticks program s (Branch to) here (one_word below vars.locals temps x) e l n true Quiet trace
+      (λ reply rest. go rest)
       k refl refl
       (λ reply rest shorter.
       moved (done_with program reply s (Some (Branch to))) (run (registers x) below fs vars temps) (go rest) rest
@@ -291,7 +300,8 @@ module _ (program : Program) (e l n : ℕ) (below : List ℤ) (fs : List Frame) 
   moves : (s t : Machine) (o : EvaluationResult A) (rest : List ℤ) → s ≡ t → Follows e l n o (wants program t rest) k →
       Follows e l n o (wants program s rest) k
   moves s t o rest same f =
-      follows_from e l n o (wants program s rest) (wants program t rest) k (ap (λ (s : Machine). wants program s rest) same) f
+      follows_from e l n o (wants program s rest) (wants program t rest) k
+      (ap (λ (s : Machine). wants program s rest) same) f
 
   pub on_frame : (vars : Vars) (temps : List ℤ) (depth frames : ℕ) (trace : List ℤ) (go : List ℤ → EvaluationResult A) →
       instr_at program at ≡ Some instr.Frame → HasSizes e l vars → IsDepth l below temps depth → frames ≡ length fs →
@@ -301,7 +311,8 @@ module _ (program : Program) (e l n : ℕ) (below : List ℤ) (fs : List Frame) 
   on_frame vars temps depth frames trace go here sizes d count next =
       let s = run at below fs vars temps in
       let target = run (at + 1) below (opened below depth ∷ fs) vars temps in
-      ticks program s instr.Frame here refl e l n (nat_lt frames program.profile.frames) Quiet trace (λ reply rest. go rest) k
+      ticks program s instr.Frame here refl e l n (nat_lt frames program.profile.frames) Quiet trace
+      (λ reply rest. go rest) k
       (ap (λ (m : ℕ). nat_lt m program.profile.frames) (sym count)) refl
       (λ reply rest shorter.
       moves (done_with program reply s (Some instr.Frame)) target (go rest) rest
@@ -316,7 +327,8 @@ module _ (program : Program) (e l n : ℕ) (below : List ℤ) (fs : List Frame) 
       (next rest shorter))
 
   pub on_ask : (vars : Vars) (temps arguments : List ℤ) (depth : ℕ) (i : Intrinsic) (trace : List ℤ)
-      (go : ℤ → List ℤ → EvaluationResult A) → instr_at program at ≡ Some (Fcall (callee.Intrinsic i)) → HasSizes e l vars →
+      (go : ℤ → List ℤ → EvaluationResult A) → instr_at program at ≡ Some (Fcall (callee.Intrinsic i)) →
+      HasSizes e l vars →
       IsDepth l below temps depth →
       ((reply : ℤ) → Reaches trace (go reply) (run (at + 1) below fs vars (temps ++ reply ∷ []))) →
       Follows e l n (tick (nat_le (depth + 1) program.profile.words) (Ask i (asked_words i arguments)) trace go)
@@ -347,7 +359,8 @@ module _ (program : Program) (e l n : ℕ) (below : List ℤ) (fs : List Frame) 
       pushed below vars.locals temps (reply ∷ [])))
       (next reply rest shorter))
 
-  pub on_call : (vars : Vars) (temps arguments : List ℤ) (depth j : ℕ) (trace : List ℤ) (go : List ℤ → EvaluationResult A) →
+  pub on_call : (vars : Vars) (temps arguments : List ℤ) (depth j : ℕ) (trace : List ℤ)
+      (go : List ℤ → EvaluationResult A) →
       instr_at program at ≡ Some (Fcall (callee.Function j)) → j < length program.functions → HasSizes e l vars →
       IsDepth l below temps depth →
       Reaches trace go
@@ -356,7 +369,8 @@ module _ (program : Program) (e l n : ℕ) (below : List ℤ) (fs : List Frame) 
         externals = vars.externals;
         locals = variables_of (parameters_at program j) (variables_at program j) arguments;
       }) []) →
-      Follows e l n (tick (nat_le (depth + variables_at program j) program.profile.words) Quiet trace (λ reply rest. go rest))
+      Follows e l n
+      (tick (nat_le (depth + variables_at program j) program.profile.words) Quiet trace (λ reply rest. go rest))
       (wants program (run at below (opened below depth ∷ fs) vars (temps ++ arguments)) trace) k
   on_call vars temps arguments depth j trace go here there sizes d next =
       let s = run at below (opened below depth ∷ fs) vars (temps ++ arguments) in
@@ -398,7 +412,8 @@ module _ (program : Program) (e l n : ℕ) (below : List ℤ) (fs : List Frame) 
       (next rest shorter))
 
   pub on_retsub : (f : Frame) (vars : Vars) (temps : List ℤ) (frames : ℕ) (x : ℤ) (trace : List ℤ)
-      (go : List ℤ → EvaluationResult A) → instr_at program at ≡ Some Retsub → f.base ≡ length below → frames ≡ length (f ∷ fs) →
+      (go : List ℤ → EvaluationResult A) → instr_at program at ≡ Some Retsub → f.base ≡ length below →
+      frames ≡ length (f ∷ fs) →
       Reaches trace go (back_with f below fs vars.externals x) →
       Follows e l n (tick (nat_lt 1 frames) Quiet trace (λ reply rest. go rest))
       (wants program (run at below (f ∷ fs) vars (temps ++ x ∷ [])) trace) k
@@ -422,7 +437,8 @@ module _ (program : Program) (e l n : ℕ) (below : List ℤ) (fs : List Frame) 
 
   -- main does not return
   pub on_retsub_of_main : (f : Frame) (vars : Vars) (temps : List ℤ) (frames : ℕ) (x : ℤ) (trace : List ℤ)
-      (go : List ℤ → EvaluationResult A) → instr_at program at ≡ Some Retsub → f.base ≡ length below → frames ≡ length (f ∷ []) →
+      (go : List ℤ → EvaluationResult A) → instr_at program at ≡ Some Retsub → f.base ≡ length below →
+      frames ≡ length (f ∷ []) →
       Follows e l n (tick (nat_lt 1 frames) Quiet trace (λ reply rest. go rest))
       (wants program (run at below (f ∷ []) vars (temps ++ x ∷ [])) trace) k
   on_retsub_of_main f vars temps frames x trace go here base count =

@@ -21,10 +21,12 @@ module _ (program : Program) (e l n : ℕ) where
   same_return a b below f (g ∷ fs) x vars rest = refl
 
   -- statements and what comes after them
-  flow_chain : (o : EvaluationResult Completion) (w : Option Want) (at1 at2 : ℕ) (below : List ℤ) (f : Frame) (fs : List Frame)
+  flow_chain : (o : EvaluationResult Completion) (w : Option Want) (at1 at2 : ℕ) (below : List ℤ) (f : Frame)
+      (fs : List Frame)
       (go : Vars → List ℤ → EvaluationResult Completion) → Follows e l n o w (flown program at1 below f fs) →
       ((vars : Vars) (rest : List ℤ) → HasSizes e l vars → length rest ≤ n →
-      Follows e l n (go vars rest) (wants program (run at1 below (f ∷ fs) vars []) rest) (flown program at2 below f fs)) →
+      Follows e l n (go vars rest) (wants program (run at1 below (f ∷ fs) vars []) rest) (flown program at2 below f fs))
+      →
       Follows e l n (and_on o go) w (flown program at2 below f fs)
   flow_chain o w at1 at2 below f fs go first next =
       chain e l e l n o w (flown program at1 below f fs) (λ flow vars rest. on_through flow vars rest go)
@@ -38,7 +40,8 @@ module _ (program : Program) (e l n : ℕ) where
       ])
 
   -- the same effect at an address that is given otherwise
-  ends_at : (from to : ℕ) (below : List ℤ) (f : Frame) (fs : List Frame) (o : EvaluationResult Completion) (w : Option Want) →
+  ends_at : (from to : ℕ) (below : List ℤ) (f : Frame) (fs : List Frame) (o : EvaluationResult Completion)
+      (w : Option Want) →
       from ≡ to → Follows e l n o w (flown program from below f fs) → Follows e l n o w (flown program to below f fs)
   ends_at from to below f fs o w same h = subst (λ (a : ℕ). Follows e l n o w (flown program a below f fs)) same h
 
@@ -85,7 +88,8 @@ module _ (program : Program) (e l n : ℕ) where
       (B below f fs (at1 + 1) after depth frames r1 base
       (tied_on below (f ∷ fs) vars after depth frames trace r1 t sizes (omega (arith, h1, short))) sa.second.1)))
 
-  pub when_law : (c s b : CodeAt) (ev : Evaluation ℤ) (ef_s ef_b : Evaluation Completion) → Evaluates program e l n c ev →
+  pub when_law : (c s b : CodeAt) (ev : Evaluation ℤ) (ef_s ef_b : Evaluation Completion) →
+      Evaluates program e l n c ev →
       Effects program e l n s ef_s → Effects program e l n b ef_b →
       Effects program e l n (c ⨾ past s ⨾ b)
       (λ vars depth frames trace. and_then (ev vars depth frames trace)
@@ -128,7 +132,8 @@ module _ (program : Program) (e l n : ℕ) where
       (if d then and_on (ef_s after depth frames r1) (λ vars rest. ef_b vars depth frames rest) else ef_b after
       depth frames r1) (wants program (run (if d then at1 + 1 else to) below (f ∷ fs) after []) r1) k) [
         | true ↦
-            flow_chain (ef_s after depth frames r1) (wants program (run (at1 + 1) below (f ∷ fs) after []) r1) to end below
+            flow_chain (ef_s after depth frames r1) (wants program (run (at1 + 1) below (f ∷ fs) after []) r1) to end
+            below
             f fs (λ vars rest. ef_b vars depth frames rest)
             (S below f fs (at1 + 1) after depth frames r1 base
             (tied_on below (f ∷ fs) vars after depth frames trace r1 t sizes (omega (arith, h1, short))) sp.first.1)
@@ -139,9 +144,11 @@ module _ (program : Program) (e l n : ℕ) where
   -- the end of a first branch, or of a turn: a push of 0, and a branch that is taken
   over_law : (at to : ℕ) (below : List ℤ) (fs : List Frame) (vars : Vars) (depth frames : ℕ) (rest : List ℤ)
       (go : List ℤ → EvaluationResult Completion) (k : Completion → Vars → List ℤ → Option Want) → HasSizes e l vars →
-      IsDepth l below [] depth → instr_at program at ≡ Some (Const (pos 0)) → instr_at program (at + 1) ≡ Some (Branch to) →
+      IsDepth l below [] depth → instr_at program at ≡ Some (Const (pos 0)) →
+      instr_at program (at + 1) ≡ Some (Branch to) →
       ((r : List ℤ) → length r < length rest → Follows e l n (go r) (wants program (run to below fs vars []) r) k) →
-      Follows e l n (end_of_branch_or_iteration program.profile depth rest go) (wants program (run at below fs vars []) rest) k
+      Follows e l n (end_of_branch_or_iteration program.profile depth rest go)
+      (wants program (run at below fs vars []) rest) k
   over_law at to below fs vars depth frames rest go k sizes deep zero_at jump next =
       on_const program e l n below fs at k l vars [] depth (pos 0) rest (λ rest. quiet_cycle rest go) zero_at sizes deep
       (λ r1 h1.
@@ -149,12 +156,14 @@ module _ (program : Program) (e l n : ℕ) where
       (λ r2 h2. next r2 (omega (arith, h1, h2))))
 
   pub choose_law : (c s t b : CodeAt) (ev : Evaluation ℤ) (ef_s ef_t ef_b : Evaluation Completion) →
-      Evaluates program e l n c ev → Effects program e l n s ef_s → Effects program e l n t ef_t → Effects program e l n b ef_b →
+      Evaluates program e l n c ev → Effects program e l n s ef_s → Effects program e l n t ef_t →
+      Effects program e l n b ef_b →
       Effects program e l n (c ⨾ either s t ⨾ b)
       (λ vars depth frames trace. and_then (ev vars depth frames trace)
       (λ x vars rest. quiet_cycle rest
       (λ rest. if holds x then and_on (ef_s vars depth frames rest)
-      (λ vars rest. end_of_branch_or_iteration program.profile depth rest (λ rest. ef_b vars depth frames rest)) else and_on
+      (λ vars rest. end_of_branch_or_iteration program.profile depth rest (λ rest. ef_b vars depth frames rest)) else
+      and_on
       (ef_t vars depth frames rest) (λ vars rest. ef_b vars depth frames rest))))
   choose_law c s t b ev ef_s ef_t ef_b C S T B below f fs at vars depth frames trace base tied st =
       let sc = stands program at c (either s t ⨾ b) st in
@@ -206,7 +215,8 @@ module _ (program : Program) (e l n : ℕ) where
             (λ rest. ef_b last depth frames rest) k sizes tied.deep se.zero se.jump
             (λ r3 h3. behind last r3 sizes (omega (arith, short, h3))))
         | false ↦
-            flow_chain (ef_t after depth frames r1) (wants program (run other below (f ∷ fs) after []) r1) to end below f
+            flow_chain (ef_t after depth frames r1) (wants program (run other below (f ∷ fs) after []) r1) to end below
+            f
             fs (λ vars rest. ef_b vars depth frames rest)
             (T below f fs other after depth frames r1 base here se.second)
             behind
@@ -228,7 +238,8 @@ module _ (program : Program) (e l n : ℕ) where
       (λ vars depth frames trace. and_then (ev vars depth frames trace)
       (λ x vars rest. quiet_cycle rest
       (λ rest. if holds x then and_on (ef_s vars depth frames rest)
-      (λ vars rest. end_of_branch_or_iteration program.profile depth rest (λ rest. turn vars depth frames rest)) else ef_b vars depth
+      (λ vars rest. end_of_branch_or_iteration program.profile depth rest (λ rest. turn vars depth frames rest)) else
+      ef_b vars depth
       frames rest)))
   while_law c s b ev ef_s ef_b turn C S B again below f fs at vars depth frames trace base tied st =
       let back = only (Const (pos 0) ∷ Branch at ∷ []) in
@@ -260,7 +271,8 @@ module _ (program : Program) (e l n : ℕ) where
       (wants program (run (if d then at1 + 1 else to) below (f ∷ fs) after []) r1) k) [
         | true ↦
             flow_chain (ef_s after depth frames r1) (wants program (run (at1 + 1) below (f ∷ fs) after []) r1) at2 end
-            below f fs (λ vars rest. end_of_branch_or_iteration program.profile depth rest (λ rest. turn vars depth frames rest))
+            below f fs
+            (λ vars rest. end_of_branch_or_iteration program.profile depth rest (λ rest. turn vars depth frames rest))
             (S below f fs (at1 + 1) after depth frames r1 base here ss.first)
             (λ last r2 sizes short.
             over_law at2 at below (f ∷ fs) last depth frames r2 (λ rest. turn last depth frames rest) k sizes tied.deep

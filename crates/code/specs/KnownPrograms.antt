@@ -183,7 +183,8 @@ pub record KnownValues : Type 0 where
   pub assignment_of_assignment :
       InCycle first_profile
       (says_then (codes "x" ∷ codes "y" ∷ [])
-      (Assign store_op.Set (var.Local 0) (Assign store_op.Set (var.Local 1) (constant 2))) (cannon_of (local 0) (local 1)))
+      (Assign store_op.Set (var.Local 0) (Assign store_op.Set (var.Local 1) (constant 2)))
+      (cannon_of (local 0) (local 1)))
       8 (asks_cannon (pos 2) (pos 2))
   pub sides_in_order :
       InCycle first_profile (says [] (cannon_of (Binary op.Subtract (constant 7) (constant 2))

@@ -36,7 +36,8 @@ pub data EvaluationResult (A : Type 0) : Type 0 where
   Awaits : (event : Want) → EvaluationResult A
 
 -- an evaluation, and what follows it
-abbrev pub and_then : {A B : Type 0} → EvaluationResult A → (A → Vars → List ℤ → EvaluationResult B) → EvaluationResult B
+abbrev pub and_then : {A B : Type 0} → EvaluationResult A → (A → Vars → List ℤ → EvaluationResult B) →
+    EvaluationResult B
 and_then (Gives x vars rest) go = go x vars rest
 and_then (Awaits event) go = Awaits event
 
@@ -109,7 +110,8 @@ short p op.Or depth left right =
     Gives (truth (holds y)) vars rest))))
 short p o depth left right = full o depth left right
 
-abbrev pub binary : Profile → Op → ℕ → EvaluationResult ℤ → (Vars → ℕ → List ℤ → EvaluationResult ℤ) → EvaluationResult ℤ
+abbrev pub binary : Profile → Op → ℕ → EvaluationResult ℤ → (Vars → ℕ → List ℤ → EvaluationResult ℤ) →
+    EvaluationResult ℤ
 binary p o depth left right =
     if p.short_circuit then
     short p o depth left right
@@ -117,23 +119,27 @@ binary p o depth left right =
     full o depth left right
 
 -- what follows a statement that is passed through
-abbrev pub on_through : Completion → Vars → List ℤ → (Vars → List ℤ → EvaluationResult Completion) → EvaluationResult Completion
+abbrev pub on_through : Completion → Vars → List ℤ → (Vars → List ℤ → EvaluationResult Completion) →
+    EvaluationResult Completion
 on_through Through vars rest go = go vars rest
 on_through (Returns x) vars rest go = Gives (Returns x) vars rest
 
-abbrev pub and_on : EvaluationResult Completion → (Vars → List ℤ → EvaluationResult Completion) → EvaluationResult Completion
+abbrev pub and_on : EvaluationResult Completion → (Vars → List ℤ → EvaluationResult Completion) →
+    EvaluationResult Completion
 and_on outcome go =
     and_then outcome (λ flow vars rest.
     on_through flow vars rest go)
 
 -- the end of a first branch, and of each turn: a push of 0, and a cycle that takes it
-abbrev pub end_of_branch_or_iteration : Profile → ℕ → List ℤ → (List ℤ → EvaluationResult Completion) → EvaluationResult Completion
+abbrev pub end_of_branch_or_iteration : Profile → ℕ → List ℤ → (List ℤ → EvaluationResult Completion) →
+    EvaluationResult Completion
 end_of_branch_or_iteration p depth trace go =
     push p depth trace (λ rest.
     quiet_cycle rest go)
 
 -- the end of a function's run, with the value that it returned: a body that is passed through returns 0
-abbrev pub end_of_function : {A : Type 0} → Profile → ℕ → ℕ → Completion → Vars → List ℤ → (ℤ → Vars → List ℤ → EvaluationResult A) →
+abbrev pub end_of_function : {A : Type 0} → Profile → ℕ → ℕ → Completion → Vars → List ℤ →
+    (ℤ → Vars → List ℤ → EvaluationResult A) →
     EvaluationResult A
 end_of_function p depth frames (Returns x) vars rest go = go x vars rest
 end_of_function p depth frames Through vars rest_of_body go =

@@ -35,7 +35,8 @@ module _ {F : Type 0} (device : F → Device) (fails : List ℕ → Type 0) wher
       let same : first ≡ word = cc here in
       subst fails same (each.0 new (ap (λ (l : List FailureCount). slice_index_or l 0 no_device) is))
   shown_at (first ∷ words) (old ∷ olds) (new ∷ news) word (suc place) each here within is =
-      shown_at words olds news word place each.1 here (omega (arith, within)) (ap (λ (l : List FailureCount). drop 1 l) is)
+      shown_at words olds news word place each.1 here (omega (arith, within))
+      (ap (λ (l : List FailureCount). drop 1 l) is)
 
   pub shown : (words : List (List ℕ)) (olds news : List F) (word : List ℕ) → EachShows device fails words olds
       → HasFailed words (accounts device olds) (accounts device news) word → fails word

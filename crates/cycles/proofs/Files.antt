@@ -193,9 +193,11 @@ module _ (asked : Counted) (p : Profile) (file : File) (resolved : IsResolved fi
       has_rows spans first second = record { runs = first ∙ runs_rows; turns = second ∙ turns_rows }
 
 -- what is told of a source, by what is told of each file that its trees may be
-pub spans_are : (asked : Counted) (p : Profile) (without_names : Option (List ℕ)) (before after : TreeMaker) (names : Pools)
+pub spans_are : (asked : Counted) (p : Profile) (without_names : Option (List ℕ)) (before after : TreeMaker)
+    (names : Pools)
     (spans : SourceSpans) → TreeMakerRepresents before p [] →
-    ParsesToFile (λ p acts. TreeMakerRepresents before p acts) (λ p acts. TreeMakerRepresents after p acts) without_names names →
+    ParsesToFile (λ p acts. TreeMakerRepresents before p acts) (λ p acts. TreeMakerRepresents after p acts)
+    without_names names →
     ((file : File) → IsResolved file → told_functions file.functions file.order ≡ told_trees after.functions →
     HasRows asked p file spans) →
     AreSpansOf asked p without_names spans

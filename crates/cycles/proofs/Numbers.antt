@@ -115,7 +115,8 @@ pub end_before : (s : Span) (ends : Ends) (flow : Completion) (n : ℕ) → MayT
 end_before s ends Through n h = h
 end_before s ends (Returns x) n h = h
 
-pub end_followed : (ends next : Ends) (flow : Completion) (m n : ℕ) → MayTake ends.through m → MayTake (end_of next flow) n →
+pub end_followed : (ends next : Ends) (flow : Completion) (m n : ℕ) → MayTake ends.through m →
+    MayTake (end_of next flow) n →
     MayTake (end_of (followed ends next) flow) (m + n)
 end_followed ends next Through m n first second = behind_takes ends.through next.through m n first second
 end_followed ends next (Returns x) m n first second =

@@ -50,7 +50,8 @@ each_counts (Awaits Quiet) = refl
 each_counts (Awaits (Ask i arguments)) = refl
 each_counts (Awaits Restart) = refl
 
-all_count : {A : Type 0} (run : List ℤ → EvaluationResult A) (replies : List ℤ) → spent Cycles run replies ≡ length replies
+all_count : {A : Type 0} (run : List ℤ → EvaluationResult A) (replies : List ℤ) →
+    spent Cycles run replies ≡ length replies
 all_count run [] = refl
 all_count run (reply ∷ replies) =
     omega (arith, each_counts (run []), all_count (λ (rest : List ℤ). run (reply ∷ rest)) replies)

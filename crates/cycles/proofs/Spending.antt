@@ -95,7 +95,8 @@ module _ {A : Type 0} (u : Counted) where
   spends_tick true want go s goes = record { each = ticked want go s goes }
 
   -- one run or the other
-  pub spends_either : (b : Bool) (f g : List ℤ → EvaluationResult A) (s : A → Option Span) → Spends u f s → Spends u g s →
+  pub spends_either : (b : Bool) (f g : List ℤ → EvaluationResult A) (s : A → Option Span) → Spends u f s →
+      Spends u g s →
       Spends u (λ (t : List ℤ). if b then f t else g t) s
   spends_either true f g s first second = first
   spends_either false f g s first second = second
@@ -103,7 +104,8 @@ module _ {A : Type 0} (u : Counted) where
 -- One run after another.
 
 module _ {A B : Type 0} (u : Counted) where
-  pub run_then : (run : List ℤ → EvaluationResult A) (go : A → Vars → List ℤ → EvaluationResult B) (replies : List ℤ) (x : A)
+  pub run_then : (run : List ℤ → EvaluationResult A) (go : A → Vars → List ℤ → EvaluationResult B) (replies : List ℤ)
+      (x : A)
       (vars : Vars) (more : List ℤ) (y : B) (after : Vars) →
       HasRun run replies x vars → HasRun (λ t. go x vars t) more y after →
       HasRun (λ t. and_then (run t) go) (replies ++ more) y after
@@ -124,12 +126,14 @@ module _ {A B : Type 0} (u : Counted) where
       sym (ap (λ (o : EvaluationResult A). counts u o) waits.1)
 
   -- what comes after a run that is over at once
-  spent_at_once : (run : List ℤ → EvaluationResult A) (go : A → Vars → List ℤ → EvaluationResult B) (x : A) (vars : Vars)
+  spent_at_once : (run : List ℤ → EvaluationResult A) (go : A → Vars → List ℤ → EvaluationResult B) (x : A)
+      (vars : Vars)
       (more : List ℤ) → HasRun run [] x vars →
       spent u (λ t. and_then (run t) go) more ≡ spent u (λ t. go x vars t) more
   spent_at_once run go x vars more first = λ i. spent u (λ (t : List ℤ). and_then (first t i) go) more
 
-  pub spent_then : (run : List ℤ → EvaluationResult A) (go : A → Vars → List ℤ → EvaluationResult B) (replies : List ℤ) (x : A)
+  pub spent_then : (run : List ℤ → EvaluationResult A) (go : A → Vars → List ℤ → EvaluationResult B) (replies : List ℤ)
+      (x : A)
       (vars : Vars) (more : List ℤ) → HasRun run replies x vars →
       spent u (λ t. and_then (run t) go) (replies ++ more) ≡ spent u run replies + spent u (λ t. go x vars t) more
   spent_then run go [] x vars more first = omega (arith, spent_at_once run go x vars more first)
@@ -161,7 +165,8 @@ module _ {A B : Type 0} (u : Counted) where
             (fits x y (spent u run a.replies) (spent u (λ (t : List ℤ). go x vars t) b.replies) a.within b.within);
       }
 
-  pub spends_both : (run : List ℤ → EvaluationResult A) (go : A → Vars → List ℤ → EvaluationResult B) (f : A → Option Span)
+  pub spends_both : (run : List ℤ → EvaluationResult A) (go : A → Vars → List ℤ → EvaluationResult B)
+      (f : A → Option Span)
       (g : A → B → Option Span) (h : B → Option Span) →
       Spends u run f → ((x : A) (vars : Vars) → Spends u (λ (t : List ℤ). go x vars t) (g x)) →
       ((x : A) (y : B) (m n : ℕ) → MayTake (f x) m → MayTake (g x y) n → MayTake (h y) (m + n)) →

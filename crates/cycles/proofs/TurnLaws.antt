@@ -60,7 +60,8 @@ turned_takes u p depth Through vars = begins_after u p depth vars
 turned_takes u p depth (Returns x) vars =
     spends_given u (GivesBack x) vars (turned_span u (Returns x)) (within_anything 0)
 
-turned_fits : (u : Counted) (inside : Ends) (flow : Completion) (last : TurnEnd) (m n : ℕ) → MayTake (end_of inside flow) m →
+turned_fits : (u : Counted) (inside : Ends) (flow : Completion) (last : TurnEnd) (m n : ℕ) →
+    MayTake (end_of inside flow) m →
     MayTake (turned_span u flow last) n → MayTake (begun u inside last) (m + n)
 turned_fits u inside Through Begins m n one other = behind_takes inside.through (Some (two_cycles u)) m n one other
 turned_fits u inside Through Leaves m n one other = absurd other
@@ -110,7 +111,9 @@ module _ (p : Profile) (file : File) (again : BodyMeaning) (c : Expr) (s next : 
   turned_is true vars (reply ∷ other ∷ rest) = refl
 
   body_is : (o : EvaluationResult Completion) →
-      and_on o (λ vars rest. end_of_branch_or_iteration p depth rest (λ rest. again (While c s next) vars depth frames rest)) ≡
+      and_on o
+      (λ vars rest. end_of_branch_or_iteration p depth rest (λ rest. again (While c s next) vars depth frames rest))
+      ≡
       and_then (and_then o (turned p depth)) later
   body_is (Awaits want) = refl
   body_is (Gives Through vars rest) = turned_is (nat_lt depth p.words) vars rest
@@ -118,7 +121,8 @@ module _ (p : Profile) (file : File) (again : BodyMeaning) (c : Expr) (s next : 
 
   choice_is : (b : Bool) (vars : Vars) (trace : List ℤ) →
       (if b then and_on (effect p file again s vars depth frames trace)
-      (λ vars rest. end_of_branch_or_iteration p depth rest (λ rest. again (While c s next) vars depth frames rest)) else
+      (λ vars rest. end_of_branch_or_iteration p depth rest (λ rest. again (While c s next) vars depth frames rest))
+      else
       effect p file again next vars depth frames trace) ≡
       and_then
       (if b then and_then (effect p file again s vars depth frames trace) (turned p depth) else Gives Leaves vars trace)

@@ -73,12 +73,14 @@ module _ {A B : Type 0} (u : Counted) where
       spends_wider u (λ (t : List ℤ). and_then (run t) (λ x vars rest. quiet_cycle rest (λ rest. go x vars rest)))
       (λ y. before s (before (cycle u) (g y))) (λ y. before (s ⊕ cycle u) (g y))
       (λ y n h. before_both s (cycle u) (g y) n h)
-      (spends_then u run (λ x vars rest. quiet_cycle rest (λ rest. go x vars rest)) s (λ y. before (cycle u) (g y)) first
+      (spends_then u run (λ x vars rest. quiet_cycle rest (λ rest. go x vars rest)) s (λ y. before (cycle u) (g y))
+      first
       (λ x vars. behind_cycle u true (λ (t : List ℤ). go x vars t) g (second x vars)))
 
 -- Operators.
 
-module _ (u : Counted) (p : Profile) (left : List ℤ → EvaluationResult ℤ) (right : Vars → ℕ → List ℤ → EvaluationResult ℤ)
+module _ (u : Counted) (p : Profile) (left : List ℤ → EvaluationResult ℤ)
+    (right : Vars → ℕ → List ℤ → EvaluationResult ℤ)
     (s t : Span)
     (first : Spends u left (λ x. Some s))
     (second : (vars : Vars) (depth : ℕ) → Spends u (λ (rest : List ℤ). right vars depth rest) (λ x. Some t)) where
@@ -112,7 +114,8 @@ module _ (u : Counted) (p : Profile) (left : List ℤ → EvaluationResult ℤ) 
       (λ y vars rest. quiet_cycle rest (λ rest. push p (depth + 1) rest (λ rest. quiet_cycle rest
       (λ rest. Gives (truth (holds y)) vars rest)))) t (λ x. Some (cycle u ⊕ two_cycles u)) (second vars depth)
       (λ y vars. behind_cycle u true
-      (λ (rest : List ℤ). push p (depth + 1) rest (λ rest. quiet_cycle rest (λ rest. Gives (truth (holds y)) vars rest)))
+      (λ (rest : List ℤ). push p (depth + 1) rest
+      (λ rest. quiet_cycle rest (λ rest. Gives (truth (holds y)) vars rest)))
       (λ x. Some (two_cycles u)) (value_after_two u (nat_lt (depth + 1) p.words) true (truth (holds y)) vars))))
       (spends_wider u (λ (rest : List ℤ). off vars rest) (λ x. Some (cycle u)) (λ x. Some (either more (cycle u)))
       (λ x n h. within_second more (cycle u) n h)
@@ -170,7 +173,8 @@ module _ (u : Counted) (ends : Ends) (g h : Completion → Option Span) where
   on_next (Returns x) Through = None
   on_next (Returns x) (Returns y) = Some (exactly 0)
 
-  on_goes : (go : Vars → List ℤ → EvaluationResult Completion) → ((vars : Vars) → Spends u (λ (t : List ℤ). go vars t) g) →
+  on_goes : (go : Vars → List ℤ → EvaluationResult Completion) →
+      ((vars : Vars) → Spends u (λ (t : List ℤ). go vars t) g) →
       (flow : Completion) (vars : Vars) → Spends u (λ (t : List ℤ). on_through flow vars t go) (on_next flow)
   unfolding on_next
   on_goes go second Through vars = second vars
@@ -186,7 +190,8 @@ module _ (u : Counted) (ends : Ends) (g h : Completion → Option Span) where
   on_fits through returns (Returns x) (Returns y) m n one other = takes_none (h (Returns y)) m n (returns y m one) other
 
   -- what comes after statements that are passed through
-  pub behind_on : (run : List ℤ → EvaluationResult Completion) (go : Vars → List ℤ → EvaluationResult Completion) → Spends u run (end_of ends) →
+  pub behind_on : (run : List ℤ → EvaluationResult Completion) (go : Vars → List ℤ → EvaluationResult Completion) →
+      Spends u run (end_of ends) →
       ((vars : Vars) → Spends u (λ (t : List ℤ). go vars t) g) →
       ((flow : Completion) (m n : ℕ) → MayTake ends.through m → MayTake (g flow) n → MayTake (h flow) (m + n)) →
       ((x : ℤ) (n : ℕ) → MayTake ends.returns n → MayTake (h (Returns x)) n) →
@@ -196,7 +201,8 @@ module _ (u : Counted) (ends : Ends) (g h : Completion → Option Span) where
       (on_goes go second) (on_fits through returns)
 
 -- the next statements
-pub next_takes : (u : Counted) (run : List ℤ → EvaluationResult Completion) (go : Vars → List ℤ → EvaluationResult Completion)
+pub next_takes : (u : Counted) (run : List ℤ → EvaluationResult Completion)
+    (go : Vars → List ℤ → EvaluationResult Completion)
     (ends next : Ends) → Spends u run (end_of ends) →
     ((vars : Vars) → Spends u (λ (t : List ℤ). go vars t) (end_of next)) →
     Spends u (λ (t : List ℤ). and_on (run t) go) (end_of (followed ends next))
@@ -206,7 +212,8 @@ next_takes u run go ends next first second =
     (λ x n h. first_takes ends.returns (behind ends.through next.returns) n h)
 
 -- a test, and then one branch or the other
-pub test_takes : (u : Counted) (run : List ℤ → EvaluationResult ℤ) (on off : Vars → List ℤ → EvaluationResult Completion) (s : Span)
+pub test_takes : (u : Counted) (run : List ℤ → EvaluationResult ℤ)
+    (on off : Vars → List ℤ → EvaluationResult Completion) (s : Span)
     (first second : Ends) → Spends u run (λ x. Some s) →
     ((vars : Vars) → Spends u (λ (t : List ℤ). on vars t) (end_of first)) →
     ((vars : Vars) → Spends u (λ (t : List ℤ). off vars t) (end_of second)) →
@@ -235,7 +242,8 @@ pub over_takes : (u : Counted) (p : Profile) (depth : ℕ) (go : List ℤ → Ev
     Spends u go (end_of ends) →
     Spends u (λ (t : List ℤ). end_of_branch_or_iteration p depth t go) (end_of (after (two_cycles u) ends))
 over_takes u p depth go ends goes =
-    spends_wider u (λ (t : List ℤ). end_of_branch_or_iteration p depth t go) (λ flow. before (two_cycles u) (end_of ends flow))
+    spends_wider u (λ (t : List ℤ). end_of_branch_or_iteration p depth t go)
+    (λ flow. before (two_cycles u) (end_of ends flow))
     (end_of (after (two_cycles u) ends)) (λ flow n h. end_after (two_cycles u) ends flow n h)
     (behind_two u (nat_lt depth p.words) true go (end_of ends) goes)
 
@@ -259,7 +267,8 @@ loop_again u test inside last Through n h = again_takes test (two_cycles u) insi
 loop_again u test inside last (Returns x) n h =
     again_takes test (two_cycles u) inside.through (one_of inside.returns last.returns) n h
 
-again_first : (u : Counted) (test : Span) (inside last : Ends) (flow : Completion) (m n : ℕ) → MayTake inside.through m →
+again_first : (u : Counted) (test : Span) (inside last : Ends) (flow : Completion) (m n : ℕ) →
+    MayTake inside.through m →
     MayTake (before (two_cycles u) (end_of (whole_loop u test inside last) flow)) n →
     MayTake (on_test u test inside last flow) (m + n)
 again_first u test inside last flow m n one other =
@@ -274,7 +283,8 @@ return_first u test inside last x n h =
     (behind inside.through (before (two_cycles u) (end_of (whole_loop u test inside last) (Returns x))))
     (one_of inside.returns last.returns) n (first_takes inside.returns last.returns n h)
 
-next_last : (u : Counted) (test : Span) (inside last : Ends) (flow : Completion) (n : ℕ) → MayTake (end_of last flow) n →
+next_last : (u : Counted) (test : Span) (inside last : Ends) (flow : Completion) (n : ℕ) →
+    MayTake (end_of last flow) n →
     MayTake (on_test u test inside last flow) n
 next_last u test inside last flow n h =
     second_takes (behind inside.through (before (two_cycles u) (end_of (whole_loop u test inside last) flow)))
@@ -291,7 +301,8 @@ pub loop_takes : (u : Counted) (p : Profile) (depth : ℕ) (run : List ℤ → E
     Spends u
     (λ (t : List ℤ). and_then (run t)
     (λ x vars rest. quiet_cycle rest
-    (λ rest. if holds x then and_on (body vars rest) (λ vars rest. end_of_branch_or_iteration p depth rest (λ rest. again vars rest)) else
+    (λ rest. if holds x then and_on (body vars rest)
+    (λ vars rest. end_of_branch_or_iteration p depth rest (λ rest. again vars rest)) else
     next vars rest)))
     (end_of (whole_loop u (s ⊕ cycle u) inside last))
 loop_takes u p depth run body next again s inside last tested goes leaves begins =
@@ -299,15 +310,18 @@ loop_takes u p depth run body next again s inside last tested goes leaves begins
     spends_wider u
     (λ (t : List ℤ). and_then (run t)
     (λ x vars rest. quiet_cycle rest
-    (λ rest. if holds x then and_on (body vars rest) (λ vars rest. end_of_branch_or_iteration p depth rest (λ rest. again vars rest)) else
+    (λ rest. if holds x then and_on (body vars rest)
+    (λ vars rest. end_of_branch_or_iteration p depth rest (λ rest. again vars rest)) else
     next vars rest)))
     (λ flow. before test (on_test u test inside last flow)) (end_of (whole_loop u test inside last))
     (λ flow n h. loop_again u test inside last flow n h)
     (behind_taken u run
-    (λ x vars rest. if holds x then and_on (body vars rest) (λ vars rest. end_of_branch_or_iteration p depth rest (λ rest. again vars rest))
+    (λ x vars rest. if holds x then and_on (body vars rest)
+    (λ vars rest. end_of_branch_or_iteration p depth rest (λ rest. again vars rest))
     else next vars rest) s (on_test u test inside last) tested
     (λ x vars. spends_either u (holds x)
-    (λ (t : List ℤ). and_on (body vars t) (λ vars rest. end_of_branch_or_iteration p depth rest (λ rest. again vars rest)))
+    (λ (t : List ℤ). and_on (body vars t)
+    (λ vars rest. end_of_branch_or_iteration p depth rest (λ rest. again vars rest)))
     (λ (t : List ℤ). next vars t) (on_test u test inside last)
     (behind_on u inside (λ flow. before (two_cycles u) (end_of (whole_loop u test inside last) flow))
     (on_test u test inside last) (λ (t : List ℤ). body vars t)
@@ -344,7 +358,8 @@ returns_now : (u : Counted) (x : ℤ) (vars : Vars) → Spends u (λ (t : List �
 unfolding return_now
 returns_now u x vars = spends_given u (Returns x) vars return_now (within_exactly 0)
 
-pub return_takes : (u : Counted) (fits : Bool) (run : List ℤ → EvaluationResult ℤ) (s : Span) → Spends u run (λ x. Some s) →
+pub return_takes : (u : Counted) (fits : Bool) (run : List ℤ → EvaluationResult ℤ) (s : Span) →
+    Spends u run (λ x. Some s) →
     Spends u
     (λ (t : List ℤ). and_then (run t)
     (λ x vars rest. tick fits Quiet rest (λ reply rest. Gives (Returns x) vars rest)))
@@ -523,13 +538,15 @@ module _ (u : Counted) (p : Profile) (file : File) (again : BodyMeaning) (sooner
         let last : Ends = ends_of u p runs next in
         test_takes u (λ (trace : List ℤ). value p file again c vars depth frames trace)
         (λ vars rest. and_on (effect p file again s vars depth frames rest)
-        (λ vars rest. end_of_branch_or_iteration p depth rest (λ rest. effect p file again next vars depth frames rest)))
+        (λ vars rest. end_of_branch_or_iteration p depth rest
+        (λ rest. effect p file again next vars depth frames rest)))
         (λ vars rest. and_on (effect p file again t vars depth frames rest)
         (λ vars rest. effect p file again next vars depth frames rest))
         (span_of u p runs c) (followed first (after (two_cycles u) last)) (followed second last)
         (value_takes c vars depth frames)
         (λ vars. next_takes u (λ (trace : List ℤ). effect p file again s vars depth frames trace)
-        (λ vars rest. end_of_branch_or_iteration p depth rest (λ rest. effect p file again next vars depth frames rest)) first
+        (λ vars rest. end_of_branch_or_iteration p depth rest (λ rest. effect p file again next vars depth frames rest))
+        first
         (after (two_cycles u) last) (effect_takes s vars depth frames)
         (λ vars. over_takes u p depth (λ (rest : List ℤ). effect p file again next vars depth frames rest) last
         (effect_takes next vars depth frames)))

@@ -32,7 +32,8 @@ set_file = file_of_main (codes "x" ∷ [])
 -- main(){int x; if(x) x++; else return 3;}
 abbrev pub step_file : File
 step_file = file_of_main (codes "x" ∷ [])
-    (IfElseStatement (local 0) (ExpressionStatement (Postfix store_op.Add (var.Local 0)) Done) (Return (constant 3) Done)
+    (IfElseStatement (local 0) (ExpressionStatement (Postfix store_op.Add (var.Local 0)) Done)
+    (Return (constant 3) Done)
     Done)
 
 -- main(){f();} f(){g();} g(){int x; if(x) f();}

@@ -229,7 +229,8 @@ definitions_last (x ∷ ds) d =
     (append_assoc (function_actions x.number x.function) (definitions_actions ds)
     (function_actions d.number d.function))
 
-pub tellable_last : (ds : List Definition) (d : Definition) → AreReportable ds → IsReportable d → AreReportable (ds ++ d ∷ [])
+pub tellable_last : (ds : List Definition) (d : Definition) → AreReportable ds → IsReportable d →
+    AreReportable (ds ++ d ∷ [])
 tellable_last [] d h t = (t, tt)
 tellable_last (x ∷ ds) d h t = (h.0, tellable_last ds d h.1 t)
 

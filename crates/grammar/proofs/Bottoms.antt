@@ -215,7 +215,8 @@ name_leads role (Some name) item stack rest values scope functions bottom other 
     record { bottom = bottom; left = left_behind item stack rest (other name refl) h }
 name_leads role None item stack rest values scope functions bottom other h = tt
 
-constant_leads : (value : Option ℕ) (item : Item) (stack : List Item) (rest : List LocatedToken) (values : List PartialTree)
+constant_leads : (value : Option ℕ) (item : Item) (stack : List Item) (rest : List LocatedToken)
+    (values : List PartialTree)
     (scope : Scope) (functions : List Definition) →
     at_bottom stack ≡ true → ((n : ℕ) → value ≡ Some n → is_last (next_token rest) ≡ false) → Left (item ∷ stack) rest →
     Leads (constant_matched value (state stack rest values scope functions))

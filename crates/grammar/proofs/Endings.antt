@@ -250,7 +250,8 @@ guarded_falls false n o h = h
 
 pub falls : (s : State) → Falls (weight s) (step s)
 falls s =
-    guarded_falls (is_lexical_error (next_token s.rest)) (weight s) _ (falls_of s.stack s.rest s.values s.scope s.functions)
+    guarded_falls (is_lexical_error (next_token s.rest)) (weight s) _
+    (falls_of s.stack s.rest s.values s.scope s.functions)
 
 -- a state from which no step leads on
 abbrev pub IsFinal : State → Type 0

@@ -52,13 +52,16 @@ fails_stuck profile s rest c still faults =
     record { fault = fault rest c; first = stuck profile s (fault rest c) still faults; line = refl; code = refl }
 
 -- a lexical error fits nothing
-pub at_fault : (profile : Profile) (stack : List Item) (rest : List LocatedToken) (values : List PartialTree) (scope : Scope)
+pub at_fault : (profile : Profile) (stack : List Item) (rest : List LocatedToken) (values : List PartialTree)
+    (scope : Scope)
     (functions : List Definition) →
     is_lexical_error (next_token rest) ≡ true →
-    Fails profile (state stack rest values scope functions) (diagnostic (line_at rest) (unexpected_token_code (next_token rest)))
+    Fails profile (state stack rest values scope functions)
+    (diagnostic (line_at rest) (unexpected_token_code (next_token rest)))
 at_fault profile stack rest values scope functions is = fails_stuck profile _ rest _ (rw is refl) (rw is refl)
 
-pub no_part : (profile : Profile) (symbol : Symbol) (stack : List Item) (rest : List LocatedToken) (values : List PartialTree)
+pub no_part : (profile : Profile) (symbol : Symbol) (stack : List Item) (rest : List LocatedToken)
+    (values : List PartialTree)
     (scope : Scope) (functions : List Definition) →
     is_lexical_error (next_token rest) ≡ false → choice symbol (next_token rest) (token_after_next rest) ≡ None →
     nesting_faults symbol (state stack rest values scope functions) ≡ [] →
@@ -75,7 +78,8 @@ pub no_punctuator : (profile : Profile) (m : Punctuator) (stack : List Item) (re
 no_punctuator profile m stack rest values scope functions sound none =
     fails_stuck profile _ rest _ (rw (sound, none) refl) (rw (sound, none) refl)
 
-pub no_word : (profile : Profile) (w : Keyword) (stack : List Item) (rest : List LocatedToken) (values : List PartialTree)
+pub no_word : (profile : Profile) (w : Keyword) (stack : List Item) (rest : List LocatedToken)
+    (values : List PartialTree)
     (scope : Scope) (functions : List Definition) →
     is_lexical_error (next_token rest) ≡ false → is_keyword w (next_token rest) ≡ false →
     Fails profile (state (AKeyword w ∷ stack) rest values scope functions)
@@ -83,7 +87,8 @@ pub no_word : (profile : Profile) (w : Keyword) (stack : List Item) (rest : List
 no_word profile w stack rest values scope functions sound none =
     fails_stuck profile _ rest _ (rw (sound, none) refl) (rw (sound, none) refl)
 
-pub no_name : (profile : Profile) (role : Role) (stack : List Item) (rest : List LocatedToken) (values : List PartialTree)
+pub no_name : (profile : Profile) (role : Role) (stack : List Item) (rest : List LocatedToken)
+    (values : List PartialTree)
     (scope : Scope) (functions : List Definition) →
     is_lexical_error (next_token rest) ≡ false → name_of_token (next_token rest) ≡ None →
     Fails profile (state (AName role ∷ stack) rest values scope functions)

@@ -195,7 +195,8 @@ abbrev IfStands : List Item → Scope → ℕ → Option State → Type 0
 IfStands base known count None = Unit {0}
 IfStands base known count (Some s) = Stands base known count s
 
-matched_stands : (fits : Bool) (items base : List Item) (rest : List LocatedToken) (values : List PartialTree) (scope : Scope)
+matched_stands : (fits : Bool) (items base : List Item) (rest : List LocatedToken) (values : List PartialTree)
+    (scope : Scope)
     (functions : List Definition) → all_inner items ≡ true →
     IfStands base scope (length functions) (matched fits (state (items ++ base) rest values scope functions))
 matched_stands false items base rest values scope functions h = tt
@@ -231,7 +232,8 @@ part_stands (Some front) items base rest values scope functions p h =
       same = refl;
     }
 
-item_stands : (item : Item) (items base : List Item) (rest : List LocatedToken) (values : List PartialTree) (scope : Scope)
+item_stands : (item : Item) (items base : List Item) (rest : List LocatedToken) (values : List PartialTree)
+    (scope : Scope)
     (functions : List Definition) → is_inner item ≡ true → all_inner items ≡ true →
     IfStands base scope (length functions) (item_step item (state (items ++ base) rest values scope functions))
 item_stands (Exactly m) items base rest values scope functions i h =
@@ -287,13 +289,15 @@ matched_more : (fits : Bool) (stack : List Item) (rest : List LocatedToken) (val
 matched_more false stack rest values scope functions = tt
 matched_more true stack rest values scope functions = omega arith
 
-name_more : (role : Role) (o : Option (List ℕ)) (stack : List Item) (rest : List LocatedToken) (values : List PartialTree)
+name_more : (role : Role) (o : Option (List ℕ)) (stack : List Item) (rest : List LocatedToken)
+    (values : List PartialTree)
     (scope : Scope) (functions : List Definition) →
     IfMore (length functions) (name_matched role o (state stack rest values scope functions))
 name_more role None stack rest values scope functions = tt
 name_more role (Some name) stack rest values scope functions = omega arith
 
-constant_more : (o : Option ℕ) (stack : List Item) (rest : List LocatedToken) (values : List PartialTree) (scope : Scope)
+constant_more : (o : Option ℕ) (stack : List Item) (rest : List LocatedToken) (values : List PartialTree)
+    (scope : Scope)
     (functions : List Definition) →
     IfMore (length functions) (constant_matched o (state stack rest values scope functions))
 constant_more None stack rest values scope functions = tt
@@ -371,7 +375,8 @@ step_keeps n [] stack known count s inner over h again =
     (sym over)
     (end_keeps (is_lexical_error (next_token s.rest)) n stack known count s h.same (again s h))
 step_keeps n (item ∷ items) stack known count s inner over h again =
-    again (stepped s) (stays base known count s (step s) h (guarded_stands (is_lexical_error (next_token s.rest)) base s.scope
+    again (stepped s) (stays base known count s (step s) h (guarded_stands (is_lexical_error (next_token s.rest)) base
+    s.scope
     (length s.functions) (stack_step s.stack s)
     (subst
     (λ (xs : List Item). IfStands base s.scope (length s.functions) (stack_step xs s))
@@ -389,7 +394,8 @@ run_keeps (suc n) stack known count s h =
     step_keeps n h.items stack known count s h.inner h.over h (λ t k. run_keeps n stack known count t k)
 
 -- from inner items over a function's end to any state before the next function is defined
-pub inner_keeps : (n : ℕ) (items stack after : List Item) (rest later : List LocatedToken) (values left : List PartialTree)
+pub inner_keeps : (n : ℕ) (items stack after : List Item) (rest later : List LocatedToken)
+    (values left : List PartialTree)
     (known learnt : Scope) (functions : List Definition) → all_inner items ≡ true →
     derived n (state (items ++ Make Define ∷ stack) rest values known functions) ≡
     state after later left learnt functions →

@@ -23,7 +23,8 @@ cut_ends : (n line place : ℕ) (bytes : List ℕ) (too_long : Bool) → length 
     EndsWithLast (tokens_within n (here line place bytes too_long))
 cut_ends zero line place bytes t h = absurd (omega (arith, h))
 cut_ends (suc n) line place [] t h = last-is_last token.End line (at_end (here line place [] t)) refl
-cut_ends (suc n) line place (b ∷ bytes) t h = by (input_element (b ∷ bytes)) (input_element-is_piece (b ∷ bytes)) (λ count c.
+cut_ends (suc n) line place (b ∷ bytes) t h =
+    by (input_element (b ∷ bytes)) (input_element-is_piece (b ∷ bytes)) (λ count c.
     let p = ahead_after count a in
     let e = length-ahead_after count a in
     cut_ends n p.line p.offset p.bytes p.too_long (omega (arith, e, h, c)))
@@ -36,7 +37,8 @@ cut_ends (suc n) line place (b ∷ bytes) t h = by (input_element (b ∷ bytes))
     followed located_token others true e h = e
     followed located_token others false e h = in_front located_token others h
 
-    by : (f : InputElement) → IsPiece f → ((count : ℕ) → 0 < count → EndsWithLast (tokens_within n (ahead_after count a))) →
+    by : (f : InputElement) → IsPiece f →
+        ((count : ℕ) → 0 < count → EndsWithLast (tokens_within n (ahead_after count a))) →
         EndsWithLast (tokens_of_element f a (tokens_within n))
     by Nothing p each = last-is_last token.End line (at_end a) refl
     by Unclosed p each = last-is_last (token.Fault CommentNotClosed) line (at_end a) refl

@@ -108,13 +108,15 @@ matched_named : (fits : Bool) (stack : List Item) (rest : List LocatedToken) (va
 matched_named true stack rest values scope ds h = h
 matched_named false stack rest values scope ds h = tt
 
-name_named : (role : Role) (name : Option (List ℕ)) (stack : List Item) (rest : List LocatedToken) (values : List PartialTree)
+name_named : (role : Role) (name : Option (List ℕ)) (stack : List Item) (rest : List LocatedToken)
+    (values : List PartialTree)
     (scope : Scope) (ds : List Definition) → AreNamed scope.functions ds →
     IfNamed (name_matched role name (state stack rest values scope ds))
 name_named role None stack rest values scope ds h = tt
 name_named role (Some name) stack rest values scope ds h = role_named role name (line_at rest) scope ds h
 
-constant_named : (value : Option ℕ) (stack : List Item) (rest : List LocatedToken) (values : List PartialTree) (scope : Scope)
+constant_named : (value : Option ℕ) (stack : List Item) (rest : List LocatedToken) (values : List PartialTree)
+    (scope : Scope)
     (ds : List Definition) → AreNamed scope.functions ds →
     IfNamed (constant_matched value (state stack rest values scope ds))
 constant_named None stack rest values scope ds h = tt
@@ -130,7 +132,8 @@ same_named : (functions : List FunctionNames) (ds : List Definition) → AreName
     AreNamed functions (ds ++ [])
 same_named functions ds h = subst (λ (xs : List Definition). AreNamed functions xs) (sym (append-nil ds)) h
 
-step_named : (stack : List Item) (rest : List LocatedToken) (values : List PartialTree) (scope : Scope) (ds : List Definition)
+step_named : (stack : List Item) (rest : List LocatedToken) (values : List PartialTree) (scope : Scope)
+    (ds : List Definition)
     → Sound (state stack rest values scope ds) →
     AreNamed scope.functions ds → IfNamed (stack_step stack (state stack rest values scope ds))
 step_named [] rest values scope ds s h = tt

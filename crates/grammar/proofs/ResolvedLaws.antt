@@ -42,7 +42,8 @@ pub record Sound (s : State) : Type 0 where
   pub known : Known s.scope s.functions
   pub tied : Tied (phase_of s.stack) s.values s.scope s.functions
 
-tied_stays : (before after : Phase) (values : List PartialTree) (scope : Scope) (ds : List Definition) → Stays before after →
+tied_stays : (before after : Phase) (values : List PartialTree) (scope : Scope) (ds : List Definition) →
+    Stays before after →
     Tied before values scope ds → Tied after values scope ds
 tied_stays Outside Outside values scope ds e t = t
 tied_stays Outside Before values scope ds e t = t
@@ -58,11 +59,13 @@ tied_stays Inside Inside values scope ds e t = t
 tied_stays Inside Wrong values scope ds e t = absurd (cc)
 tied_stays Wrong after values scope ds e t = absurd t
 
-quiet_grows : (values : List PartialTree) (old new : Scope) (ds : List Definition) → Grows old new ds → Quiet values old ds →
+quiet_grows : (values : List PartialTree) (old new : Scope) (ds : List Definition) → Grows old new ds →
+    Quiet values old ds →
     Quiet values new ds
 quiet_grows values old new ds g q = record { none = q.none; begun = g.begun ∙ q.begun }
 
-busy_grows : (values : List PartialTree) (old new : Scope) (ds : List Definition) → Grows old new ds → Busy values old ds →
+busy_grows : (values : List PartialTree) (old new : Scope) (ds : List Definition) → Grows old new ds →
+    Busy values old ds →
     Busy values new ds
 busy_grows values old new ds g b = record {
   within = values_wider _ _ _ _ _ _ g.wider values b.within;
@@ -166,7 +169,8 @@ among_last n [] = inl refl
 among_last n (x ∷ ns) = inr (among_last n ns)
 
 -- at a function's end
-define_known : (values : List PartialTree) (scope : Scope) (ds : List Definition) → Known scope ds → Busy values scope ds →
+define_known : (values : List PartialTree) (scope : Scope) (ds : List Definition) → Known scope ds →
+    Busy values scope ds →
     Known (end_definition scope) (ds ++ definition_of scope (last_body values) ∷ [])
 define_known values scope ds k b =
     let same : length (end_definition scope).functions ≡ length scope.functions =
@@ -240,7 +244,8 @@ matched_sound : (fits : Bool) (stack : List Item) (rest : List LocatedToken) (va
 matched_sound true stack rest values scope ds s = record { known = s.known; tied = s.tied }
 matched_sound false stack rest values scope ds s = tt
 
-constant_sound : (value : Option ℕ) (stack : List Item) (rest : List LocatedToken) (values : List PartialTree) (scope : Scope)
+constant_sound : (value : Option ℕ) (stack : List Item) (rest : List LocatedToken) (values : List PartialTree)
+    (scope : Scope)
     (ds : List Definition) →
     Known scope ds → Tied (inside (phase_of stack)) values scope ds →
     IfSound (constant_matched value (state stack rest values scope ds))
@@ -271,7 +276,8 @@ part_sound symbol (Some items) stack rest values scope ds e s = record {
       (part_stays symbol (next_token rest) (token_after_next rest) items stack e) s.tied;
 }
 
-sound_of : (profile : Profile) (stack : List Item) (rest : List LocatedToken) (values : List PartialTree) (scope : Scope)
+sound_of : (profile : Profile) (stack : List Item) (rest : List LocatedToken) (values : List PartialTree)
+    (scope : Scope)
     (ds : List Definition) →
     Clean (stack_faults profile stack (state stack rest values scope ds)) → Sound (state stack rest values scope ds) →
     IfSound (stack_step stack (state stack rest values scope ds))
@@ -370,7 +376,8 @@ start_sound located_tokens = record {
 
 -- The file of the last state.
 
-defined_in : (e n k : ℕ) (f : Function) (ds : List Definition) → AllIn e n ds → defined_as k ds ≡ Some f → FitsFile e n f
+defined_in : (e n k : ℕ) (f : Function) (ds : List Definition) → AllIn e n ds → defined_as k ds ≡ Some f →
+    FitsFile e n f
 defined_in e n k f [] h is = absurd (cc)
 defined_in e n k f (d ∷ ds) h is = at_test (λ g. defined_in e n k f ds h.2 g) (d.number == k) is
   where

@@ -32,7 +32,8 @@ here profile s = record { steps = 0; leads = refl; clean = refl }
 both_empty : (xs ys : List Fault) → xs ≡ [] → ys ≡ [] → xs ++ ys ≡ []
 both_empty xs ys p q = rw (p, q) refl
 
-pub then : (profile : Profile) (s t u : State) → DerivesWithoutFault profile s t → DerivesWithoutFault profile t u → DerivesWithoutFault profile s u
+pub then : (profile : Profile) (s t u : State) → DerivesWithoutFault profile s t → DerivesWithoutFault profile t u →
+    DerivesWithoutFault profile s u
 then profile s t u a b = record {
   steps = a.steps + b.steps;
   leads = derived-add a.steps b.steps s ∙ ap (λ v. derived b.steps v) a.leads ∙ b.leads;
@@ -72,7 +73,8 @@ sooner profile m s f h = record {
 }
 
 -- a first fault goes back along a segment without faults
-pub first_back : (profile : Profile) (s t : State) (f : Fault) → DerivesWithoutFault profile s t → IsFirstFault profile t f →
+pub first_back : (profile : Profile) (s t : State) (f : Fault) → DerivesWithoutFault profile s t →
+    IsFirstFault profile t f →
     IsFirstFault profile s f
 first_back profile s t f p h = record {
   comes = sooner profile p.steps s f (subst (λ (v : State). IsFault profile v f) (sym p.leads) h.comes);

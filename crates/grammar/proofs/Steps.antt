@@ -51,7 +51,8 @@ pub name : (profile : Profile) (role : Role) (bytes : List ℕ) (stack : List It
 name profile role bytes stack rest values scope functions sound fits clean =
     one profile _ _ (rw (sound, fits, clean) refl) (rw (sound, fits) refl)
 
-pub constant : (profile : Profile) (value : ℕ) (stack : List Item) (rest : List LocatedToken) (values : List PartialTree)
+pub constant : (profile : Profile) (value : ℕ) (stack : List Item) (rest : List LocatedToken)
+    (values : List PartialTree)
     (scope : Scope) (functions : List Definition) →
     is_lexical_error (next_token rest) ≡ false → constant_value (next_token rest) ≡ Some value →
     DerivesWithoutFault profile (state (AConstant ∷ stack) rest values scope functions)
@@ -59,7 +60,8 @@ pub constant : (profile : Profile) (value : ℕ) (stack : List Item) (rest : Lis
 constant profile value stack rest values scope functions sound fits =
     one profile _ _ (rw (sound, fits) refl) (rw (sound, fits) refl)
 
-pub last : (profile : Profile) (stack : List Item) (rest : List LocatedToken) (values : List PartialTree) (scope : Scope)
+pub last : (profile : Profile) (stack : List Item) (rest : List LocatedToken) (values : List PartialTree)
+    (scope : Scope)
     (functions : List Definition) →
     is_lexical_error (next_token rest) ≡ false → is_end (next_token rest) ≡ true →
     DerivesWithoutFault profile (state (AnEnd ∷ stack) rest values scope functions)
@@ -67,10 +69,12 @@ pub last : (profile : Profile) (stack : List Item) (rest : List LocatedToken) (v
 last profile stack rest values scope functions sound fits =
     one profile _ _ (rw (sound, fits) refl) (rw (sound, fits) refl)
 
-pub close : (profile : Profile) (stack : List Item) (rest : List LocatedToken) (values : List PartialTree) (scope : Scope)
+pub close : (profile : Profile) (stack : List Item) (rest : List LocatedToken) (values : List PartialTree)
+    (scope : Scope)
     (functions : List Definition) →
     is_lexical_error (next_token rest) ≡ false →
-    DerivesWithoutFault profile (state (Close ∷ stack) rest values scope functions) (state stack rest values scope functions)
+    DerivesWithoutFault profile (state (Close ∷ stack) rest values scope functions)
+    (state stack rest values scope functions)
 close profile stack rest values scope functions sound = one profile _ _ (rw sound refl) (rw sound refl)
 
 pub make : (profile : Profile) (rule : SemanticAction) (stack : List Item) (rest : List LocatedToken)

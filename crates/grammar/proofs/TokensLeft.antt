@@ -27,7 +27,8 @@ abbrev Rests : List LocatedToken → Option State → Type 0
 Rests rest None = Unit {0}
 Rests rest (Some t) = IsRest t.rest rest
 
-name_rests : (role : Role) (name : Option (List ℕ)) (stack : List Item) (rest : List LocatedToken) (values : List PartialTree)
+name_rests : (role : Role) (name : Option (List ℕ)) (stack : List Item) (rest : List LocatedToken)
+    (values : List PartialTree)
     (scope : Scope) (functions : List Definition) →
     Rests rest (name_matched role name (state stack rest values scope functions))
 name_rests role (Some name) stack rest values scope functions = rest_fewer rest
@@ -38,7 +39,8 @@ matched_rests : (fits : Bool) (stack : List Item) (rest : List LocatedToken) (va
 matched_rests true stack rest values scope functions = rest_fewer rest
 matched_rests false stack rest values scope functions = tt
 
-constant_rests : (value : Option ℕ) (stack : List Item) (rest : List LocatedToken) (values : List PartialTree) (scope : Scope)
+constant_rests : (value : Option ℕ) (stack : List Item) (rest : List LocatedToken) (values : List PartialTree)
+    (scope : Scope)
     (functions : List Definition) → Rests rest (constant_matched value (state stack rest values scope functions))
 constant_rests (Some value) stack rest values scope functions = rest_fewer rest
 constant_rests None stack rest values scope functions = tt
@@ -74,7 +76,8 @@ pub run_rests : (n : ℕ) (s : State) → IsRest (derived n s).rest s.rest
 run_rests zero s = rest_itself s.rest
 run_rests (suc n) s = rest_of_rest _ _ _ (run_rests n (stepped s))
     (kept_rests s (step s)
-    (guarded_rests (is_lexical_error (next_token s.rest)) s.rest _ (step_rests s.stack s.rest s.values s.scope s.functions)))
+    (guarded_rests (is_lexical_error (next_token s.rest)) s.rest _
+    (step_rests s.stack s.rest s.values s.scope s.functions)))
 
 pub run_keeps : (n : ℕ) (s : State) → length (derived n s).rest ≤ length s.rest
 run_keeps n s =

@@ -347,7 +347,8 @@ give_back (Behind x (Statement p)) q fits e small =
 give_back (Statement (InFun n k b)) q fits e small = absurd (cc)
 give_back h q fits e small = absurd (cc)
 
-chop_place : (o : ValueCategory) (p : Place) → follow Chop (AValue o ∷ open_place p) ≡ statement_done false (open_place p)
+chop_place : (o : ValueCategory) (p : Place) →
+    follow Chop (AValue o ∷ open_place p) ≡ statement_done false (open_place p)
 chop_place o (InFun n k b) = refl
 chop_place o (InFirst c b outer) = refl
 chop_place o (InSecond c s b outer) = refl

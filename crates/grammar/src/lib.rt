@@ -19,7 +19,7 @@ pub use actions::Action;
 pub use arith::Op;
 pub use build::{Build, BuildFault};
 pub use diagnostics::{Code, Diagnostic, ParseFault, lexical_error_code};
-pub use name_limits::{MOST_NESTED, MOST_NAMES};
+pub use name_limits::{MOST_NAMES, MOST_NESTED};
 pub use operators::{
     BinaryOperator, StoreOp, operator_from, operator_punctuator, store_operator, store_punctuator,
 };

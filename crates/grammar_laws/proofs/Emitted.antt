@@ -63,13 +63,15 @@ matched_part : (fits : Bool) (stack : List Item) (rest : List LocatedToken) (val
 matched_part true stack rest values scope ds acts h = h
 matched_part false stack rest values scope ds acts h = tt
 
-constant_part : (value : Option ℕ) (stack : List Item) (rest : List LocatedToken) (values : List PartialTree) (scope : Scope)
+constant_part : (value : Option ℕ) (stack : List Item) (rest : List LocatedToken) (values : List PartialTree)
+    (scope : Scope)
     (ds : List Definition) (acts : List Action) → HasPart acts ds →
     IfPart (constant_matched value (state stack rest values scope ds)) acts
 constant_part None stack rest values scope ds acts h = tt
 constant_part (Some value) stack rest values scope ds acts h = h
 
-named_part : (role : Role) (name : Option (List ℕ)) (stack : List Item) (rest : List LocatedToken) (values : List PartialTree)
+named_part : (role : Role) (name : Option (List ℕ)) (stack : List Item) (rest : List LocatedToken)
+    (values : List PartialTree)
     (scope : Scope) (ds : List Definition) (acts : List Action) → HasPart acts ds →
     IfPart (name_matched role name (state stack rest values scope ds)) acts
 named_part role None stack rest values scope ds acts h = tt

@@ -27,7 +27,8 @@ use Rattle.grammar.proofs.Weight.{weight}
 -- If a derivation ends without a fault, nothing is left to match.
 
 nothing_left : (stack : List Item) (rest : List LocatedToken) (fault : Bool) (xs : List Fault) (o : Option State) →
-    (if fault then None else o) ≡ None → (if fault then unexpected_token rest else xs ++ unexpected_tokens stack rest o) ≡ [] → stack ≡ []
+    (if fault then None else o) ≡ None →
+    (if fault then unexpected_token rest else xs ++ unexpected_tokens stack rest o) ≡ [] → stack ≡ []
 nothing_left [] rest fault xs o final clean = refl
 nothing_left (item ∷ stack) rest true xs o final clean = absurd (cc)
 nothing_left (item ∷ stack) rest false xs None final clean =

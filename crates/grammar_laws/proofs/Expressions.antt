@@ -216,20 +216,23 @@ passed : (e : Expression) → IsOperand e → (tokens : List Token) → Stops to
     (stack : List Item) (callee : Callee) (arguments : Args) (values : List PartialTree) (scope : Scope)
     (functions : List Definition) →
     Leads
-    (at (Part grammar.Expression ∷ Make AddArgument ∷ stack) (spell_part e ++ tokens) (ACall callee arguments ∷ values) scope
+    (at (Part grammar.Expression ∷ Make AddArgument ∷ stack) (spell_part e ++ tokens) (ACall callee arguments ∷ values)
+    scope
     functions)
     (at stack tokens (ACall callee (add_argument arguments (tree_of e scope)) ∷ values) (behind e scope) functions)
 passed e is tokens s stack callee arguments values scope functions =
     rw s.is
     (then _ _ _
     (part_alone e is s.closing s.behind (Make AddArgument ∷ stack) (ACall callee arguments ∷ values) scope functions)
-    (make AddArgument stack (token.Punctuator (closing_punctuator s.closing) ∷ s.behind) _ _ (behind e scope) functions refl
+    (make AddArgument stack (token.Punctuator (closing_punctuator s.closing) ∷ s.behind) _ _ (behind e scope) functions
+    refl
     refl refl refl))
 
 -- further arguments
 abbrev AreTaken : Arguments → Type 0
 AreTaken more =
-    (rest : List Token) (stack : List Item) (callee : Callee) (arguments : Args) (values : List PartialTree) (scope : Scope)
+    (rest : List Token) (stack : List Item) (callee : Callee) (arguments : Args) (values : List PartialTree)
+    (scope : Scope)
     (functions : List Definition) →
     Leads
     (at (Part MoreArguments ∷ stack) (spell_more more ++ token.Punctuator punctuator.CloseRound ∷ rest)

@@ -46,9 +46,11 @@ part symbol items stack tokens values scope functions sound chosen =
     record { steps = 1; leads = rw (sound, chosen) refl }
 
 -- a tree is made; only the semantic action of a function's end adds to the functions
-pub make : (rule : SemanticAction) (stack : List Item) (tokens : List Token) (values left : List PartialTree) (scope : Scope)
+pub make : (rule : SemanticAction) (stack : List Item) (tokens : List Token) (values left : List PartialTree)
+    (scope : Scope)
     (functions : List Definition) →
-    is_lexical_error (first tokens) ≡ false → trees_after rule values ≡ left → functions_defined rule values scope ≡ [] →
+    is_lexical_error (first tokens) ≡ false → trees_after rule values ≡ left →
+    functions_defined rule values scope ≡ [] →
     scope_after_action rule scope ≡ scope →
     Leads (at (Make rule ∷ stack) tokens values scope functions) (at stack tokens left scope functions)
 make rule stack tokens values left scope functions sound is quiet same =

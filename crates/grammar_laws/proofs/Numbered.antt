@@ -31,7 +31,8 @@ abbrev IfAgrees : History → History → Option State → Type 0
 IfAgrees more h None = more ≡ []
 IfAgrees more h (Some s) = Agrees (more ++ h) s.scope
 
-matched_agrees : (fits : Bool) (stack : List Item) (rest : List LocatedToken) (values : List PartialTree) (scope : Scope)
+matched_agrees : (fits : Bool) (stack : List Item) (rest : List LocatedToken) (values : List PartialTree)
+    (scope : Scope)
     (ds : List Definition) (h : History) → Agrees h scope →
     IfAgrees [] h (matched fits (state stack rest values scope ds))
 matched_agrees true stack rest values scope ds h a = a
@@ -217,7 +218,8 @@ map_set (g ∷ fs) zero f e =
 map_set (g ∷ fs) (suc n) f e = ap (λ ns. g.name ∷ ns) (map_set fs n f e)
 
 -- the number of the function whose definition ends
-ending_number : (values : List PartialTree) (h : History) (scope : Scope) (ds : List Definition) → Busy values scope ds →
+ending_number : (values : List PartialTree) (h : History) (scope : Scope) (ds : List Definition) →
+    Busy values scope ds →
     Counts h scope ds → slice_get (names_in scope) scope.number ≡ Some scope.current.name
 ending_number values h scope ds b c =
     c.current
@@ -244,7 +246,8 @@ abbrev IfCounts : History → History → Option State → Type 0
 IfCounts more h None = more ≡ []
 IfCounts more h (Some s) = Counts (more ++ h) s.scope s.functions
 
-matched_counts : (fits : Bool) (stack : List Item) (rest : List LocatedToken) (values : List PartialTree) (scope : Scope)
+matched_counts : (fits : Bool) (stack : List Item) (rest : List LocatedToken) (values : List PartialTree)
+    (scope : Scope)
     (ds : List Definition) (h : History) → Counts h scope ds →
     IfCounts [] h (matched fits (state stack rest values scope ds))
 matched_counts true stack rest values scope ds h c = c
@@ -270,7 +273,8 @@ part_counts : (production : Production) (stack : List Item) (rest : List Located
 part_counts None stack rest values scope ds h c = refl
 part_counts (Some items) stack rest values scope ds h c = c
 
-step_counts : (profile : Profile) (stack : List Item) (rest : List LocatedToken) (values : List PartialTree) (scope : Scope)
+step_counts : (profile : Profile) (stack : List Item) (rest : List LocatedToken) (values : List PartialTree)
+    (scope : Scope)
     (ds : List Definition) (h : History) →
     stack_faults profile stack (state stack rest values scope ds) ≡ [] → Sound (state stack rest values scope ds) →
     Counts h scope ds →

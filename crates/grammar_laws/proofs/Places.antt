@@ -98,7 +98,8 @@ bare_name_matched role None stack l rest values scope functions = refl
 bare_name_matched role (Some name) stack l rest values scope functions =
     rw (bare_tree role name scope, bare_name role name l.line scope) refl
 
-bare_constant : (value : Option ℕ) (stack : List Item) (rest : List LocatedToken) (values : List PartialTree) (scope : Scope)
+bare_constant : (value : Option ℕ) (stack : List Item) (rest : List LocatedToken) (values : List PartialTree)
+    (scope : Scope)
     (functions : List Definition) →
     AreBare (constant_matched value (state stack (bare_rest rest) values (bare_scope scope) functions))
     (constant_matched value (state stack rest values scope functions))

@@ -66,7 +66,8 @@ name_allowed role name scope ds rest k clean = tt
 
 -- Functions.
 
-begins_allowed : (symbol : Symbol) (stack : List Item) (rest : List LocatedToken) (values : List PartialTree) (scope : Scope)
+begins_allowed : (symbol : Symbol) (stack : List Item) (rest : List LocatedToken) (values : List PartialTree)
+    (scope : Scope)
     (ds : List Definition) → Sound (state (Part symbol ∷ stack) rest values scope ds) → Begins (Unit {0}) symbol scope
 begins_allowed FunctionBlock stack rest values scope ds s =
     let k : Known scope ds = s.known in
@@ -79,7 +80,8 @@ begins_allowed symbol stack rest values scope ds s = tt
 
 -- Any item.
 
-item_allowed : (profile : Profile) (stack : List Item) (rest : List LocatedToken) (values : List PartialTree) (scope : Scope)
+item_allowed : (profile : Profile) (stack : List Item) (rest : List LocatedToken) (values : List PartialTree)
+    (scope : Scope)
     (ds : List Definition) → Clean (stack_faults profile stack (state stack rest values scope ds)) →
     Sound (state stack rest values scope ds) → Allows (Unit {0}) stack rest scope
 item_allowed profile [] rest values scope ds clean s = tt

@@ -43,7 +43,8 @@ given A room next values n k ds acts h e f more is =
 
 -- Operators of a level.
 
-level_tells : (A : Type 0) (m : ℕ) (b : Bool) (stack : List Item) (values : List PartialTree) (n k : ℕ) (ds : List Definition)
+level_tells : (A : Type 0) (m : ℕ) (b : Bool) (stack : List Item) (values : List PartialTree) (n k : ℕ)
+    (ds : List Definition)
     (acts : List Action) →
     Gives A (room_in stack + (3 - m)) (Tells A stack) values n k ds acts →
     Produced A (if b then Some (Part (Level (m + 1)) ∷ Part (Tail m) ∷ []) else Some (Part Unary ∷ []))
@@ -57,7 +58,8 @@ level_tells A m true stack values n k ds acts h = λ e f. record {
 level_tells A m false stack values n k ds acts h =
     λ e f. h e (expr_wider A (room_in stack) (room_in stack + (3 - m)) e (λ a. omega arith) f)
 
-pub no_more_operators : (A : Type 0) (room : ℕ) (next : Fact) (values : List PartialTree) (n k : ℕ) (ds : List Definition)
+pub no_more_operators : (A : Type 0) (room : ℕ) (next : Fact) (values : List PartialTree) (n k : ℕ)
+    (ds : List Definition)
     (acts : List Action) → Goes A room next values n k ds acts → next values n k ds acts
 no_more_operators A room next (AnExpr e ∷ below) n k ds acts h =
     subst (λ (xs : List Action). next (AnExpr e ∷ below) n k ds xs) h.told (h.on e h.fits)
@@ -146,7 +148,8 @@ compared : (acts e : List Action) (value : ℤ) (o : Op) →
     acts ++ (e ++ PushConstant value ∷ ApplyBinop o ∷ []) ≡ (acts ++ e) ++ PushConstant value ∷ ApplyBinop o ∷ []
 compared acts e value o = simp append_assoc refl
 
-unary_tells : (A : Type 0) (next after : Token) (stack : List Item) (values : List PartialTree) (scope : Scope) (n k : ℕ)
+unary_tells : (A : Type 0) (next after : Token) (stack : List Item) (values : List PartialTree) (scope : Scope)
+    (n k : ℕ)
     (ds : List Definition) (acts : List Action) →
     Gives A (room_in stack) (Tells A stack) values n k ds acts →
     Produced A (choice Unary next after) stack values n k ds (and_then acts (on_choice Unary next scope))
@@ -207,7 +210,8 @@ primary_tells A next after stack values n k ds acts level h = tt
 
 -- Arguments.
 
-pub no_more_arguments : (A : Type 0) (room : ℕ) (next : Fact) (values : List PartialTree) (n k : ℕ) (ds : List Definition)
+pub no_more_arguments : (A : Type 0) (room : ℕ) (next : Fact) (values : List PartialTree) (n k : ℕ)
+    (ds : List Definition)
     (acts : List Action) → Passed A room next values n k ds acts → next values n k ds acts
 no_more_arguments A room next (ACall c args ∷ below) n k ds acts h =
     subst (λ (xs : List Action). next (ACall c args ∷ below) n k ds xs) h.told (h.on args h.fits)

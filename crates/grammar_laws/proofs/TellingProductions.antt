@@ -46,7 +46,8 @@ Enters A symbol next after stack = A → enters symbol next after ≡ true → n
 
 -- Files.
 
-ends_between : (A : Type 0) (next : Fact) (values : List PartialTree) (n k : ℕ) (ds : List Definition) (acts : List Action) →
+ends_between : (A : Type 0) (next : Fact) (values : List PartialTree) (n k : ℕ) (ds : List Definition)
+    (acts : List Action) →
     Between A next ds acts → next values n k ds acts
 ends_between A next values n k ds acts h = subst (λ (xs : List Action). next values n k ds xs) h.told
     (h.on values n k ds h.fit)
@@ -76,7 +77,8 @@ head_tells A (token.Name name) (token.Punctuator punctuator.OpenRound) stack val
 head_tells A (token.Name name) after stack values n k ds acts h = ends_between A (Tells A stack) values n k ds acts h
 head_tells A next after stack values n k ds acts h = tt
 
-one_more_name : (A : Type 0) (role : Role) (stack : List Item) (values : List PartialTree) (n k : ℕ) (ds : List Definition)
+one_more_name : (A : Type 0) (role : Role) (stack : List Item) (values : List PartialTree) (n k : ℕ)
+    (ds : List Definition)
     (acts : List Action) →
     Listed role (Tells A stack) values n k ds acts → Tells A (AName role ∷ Part (More role) ∷ stack) values n k ds acts
 one_more_name A Defined stack values n k ds acts h = absurd h
@@ -87,7 +89,8 @@ one_more_name A Local stack values n k ds acts h = h
 one_more_name A Called stack values n k ds acts h = absurd h
 one_more_name A Mentioned stack values n k ds acts h = absurd h
 
-pub no_more_names : (A : Type 0) (role : Role) (next : Fact) (values : List PartialTree) (n k : ℕ) (ds : List Definition)
+pub no_more_names : (A : Type 0) (role : Role) (next : Fact) (values : List PartialTree) (n k : ℕ)
+    (ds : List Definition)
     (acts : List Action) →
     Listed role next values n k ds acts → next values n k ds acts
 no_more_names A Defined next values n k ds acts h = absurd h
@@ -98,7 +101,8 @@ no_more_names A Local next values n k ds acts h = h
 no_more_names A Called next values n k ds acts h = absurd h
 no_more_names A Mentioned next values n k ds acts h = absurd h
 
-pub more_tells : (A : Type 0) (role : Role) (next after : Token) (stack : List Item) (values : List PartialTree) (n k : ℕ)
+pub more_tells : (A : Type 0) (role : Role) (next after : Token) (stack : List Item) (values : List PartialTree)
+    (n k : ℕ)
     (ds : List Definition) (acts : List Action) →
     Listed role (Tells A stack) values n k ds acts → Produced A (choice (More role) next after) stack values n k ds acts
 more_tells A role (token.Punctuator punctuator.Comma) after stack values n k ds acts h =
@@ -147,7 +151,8 @@ added A least next b acts h s f more e =
     ∙ ap (λ xs. xs ++ body_actions s) h.told ∙ e)
     (h.on (join b s) (join_fits A h.room b s h.fits f))
 
-pub no_more_statements : (A : Type 0) (least : ℕ) (next : Fact) (values : List PartialTree) (n k : ℕ) (ds : List Definition)
+pub no_more_statements : (A : Type 0) (least : ℕ) (next : Fact) (values : List PartialTree) (n k : ℕ)
+    (ds : List Definition)
     (acts : List Action) → Stated A least next values n k ds acts → next values n k ds acts
 no_more_statements A least next (ABody b ∷ below) n k ds acts h =
     subst (λ (xs : List Action). next (ABody b ∷ below) n k ds xs) h.told (h.on b h.fits)
@@ -205,7 +210,8 @@ branch_actions base b acts c x s e = sym (append_assoc base b (c ++ x ∷ s)) �
     again : acts ++ (c ++ x ∷ s) ≡ ((acts ++ c) ++ x ∷ []) ++ s
     again = simp append_assoc refl
 
-decides : (A : Type 0) (stack : List Item) (values : List PartialTree) (n k : ℕ) (ds : List Definition) (acts : List Action) →
+decides : (A : Type 0) (stack : List Item) (values : List PartialTree) (n k : ℕ) (ds : List Definition)
+    (acts : List Action) →
     (A → nested_count stack < 64) → Stated A (room_in stack + 2) (Tells A stack) values n k ds acts →
     Tells A (Part Expression ∷ Exactly punctuator.CloseRound ∷ Make Empty ∷ Part Statement ∷ Part
     ElsePart ∷ Close ∷ stack) values n k ds acts
@@ -232,7 +238,8 @@ turn_actions : (acts c s : List Action) → acts ++ (BeginWhile ∷ (c ++ WhileT
     ((((acts ++ BeginWhile ∷ []) ++ c) ++ WhileTest ∷ []) ++ s) ++ EndWhile ∷ []
 turn_actions acts c s = simp append_assoc refl
 
-repeats : (A : Type 0) (stack : List Item) (values : List PartialTree) (n k : ℕ) (ds : List Definition) (acts : List Action) →
+repeats : (A : Type 0) (stack : List Item) (values : List PartialTree) (n k : ℕ) (ds : List Definition)
+    (acts : List Action) →
     (A → nested_count stack < 64) → Stated A (room_in stack + 2) (Tells A stack) values n k ds acts →
     Tells A (Part Expression ∷ Exactly punctuator.CloseRound ∷ Make Empty ∷ Part Statement ∷ Make
     Repeat ∷ Close ∷ stack) values n k ds (acts ++ BeginWhile ∷ [])

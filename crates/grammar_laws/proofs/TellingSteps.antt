@@ -68,7 +68,8 @@ matched_tells : (A : Type 0) (fits : Bool) (stack : List Item) (rest : List Loca
 matched_tells A true stack rest values scope ds acts h = h
 matched_tells A false stack rest values scope ds acts h = refl
 
-constant_tells : (A : Type 0) (value : Option ℕ) (stack : List Item) (rest : List LocatedToken) (values : List PartialTree)
+constant_tells : (A : Type 0) (value : Option ℕ) (stack : List Item) (rest : List LocatedToken)
+    (values : List PartialTree)
     (scope : Scope) (ds : List Definition) (acts : List Action) →
     Tells A (AConstant ∷ stack) values scope.number scope.current.parameters ds acts →
     After A (constant_matched value (state stack rest values scope ds)) acts (on_constant value)
@@ -113,7 +114,8 @@ nameless Called = refl
 nameless role = refl
 
 named_tells : (A : Type 0) (role : Role) (name : Option (List ℕ)) (stack : List Item) (rest : List LocatedToken)
-    (values : List PartialTree) (scope : Scope) (ds : List Definition) (acts : List Action) → NameAllows A role name scope →
+    (values : List PartialTree) (scope : Scope) (ds : List Definition) (acts : List Action) →
+    NameAllows A role name scope →
     Named A role (Tells A stack) values scope.number scope.current.parameters ds acts →
     After A (name_matched role name (state stack rest values scope ds)) acts (on_name role name)
 named_tells A role None stack rest values scope ds acts allows h = nameless role

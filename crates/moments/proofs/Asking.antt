@@ -81,7 +81,8 @@ wanted_is codes robots seats arena s i none w are same inside game come is by =
     (sym (robot_wants codes robots seats i none (replies_of now i) are same inside))
 
 -- a robot that is found to ask lives, and asks by its replies
-asks_live : (robots : List Behaviour) (i : ℕ) (s : BattleState) (k : Intrinsic) (a : List ℤ) → wanted robots i s ≡ Ask k a
+asks_live : (robots : List Behaviour) (i : ℕ) (s : BattleState) (k : Intrinsic) (a : List ℤ) →
+    wanted robots i s ≡ Ask k a
     → (is_live_at s.field i ≡ true) × (behaviour_at robots i (replies_of s i) ≡ Ask k a)
 unfolding wanted
 asks_live robots i s k a asks = elim (cases_Bool (is_live_at s.field i)) [

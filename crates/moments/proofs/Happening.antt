@@ -64,7 +64,8 @@ shows_so (LocalValue marks number value) robots program i now later before after
     (ap (λ n. get_or marks.now n false) (sym see.address_then) ∙ here, sym see.value_then ∙ is)
 
 pub seems_so : (sought : Sought) (robots : List Behaviour) (program : Program) (i : ℕ) (now later : BattleState)
-    (before after : Glance) → See robots program i sought now later before after → Shows sought robots program i now later
+    (before after : Glance) → See robots program i sought now later before after →
+    Shows sought robots program i now later
     → Seems sought before after
 seems_so (Place marks most) robots program i now later before after see (here, few) =
     (ap (λ n. get_or marks.now n false) see.address_then ∙ here, omega (arith, see.frames, few))
@@ -77,7 +78,8 @@ seems_so (Change variable) robots program i now later before after see differs =
 seems_so (Value variable value) robots program i now later before after see is = see.value_then ∙ is
 seems_so (LocalChange marks number) robots program i now later before after see (one, differs) = (
   one_call marks.now (state_at program i now).at (state_at program i now).home (state_at program i later).at
-      (state_at program i later).home before.address before.home after.address after.home (sym see.address) (sym see.home)
+      (state_at program i later).home before.address before.home after.address after.home (sym see.address)
+      (sym see.home)
       (sym see.address_then) (sym see.home_then) one,
   λ same. differs (sym see.value_then ∙ same ∙ see.value),
 )
@@ -139,7 +141,8 @@ pub happens_so : (codes : List Program) (robots : List Behaviour) (s : BattleSta
     → IsGlanced game (get_or seats i none) i sought before → IsGlanced next (get_or others i new) i sought after
     → ((before.is_alive ≡ true) × Seems sought before after → Happens robots program s i sought game.ending.cycles)
     × (Happens robots program s i sought game.ending.cycles → (before.is_alive ≡ true) × Seems sought before after)
-happens_so codes robots s seats others i none new game next program sought before after are same still inside come came one
+happens_so codes robots s seats others i none new game next program sought before after are same still inside come came
+    one
     here first second =
     let now = state_after robots s game.ending.cycles in
     let later = state_after robots s (game.ending.cycles + 1) in

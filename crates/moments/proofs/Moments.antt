@@ -26,7 +26,8 @@ unfolding last_question
 one_asked robots i n s = rw add-one refl
 
 -- What is seen of a robot of a match that was played so far is its moment.
-pub moment_is : (codes : List Program) (robots : List Behaviour) (s : BattleState) (limit i cycle : ℕ) (seats : List Pilot)
+pub moment_is : (codes : List Program) (robots : List Behaviour) (s : BattleState) (limit i cycle : ℕ)
+    (seats : List Pilot)
     (none : Pilot) (game : Game) (last : Option Asked) (moment : Moment) → AreRobotsOf (exes_of codes) robots
     → codes_of seats ≡ codes → i < length seats → HasPlayedTo robots s limit i cycle codes seats game last
     → IsSeen game (get_or seats i none) i last moment → IsMoment robots s limit i cycle seats moment

@@ -40,13 +40,16 @@ Shows (Value variable value) robots program i before after = read_variable (stat
 Shows (LocalChange marks number) robots program i before after =
     IsOneCall marks.now (state_at program i before).at (state_at program i before).home (state_at program i after).at
     (state_at program i after).home
-    × (read_variable (state_at program i after) (Local number) ≢ read_variable (state_at program i before) (Local number))
+    ×
+    (read_variable (state_at program i after) (Local number) ≢
+    read_variable (state_at program i before) (Local number))
 Shows (LocalValue marks number value) robots program i before after =
     (get_or marks.now (state_at program i after).at false ≡ true)
     × (read_variable (state_at program i after) (Local number) ≡ value)
 
 -- it happens to a robot in the cycle after n: the robot lives to begin it, and it shows
-pub record Happens (robots : List Behaviour) (program : Program) (opening : BattleState) (i : ℕ) (sought : Sought) (n : ℕ) :
+pub record Happens (robots : List Behaviour) (program : Program) (opening : BattleState) (i : ℕ) (sought : Sought)
+    (n : ℕ) :
     Type 0 where
   pub lives : is_live_at (state_after robots opening n).field i ≡ true
   pub shows : Shows sought robots program i (state_after robots opening n) (state_after robots opening (n + 1))

@@ -184,7 +184,8 @@ of_run order robots stretch (Some (Ok Over)) film faults some films whole = inl 
 of_run order robots stretch (Some (Ok GoesOn)) film faults some films whole = absurd (whole refl)
 of_run order robots stretch (Some (Ok Faulty)) film faults some films whole = inl (search rules)
 of_run order robots stretch (Some (Err run_fault.Write)) film faults some films whole = inr refl
-of_run order robots stretch (Some (Err (run_fault.Read file))) film faults some (writes, full) whole = absurd (cc writes)
+of_run order robots stretch (Some (Err (run_fault.Read file))) film faults some (writes, full) whole =
+    absurd (cc writes)
 of_run order robots stretch (Some (Err run_fault.Memory)) film faults some (writes, full) whole = absurd (cc writes)
 
 -- what the code of a film of windows says of them

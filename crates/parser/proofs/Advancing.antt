@@ -44,7 +44,8 @@ advances_stay before front at = record {
 }
 
 -- two parts of a parse, one after the other
-pub advances_then : (before mid after : Representation) (front between pending : List Item) (at now there : UnreadPosition) →
+pub advances_then : (before mid after : Representation) (front between pending : List Item)
+    (at now there : UnreadPosition) →
     ReadsOn before mid front between at now → ReadsOn mid after between pending now there →
     ReadsOn before after front pending at there
 advances_then before mid after front between pending at now there a b = record {
@@ -146,7 +147,8 @@ segment_advances before front pending stack at there depths a = record {
 }
 
 -- a fault within one
-pub segment_stops : (before : Representation) (front stack : List Item) (at : UnreadPosition) (d : Stop) → nested_count stack ≡ 0 →
+pub segment_stops : (before : Representation) (front stack : List Item) (at : UnreadPosition) (d : Stop) →
+    nested_count stack ≡ 0 →
     FailsAt 0 front [] at d → StopsPart before before (front ++ stack) at d
 segment_stops before front stack at d depths fails located_tokens is profile functions h =
     telling_inside before profile _ d (λ device. told_alone before profile functions h)

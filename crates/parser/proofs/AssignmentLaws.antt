@@ -89,7 +89,8 @@ plain_adds before after at there depth sound none h = record {
 
 -- either, by the result
 pub plain_parses : {A F B : Type 0} (result : Result A ParseFault) (denied : Type 0) (stands : B → Representation)
-    (old new : Parser F B) → is_lexical_error (next_at old.tokens.position).token ≡ false → NoAssignment old.tokens.position →
+    (old new : Parser F B) → is_lexical_error (next_at old.tokens.position).token ≡ false →
+    NoAssignment old.tokens.position →
     ParsesLevels result denied stands 1 old new → Parses result denied stands 1 Expression old new
 plain_parses (Ok x) denied stands old new sound none h =
     plain_adds (stands old.builder.now) (stands new.builder.now) old.tokens.position new.tokens.position old.depth sound
@@ -153,7 +154,8 @@ store_enters_level at o a s after more =
     let n : (next_at at).token ≡ token.Name a.named.name = a.named.is in
     rw (n, after_name at after a.named more, s.is) (store_enters a.named.name s.m o s.store)
 
-pub store_too_deep : (at : UnreadPosition) (used : ℕ) (near : IsNearTo at.lookahead.cursor used) (depth : ℕ) (o : StoreOp) →
+pub store_too_deep : (at : UnreadPosition) (used : ℕ) (near : IsNearTo at.lookahead.cursor used) (depth : ℕ)
+    (o : StoreOp) →
     IsAssignment at o → 64 ≤ depth →
     FailsAt depth (Part Expression ∷ []) [] at
     (stop_with (parse_fault.Source (diagnostic (next_at at).line code.NestedTooDeeply)) used)
@@ -205,7 +207,8 @@ sign_fits : (at now : UnreadPosition) (o : StoreOp) (v : Var) → IsAssignment a
     is_punctuator s.m (next_at now).token ≡ true
 sign_fits at now o v a item s = rw (next_is at now o v a item) s.fits
 
-pub sign_refused : (used : ℕ) (at now : UnreadPosition) (depth : ℕ) (o : StoreOp) (v : Var) (more : Type 0) (f : ParseFault) →
+pub sign_refused : (used : ℕ) (at now : UnreadPosition) (depth : ℕ) (o : StoreOp) (v : Var) (more : Type 0)
+    (f : ParseFault) →
     IsAssignment at o → depth < 64 → DerivesItem (AName Mentioned) [] (AVariable v ∷ []) at now →
     Refused (StopsAt now) ⊥ used f → Refused (FailsAt depth (Part Expression ∷ []) [] at) more used f
 sign_refused used at now depth o v more f a shallow item stop =

@@ -247,7 +247,8 @@ pub heading_refused : (used : ℕ) (before : Representation) (at : UnreadPositio
 heading_refused used before at f more =
     refused_map used _ _ ⊥ more f (λ d. heading_stops before at d) (λ never. absurd never)
 
-block_stops : (before after : Representation) (at now : UnreadPosition) (d : Stop) → Derives 0 header_items [] [] [] at now →
+block_stops : (before after : Representation) (at now : UnreadPosition) (d : Stop) →
+    Derives 0 header_items [] [] [] at now →
     (parse_fault.Device ≡ d.fault → HasGrown before after) → FailsAt 0 (Part FunctionBlock ∷ []) [] now d →
     StopsPart before after at_definition at d
 block_stops before after at now d h grown fails located_tokens is profile functions k =
@@ -275,7 +276,8 @@ block_refused used before second after at now number parameters f denied h told 
         (fails.0, block_stops before after at now (stop_with parse_fault.Memory used) h (λ device. absurd (cc)) fails.1)
 
 -- the builder was refused memory
-pub definition_halts : (before after : Representation) (pending : List Item) (left : List PartialTree) (at now : UnreadPosition)
+pub definition_halts : (before after : Representation) (pending : List Item) (left : List PartialTree)
+    (at now : UnreadPosition)
     (used : ℕ) →
     Derives 0 definition_items pending [] left at now → IsNearTo now.lookahead.cursor used →
     StopsPart before after at_definition at (stop_with parse_fault.Memory used)

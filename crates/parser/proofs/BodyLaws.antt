@@ -62,7 +62,8 @@ block_fails at depth b sound is d fails =
     (free_of depth Statement (next_at at) begins.shallow)) (λ stack same. same) fails
 
 pub block_too_deep : (at : UnreadPosition) (used : ℕ) (near : IsNearTo at.lookahead.cursor used) (depth : ℕ) →
-    is_lexical_error (next_at at).token ≡ false → is_punctuator punctuator.OpenCurly (next_at at).token ≡ true → 64 ≤ depth →
+    is_lexical_error (next_at at).token ≡ false → is_punctuator punctuator.OpenCurly (next_at at).token ≡ true →
+    64 ≤ depth →
     FailsBody depth (Part Statement ∷ []) at
     (stop_with (parse_fault.Source (diagnostic (next_at at).line code.NestedTooDeeply)) used)
 block_too_deep at used near depth sound is deep b =
@@ -88,7 +89,8 @@ declarations_fail at now depth sound is shallow goes d fails b =
     (Part Statements ∷ Exactly punctuator.CloseCurly ∷ Close ∷ []) (ABody b ∷ []) [] (ABody b ∷ []) at now d
     (braces_past at now depth b sound is shallow goes) (deeper depth) (fails (depth + 1))
 
-declarations_past : (at now later : UnreadPosition) (depth : ℕ) (b : Body) → is_lexical_error (next_at at).token ≡ false →
+declarations_past : (at now later : UnreadPosition) (depth : ℕ) (b : Body) →
+    is_lexical_error (next_at at).token ≡ false →
     is_punctuator punctuator.OpenCurly (next_at at).token ≡ true → depth < 64 → GoesPast at now →
     ((n : ℕ) → Derives n (Part Declarations ∷ []) [] [] [] now later) →
     Derives depth (Part Statement ∷ []) (Part Statements ∷ Exactly punctuator.CloseCurly ∷ Close ∷ []) (ABody b ∷ [])
@@ -108,7 +110,8 @@ within_fails at now later depth sound is shallow goes declared d fails b =
     (declarations_past at now later depth b sound is shallow goes declared) (deeper depth) (fails b)
 
 within_past : (at now later behind : UnreadPosition) (before after : Representation) (depth : ℕ) (b : Body) →
-    is_lexical_error (next_at at).token ≡ false → is_punctuator punctuator.OpenCurly (next_at at).token ≡ true → depth < 64 →
+    is_lexical_error (next_at at).token ≡ false → is_punctuator punctuator.OpenCurly (next_at at).token ≡ true →
+    depth < 64 →
     GoesPast at now →
     ((n : ℕ) → Derives n (Part Declarations ∷ []) [] [] [] now later) →
     (h : AddsBody before after (depth + 1) (Part Statements ∷ []) [] later behind) →
@@ -121,7 +124,8 @@ within_past at now later behind before after depth b sound is shallow goes decla
     (declarations_past at now later depth b sound is shallow goes declared) (h.derives b) (deeper depth)
 
 pub brace_fails : (at now later behind : UnreadPosition) (before after : Representation) (depth : ℕ) →
-    is_lexical_error (next_at at).token ≡ false → is_punctuator punctuator.OpenCurly (next_at at).token ≡ true → depth < 64 →
+    is_lexical_error (next_at at).token ≡ false → is_punctuator punctuator.OpenCurly (next_at at).token ≡ true →
+    depth < 64 →
     GoesPast at now →
     ((n : ℕ) → Derives n (Part Declarations ∷ []) [] [] [] now later) →
     AddsBody before after (depth + 1) (Part Statements ∷ []) [] later behind → (d : Stop) →
@@ -133,7 +137,8 @@ brace_fails at now later behind before after depth sound is shallow goes declare
     (fails (depth + 1))
 
 pub block_adds : (at now later behind there : UnreadPosition) (before after : Representation) (depth : ℕ) →
-    is_lexical_error (next_at at).token ≡ false → is_punctuator punctuator.OpenCurly (next_at at).token ≡ true → depth < 64 →
+    is_lexical_error (next_at at).token ≡ false → is_punctuator punctuator.OpenCurly (next_at at).token ≡ true →
+    depth < 64 →
     GoesPast at now →
     ((n : ℕ) → Derives n (Part Declarations ∷ []) [] [] [] now later) →
     AddsBody before after (depth + 1) (Part Statements ∷ []) [] later behind →
@@ -225,7 +230,8 @@ test_fails at now depth items closes begun d fails b =
 -- the condition, and an empty body after it
 test_past : (at now later : UnreadPosition) (before after : Representation) (depth : ℕ) (items : List Item) (b : Body) →
     ClosesOne items → Conditioned depth items at now →
-    (c : AddsExpr before after (depth + 1) 1 in_brackets [] now later) → is_lexical_error (next_at later).token ≡ false →
+    (c : AddsExpr before after (depth + 1) 1 in_brackets [] now later) →
+    is_lexical_error (next_at later).token ≡ false →
     Derives depth (Part Statement ∷ []) (Part Statement ∷ items) (ABody b ∷ [])
     (ABody Done ∷ AnExpr c.tree ∷ ABody b ∷ []) at later
 test_past at now later before after depth items b closes begun c sound =
@@ -240,7 +246,8 @@ test_past at now later before after depth items b closes begun c sound =
 pub first_fails : (at now later : UnreadPosition) (before after : Representation) (depth : ℕ) (items : List Item) →
     ClosesOne items →
     Conditioned depth items at now →
-    AddsExpr before after (depth + 1) 1 in_brackets [] now later → is_lexical_error (next_at later).token ≡ false → (d : Stop) →
+    AddsExpr before after (depth + 1) 1 in_brackets [] now later → is_lexical_error (next_at later).token ≡ false →
+    (d : Stop) →
     FailsBody (depth + 1) (Part Statement ∷ []) later d → FailsBody depth (Part Statement ∷ []) at d
 first_fails at now later before after depth items closes begun c sound d fails b =
     fails_behind depth (depth + 1) (Part Statement ∷ []) (Part Statement ∷ []) items (ABody b ∷ []) (ABody Done ∷ [])
@@ -251,7 +258,8 @@ first_fails at now later before after depth items closes begun c sound d fails b
 first_past : (at now later behind : UnreadPosition) (before after inside first : Representation) (depth : ℕ)
     (items : List Item)
     (b : Body) → ClosesOne items → Conditioned depth items at now →
-    (c : AddsExpr before after (depth + 1) 1 in_brackets [] now later) → is_lexical_error (next_at later).token ≡ false →
+    (c : AddsExpr before after (depth + 1) 1 in_brackets [] now later) →
+    is_lexical_error (next_at later).token ≡ false →
     (s : AddsBody inside first (depth + 1) (Part Statement ∷ []) [] later behind) →
     Derives depth (Part Statement ∷ []) items (ABody b ∷ []) (before_else s.tree c.tree b) at behind
 first_past at now later behind before after inside first depth items b closes begun c sound s =
@@ -326,7 +334,8 @@ branch_adds at now later behind there before m1 m2 m3 m4 after depth shallow beg
 
 -- Second branches.
 
-pub no_else_adds : (at : UnreadPosition) (before : Representation) (depth : ℕ) → is_lexical_error (next_at at).token ≡ false →
+pub no_else_adds : (at : UnreadPosition) (before : Representation) (depth : ℕ) →
+    is_lexical_error (next_at at).token ≡ false →
     is_keyword keyword.Else (next_at at).token ≡ false → AddsElse before before depth at at
 no_else_adds at before depth sound other = record {
   tree = None;
@@ -349,7 +358,8 @@ else_stops at depth sound is d stop s c b =
     sound (else_chosen _ is) is (free_of depth ElsePart (next_at at) (λ after. refl)) stop
 
 -- the keyword and an empty body after it; the token that follows is no lexical error
-else_past : (at now : UnreadPosition) (depth : ℕ) (s : Body) (c : Expr) (b : Body) → is_lexical_error (next_at at).token ≡ false →
+else_past : (at now : UnreadPosition) (depth : ℕ) (s : Body) (c : Expr) (b : Body) →
+    is_lexical_error (next_at at).token ≡ false →
     is_keyword keyword.Else (next_at at).token ≡ true → GoesPast at now → is_lexical_error (next_at now).token ≡ false →
     Derives depth (Part ElsePart ∷ []) (Part Statement ∷ Make DecideElse ∷ []) (before_else s c b)
     (ABody Done ∷ before_else s c b) at now

@@ -175,13 +175,15 @@ matched_keeps : (fits : Bool) (stack : List Item) (rest : List LocatedToken) (va
 matched_keeps true stack rest values scope functions = sym (append-nil functions)
 matched_keeps false stack rest values scope functions = tt
 
-name_keeps : (role : Role) (name : Option (List ℕ)) (stack : List Item) (rest : List LocatedToken) (values : List PartialTree)
+name_keeps : (role : Role) (name : Option (List ℕ)) (stack : List Item) (rest : List LocatedToken)
+    (values : List PartialTree)
     (scope : Scope) (functions : List Definition) →
     Keeps functions (name_matched role name (state stack rest values scope functions))
 name_keeps role (Some name) stack rest values scope functions = sym (append-nil functions)
 name_keeps role None stack rest values scope functions = tt
 
-constant_keeps : (value : Option ℕ) (stack : List Item) (rest : List LocatedToken) (values : List PartialTree) (scope : Scope)
+constant_keeps : (value : Option ℕ) (stack : List Item) (rest : List LocatedToken) (values : List PartialTree)
+    (scope : Scope)
     (functions : List Definition) → Keeps functions (constant_matched value (state stack rest values scope functions))
 constant_keeps (Some value) stack rest values scope functions = sym (append-nil functions)
 constant_keeps None stack rest values scope functions = tt
@@ -205,7 +207,8 @@ plain count s none keeps =
     record { more = []; functions = kept (is_lexical_error (next_token s.rest)) _ s keeps; built = inl none }
 
 -- a lexical error has nothing after it
-behind_fault : (count place : ℕ) (rest : List LocatedToken) → IsCut place rest → is_lexical_error (next_token rest) ≡ true →
+behind_fault : (count place : ℕ) (rest : List LocatedToken) → IsCut place rest →
+    is_lexical_error (next_token rest) ≡ true →
     is_behind_brace count rest ≡ false
 behind_fault count place [] cut e = refl
 behind_fault count place (x ∷ rest) cut e =
@@ -213,7 +216,8 @@ behind_fault count place (x ∷ rest) cut e =
     rw alone refl
 
 -- one does
-defined_there : (count place : ℕ) (stack : List Item) (rest : List LocatedToken) (values : List PartialTree) (scope : Scope)
+defined_there : (count place : ℕ) (stack : List Item) (rest : List LocatedToken) (values : List PartialTree)
+    (scope : Scope)
     (functions : List Definition) → IsCut place rest →
     (fault behind : Bool) → is_lexical_error (next_token rest) ≡ fault → is_behind_brace count rest ≡ behind →
     Defines count (state (Make Define ∷ stack) rest values scope functions)

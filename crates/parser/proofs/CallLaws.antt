@@ -113,7 +113,8 @@ first_refused used at depth denied f sound other =
 passed : (at now there : UnreadPosition) (depth : ℕ) (callee : Callee) (args : Args) (front : List Item) (e : Expr) →
     Derives depth front (Part Expression ∷ Make AddArgument ∷ Part MoreArguments ∷ []) (ACall callee NoMore ∷ [])
     (ACall callee args ∷ []) at now →
-    Derives depth (Part Expression ∷ []) [] [] (AnExpr e ∷ []) now there → is_lexical_error (next_at there).token ≡ false →
+    Derives depth (Part Expression ∷ []) [] [] (AnExpr e ∷ []) now there →
+    is_lexical_error (next_at there).token ≡ false →
     Derives depth front (Part MoreArguments ∷ []) (ACall callee NoMore ∷ []) (ACall callee (add_argument args e) ∷ [])
     at there
 passed at now there depth callee args front e a b sound =
@@ -121,7 +122,8 @@ passed at now there depth callee args front e a b sound =
     (AnExpr e ∷ ACall callee args ∷ []) (ACall callee (add_argument args e) ∷ []) [] at there there
     (joined depth depth front (Part Expression ∷ []) [] (Make AddArgument ∷ Part MoreArguments ∷ [])
     (ACall callee NoMore ∷ []) [] (AnExpr e ∷ []) (ACall callee args ∷ []) at now there a b (λ stack same. same))
-    (make_stands there depth AddArgument (AnExpr e ∷ ACall callee args ∷ []) (ACall callee (add_argument args e) ∷ []) sound
+    (make_stands there depth AddArgument (AnExpr e ∷ ACall callee args ∷ []) (ACall callee (add_argument args e) ∷ [])
+    sound
     (pass_makes callee args e)) (λ stack same. same)
 
 pub first_adds : (before after : Representation) (at there : UnreadPosition) (depth : ℕ) →
@@ -152,10 +154,12 @@ comma_stands : (before mid : Representation) (at now : UnreadPosition) (depth : 
     (ACall callee h.tree ∷ []) at now
 comma_stands before mid at now depth h callee fits =
     joined depth depth (Part Arguments ∷ []) (Part MoreArguments ∷ [])
-    (Exactly punctuator.Comma ∷ Part Expression ∷ Make AddArgument ∷ Part MoreArguments ∷ []) [] (ACall callee NoMore ∷ [])
+    (Exactly punctuator.Comma ∷ Part Expression ∷ Make AddArgument ∷ Part MoreArguments ∷ []) []
+    (ACall callee NoMore ∷ [])
     (ACall callee h.tree ∷ []) (ACall callee h.tree ∷ []) [] at now now
     (h.derives callee)
-    (chosen now depth MoreArguments (Exactly punctuator.Comma ∷ Part Expression ∷ Make AddArgument ∷ Part MoreArguments ∷ [])
+    (chosen now depth MoreArguments
+    (Exactly punctuator.Comma ∷ Part Expression ∷ Make AddArgument ∷ Part MoreArguments ∷ [])
     (ACall callee h.tree ∷ [])
     (record {
       sound = punctuator_sound punctuator.Comma (next_at now).token fits;
@@ -170,7 +174,8 @@ pub comma_refused : (used : ℕ) (before mid : Representation) (at now : UnreadP
 comma_refused used before mid at now depth more f h fits =
     refused_map used (FailsItem (Exactly punctuator.Comma) now) (FailsArgs depth at) ⊥ more f
     (λ d k callee. fails_behind depth depth (Part Arguments ∷ []) (Exactly punctuator.Comma ∷ [])
-    (Part Expression ∷ Make AddArgument ∷ Part MoreArguments ∷ []) (ACall callee NoMore ∷ []) [] (ACall callee h.tree ∷ []) at
+    (Part Expression ∷ Make AddArgument ∷ Part MoreArguments ∷ []) (ACall callee NoMore ∷ []) []
+    (ACall callee h.tree ∷ []) at
     now d
     (comma_stands before mid at now depth h callee fits) (λ stack same. same) (k depth)) (λ never. absurd never)
 
@@ -181,11 +186,13 @@ comma_past : (before mid : Representation) (at now next : UnreadPosition) (depth
     (ACall callee NoMore ∷ []) (ACall callee h.tree ∷ []) at next
 comma_past before mid at now next depth h callee fits sign =
     item_done depth depth (Part Arguments ∷ []) (Exactly punctuator.Comma)
-    (Part Expression ∷ Make AddArgument ∷ Part MoreArguments ∷ []) (ACall callee NoMore ∷ []) [] (ACall callee h.tree ∷ []) at
+    (Part Expression ∷ Make AddArgument ∷ Part MoreArguments ∷ []) (ACall callee NoMore ∷ []) []
+    (ACall callee h.tree ∷ []) at
     now next
     (comma_stands before mid at now depth h callee fits) (sign depth) (λ stack same. same)
 
-pub argument_refused : (used : ℕ) (before mid : Representation) (at now next : UnreadPosition) (depth : ℕ) (denied : Type 0)
+pub argument_refused : (used : ℕ) (before mid : Representation) (at now next : UnreadPosition) (depth : ℕ)
+    (denied : Type 0)
     (f : ParseFault) → AddsArgs before mid depth (Part Arguments ∷ []) (Part MoreArguments ∷ []) at now →
     is_punctuator punctuator.Comma (next_at now).token ≡ true → DerivesItem (Exactly punctuator.Comma) [] [] now next →
     Refused (FailsAt depth (Part Expression ∷ []) [] next) denied used f →
@@ -233,7 +240,8 @@ arguments_end before after at there depth h sound other = record {
       (λ behind more. refl)) (λ stack same. same);
 }
 
-pub next_argument_room : (before now : Representation) (at there : UnreadPosition) (depth : ℕ) (front pending : List Item) →
+pub next_argument_room : (before now : Representation) (at there : UnreadPosition) (depth : ℕ)
+    (front pending : List Item) →
     HasRoom before (room depth 1) → AddsArgs before now depth front pending at there → HasRoom now (room depth 1)
 next_argument_room before now at there depth front pending h a =
     let few : open_count (h.outer ∷ h.opened) + room depth 1 ≤ 200 = h.few in
@@ -244,7 +252,8 @@ next_argument_room before now at there depth front pending h a =
 
 -- Calls.
 
-call_chooses : (at : UnreadPosition) → IsNamed (next_at at).token → is_punctuator punctuator.OpenRound (after_at at) ≡ true →
+call_chooses : (at : UnreadPosition) → IsNamed (next_at at).token →
+    is_punctuator punctuator.OpenRound (after_at at) ≡ true →
     Chooses at Primary
     (AName Called ∷ Exactly punctuator.OpenRound ∷ Part Arguments ∷ Exactly punctuator.CloseRound ∷ Make Invoke ∷
     Close ∷ [])
@@ -256,7 +265,8 @@ call_chooses at n fits = record {
       (n.is, after_name at after n more, t) refl;
 }
 
-call_enters : (at : UnreadPosition) → IsNamed (next_at at).token → is_punctuator punctuator.OpenRound (after_at at) ≡ true →
+call_enters : (at : UnreadPosition) → IsNamed (next_at at).token →
+    is_punctuator punctuator.OpenRound (after_at at) ≡ true →
     EntersLevel at Primary
 call_enters at n fits after more =
     let t : after_at at ≡ token.Punctuator punctuator.OpenRound =
@@ -316,7 +326,8 @@ callee_halts used at now depth callee c item near =
     (ACall callee NoMore ∷ []) at now used
     (callee_past at now depth callee c item) near
 
-pub call_open_refused : (used : ℕ) (at now : UnreadPosition) (depth : ℕ) (callee : Callee) (more : Type 0) (f : ParseFault) →
+pub call_open_refused : (used : ℕ) (at now : UnreadPosition) (depth : ℕ) (callee : Callee) (more : Type 0)
+    (f : ParseFault) →
     IsCall at depth → DerivesItem (AName Called) [] (ACall callee NoMore ∷ []) at now →
     Refused (FailsItem (Exactly punctuator.OpenRound) now) ⊥ used f →
     Refused (FailsAt depth (Part Primary ∷ []) [] at) more used f

@@ -49,7 +49,8 @@ source_typed before at is =
     (λ tail b. symbol_leads Source typed_items (next_at at) tail at (rw same refl) (rw same refl) refl))
 
 -- so does a function's name
-pub source_named : (before : Representation) (at : UnreadPosition) (name : List ℕ) → (next_at at).token ≡ token.Name name →
+pub source_named : (before : Representation) (at : UnreadPosition) (name : List ℕ) →
+    (next_at at).token ≡ token.Name name →
     ReadsOn before before at_source at_definition at at
 source_named before at name same =
     segment_advances before (Part Source ∷ []) at_definition [] at at refl
@@ -67,7 +68,8 @@ source_none (token.Punctuator m) after end type name = refl
 source_none (token.Constant value) after end type name = refl
 source_none (token.Fault lexical_error) after end type name = refl
 
-pub source_misfits : (before : Representation) (at : UnreadPosition) (used : ℕ) (near : IsNearTo at.lookahead.cursor used) →
+pub source_misfits : (before : Representation) (at : UnreadPosition) (used : ℕ)
+    (near : IsNearTo at.lookahead.cursor used) →
     is_lexical_error (next_at at).token ≡ false → ((next_at at).token ≡ token.End → ⊥) →
     is_keyword keyword.Type (next_at at).token ≡ false → ((name : List ℕ) → (next_at at).token ≡ token.Name name → ⊥) →
     StopsPart before before at_source at
@@ -142,7 +144,8 @@ definition_head =
     Part ParameterTypes ∷ Part FunctionBlock ∷ []
 
 -- a name and a bracket begin a function
-pub head_defined : (before : Representation) (at : UnreadPosition) (name : List ℕ) → (next_at at).token ≡ token.Name name →
+pub head_defined : (before : Representation) (at : UnreadPosition) (name : List ℕ) →
+    (next_at at).token ≡ token.Name name →
     is_punctuator punctuator.OpenRound (after_at at) ≡ true → ReadsOn before before at_head at_definition at at
 head_defined before at name same is =
     segment_advances before (Part Head ∷ []) definition_head at_source at at refl
@@ -162,7 +165,8 @@ choose_external name token.End other = refl
 choose_external name (token.Fault lexical_error) other = refl
 
 -- any other name an external
-pub head_external : (before : Representation) (at : UnreadPosition) (name : List ℕ) → (next_at at).token ≡ token.Name name →
+pub head_external : (before : Representation) (at : UnreadPosition) (name : List ℕ) →
+    (next_at at).token ≡ token.Name name →
     is_punctuator punctuator.OpenRound (after_at at) ≡ false →
     ReadsOn before before at_head (external_items ++ at_source) at at
 head_external before at name same other =
@@ -180,7 +184,8 @@ head_none (token.Punctuator m) after name = refl
 head_none (token.Constant value) after name = refl
 head_none (token.Fault lexical_error) after name = refl
 
-pub head_misfits : (before : Representation) (at : UnreadPosition) (used : ℕ) (near : IsNearTo at.lookahead.cursor used) →
+pub head_misfits : (before : Representation) (at : UnreadPosition) (used : ℕ) (near : IsNearTo at.lookahead.cursor used)
+    →
     is_lexical_error (next_at at).token ≡ false → ((name : List ℕ) → (next_at at).token ≡ token.Name name → ⊥) →
     StopsPart before before at_head at
     (stop_with (parse_fault.Source (diagnostic (next_at at).line (unexpected_token_code (next_at at).token))) used)
@@ -217,7 +222,8 @@ pub function_read : (before after : Representation) (front : List Item) (at ther
 function_read before after front at there a b =
     advances_then before before after front at_definition at_source at at there a b
 
-pub function_refused : (used : ℕ) (before after : Representation) (front : List Item) (at : UnreadPosition) (f : ParseFault)
+pub function_refused : (used : ℕ) (before after : Representation) (front : List Item) (at : UnreadPosition)
+    (f : ParseFault)
     (denied : Type 0) → ReadsOn before before front at_definition at at →
     Refused (StopsPart before after at_definition at) denied used f →
     Refused (StopsPart before after front at) denied used f

@@ -149,7 +149,8 @@ none_at n l (token.Fault lexical_error) none tighter = refl
 -- Going down to the operand.
 
 -- one segment after another
-one_then : (depth : ℕ) (front mid pending : List Item) (taken between left : List PartialTree) (at now there : UnreadPosition) →
+one_then : (depth : ℕ) (front mid pending : List Item) (taken between left : List PartialTree)
+    (at now there : UnreadPosition) →
     Derives depth front mid taken between at now → Derives depth mid pending between left now there →
     Derives depth front pending taken left at there
 one_then depth front mid pending taken between left at now there a b =

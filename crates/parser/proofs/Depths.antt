@@ -10,7 +10,8 @@ use Rattle.parser.specs.Expressions.{AddsExpr, AddsOperand, FailsOperand}
 use Rattle.parser.specs.Branches.{AddsElse, FailsElse}
 use Rattle.parser.specs.Statements.{AddsBody, FailsBody}
 
-pub body_at : (before after : Representation) (inner depth : ℕ) (front pending : List Item) (at there : UnreadPosition) →
+pub body_at : (before after : Representation) (inner depth : ℕ) (front pending : List Item) (at there : UnreadPosition)
+    →
     inner ≡ depth → AddsBody before after inner front pending at there → AddsBody before after depth front pending at
     there
 body_at before after inner depth front pending at there same h =
@@ -20,7 +21,8 @@ pub else_at : (before after : Representation) (inner depth : ℕ) (at there : Un
     AddsElse before after inner at there → AddsElse before after depth at there
 else_at before after inner depth at there same h = subst (λ (k : ℕ). AddsElse before after k at there) same h
 
-pub body_fails_at : (used inner depth : ℕ) (front : List Item) (at : UnreadPosition) (denied : Type 0) (f : ParseFault) →
+pub body_fails_at : (used inner depth : ℕ) (front : List Item) (at : UnreadPosition) (denied : Type 0) (f : ParseFault)
+    →
     inner ≡ depth → Refused (FailsBody inner front at) denied used f → Refused (FailsBody depth front at) denied used f
 body_fails_at used inner depth front at denied f same h =
     subst (λ (k : ℕ). Refused (FailsBody k front at) denied used f) same h
@@ -37,7 +39,8 @@ pub expression_at : (before after : Representation) (inner depth level : ℕ) (f
 expression_at before after inner depth level front pending at there same h =
     subst (λ (k : ℕ). AddsExpr before after k level front pending at there) same h
 
-pub expression_fails_at : (used inner depth : ℕ) (front : List Item) (at : UnreadPosition) (denied : Type 0) (f : ParseFault)
+pub expression_fails_at : (used inner depth : ℕ) (front : List Item) (at : UnreadPosition) (denied : Type 0)
+    (f : ParseFault)
     →
     inner ≡ depth → Refused (FailsAt inner front [] at) denied used f →
     Refused (FailsAt depth front [] at) denied used f
@@ -50,7 +53,8 @@ pub operand_at : (before after : Representation) (inner depth level : ℕ) (op :
 operand_at before after inner depth level op at there same h =
     subst (λ (k : ℕ). AddsOperand before after k level op at there) same h
 
-pub operand_fails_at : (used inner depth level : ℕ) (at : UnreadPosition) (denied : Type 0) (f : ParseFault) → inner ≡ depth →
+pub operand_fails_at : (used inner depth level : ℕ) (at : UnreadPosition) (denied : Type 0) (f : ParseFault) →
+    inner ≡ depth →
     Refused (FailsOperand inner level at) denied used f → Refused (FailsOperand depth level at) denied used f
 operand_fails_at used inner depth level at denied f same h =
     subst (λ (k : ℕ). Refused (FailsOperand k level at) denied used f) same h

@@ -26,7 +26,8 @@ use Rattle.parser.specs.Segment.{DerivesItem, FailsItem, GoesPast, IsNoName, Ref
 use Rattle.parser.proofs.Segments.{Leads, fails_at_next, past, stops}
 
 punctuator_leads : (located_token : LocatedToken) (m : Punctuator) (depth : ℕ) (known : Scope)
-    (rest : List LocatedToken) → is_lexical_error located_token.token ≡ false → is_punctuator m located_token.token ≡ true →
+    (rest : List LocatedToken) → is_lexical_error located_token.token ≡ false →
+    is_punctuator m located_token.token ≡ true →
     Leads depth (Exactly m ∷ []) [] [] [] known known (located_token ∷ rest) rest
 punctuator_leads located_token m depth known rest sound fits =
     record {
@@ -35,7 +36,8 @@ punctuator_leads located_token m depth known rest sound fits =
           functions sound fits;
     }
 
-pub punctuator_derives : (cursor : Cursor) (known : Scope) (more : Option (List ℕ)) (there : UnreadPosition) (m : Punctuator)
+pub punctuator_derives : (cursor : Cursor) (known : Scope) (more : Option (List ℕ)) (there : UnreadPosition)
+    (m : Punctuator)
     →
     is_lexical_error cursor.next.token ≡ false → is_punctuator m cursor.next.token ≡ true →
     GoesPast (position_of (record { cursor = cursor; scope = known }) more) there →
@@ -111,7 +113,8 @@ name_leads located_token role bytes depth known learnt rest is knows = record {
 }
 
 -- a name was matched in its role
-pub name_derives : (cursor : Cursor) (known learnt : Scope) (more : Option (List ℕ)) (there : UnreadPosition) (role : Role)
+pub name_derives : (cursor : Cursor) (known learnt : Scope) (more : Option (List ℕ)) (there : UnreadPosition)
+    (role : Role)
     (bytes : List ℕ) (left : List PartialTree) → cursor.next.token ≡ token.Name bytes →
     LearnsName role bytes cursor.next.line known learnt → left ≡ name_tree role bytes known →
     GoesPast (position_of (record { cursor = cursor; scope = learnt }) more) there →
@@ -132,7 +135,8 @@ name_stops cursor known learnt more role bytes is knows d stop depth =
     (λ rest b. name_leads cursor.next role bytes depth known learnt rest is knows) stop
 
 -- the name has a fault in its role
-pub name_refused : {n : ℕ} (at : UnreadPosition) (role : Role) (bytes : List ℕ) (c : Code) → IsNearTo at.lookahead.cursor n →
+pub name_refused : {n : ℕ} (at : UnreadPosition) (role : Role) (bytes : List ℕ) (c : Code) →
+    IsNearTo at.lookahead.cursor n →
     (next_at at).token ≡ token.Name bytes → RefusesName role bytes (scope_at at) c →
     FailsItem (AName role) at (stop_with (parse_fault.Source (diagnostic (next_at at).line c)) n)
 name_refused at role bytes c near is fails depth =

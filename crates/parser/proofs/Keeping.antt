@@ -41,7 +41,8 @@ went_then a b c h i = record {
 -- What is said of a builder as a parser left it is true of it when the parser is gone.
 pub file_left : {B : Type 0} →
     (stands : B → Representation) (before : Representation) (last left : B) (told : Option (List ℕ))
-    (names : Pools) → last ≡ left → ParsesToFile before (stands left) told names → ParsesToFile before (stands last) told names
+    (names : Pools) → last ≡ left → ParsesToFile before (stands left) told names →
+    ParsesToFile before (stands last) told names
 file_left stands before last left told names same h = rw same h
 
 pub refused_left : (before after left : Representation) (denied : Type 0) (told to_come : Option (List ℕ))

@@ -23,7 +23,8 @@ pub record Gives (symbol : Symbol) (next : Token) (items : List Item) : Type 0 w
   pub chosen : Chooses symbol next items
   pub plain : (after : Token) → enters symbol next after ≡ false
 
-pub replaces : (at : UnreadPosition) (depth : ℕ) (symbol : Symbol) (items : List Item) → is_lexical_error (next_at at).token ≡ false →
+pub replaces : (at : UnreadPosition) (depth : ℕ) (symbol : Symbol) (items : List Item) →
+    is_lexical_error (next_at at).token ≡ false →
     Gives symbol (next_at at).token items →
     Derives depth (Part symbol ∷ []) items [] [] at at
 replaces at depth symbol items sound gives =
@@ -101,7 +102,8 @@ leaves used front mid below at now f level a =
     (λ stack same. level stack ∙ same) (fails depth)) (λ same. same)
 
 -- after a comma of a list
-pub more_behind : (depth : ℕ) (role : Role) (at now there : UnreadPosition) → is_lexical_error (next_at now).token ≡ false →
+pub more_behind : (depth : ℕ) (role : Role) (at now there : UnreadPosition) →
+    is_lexical_error (next_at now).token ≡ false →
     is_punctuator punctuator.Comma (next_at now).token ≡ true →
     Derives depth (Part (More role) ∷ []) (Part (More role) ∷ []) [] [] at now →
     Derives depth (Exactly punctuator.Comma ∷ []) [] [] [] now there →
@@ -140,13 +142,15 @@ handed_on (Err e) front mid at now there a b = leaves _ front mid [] at.position
 
 -- Lists of names, and declarations.
 
-pub name_first : (declared : Declared) (at there : UnreadPosition) → DerivesItem (AName (role_of declared)) [] [] at there →
+pub name_first : (declared : Declared) (at there : UnreadPosition) →
+    DerivesItem (AName (role_of declared)) [] [] at there →
     Goes (names_items declared) (Part (More (role_of declared)) ∷ Exactly punctuator.Semicolon ∷ []) at there
 name_first declared at there b =
     starts (AName (role_of declared)) (Part (More (role_of declared)) ∷ Exactly punctuator.Semicolon ∷ []) at there
     (λ stack. refl) b
 
-pub names_then : (declared : Declared) (at now there : UnreadPosition) → DerivesItem (AName (role_of declared)) [] [] at now →
+pub names_then : (declared : Declared) (at now there : UnreadPosition) →
+    DerivesItem (AName (role_of declared)) [] [] at now →
     DerivesItem (Part (More (role_of declared))) [] [] now there →
     Goes (names_items declared) (Exactly punctuator.Semicolon ∷ []) at there
 names_then declared at now there a b =
@@ -154,12 +158,14 @@ names_then declared at now there a b =
     (λ stack. refl)
     (name_first declared at now a) b
 
-pub type_first : (declared : Declared) (at there : UnreadPosition) → DerivesItem (AKeyword keyword.Type) [] [] at there →
+pub type_first : (declared : Declared) (at there : UnreadPosition) →
+    DerivesItem (AKeyword keyword.Type) [] [] at there →
     Goes (declaration_items declared) (Part Types ∷ names_items declared) at there
 type_first declared at there b =
     starts (AKeyword keyword.Type) (Part Types ∷ names_items declared) at there (λ stack. refl) b
 
-pub types_then : (declared : Declared) (at now there : UnreadPosition) → DerivesItem (AKeyword keyword.Type) [] [] at now →
+pub types_then : (declared : Declared) (at now there : UnreadPosition) →
+    DerivesItem (AKeyword keyword.Type) [] [] at now →
     DerivesItem (Part Types) [] [] now there → Goes (declaration_items declared) (names_items declared) at there
 types_then declared at now there a b =
     item_on (declaration_items declared) (Part Types) (names_items declared) at now there (λ stack. refl)

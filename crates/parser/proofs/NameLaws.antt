@@ -18,7 +18,8 @@ done : (b : Bool) (rest : List LocatedToken) (values : List PartialTree) (scope 
 done true rest values scope functions is = rw is refl
 done false rest values scope functions is = rw is refl
 
-stays_done : (n : ℕ) (rest : List LocatedToken) (values : List PartialTree) (scope : Scope) (functions : List Definition) →
+stays_done : (n : ℕ) (rest : List LocatedToken) (values : List PartialTree) (scope : Scope)
+    (functions : List Definition) →
     derived n (state [] rest values scope functions) ≡ state [] rest values scope functions
 stays_done zero rest values scope functions = refl
 stays_done (suc n) rest values scope functions =

@@ -41,7 +41,8 @@ open_chooses at fits = record {
       token.Punctuator punctuator.OpenRound = punctuator_is punctuator.OpenRound (next_at at).token fits in rw t refl;
 }
 
-open_enters : (at : UnreadPosition) → is_punctuator punctuator.OpenRound (next_at at).token ≡ true → EntersLevel at Primary
+open_enters : (at : UnreadPosition) → is_punctuator punctuator.OpenRound (next_at at).token ≡ true →
+    EntersLevel at Primary
 open_enters at fits after more =
     let t : (next_at at).token ≡ token.Punctuator punctuator.OpenRound =
     punctuator_is punctuator.OpenRound (next_at at).token fits in
@@ -56,7 +57,8 @@ bracket_too_deep at used near depth fits deep =
     (Part Expression ∷ Exactly punctuator.CloseRound ∷ Close ∷ []) (open_chooses at fits) (open_enters at fits) fits
     deep
 
-open_stands : (at : UnreadPosition) (depth : ℕ) → is_punctuator punctuator.OpenRound (next_at at).token ≡ true → depth < 64 →
+open_stands : (at : UnreadPosition) (depth : ℕ) → is_punctuator punctuator.OpenRound (next_at at).token ≡ true →
+    depth < 64 →
     Derives depth (Part Primary ∷ [])
     (Exactly punctuator.OpenRound ∷ Part Expression ∷ Exactly punctuator.CloseRound ∷ Close ∷ []) [] [] at at
 open_stands at depth fits shallow =
@@ -101,7 +103,8 @@ inside_past before after at now behind depth fits shallow goes h =
     [] [] (AnExpr h.tree ∷ []) [] at now behind
     (open_past at now depth fits shallow goes) h.derives (λ stack same. ap (λ n. n + 1) same)
 
-pub close_refused : (used : ℕ) (before after : Representation) (at now behind : UnreadPosition) (depth : ℕ) (more : Type 0)
+pub close_refused : (used : ℕ) (before after : Representation) (at now behind : UnreadPosition) (depth : ℕ)
+    (more : Type 0)
     (f : ParseFault) → is_punctuator punctuator.OpenRound (next_at at).token ≡ true → depth < 64 → GoesPast at now →
     AddsExpr before after (depth + 1) 1 (Part Expression ∷ []) [] now behind →
     Refused (FailsItem (Exactly punctuator.CloseRound) behind) ⊥ used f →
@@ -157,7 +160,8 @@ primary_choice (token.Punctuator punctuator.PlusPlus) after signs steps =
     steps increment_op.Increment in
     absurd (cc)
 primary_choice (token.Punctuator punctuator.MinusMinus) after signs steps =
-    let e : is_punctuator (increment_punctuator increment_op.Decrement) (token.Punctuator punctuator.MinusMinus) ≡ false =
+    let e : is_punctuator (increment_punctuator increment_op.Decrement) (token.Punctuator punctuator.MinusMinus) ≡
+    false =
     steps increment_op.Decrement in
     absurd (cc)
 primary_choice t after signs steps = refl
@@ -190,7 +194,8 @@ no_punctuator m (token.Punctuator n) none = absurd (none n refl)
 no_punctuator m t none = refl
 
 -- a token that is no punctuator is none
-pub plain_operand : (t : Token) → is_lexical_error t ≡ false → ((n : Punctuator) → t ≡ token.Punctuator n → ⊥) → NoOperator t
+pub plain_operand : (t : Token) → is_lexical_error t ≡ false → ((n : Punctuator) → t ≡ token.Punctuator n → ⊥) →
+    NoOperator t
 plain_operand t sound none = record {
   sound = sound;
   signs = λ s. no_punctuator (unary_punctuator s) t none;
@@ -212,7 +217,8 @@ primary_refused used at depth denied f n =
     exit used depth depth (Part Unary ∷ []) (Part Primary ∷ []) [] [] [] [] at at denied denied f
     (primary_stands at depth n) (λ stack same. same) (λ same. same)
 
-pub primary_adds : (before after : Representation) (at there : UnreadPosition) (depth : ℕ) → NoOperator (next_at at).token →
+pub primary_adds : (before after : Representation) (at there : UnreadPosition) (depth : ℕ) →
+    NoOperator (next_at at).token →
     AddsExpr before after depth 11 (Part Primary ∷ []) [] at there →
     AddsExpr before after depth 11 (Part Unary ∷ []) [] at there
 primary_adds before after at there depth n h = record {

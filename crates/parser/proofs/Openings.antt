@@ -231,6 +231,7 @@ turn_begun before mid now n c h numbered narrow added tested = record {
   position = h.position;
   stands = stands_then mid now (WhileTest ∷ []) (AValue (origin_of c) ∷ BeforeTest ∷ h.opened) (InLoopBody ∷ h.opened)
       tested (test_stands before mid n c h numbered narrow added)
-      (act WhileTest (AValue (origin_of c) ∷ BeforeTest ∷ h.opened) (InLoopBody ∷ h.opened) refl (omega (arith, h.few))).is;
+      (act WhileTest (AValue (origin_of c) ∷ BeforeTest ∷ h.opened) (InLoopBody ∷ h.opened) refl
+      (omega (arith, h.few))).is;
   few = h.few;
 }

@@ -84,7 +84,8 @@ constant_leads located_token value is depth known rest = record {
       constant profile value stack (located_token ∷ rest) values known functions sound found;
 }
 
-constant_past : (at there : UnreadPosition) (value : ℕ) → (next_at at).token ≡ token.Constant value → GoesPast at there →
+constant_past : (at there : UnreadPosition) (value : ℕ) → (next_at at).token ≡ token.Constant value →
+    GoesPast at there →
     DerivesItem AConstant [] (AnExpr (Constant (pos value)) ∷ []) at there
 constant_past at there value is goes depth =
     past at.lookahead.cursor (scope_at at) (scope_at at) at.to_come there depth (AConstant ∷ []) [] []
@@ -169,7 +170,8 @@ fetch_chooses at n call none = record {
       (fetch_choice n.name (after_at at) call (none increment_op.Increment) (none increment_op.Decrement));
 }
 
-fetch_stands : (at : UnreadPosition) → IsNamed (next_at at).token → is_punctuator punctuator.OpenRound (after_at at) ≡ false →
+fetch_stands : (at : UnreadPosition) → IsNamed (next_at at).token →
+    is_punctuator punctuator.OpenRound (after_at at) ≡ false →
     NoStep at → (depth : ℕ) →
     Derives depth (Part Primary ∷ []) (AName Mentioned ∷ Make Fetch ∷ []) [] [] at at
 fetch_stands at n call none depth =
@@ -284,7 +286,8 @@ behind_halts used at now s v n fits item near depth =
     (Exactly (increment_punctuator s) ∷ Make (PostfixIncrement (increment_store_op s)) ∷ []) []
     (AVariable v ∷ []) at now used (behind_past_name at now s v n fits item depth) near
 
-pub behind_punctuator_ends : (used : ℕ) (at now : UnreadPosition) (s : IncrementOp) (v : Var) (more : Type 0) (f : ParseFault)
+pub behind_punctuator_ends : (used : ℕ) (at now : UnreadPosition) (s : IncrementOp) (v : Var) (more : Type 0)
+    (f : ParseFault)
     →
     IsNamed (next_at at).token → is_punctuator (increment_punctuator s) (after_at at) ≡ true →
     DerivesItem (AName Mentioned) [] (AVariable v ∷ []) at now →
@@ -347,7 +350,8 @@ before_enters : (s : IncrementOp) (after : Token) →
 before_enters increment_op.Increment after = refl
 before_enters increment_op.Decrement after = refl
 
-before_stands : (at : UnreadPosition) (s : IncrementOp) → is_punctuator (increment_punctuator s) (next_at at).token ≡ true →
+before_stands : (at : UnreadPosition) (s : IncrementOp) →
+    is_punctuator (increment_punctuator s) (next_at at).token ≡ true →
     (depth : ℕ) →
     Derives depth (Part Unary ∷ [])
     (Exactly (increment_punctuator s) ∷ AName Mentioned ∷ Make (PrefixIncrement (increment_store_op s)) ∷ []) [] [] at

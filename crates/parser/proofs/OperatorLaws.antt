@@ -52,7 +52,8 @@ spells n o (token.Fault lexical_error) is = absurd (cc)
 pub operator_sound : (n : ℕ) (o : Op) (t : Token) → operator_at n t ≡ Some o → is_lexical_error t ≡ false
 operator_sound n o t is = let s : SpellsOperator n o t = spells n o t is in rw s.is refl
 
-operator_stands : (at : UnreadPosition) (depth n : ℕ) (o : Op) (left : Expr) (s : SpellsOperator n o (next_at at).token) →
+operator_stands : (at : UnreadPosition) (depth n : ℕ) (o : Op) (left : Expr) (s : SpellsOperator n o (next_at at).token)
+    →
     Derives depth (Part (Tail n) ∷ []) (Exactly s.m ∷ Part (Level (n + 1)) ∷ Make (Operate o) ∷ Part (Tail n) ∷ [])
     (AnExpr left ∷ []) (AnExpr left ∷ []) at at
 operator_stands at depth n o left s =
@@ -75,7 +76,8 @@ operator_ends used at depth n o more f is stop = ended (spells n o (next_at at).
         (operator_stands at depth n o left s) (λ stack same. same) (h depth)) (λ never. absurd never)
         (punctuator_ends used at s.m f s.fits stop)
 
-operator_past : (at now : UnreadPosition) (depth n : ℕ) (o : Op) (left : Expr) → operator_at n (next_at at).token ≡ Some o →
+operator_past : (at now : UnreadPosition) (depth n : ℕ) (o : Op) (left : Expr) →
+    operator_at n (next_at at).token ≡ Some o →
     GoesPast at now →
     Derives depth (Part (Tail n) ∷ []) (Part (Level (n + 1)) ∷ Make (Operate o) ∷ Part (Tail n) ∷ []) (AnExpr left ∷ [])
     (AnExpr left ∷ []) at now
@@ -177,7 +179,8 @@ abbrev right_below : (logic : Bool) (origin : ValueCategory) (opened : Opened) �
 right_below true origin opened = AValue origin ∷ opened
 right_below false origin opened = opened
 
-middle_leads : (o : Op) (logic : Bool) → is_logic o ≡ logic → (origin : ValueCategory) (outer : Open) (opened : Opened) →
+middle_leads : (o : Op) (logic : Bool) → is_logic o ≡ logic →
+    (origin : ValueCategory) (outer : Open) (opened : Opened) →
     open_count (outer ∷ opened) + right_side o ≤ 200 →
     Leads (middle o) (AValue origin ∷ outer ∷ opened)
     (right_open o logic origin ∷ right_below logic origin (outer ∷ opened))
@@ -188,13 +191,15 @@ middle_leads o true is origin outer opened small =
     (rw is refl) (omega arith))
 middle_leads o false is origin outer opened small = rw is (record { is = refl })
 
-right_counts : (o : Op) (logic : Bool) → is_logic o ≡ logic → (origin : ValueCategory) (outer : Open) (opened : Opened) →
+right_counts : (o : Op) (logic : Bool) → is_logic o ≡ logic →
+    (origin : ValueCategory) (outer : Open) (opened : Opened) →
     open_count (right_open o logic origin ∷ right_below logic origin (outer ∷ opened)) ≡
     right_side o + open_count (outer ∷ opened)
 right_counts o true is origin outer opened = let side : right_side o ≡ 1 = rw is refl in omega arith
 right_counts o false is origin outer opened = let side : right_side o ≡ 0 = rw is refl in omega arith
 
-apply_leads : (o : Op) (logic : Bool) → is_logic o ≡ logic → (origin right : ValueCategory) (outer : Open) (opened : Opened) →
+apply_leads : (o : Op) (logic : Bool) → is_logic o ≡ logic →
+    (origin right : ValueCategory) (outer : Open) (opened : Opened) →
     open_count (outer ∷ opened) ≤ 200 →
     Leads (ApplyBinop o ∷ []) (AValue right ∷ right_open o logic origin ∷ right_below logic origin (outer ∷ opened))
     (AValue Computed ∷ outer ∷ opened)

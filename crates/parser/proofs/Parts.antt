@@ -78,7 +78,8 @@ beyond opened n rest is large = rw (is, above n large) refl
 pub free_below : (depth : ℕ) (symbol : Symbol) (located_token : LocatedToken) → depth < 64 →
     IsFree depth symbol located_token
 free_below depth symbol located_token small stack rest depths =
-    within (enters symbol located_token.token (next_token rest)) (nested_count stack) (located_token ∷ rest) (rw depths small)
+    within (enters symbol located_token.token (next_token rest)) (nested_count stack) (located_token ∷ rest)
+    (rw depths small)
 
 pub free_of : (depth : ℕ) (symbol : Symbol) (located_token : LocatedToken) →
     ((after : Token) → enters symbol located_token.token after ≡ false) → IsFree depth symbol located_token
@@ -108,7 +109,8 @@ part_stands at depth symbol items trees sound chosen free =
     (λ tail b. part_leads (next_at at) depth symbol items trees (scope_at at) tail sound chosen free)
 
 word_leads : (located_token : LocatedToken) (depth : ℕ) (symbol : Symbol) (w : Keyword) (items : List Item)
-    (trees : List PartialTree) (known : Scope) (rest : List LocatedToken) → is_lexical_error located_token.token ≡ false →
+    (trees : List PartialTree) (known : Scope) (rest : List LocatedToken) →
+    is_lexical_error located_token.token ≡ false →
     Chooses symbol located_token.token (AKeyword w ∷ items) → is_keyword w located_token.token ≡ true →
     IsFree depth symbol located_token →
     Leads depth (Part symbol ∷ []) items trees trees known known (located_token ∷ rest) rest
@@ -141,7 +143,8 @@ word_stops at d depth symbol w items trees sound chosen fits free stop =
     (λ rest b. word_leads (next_at at) depth symbol w items trees (scope_at at) rest sound chosen fits free) stop
 
 punctuator_leads : (located_token : LocatedToken) (depth : ℕ) (symbol : Symbol) (m : Punctuator) (items : List Item)
-    (trees : List PartialTree) (known : Scope) (rest : List LocatedToken) → is_lexical_error located_token.token ≡ false →
+    (trees : List PartialTree) (known : Scope) (rest : List LocatedToken) →
+    is_lexical_error located_token.token ≡ false →
     Chooses symbol located_token.token (Exactly m ∷ items) → is_punctuator m located_token.token ≡ true →
     IsFree depth symbol located_token →
     Leads depth (Part symbol ∷ []) items trees trees known known (located_token ∷ rest) rest
@@ -163,7 +166,8 @@ punctuator_past at there depth symbol m items trees sound chosen fits free goes 
     goes
     (λ rest b. punctuator_leads (next_at at) depth symbol m items trees (scope_at at) rest sound chosen fits free)
 
-pub punctuator_stops : (at : UnreadPosition) (d : Stop) (depth : ℕ) (symbol : Symbol) (m : Punctuator) (items : List Item)
+pub punctuator_stops : (at : UnreadPosition) (d : Stop) (depth : ℕ) (symbol : Symbol) (m : Punctuator)
+    (items : List Item)
     (trees : List PartialTree) → is_lexical_error (next_at at).token ≡ false →
     Chooses symbol (next_at at).token (Exactly m ∷ items) → is_punctuator m (next_at at).token ≡ true →
     IsFree depth symbol (next_at at) → StopsAt at d →
@@ -188,7 +192,8 @@ word_too_deep at n near depth symbol w items trees sound chosen fits opened deep
     (beyond (enters symbol (next_at at).token (next_token tail)) (nested_count stack) (next_at at ∷ tail)
     (opened (next_token tail)) (rw depths deep)))
 
-pub punctuator_too_deep : (at : UnreadPosition) (n : ℕ) (near : IsNearTo at.lookahead.cursor n) (depth : ℕ) (symbol : Symbol)
+pub punctuator_too_deep : (at : UnreadPosition) (n : ℕ) (near : IsNearTo at.lookahead.cursor n) (depth : ℕ)
+    (symbol : Symbol)
     (m : Punctuator) (items : List Item) (trees : List PartialTree) → is_lexical_error (next_at at).token ≡ false →
     Chooses symbol (next_at at).token (Exactly m ∷ items) → is_punctuator m (next_at at).token ≡ true →
     ((after : Token) → enters symbol (next_at at).token after ≡ true) → 64 ≤ depth →
@@ -208,12 +213,14 @@ pub record MakesOnly (rule : SemanticAction) (taken left : List PartialTree) : T
   pub makes : (values : List PartialTree) → trees_after rule (taken ++ values) ≡ left ++ values
   pub learns : (scope : Scope) → scope_after_action rule scope ≡ scope
   pub defines : (values : List PartialTree) (scope : Scope) → functions_defined rule values scope ≡ []
-  pub clean : (profile : Profile) (stack : List Item) (rest : List LocatedToken) (values : List PartialTree) (scope : Scope)
+  pub clean : (profile : Profile) (stack : List Item) (rest : List LocatedToken) (values : List PartialTree)
+      (scope : Scope)
       (functions : List Definition) →
       item_faults profile (Make rule) (state stack rest values scope functions) ≡ []
 
 pub make_leads : (located_token : LocatedToken) (depth : ℕ) (rule : SemanticAction) (taken left : List PartialTree)
-    (known : Scope) (rest : List LocatedToken) → is_lexical_error located_token.token ≡ false → MakesOnly rule taken left →
+    (known : Scope) (rest : List LocatedToken) → is_lexical_error located_token.token ≡ false →
+    MakesOnly rule taken left →
     Leads depth (Make rule ∷ []) [] taken left known known (located_token ∷ rest) (located_token ∷ rest)
 make_leads located_token depth rule taken left known rest sound m = record {
   passes = λ profile stack values functions depths.
@@ -229,12 +236,14 @@ make_leads located_token depth rule taken left known rest sound m = record {
 }
 
 pub make_stands : (at : UnreadPosition) (depth : ℕ) (rule : SemanticAction) (taken left : List PartialTree) →
-    is_lexical_error (next_at at).token ≡ false → MakesOnly rule taken left → Derives depth (Make rule ∷ []) [] taken left at at
+    is_lexical_error (next_at at).token ≡ false → MakesOnly rule taken left →
+    Derives depth (Make rule ∷ []) [] taken left at at
 make_stands at depth rule taken left sound m =
     stand at depth (Make rule ∷ []) [] taken left
     (λ tail b. make_leads (next_at at) depth rule taken left (scope_at at) tail sound m)
 
-close_leads : (located_token : LocatedToken) (depth : ℕ) (trees : List PartialTree) (known : Scope) (rest : List LocatedToken)
+close_leads : (located_token : LocatedToken) (depth : ℕ) (trees : List PartialTree) (known : Scope)
+    (rest : List LocatedToken)
     → is_lexical_error located_token.token ≡ false →
     Leads depth (Close ∷ []) [] trees trees known known (located_token ∷ rest) (located_token ∷ rest)
 close_leads located_token depth trees known rest sound =
@@ -243,7 +252,8 @@ close_leads located_token depth trees known rest sound =
           λ profile stack values functions depths. close profile stack (located_token ∷ rest) _ known functions sound;
     }
 
-pub close_stands : (at : UnreadPosition) (depth : ℕ) (trees : List PartialTree) → is_lexical_error (next_at at).token ≡ false →
+pub close_stands : (at : UnreadPosition) (depth : ℕ) (trees : List PartialTree) →
+    is_lexical_error (next_at at).token ≡ false →
     Derives depth (Close ∷ []) [] trees trees at at
 close_stands at depth trees sound =
     stand at depth (Close ∷ []) [] trees trees (λ tail b. close_leads (next_at at) depth trees (scope_at at) tail sound)

@@ -120,7 +120,8 @@ punctuator_too_deep at used near depth symbol m items c opened fits deep =
     (opened (next_token tail) (next_behind at tail b)) (rw depths deep)))
 
 -- by a name
-pub name_too_deep : (at : UnreadPosition) (used : ℕ) (near : IsNearTo at.lookahead.cursor used) (depth : ℕ) (symbol : Symbol)
+pub name_too_deep : (at : UnreadPosition) (used : ℕ) (near : IsNearTo at.lookahead.cursor used) (depth : ℕ)
+    (symbol : Symbol)
     (role : Role) (name : List ℕ) (items : List Item) → Chooses at symbol (AName role ∷ items) → EntersLevel at symbol →
     name_of_token (next_at at).token ≡ Some name → 64 ≤ depth →
     FailsAt depth (Part symbol ∷ []) [] at
@@ -133,8 +134,10 @@ name_too_deep at used near depth symbol role name items c opened fits deep =
     (opened (next_token tail) (next_behind at tail b)) (rw depths deep)))
 
 -- no production fits
-pub none_chosen : (at : UnreadPosition) (used : ℕ) (near : IsNearTo at.lookahead.cursor used) (depth : ℕ) (symbol : Symbol) →
-    is_lexical_error (next_at at).token ≡ false → WithAfter at (λ after. choice symbol (next_at at).token after ≡ None) →
+pub none_chosen : (at : UnreadPosition) (used : ℕ) (near : IsNearTo at.lookahead.cursor used) (depth : ℕ)
+    (symbol : Symbol) →
+    is_lexical_error (next_at at).token ≡ false →
+    WithAfter at (λ after. choice symbol (next_at at).token after ≡ None) →
     EntersNone at symbol →
     FailsAt depth (Part symbol ∷ []) [] at
     (stop_with (parse_fault.Source (diagnostic (next_at at).line (unexpected_token_code (next_at at).token))) used)
@@ -175,7 +178,8 @@ item_exit used whole item below under at now more f a enters =
     (h depth)) (λ never. absurd never)
 
 -- the next item is done, and its trees are on top of the others
-pub item_done : (depth inner : ℕ) (front : List Item) (item : Item) (below : List Item) (taken left under : List PartialTree)
+pub item_done : (depth inner : ℕ) (front : List Item) (item : Item) (below : List Item)
+    (taken left under : List PartialTree)
     (at now there : UnreadPosition) →
     Derives depth front (item ∷ below) taken under at now → Derives inner (item ∷ []) [] [] left now there →
     ((stack : List Item) → nested_count stack ≡ depth → nested_count (below ++ stack) ≡ inner) →

@@ -45,7 +45,8 @@ next_behind at tail b more = ap next_token (b.is more)
 abbrev until_last : Token → List LocatedToken → List LocatedToken
 until_last t others = cond (is_last t) [] others
 
-pub goes_begins : (at : UnreadPosition) (rest : List LocatedToken) → MayContinue at rest → Begins at.lookahead.cursor rest
+pub goes_begins : (at : UnreadPosition) (rest : List LocatedToken) → MayContinue at rest →
+    Begins at.lookahead.cursor rest
 goes_begins at rest g = record {
   tail = until_last (next_at at).token (followed_by at.lookahead.cursor.after g.behind);
   is = g.is;
@@ -183,7 +184,8 @@ stops_here profile s stop fails taken = record {
   taken = taken;
 }
 
-fails_back : (profile : Profile) (s t : State) (f : ParseFault) → DerivesWithoutFault profile s t → IfSource f (Fails profile t) →
+fails_back : (profile : Profile) (s t : State) (f : ParseFault) → DerivesWithoutFault profile s t →
+    IfSource f (Fails profile t) →
     IfSource f (Fails profile s)
 fails_back profile s t (parse_fault.Source d) p h = back profile s t d p h
 fails_back profile s t parse_fault.Device p h = tt
@@ -259,12 +261,14 @@ reach_told at located_tokens is =
     (reach_told_at (next_at at) at.lookahead.cursor.after g.behind located_tokens (is_last (next_at at).token) refl
     g.is)
 
-pub near_told : (at : UnreadPosition) (located_tokens : List LocatedToken) (used : ℕ) → tokens_at at ≡ Some located_tokens →
+pub near_told : (at : UnreadPosition) (located_tokens : List LocatedToken) (used : ℕ) →
+    tokens_at at ≡ Some located_tokens →
     IsNearTo at.lookahead.cursor used → used ≤ reach_of located_tokens + 4096
 near_told at located_tokens used is near = subst (λ (k : ℕ). used ≤ k + 4096) (reach_told at located_tokens is) near
 
 -- the first fault is at the next token
-pub fails_at_next : (depth : ℕ) (front : List Item) (taken : List PartialTree) (at : UnreadPosition) (d : Diagnostic) (n : ℕ)
+pub fails_at_next : (depth : ℕ) (front : List Item) (taken : List PartialTree) (at : UnreadPosition) (d : Diagnostic)
+    (n : ℕ)
     →
     IsNearTo at.lookahead.cursor n →
     ((tail : List LocatedToken) → IsBehind at.lookahead.cursor tail →
@@ -351,7 +355,8 @@ joined depth inner front mid pending below taken between left under at now there
 }
 
 -- a fault after a segment
-pub fails_then : (depth : ℕ) (front mid : List Item) (taken between : List PartialTree) (at now : UnreadPosition) (d : Stop) →
+pub fails_then : (depth : ℕ) (front mid : List Item) (taken between : List PartialTree) (at now : UnreadPosition)
+    (d : Stop) →
     Derives depth front mid taken between at now → FailsAt depth mid between now d →
     FailsAt depth front taken at d
 fails_then depth front mid taken between at now d a fails located_tokens is profile stack values functions depths

@@ -38,7 +38,8 @@ empty_fails at depth sound is d fails b =
     fails_behind depth depth (Part Statement ∷ []) (Exactly punctuator.Semicolon ∷ []) [] (ABody b ∷ []) []
     (ABody b ∷ []) at at d (empty_stands at depth b sound is) (λ stack same. same) (fails depth)
 
-pub empty_adds : (at there : UnreadPosition) (before : Representation) (depth : ℕ) → is_lexical_error (next_at at).token ≡ false →
+pub empty_adds : (at there : UnreadPosition) (before : Representation) (depth : ℕ) →
+    is_lexical_error (next_at at).token ≡ false →
     is_punctuator punctuator.Semicolon (next_at at).token ≡ true →
     DerivesItem (Exactly punctuator.Semicolon) [] [] at there →
     AddsBody before before depth (Part Statement ∷ []) [] at there
@@ -119,7 +120,8 @@ evaluation_adds at now there before mid after depth sound plain h matched sound_
 
 -- What a return returns.
 
-pub zero_adds : (at : UnreadPosition) (before after : Representation) (depth : ℕ) → is_lexical_error (next_at at).token ≡ false →
+pub zero_adds : (at : UnreadPosition) (before after : Representation) (depth : ℕ) →
+    is_lexical_error (next_at at).token ≡ false →
     is_punctuator punctuator.Semicolon (next_at at).token ≡ true → Appends before after (PushConstant (pos 0)) →
     AddsExpr before after depth 1 (Part Back ∷ []) [] at at
 zero_adds at before after depth sound is pushed = record {
@@ -188,7 +190,8 @@ given_fails at now depth sound is goes d fails b =
     (return_past at now depth b sound is goes) (λ stack same. same) fails
 
 given_past : (at now later : UnreadPosition) (before after : Representation) (depth : ℕ) (b : Body) →
-    is_lexical_error (next_at at).token ≡ false → is_keyword keyword.Return (next_at at).token ≡ true → GoesPast at now →
+    is_lexical_error (next_at at).token ≡ false → is_keyword keyword.Return (next_at at).token ≡ true →
+    GoesPast at now →
     (h : AddsExpr before after depth 1 (Part Back ∷ []) [] now later) →
     Derives depth (Part Statement ∷ []) (Exactly punctuator.Semicolon ∷ Make GiveBack ∷ []) (ABody b ∷ [])
     (AnExpr h.tree ∷ ABody b ∷ []) at later
@@ -208,7 +211,8 @@ return_unended at now later before after depth sound is goes h d fails b =
     (given_past at now later before after depth b sound is goes h) (λ stack same. same) (fails depth)
 
 pub return_adds : (at now later there : UnreadPosition) (before mid after : Representation) (depth : ℕ) →
-    is_lexical_error (next_at at).token ≡ false → is_keyword keyword.Return (next_at at).token ≡ true → GoesPast at now →
+    is_lexical_error (next_at at).token ≡ false → is_keyword keyword.Return (next_at at).token ≡ true →
+    GoesPast at now →
     AddsExpr before mid depth 1 (Part Back ∷ []) [] now later →
     DerivesItem (Exactly punctuator.Semicolon) [] [] later there → is_lexical_error (next_at there).token ≡ false →
     Appends mid after Returns →

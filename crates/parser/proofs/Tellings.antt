@@ -41,20 +41,23 @@ place_kept before now depth front pending at there h s =
 
 -- Branches.
 
-condition_inside : (before mid : Representation) (depth : ℕ) (front : List Item) (at there : UnreadPosition) → depth < 64 →
+condition_inside : (before mid : Representation) (depth : ℕ) (front : List Item) (at there : UnreadPosition) →
+    depth < 64 →
     HasStatementRoom before (room depth 1) → (c : AddsExpr before mid (depth + 1) 1 front [] at there) →
     HasInside (AValue (origin_of c.tree)) mid (room depth 1)
 condition_inside before mid depth front at there shallow h c =
     value_inside before mid (room depth 1) c.tree h c.numbered (omega (arith, c.narrow, room_deeper depth shallow))
     c.added
 
-pub may_test_if : (before mid : Representation) (depth : ℕ) (front : List Item) (at there : UnreadPosition) → depth < 64 →
+pub may_test_if : (before mid : Representation) (depth : ℕ) (front : List Item) (at there : UnreadPosition) →
+    depth < 64 →
     HasStatementRoom before (room depth 1) → AddsExpr before mid (depth + 1) 1 front [] at there → MayFollow mid IfTest
 may_test_if before mid depth front at there shallow h c =
     may_turn IfTest (AValue (origin_of c.tree)) InBranch mid (room depth 1) (λ o is. rw is refl)
     (omega (arith, room_deeper depth shallow)) (condition_inside before mid depth front at there shallow h c)
 
-pub branch_open : (before mid now : Representation) (depth : ℕ) (front : List Item) (at there : UnreadPosition) → depth < 64 →
+pub branch_open : (before mid now : Representation) (depth : ℕ) (front : List Item) (at there : UnreadPosition) →
+    depth < 64 →
     HasStatementRoom before (room depth 1) → AddsExpr before mid (depth + 1) 1 front [] at there →
     Appends mid now IfTest → HasInside InBranch now (room (depth + 1) 1)
 branch_open before mid now depth front at there shallow h c told =

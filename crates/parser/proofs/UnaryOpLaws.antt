@@ -87,7 +87,8 @@ sign_makes unary_op.Complement e =
       defines = λ values scope. refl;
     }
 
-pub sign_too_deep : (at : UnreadPosition) (used : ℕ) (near : IsNearTo at.lookahead.cursor used) (depth : ℕ) (s : UnaryOp) →
+pub sign_too_deep : (at : UnreadPosition) (used : ℕ) (near : IsNearTo at.lookahead.cursor used) (depth : ℕ)
+    (s : UnaryOp) →
     is_punctuator (unary_punctuator s) (next_at at).token ≡ true → 64 ≤ depth →
     FailsAt depth (Part Unary ∷ []) [] at
     (stop_with (parse_fault.Source (diagnostic (next_at at).line code.NestedTooDeeply)) used)
@@ -95,7 +96,8 @@ sign_too_deep at used near depth s fits deep =
     punctuator_too_deep at used near depth Unary (unary_punctuator s) (Part Unary ∷ Make (unary_action s) ∷ Close ∷ [])
     (sign_chooses at s fits) (sign_enters_level at s fits) fits deep
 
-sign_stands : (at : UnreadPosition) (depth : ℕ) (s : UnaryOp) → is_punctuator (unary_punctuator s) (next_at at).token ≡ true →
+sign_stands : (at : UnreadPosition) (depth : ℕ) (s : UnaryOp) →
+    is_punctuator (unary_punctuator s) (next_at at).token ≡ true →
     depth < 64 →
     Derives depth (Part Unary ∷ []) (Exactly (unary_punctuator s) ∷ Part Unary ∷ Make (unary_action s) ∷ Close ∷ []) []
     []
@@ -123,7 +125,8 @@ sign_past at now depth s fits shallow goes =
     (sign_stands at depth s fits shallow) (punctuator_past at now (unary_punctuator s) fits goes (depth + 1))
     (λ stack same. ap (λ n. n + 1) same)
 
-pub operand_refused : (used : ℕ) (at now : UnreadPosition) (depth : ℕ) (s : UnaryOp) (denied : Type 0) (f : ParseFault) →
+pub operand_refused : (used : ℕ) (at now : UnreadPosition) (depth : ℕ) (s : UnaryOp) (denied : Type 0) (f : ParseFault)
+    →
     is_punctuator (unary_punctuator s) (next_at at).token ≡ true → depth < 64 → GoesPast at now →
     Refused (FailsAt (depth + 1) (Part Unary ∷ []) [] now) denied used f →
     Refused (FailsAt depth (Part Unary ∷ []) [] at) denied used f

@@ -170,7 +170,8 @@ lacks_main before after told at there w defined none bytes shows profile h =
     (passes_all before after told at there w profile h) defined none
     ∙ ap (λ (n : ℕ). Err (diagnostic n code.NoMainFunction)) (last_line_is w.reads.consumed (next_at there)))
 
-pub lacking : (before after : Representation) (told to_come : Option (List ℕ)) (at there : UnreadPosition) (f : ParseFault)
+pub lacking : (before after : Representation) (told to_come : Option (List ℕ)) (at there : UnreadPosition)
+    (f : ParseFault)
     (denied : Type 0) → IsWhole before after told at there → LacksDefinition there.lookahead f →
     ParseIsRefused before after denied told to_come f
 lacking before after told to_come at there f denied w (ADefinition line is same) =
@@ -180,7 +181,8 @@ lacking before after told to_come at there f denied w (AMain defined none same) 
 
 -- If the parse stops, the file's first fault is there.
 
-stops_bytes : (before after : Representation) (told : Option (List ℕ)) (at : UnreadPosition) (d : Diagnostic) (used : ℕ) →
+stops_bytes : (before after : Representation) (told : Option (List ℕ)) (at : UnreadPosition) (d : Diagnostic) (used : ℕ)
+    →
     scope_at at ≡ no_names → tokens_at at ≡ option_map tokens told →
     StopsPart before after at_source at (stop_with (parse_fault.Source d) used) → FailsBytes before told d
 stops_bytes before after told at d used nothing tells stops bytes shows profile h =
@@ -253,7 +255,8 @@ pub stops_taking : (used : ℕ) (before after : Representation) (told to_come : 
 stops_taking used before after told to_come at (parse_fault.Source d) denied nothing tells taken h =
     λ bytes shows profile stands.
     let s =
-    stops_reading before after told at (stop_with (parse_fault.Source d) used) nothing tells h bytes shows profile stands
+    stops_reading before after told at (stop_with (parse_fault.Source d) used) nothing tells h bytes shows profile
+    stands
     in
     takes_up_to profile bytes to_come used 4096 s.passed s.rest s.is s.none_before (taken.took bytes shows)
     taken.limited s.taken
@@ -266,7 +269,8 @@ stops_taking used before after told to_come at parse_fault.Device denied nothing
 stops_taking used before after told to_come at parse_fault.Memory denied nothing tells taken h =
     λ bytes shows profile stands.
     let s =
-    stops_reading before after told at (stop_with parse_fault.Memory used) nothing tells h.1 bytes shows profile stands in
+    stops_reading before after told at (stop_with parse_fault.Memory used) nothing tells h.1 bytes shows profile stands
+    in
     takes_up_to profile bytes to_come used 4096 s.passed s.rest s.is s.none_before (taken.took bytes shows)
     taken.limited s.taken
 
@@ -284,7 +288,8 @@ first_taking before told to_come parse_fault.Device stops = λ bytes shows profi
 first_taking before told to_come parse_fault.Memory stops = absurd stops.refused.0
 
 -- a file that was read to its end
-pub whole_takes : (used : ℕ) (before after : Representation) (told to_come : Option (List ℕ)) (at there : UnreadPosition) →
+pub whole_takes : (used : ℕ) (before after : Representation) (told to_come : Option (List ℕ))
+    (at there : UnreadPosition) →
     IsWhole before after told at there → IsNearTo there.lookahead.cursor used → HasTaken used told to_come →
     TakesNoMore before told to_come 4096
 whole_takes used before after told to_come at there w near taken bytes shows profile h =
@@ -304,7 +309,8 @@ whole_takes used before after told to_come at there w near taken bytes shows pro
     takes_up_to profile bytes to_come used 4096 w.reads.consumed t.rest t.is none (taken.took bytes shows) taken.limited
     (near_told there t.rest used t.shows near)
 
-pub lacks_taking : (used : ℕ) (before after : Representation) (told to_come : Option (List ℕ)) (at there : UnreadPosition)
+pub lacks_taking : (used : ℕ) (before after : Representation) (told to_come : Option (List ℕ))
+    (at there : UnreadPosition)
     (f : ParseFault) → IsWhole before after told at there → LacksDefinition there.lookahead f →
     IsNearTo there.lookahead.cursor used → HasTaken used told to_come →
     StopsTaking before told to_come f

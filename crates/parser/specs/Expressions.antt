@@ -33,7 +33,8 @@ pub record AddsExpr (before after : Representation) (depth level : ℕ) (front p
   pub derives : Derives depth front pending [] (AnExpr tree ∷ []) here there
 
 -- One further operator was read with its right side, whatever its left side is.
-pub record AddsOperand (before after : Representation) (depth level : ℕ) (op : Op) (here there : UnreadPosition) : Type 0
+pub record AddsOperand (before after : Representation) (depth level : ℕ) (op : Op) (here there : UnreadPosition) : Type
+    0
   where
     pub right : Expr
     pub numbered : InExpr MOST_NAMES MOST_NAMES MOST_NAMES right
@@ -48,7 +49,8 @@ abbrev pub FailsOperand : ℕ → ℕ → UnreadPosition → Stop → Type 0
 FailsOperand depth level here d = (left : Expr) → FailsAt depth (Part (Tail level) ∷ []) (AnExpr left ∷ []) here d
 
 -- The arguments of a call were read, whatever it calls.
-pub record AddsArgs (before after : Representation) (depth : ℕ) (front pending : List Item) (here there : UnreadPosition) :
+pub record AddsArgs (before after : Representation) (depth : ℕ) (front pending : List Item)
+    (here there : UnreadPosition) :
     Type 0 where
   pub tree : Args
   pub numbered : InArgs MOST_NAMES MOST_NAMES MOST_NAMES tree

@@ -13,7 +13,8 @@ Consumes (Err fault) old new = Refused (StopsAt old.position) ⊥ (taken_at new.
 
 -- These items were matched, which made these trees. Or the derivation stops within them, as the refusal says.
 -- No memory is asked for.
-abbrev pub Matches : {A : Type 0} → Result A ParseFault → List Item → (A → List PartialTree) → ScopedCursor → ScopedCursor →
+abbrev pub Matches : {A : Type 0} → Result A ParseFault → List Item → (A → List PartialTree) → ScopedCursor →
+    ScopedCursor →
     Type 0
 Matches (Ok x) items trees old new = (depth : ℕ) → Derives depth items [] [] (trees x) old.position new.position
 Matches (Err fault) items trees old new =

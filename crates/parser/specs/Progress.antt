@@ -36,17 +36,18 @@ use Rattle.parser.specs.Segment.{Derives, FailsAt, Refused, TakesTokens}
 
 -- From one position between functions to another the builder was told further functions, and the derivation, which goes
 -- from these items to those, defines them. It consumes the same tokens whether the device's bytes are known or not.
-pub record ReadsOn (before after : Representation) (front pending : List Item) (here there : UnreadPosition) : Type 0 where
-  pub consumed : List LocatedToken
-  pub more : List Definition
-  pub told : (located_tokens : List LocatedToken) → tokens_at here ≡ Some located_tokens
-      → TakesTokens consumed located_tokens there
-  pub follows : (rest : List LocatedToken) → MayContinue there rest → MayContinue here (consumed ++ rest)
-  pub added : AppendsAll before after (definitions_actions more)
-  pub passes : (rest : List LocatedToken) → MayContinue there rest → (profile : Profile) (functions : List Definition) →
-      before profile (definitions_actions functions) →
-      DerivesWithoutFault profile (state front (consumed ++ rest) [] (scope_at here) functions)
-      (state pending rest [] (scope_at there) (functions ++ more))
+pub record ReadsOn (before after : Representation) (front pending : List Item) (here there : UnreadPosition) : Type 0
+  where
+    pub consumed : List LocatedToken
+    pub more : List Definition
+    pub told : (located_tokens : List LocatedToken) → tokens_at here ≡ Some located_tokens
+        → TakesTokens consumed located_tokens there
+    pub follows : (rest : List LocatedToken) → MayContinue there rest → MayContinue here (consumed ++ rest)
+    pub added : AppendsAll before after (definitions_actions more)
+    pub passes : (rest : List LocatedToken) → MayContinue there rest → (profile : Profile) (functions : List Definition) →
+        before profile (definitions_actions functions) →
+        DerivesWithoutFault profile (state front (consumed ++ rest) [] (scope_at here) functions)
+        (state pending rest [] (scope_at there) (functions ++ more))
 
 -- the builder represents the actions of these functions, and further ones
 pub record HasReported (after : Representation) (profile : Profile) (functions : List Definition) : Type 0 where
@@ -142,7 +143,8 @@ pub data LacksDefinition (position : Lookahead) (fault : ParseFault) : Type 0 wh
       fault ≡ parse_fault.Source (diagnostic line code.FunctionNotDefined) → LacksDefinition position fault
   AMain : line_of_undefined 0 position.scope.lines position.scope.begun ≡ None →
       is_some (function_number main_name position.scope) ≡ false →
-      fault ≡ parse_fault.Source (diagnostic position.cursor.next.line code.NoMainFunction) → LacksDefinition position fault
+      fault ≡ parse_fault.Source (diagnostic position.cursor.next.line code.NoMainFunction) →
+      LacksDefinition position fault
 
 -- What the parse of a file's parts says, by its result.
 

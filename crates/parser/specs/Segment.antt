@@ -29,7 +29,8 @@ pub record TakesTokens (consumed located_tokens : List LocatedToken) (there : Un
 
 -- From one position to another the derivation replaces these items in front by those, with `depth` levels open below
 -- them, and these trees by those. It consumes the same tokens whether the device's bytes are known or not.
-pub record Derives (depth : ℕ) (front pending : List Item) (taken left : List PartialTree) (here there : UnreadPosition) : Type 0
+pub record Derives (depth : ℕ) (front pending : List Item) (taken left : List PartialTree) (here there : UnreadPosition)
+    : Type 0
   where
     pub consumed : List LocatedToken
     pub told : (located_tokens : List LocatedToken) → tokens_at here ≡ Some located_tokens
@@ -38,7 +39,8 @@ pub record Derives (depth : ℕ) (front pending : List Item) (taken left : List 
     pub passes : (rest : List LocatedToken) → MayContinue there rest →
         (profile : Profile) (stack : List Item) (values : List PartialTree) (functions : List Definition) →
         nested_count stack ≡ depth →
-        DerivesWithoutFault profile (state (front ++ stack) (consumed ++ rest) (taken ++ values) (scope_at here) functions)
+        DerivesWithoutFault profile
+        (state (front ++ stack) (consumed ++ rest) (taken ++ values) (scope_at here) functions)
         (state (pending ++ stack) rest (left ++ values) (scope_at there) functions)
 
 -- if the tokens are known, the derivation from these items on stops so, with `depth` levels open, and before a further
@@ -46,7 +48,8 @@ pub record Derives (depth : ℕ) (front pending : List Item) (taken left : List 
 abbrev pub FailsAt : ℕ → List Item → List PartialTree → UnreadPosition → Stop → Type 0
 FailsAt depth front taken here stop =
     (located_tokens : List LocatedToken) → tokens_at here ≡ Some located_tokens →
-    (profile : Profile) (stack : List Item) (values : List PartialTree) (functions : List Definition) → nested_count stack ≡ depth →
+    (profile : Profile) (stack : List Item) (values : List PartialTree) (functions : List Definition) →
+    nested_count stack ≡ depth →
     StopsInside profile (state (front ++ stack) located_tokens (taken ++ values) (scope_at here) functions) stop
 
 -- one item was matched or replaced, however many levels are open

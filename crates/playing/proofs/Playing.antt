@@ -68,7 +68,8 @@ pub record HasTurned (i : ℕ) (program : Program) (old new : Machine) (before a
 
 -- is the robot's step
 turn_steps : (i : ℕ) (program : Program) (old new : Machine) (before after : Arena) (r : Behaviour) (f : Field)
-    (trace : List ℤ) → HasTurned i program old new before after → IsRobotOf (plainly program) r → RepresentsField before f
+    (trace : List ℤ) → HasTurned i program old new before after → IsRobotOf (plainly program) r →
+    RepresentsField before f
     → IsReached old program trace
     → RepresentsField after (robot_turn r i f trace).0 × IsReached new program (robot_turn r i f trace).1
 turn_steps i program old new before after r f trace turned is stands at = elim (cases_Bool (is_live before i)) [
@@ -97,7 +98,8 @@ has_stepped i program old new before after turned = record {
 }
 
 -- one cycle more, without an update
-pub cycle_plain : (robots : List Behaviour) (codes : List Program) (seats : List Pilot) (arena : Arena) (s : BattleState)
+pub cycle_plain : (robots : List Behaviour) (codes : List Program) (seats : List Pilot) (arena : Arena)
+    (s : BattleState)
     (n : ℕ) → (n + 1) % 15 ≢ 0
     → HavePlayed codes seats arena (turns robots (length robots) (state_after robots s n))
     → HavePlayed codes seats arena (state_after robots s (n + 1))

@@ -37,7 +37,8 @@ EndsWell game = game.ending.is_over ≡ true
     → (game.ending.cycles ≡ game.limit) ⊎ (game.ending.cycles ≡ game.ending.cycles / update_cycles * update_cycles)
 
 -- the cycle after n was run, which may decide the match
-abbrev pub HaveRun : List Program → List Behaviour → BattleState → (before : ℕ) → List Pilot → Arena → List Pilot → Arena
+abbrev pub HaveRun : List Program → List Behaviour → BattleState → (before : ℕ) → List Pilot → Arena → List Pilot →
+    Arena
     → Bool → Type 0
 HaveRun codes robots opening before seats arena seats' arena' decides =
     HavePlayed codes seats arena (state_after robots opening before)

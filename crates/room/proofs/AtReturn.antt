@@ -54,7 +54,8 @@ same_fitting s i false true same = absurd (never_restart s i (sym same))
 
 -- machines that want the same along all replies are at the same place
 same_reached : (program : Program) (q : Profile) (s : Machine) (trace : List ℤ) →
-    ((t : List ℤ) → want_next program (reached program s t) ≡ want_next (by_profile program q) (reached (by_profile program q) s t))
+    ((t : List ℤ) →
+    want_next program (reached program s t) ≡ want_next (by_profile program q) (reached (by_profile program q) s t))
     →
     reached program s trace ≡ reached (by_profile program q) s trace
 same_reached program q s [] alike = refl
@@ -131,7 +132,8 @@ restarts_at_return p file resolved has_room trace c is =
     want_next (by_profile program q) (reached (by_profile program q) (started_machine program) t) =
     λ t. same_wants p q file resolved refl has_room wide t
     ∙ ap (λ (c : Program). want_next c (reached c (started_machine c) t)) (sym code_is) in
-    let there : reached program (started_machine program) trace ≡ reached (by_profile program q) (started_machine program) trace =
+    let there : reached program (started_machine program) trace ≡
+    reached (by_profile program q) (started_machine program) trace =
     same_reached program q (started_machine program) trace alike in
     let no = refused program s i c is in
     let fit : is_fitting program s i ≡ is_fitting (by_profile program q) s i =

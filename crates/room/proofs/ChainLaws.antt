@@ -107,7 +107,8 @@ chain_is p fs main measure calls need chain next short needs by reads less begun
     }
 
 -- the same chain and the same function after it
-pub kept : (measure : Measure) (calls : Calls) (fs : List UnnamedFunction) (main : ℕ) (one other : List ℕ) (next last : Option ℕ) →
+pub kept : (measure : Measure) (calls : Calls) (fs : List UnnamedFunction) (main : ℕ) (one other : List ℕ)
+    (next last : Option ℕ) →
     one ≡ other → next ≡ last → IsBegun measure calls fs main other last → IsBegun measure calls fs main one next
 kept measure calls fs main one other next last chains functions begun =
     subst (λ (ks : List ℕ). IsBegun measure calls fs main ks next) (sym chains)

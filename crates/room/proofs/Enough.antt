@@ -34,7 +34,8 @@ same_and {A = A} {B = B} x y go on same each = ap (λ z. and_then z go) same ∙
     behind (Gives v vars rest) = each v vars rest
     behind (Awaits event) = refl
 
-same_tick : {A : Type 0} (a b : Bool) (event : Want) (trace : List ℤ) (go on : ℤ → List ℤ → EvaluationResult A) → a ≡ b →
+same_tick : {A : Type 0} (a b : Bool) (event : Want) (trace : List ℤ) (go on : ℤ → List ℤ → EvaluationResult A) →
+    a ≡ b →
     ((reply : ℤ) (rest : List ℤ) → go reply rest ≡ on reply rest) → tick a event trace go ≡ tick b event trace on
 same_tick {A = A} a b event trace go on same each = ap (λ t. tick t event trace go) same ∙ behind b trace
   where
@@ -58,7 +59,8 @@ same_on x y go on same each =
     same_and x y (λ flow vars rest. on_through flow vars rest go) (λ flow vars rest. on_through flow vars rest on) same
     behind
   where
-    behind : (flow : Completion) (vars : Vars) (rest : List ℤ) → on_through flow vars rest go ≡ on_through flow vars rest on
+    behind : (flow : Completion) (vars : Vars) (rest : List ℤ) →
+        on_through flow vars rest go ≡ on_through flow vars rest on
     behind Through vars rest = each vars rest
     behind (Returns x) vars rest = refl
 
@@ -95,7 +97,8 @@ module _ (w f : ℕ) (p q : Profile) (first : Grants w f p) (second : Grants w f
       sym (lt_test depth q.words (omega (arith, deep, second.words_are)))) (λ reply rest. each rest)
 
   same_over : (depth : ℕ) (trace : List ℤ) (go on : List ℤ → EvaluationResult Completion) → depth < w →
-      ((rest : List ℤ) → go rest ≡ on rest) → end_of_branch_or_iteration p depth trace go ≡ end_of_branch_or_iteration q depth trace on
+      ((rest : List ℤ) → go rest ≡ on rest) →
+      end_of_branch_or_iteration p depth trace go ≡ end_of_branch_or_iteration q depth trace on
   same_over depth trace go on deep each =
       same_push depth trace (λ rest. quiet_cycle rest go) (λ rest. quiet_cycle rest on) deep
       (λ rest. same_pass rest go on each)

@@ -100,7 +100,8 @@ need_is p file made resolved same =
     sym same ∙ told_there file file.order resolved.only in
     let one = length_map (λ (f : Function). without_names f.number (function_tree f)) made in
     let other = length_map (told_at file) file.order in
-    let as_many : length made ≡ length file.order = sym one ∙ ap (λ (ts : List UnnamedFunction). length ts) are ∙ other in
+    let as_many : length made ≡ length file.order =
+    sym one ∙ ap (λ (ts : List UnnamedFunction). length ts) are ∙ other in
     ap (λ (ts : List UnnamedFunction). needs_in (table_within p.short_circuit ts (length made)) file.main) are
     ∙
     ap (λ (n : ℕ). needs_in (table_within p.short_circuit (map (told_at file) file.order) n) file.main) as_many

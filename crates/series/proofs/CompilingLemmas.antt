@@ -53,7 +53,8 @@ both_of profile None (Ok file) = refl
 both_of profile None (Err d) = refl
 
 -- the status of the files so far, with one source more
-pub status_more : (profile : Profile) (sources : List SourceFile) (file : ℕ) (so_far one : Status) → file < length sources
+pub status_more : (profile : Profile) (sources : List SourceFile) (file : ℕ) (so_far one : Status) →
+    file < length sources
     → so_far ≡ compile_status (files_of profile (take file sources)) →
     one ≡ status_by (compiled_program profile (get_or sources file no_source).bytes)
     → worse_status so_far one ≡ compile_status (files_of profile (take (file + 1) sources))
@@ -63,7 +64,8 @@ status_more profile sources file so_far one within is one_is = rw (files_more pr
 -- what a loop keeps, with one source more
 pub kept_more : (profile : Profile) (sources : List SourceFile) (file : ℕ) (kept : Option (List Program))
     (code : Result Program Diagnostic) → file < length sources
-    → kept ≡ programs_of profile (take file sources) → code ≡ compiled_program profile (get_or sources file no_source).bytes
+    → kept ≡ programs_of profile (take file sources) →
+    code ≡ compiled_program profile (get_or sources file no_source).bytes
     → and_program_of_file kept code ≡ programs_of profile (take (file + 1) sources)
 kept_more profile sources file kept code within so_far is = rw (so_far, is)
     (sym (ap (λ files. option_map (λ files. map (code_of profile) files) files) (files_more profile sources file within)
@@ -74,7 +76,9 @@ kept_more profile sources file kept code within so_far is = rw (so_far, is)
 -- the programs kept of the files so far, with what is kept of one more
 kept_of : (so_far : Status) (kept codes : Option (List Program)) (code : Result Program Diagnostic) →
     IfSome kept (λ k. kept_by so_far k ≡ codes)
-    → IfSome (and_compiled kept code) (λ k. kept_by (worse_status so_far (status_by code)) k ≡ and_program_of_file codes code)
+    →
+    IfSome (and_compiled kept code)
+    (λ k. kept_by (worse_status so_far (status_by code)) k ≡ and_program_of_file codes code)
 kept_of so_far None codes (Ok code) are = tt
 kept_of so_far None codes (Err d) are = tt
 kept_of Done (Some kept) codes (Ok code) are = ap (λ c. and_program_of_file c (Ok code)) are

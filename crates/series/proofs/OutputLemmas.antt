@@ -36,7 +36,8 @@ faulty_plays settings Listing None none = (refl, refl)
 faulty_plays settings Matches None none = (refl, refl)
 
 pub faulty_run : (settings : Settings) (sources : List SourceFile) (before after : Taken)
-    → Writes before after (compiling settings.mode settings.profile sources) → None ≡ programs_of settings.profile sources
+    → Writes before after (compiling settings.mode settings.profile sources) →
+    None ≡ programs_of settings.profile sources
     → Writes before after (output settings sources).pieces × (Faulty ≡ (output settings sources).status)
 faulty_run settings sources before after writes none =
     let ends = faulty_plays settings settings.mode (files_of settings.profile sources) none in

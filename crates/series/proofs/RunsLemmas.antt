@@ -42,7 +42,8 @@ module _ {X : Type 0} where
       sym (first feeds) ∙ ap (λ l. get_or l 0 x) same ∙ first start
 
   -- tells the bytes of its source
-  pub told_here : (tells : X → Option (List ℕ)) (start feeds : List X) (sources : List SourceFile) (words : List (List ℕ))
+  pub told_here : (tells : X → Option (List ℕ)) (start feeds : List X) (sources : List SourceFile)
+      (words : List (List ℕ))
       (file : ℕ) (x : X)
       → AreSources sources words (map tells start) → length start ≡ length words → file < length start →
       drop file feeds ≡ drop file start
@@ -56,7 +57,8 @@ module _ {X : Type 0} where
       ∙ get_or-map (λ (s : SourceFile). Some s.bytes) sources file no_source (tells x) in_sources
 
   -- a feed that was read without a failure
-  pub none_failed : (fails : X → FailureCount) (feeds : List X) (file : ℕ) (x y : X) → fails y ≡ fails (get_or feeds file x)
+  pub none_failed : (fails : X → FailureCount) (feeds : List X) (file : ℕ) (x y : X) →
+      fails y ≡ fails (get_or feeds file x)
       → map fails (set feeds file y) ≡ map fails feeds
   none_failed fails feeds file x y same = map-set_same fails feeds file y x same
 

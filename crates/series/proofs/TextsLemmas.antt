@@ -142,7 +142,8 @@ robot_name_is {X} bytes words robot file x word name within one several is named
 pub length_robot_lines : (names : List (List ℕ)) (outcome : Outcome) →
     length (robot_lines names outcome) ≡ length outcome.damages
 length_robot_lines names outcome =
-    length-map-range_with_len (λ i. robot_line i (is_survivor outcome i) (get_or outcome.damages i 0) (get_or names i [])) 0
+    length-map-range_with_len
+    (λ i. robot_line i (is_survivor outcome i) (get_or outcome.damages i 0) (get_or names i [])) 0
     (length outcome.damages)
 
 pub length_score_lines : (names : List (List ℕ)) (scores : ℕ → Score) → length (score_lines names scores) ≡ length names

@@ -8,6 +8,7 @@ abbrev pub known_to_come : {F : Type 0} → (F → Device) → List F → List (
 known_to_come device feeds = map (λ feed. (device feed).to_come) feeds
 
 -- the sources have these words, and their bytes are known
-pub record AreSources (sources : List SourceFile) (words : List (List ℕ)) (known : List (Option (List ℕ))) : Type 0 where
-  pub named : map (λ s. s.word) sources ≡ words
-  pub bytes : map (λ s. Some s.bytes) sources ≡ known
+pub record AreSources (sources : List SourceFile) (words : List (List ℕ)) (known : List (Option (List ℕ))) : Type 0
+  where
+    pub named : map (λ s. s.word) sources ≡ words
+    pub bytes : map (λ s. Some s.bytes) sources ≡ known

@@ -30,14 +30,20 @@ use Rattle.code.specs.KnownPrograms.{shooting_file}
 use Rattle.series_tests.proofs.Limits.{longer}
 
 pub battles : KnownBattles
-unfolding clamped along way_east way_north end_x end_y place_x place_y leg_anew steered approached sped travelled is_outside
-    hits_wall clamped_at_walls tried stopped_by_walls damage_of is_alive no_robot robot_at is_live_at live_count metres_x metres_y leg_alone
-    attempted_move moves square is_close is_no_further collides others collision_count aimed_x aimed_y flight shot in_air due_at ring
-    bursts put_back leg_after knock_damages moved_robot moved apart east_to north_to in_arc sees range_of nearest scanned
-    generator random_word robot_at_rest quadrant drawn_place drawn_robot start placed argument_at fired with_wanted field_with_wanted
+unfolding clamped along way_east way_north end_x end_y place_x place_y leg_anew steered approached sped travelled
+    is_outside
+    hits_wall clamped_at_walls tried stopped_by_walls damage_of is_alive no_robot robot_at is_live_at live_count
+    metres_x metres_y leg_alone
+    attempted_move moves square is_close is_no_further collides others collision_count aimed_x aimed_y flight shot
+    in_air due_at ring
+    bursts put_back leg_after knock_damages moved_robot moved apart east_to north_to in_arc sees range_of nearest
+    scanned
+    generator random_word robot_at_rest quadrant drawn_place drawn_robot start placed argument_at fired with_wanted
+    field_with_wanted
     random_limit random_number answer after_want robot_turn behaviour_at turn turns is_due updated cycle is_over
     state_after
-    first_passing last_cycle first_state damages_of battle is_survivor sine_at cosine_at sine_of cosine_of degree_of sines tangents
+    first_passing last_cycle first_state damages_of battle is_survivor sine_at cosine_at sine_of cosine_of degree_of
+    sines tangents
     value_of int_wrap stored first_profile second_profile tokens located_tokens punctuator_of keyword_of most_nested
     intrinsic_named intrinsic_name compiled
 battles = record {
@@ -76,14 +82,20 @@ battles = record {
 }
 
 pub short_battles : KnownShortBattles
-unfolding clamped along way_east way_north end_x end_y place_x place_y leg_anew steered approached sped travelled is_outside
-    hits_wall clamped_at_walls tried stopped_by_walls damage_of is_alive no_robot robot_at is_live_at live_count metres_x metres_y leg_alone
-    attempted_move moves square is_close is_no_further collides others collision_count aimed_x aimed_y flight shot in_air due_at ring
-    bursts put_back leg_after knock_damages moved_robot moved apart east_to north_to in_arc sees range_of nearest scanned
-    generator random_word robot_at_rest quadrant drawn_place drawn_robot start placed argument_at fired with_wanted field_with_wanted
+unfolding clamped along way_east way_north end_x end_y place_x place_y leg_anew steered approached sped travelled
+    is_outside
+    hits_wall clamped_at_walls tried stopped_by_walls damage_of is_alive no_robot robot_at is_live_at live_count
+    metres_x metres_y leg_alone
+    attempted_move moves square is_close is_no_further collides others collision_count aimed_x aimed_y flight shot
+    in_air due_at ring
+    bursts put_back leg_after knock_damages moved_robot moved apart east_to north_to in_arc sees range_of nearest
+    scanned
+    generator random_word robot_at_rest quadrant drawn_place drawn_robot start placed argument_at fired with_wanted
+    field_with_wanted
     random_limit random_number answer after_want robot_turn behaviour_at turn turns is_due updated cycle is_over
     state_after
-    first_passing last_cycle first_state damages_of battle is_survivor sine_at cosine_at sine_of cosine_of degree_of sines tangents
+    first_passing last_cycle first_state damages_of battle is_survivor sine_at cosine_at sine_of cosine_of degree_of
+    sines tangents
     value_of int_wrap stored first_profile second_profile tokens located_tokens punctuator_of keyword_of most_nested
     intrinsic_named intrinsic_name compiled
 short_battles = record {

@@ -53,7 +53,8 @@ ahead-window_after (suc n) line place taken (b ∷ xs) to_come beyond h =
     ahead-window_after n (line_after b line) (place + 1) taken xs to_come beyond (omega (arith, h))
 
 -- a span that ends at hand is passed at once
-pub token_span-at_hand : (test : ℕ → Bool) (token_of : List ℕ → Token) (located_token : LocatedToken) (here new : Window)
+pub token_span-at_hand : (test : ℕ → Bool) (token_of : List ℕ → Token) (located_token : LocatedToken)
+    (here new : Window)
     (to_come : Option (List ℕ)) → test 10 ≡ false → prefix_len test here.at_hand < length here.at_hand →
     new ≡ window_after (prefix_len test here.at_hand) here →
     located_token ≡

@@ -20,7 +20,8 @@ use Rattle.tokens.proofs.TokenLemmas.{chosen, other, token_span-takes, no_line}
 use Rattle.tokens.proofs.PunctuatorLemmas.{punctuator_of-spelled, punctuator_element-located_token, none-of-two, none-of-three, none-of-four}
 use Rattle.tokens.proofs.ToRead.{to_read-here, first-ahead, none-ahead}
 
-located_tokens-by : (b : ℕ) (f : InputElement) (a : UnreadSource) (rest : List ℕ) → a.bytes ≡ b ∷ rest → input_element (b ∷ rest) ≡ f →
+located_tokens-by : (b : ℕ) (f : InputElement) (a : UnreadSource) (rest : List ℕ) → a.bytes ≡ b ∷ rest →
+    input_element (b ∷ rest) ≡ f →
     located_tokens a ≡ tokens_of_element f a located_tokens
 located_tokens-by b f a rest e h =
     located_tokens-input_element a ∙ ap (λ x. tokens_of_element x a located_tokens) (ap input_element e ∙ h)
@@ -41,7 +42,8 @@ token_span-begins test token_of going_on b n h f s a rest e =
     in_token_span-is test token_of a)
 
 -- a letter begins a name
-pub name-begins : (b : ℕ) → is_blank b ≡ false → is_letter b ≡ true → (a : UnreadSource) (rest : List ℕ) → a.bytes ≡ b ∷ rest →
+pub name-begins : (b : ℕ) → is_blank b ≡ false → is_letter b ≡ true → (a : UnreadSource) (rest : List ℕ) →
+    a.bytes ≡ b ∷ rest →
     in_name (b ∷ []) false (ahead_after_byte a) ≡ located_tokens a
 name-begins b no_blank letter =
     token_span-begins is_name_byte name_token (name_going_on (b ∷ []) false) b refl (letter-is_name_byte b letter)
@@ -49,13 +51,15 @@ name-begins b no_blank letter =
 
 -- a digit begins a constant
 pub constant-begins : (b : ℕ) → is_blank b ≡ false → is_letter b ≡ false → is_digit b ≡ true →
-    (a : UnreadSource) (rest : List ℕ) → a.bytes ≡ b ∷ rest → in_constant (b - 48) (ahead_after_byte a) ≡ located_tokens a
+    (a : UnreadSource) (rest : List ℕ) → a.bytes ≡ b ∷ rest →
+    in_constant (b - 48) (ahead_after_byte a) ≡ located_tokens a
 constant-begins b no_blank no_letter digit =
     token_span-begins is_digit constant_token (constant_going_on (b - 48)) b refl digit
     (λ rest. other (is_blank b) _ _ no_blank ∙ (other (is_letter b) _ _ no_letter ∙ chosen (is_digit b) _ _ digit))
     (λ more. let d : b - 48 ≡ 10 * 0 + (b - 48) = omega arith in ap (λ v. constant_going_on v more) d)
 
-chosen-punctuator_element : (m : Punctuator) (a : UnreadSource) (bytes rest : List ℕ) (n : ℕ) → punctuator_of bytes ≡ Some m →
+chosen-punctuator_element : (m : Punctuator) (a : UnreadSource) (bytes rest : List ℕ) (n : ℕ) →
+    punctuator_of bytes ≡ Some m →
     a.bytes ≡ bytes ++ rest → length bytes ≡ n →
     tokens_of_element (punctuator_element (Some m)) a located_tokens ≡
     followed (token_ending (variant.Punctuator m) (ahead_after n a)) (ahead_after n a)
@@ -107,7 +111,8 @@ longest-one : (m : Punctuator) (b c : ℕ) (rest : List ℕ) → punctuator_of (
 longest-one m b c [] h e = or-second _ _ e ∙ (or-second _ _ e ∙ h)
 longest-one m b c (d ∷ rest) h e = or-second _ _ (none-of-three b c d e) ∙ (or-second _ _ e ∙ h)
 
-extended-three : (m : Punctuator) (b c d : ℕ) (rest : List ℕ) (a : UnreadSource) → punctuator_of (b ∷ c ∷ d ∷ []) ≡ Some m →
+extended-three : (m : Punctuator) (b c d : ℕ) (rest : List ℕ) (a : UnreadSource) →
+    punctuator_of (b ∷ c ∷ d ∷ []) ≡ Some m →
     extended m rest a ≡ followed (token_ending (variant.Punctuator m) a) a
 unfolding grow_by
 extended-three m b c d [] a h = refl
@@ -170,7 +175,8 @@ punctuator_element-here m b line place (c ∷ d ∷ rest) t h = by (punctuator_o
         sym (extended-step m (b ∷ []) c (d ∷ rest) (ahead_after_byte a) (Some k) h e)
 
 -- a punctuator of one byte begins a punctuator, if no other input element begins there
-pub punctuator_element-begins : (m : Punctuator) (b : ℕ) → punctuator_of (b ∷ []) ≡ Some m → (a : UnreadSource) (rest : List ℕ) →
+pub punctuator_element-begins : (m : Punctuator) (b : ℕ) → punctuator_of (b ∷ []) ≡ Some m →
+    (a : UnreadSource) (rest : List ℕ) →
     a.bytes ≡ b ∷ rest → input_element (b ∷ rest) ≡ punctuator_element (longest_punctuator (b ∷ rest)) →
     in_punctuator m (ahead_after_byte a) ≡ located_tokens a
 unfolding in_punctuator
@@ -184,7 +190,8 @@ punctuator_element-begins m b h a rest e f =
     in_punctuator m (ahead_after_byte (here a.line a.offset xs a.too_long))) (sym e)
     (punctuator_element-here m b a.line a.offset rest a.too_long h))
 
-input_element-punctuator_element : (b : ℕ) (rest : List ℕ) → is_blank b ≡ false → is_letter b ≡ false → is_digit b ≡ false →
+input_element-punctuator_element : (b : ℕ) (rest : List ℕ) → is_blank b ≡ false → is_letter b ≡ false →
+    is_digit b ≡ false →
     b ≢ 47 →
     input_element (b ∷ rest) ≡ punctuator_element (longest_punctuator (b ∷ rest))
 input_element-punctuator_element b rest no_blank no_letter no_digit no_slash =
@@ -196,7 +203,8 @@ pub other-begins : (m : Punctuator) (b : ℕ) → is_blank b ≡ false → is_le
     punctuator_of (b ∷ []) ≡ Some m → (a : UnreadSource) (rest : List ℕ) → a.bytes ≡ b ∷ rest →
     in_punctuator m (ahead_after_byte a) ≡ located_tokens a
 other-begins m b no_blank no_letter no_digit no_slash h a rest e =
-    punctuator_element-begins m b h a rest e (input_element-punctuator_element b rest no_blank no_letter no_digit no_slash)
+    punctuator_element-begins m b h a rest e
+    (input_element-punctuator_element b rest no_blank no_letter no_digit no_slash)
 
 longest-none : (b : ℕ) (rest : List ℕ) → punctuator_of (b ∷ []) ≡ None → longest_punctuator (b ∷ rest) ≡ None
 longest-none b [] h = or-second _ _ h ∙ (or-second _ _ h ∙ h)
@@ -232,7 +240,8 @@ bad-begins b no_blank no_letter no_digit no_slash h a rest e =
     ∙
     sym
     (located_tokens-by b (punctuator_element None) a rest e
-    (input_element-punctuator_element b rest no_blank no_letter no_digit no_slash ∙ ap punctuator_element (longest-none b rest h)))
+    (input_element-punctuator_element b rest no_blank no_letter no_digit no_slash ∙
+    ap punctuator_element (longest-none b rest h)))
 
 -- after a `/` on this line
 unfoldable pub in_slash : ℕ → UnreadSource → List LocatedToken

@@ -41,7 +41,8 @@ comment_element-passes-here began line place b rest t e = by (eqb b 42) e
     by false e = goes_on (up_to_close rest) began line place b rest t
 
 -- a byte other than `*` is passed
-pub comment_element-passes : (began b : ℕ) → eqb b 42 ≡ false → (a : UnreadSource) (rest : List ℕ) → a.bytes ≡ b ∷ rest →
+pub comment_element-passes : (began b : ℕ) → eqb b 42 ≡ false → (a : UnreadSource) (rest : List ℕ) →
+    a.bytes ≡ b ∷ rest →
     in_comment began (ahead_after_byte a) ≡ in_comment began a
 comment_element-passes began b h a rest e =
     subst
@@ -110,7 +111,8 @@ plain-here began to_come (suc n) line place taken (b ∷ xs) beyond h =
   where
     by : (s : Bool) → eqb b 42 ≡ s → suc n ≤ cond (not s) (1 + prefix_len (λ b. not (eqb b 42)) xs) 0 →
         (n ≤ prefix_len (λ b. not (eqb b 42)) xs →
-        to_read (in_comment began) (window_after n (window_after_byte (held line place (b ∷ xs) taken beyond))) to_come ≡
+        to_read (in_comment began) (window_after n (window_after_byte (held line place (b ∷ xs) taken beyond))) to_come
+        ≡
         to_read (in_comment began) (window_after_byte (held line place (b ∷ xs) taken beyond)) to_come) →
         to_read (in_comment began) (window_after (suc n) (held line place (b ∷ xs) taken beyond)) to_come ≡
         to_read (in_comment began) (held line place (b ∷ xs) taken beyond) to_come
@@ -124,11 +126,13 @@ pub plain-passes : (began : ℕ) (new here : Window) (to_come : Option (List ℕ
     to_read (in_comment began) new to_come ≡ to_read (in_comment began) here to_come
 plain-passes began new here to_come n =
     ap (λ h. to_read (in_comment began) h to_come) n ∙
-    plain-here began to_come (prefix_len (λ b. not (eqb b 42)) here.at_hand) here.line here.offset here.taken here.at_hand
+    plain-here began to_come (prefix_len (λ b. not (eqb b 42)) here.at_hand) here.line here.offset here.taken
+    here.at_hand
     here.beyond (omega arith)
 
 -- the source ends within the comment
-pub comment_element-ended : (began : ℕ) (here : Window) (to_come : Option (List ℕ)) (first : Option ℕ) → IsAtHandOrEnd here →
+pub comment_element-ended : (began : ℕ) (here : Window) (to_come : Option (List ℕ)) (first : Option ℕ) →
+    IsAtHandOrEnd here →
     first ≡ slice_get here.at_hand 0 → first ≡ None →
     to_read (after_comment false began) here to_come ≡ to_read (in_comment began) here to_come
 unfolding in_comment

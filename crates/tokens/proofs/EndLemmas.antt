@@ -47,7 +47,8 @@ or-inside bytes None y f g m e = g m e
 or-inside bytes (Some x) y f g m e = f m e
 
 punctuator_element-inside : (b : ℕ) (rest : List ℕ) (o : Option Punctuator) →
-    ((m : Punctuator) → o ≡ Some m → length (spelling m) ≤ length (b ∷ rest)) → IsInside (b ∷ rest) (punctuator_element o)
+    ((m : Punctuator) → o ≡ Some m → length (spelling m) ≤ length (b ∷ rest)) →
+    IsInside (b ∷ rest) (punctuator_element o)
 punctuator_element-inside b rest None f = omega arith
 punctuator_element-inside b rest (Some m) f = f m refl
 
@@ -184,7 +185,8 @@ pub tokens_within-by : (n limit : ℕ) (a : UnreadSource) → a.offset + length 
     AllEndBy limit (tokens_within n a)
 tokens_within-by zero limit a h = tt
 tokens_within-by (suc n) limit a h =
-    by (input_element a.bytes) (input_element-inside a.bytes) (λ count further. tokens_within-by n limit (ahead_after count a) further)
+    by (input_element a.bytes) (input_element-inside a.bytes)
+    (λ count further. tokens_within-by n limit (ahead_after count a) further)
   where
     rest : (t : Bool) (xs : List LocatedToken) → AllEndBy limit xs → AllEndBy limit (cond t [] xs)
     rest true xs r = tt
@@ -198,7 +200,8 @@ tokens_within-by (suc n) limit a h =
         ((count : ℕ) →
         (ahead_after count a).offset + length (ahead_after count a).bytes + over (ahead_after count a).too_long ≤
         limit →
-        AllEndBy limit (tokens_within n (ahead_after count a))) → AllEndBy limit (tokens_of_element f a (tokens_within n))
+        AllEndBy limit (tokens_within n (ahead_after count a))) →
+        AllEndBy limit (tokens_of_element f a (tokens_within n))
     by Nothing i g = (last-by limit a.line variant.End a h, tt)
     by Unclosed i g = (last-by limit a.line (variant.Fault CommentNotClosed) a h, tt)
     by (Space count) i g = g count (further count)
@@ -210,7 +213,8 @@ tokens_within-nonempty : (n line place : ℕ) (bytes : List ℕ) (too_long : Boo
     (tokens_within n (here line place bytes too_long) ≡ first ∷ others)
 tokens_within-nonempty zero line place xs t h = absurd (omega (arith, h))
 tokens_within-nonempty (suc n) line place [] t h = (_, _, refl)
-tokens_within-nonempty (suc n) line place (b ∷ xs) t h = by (input_element (b ∷ xs)) (input_element-is_piece (b ∷ xs)) (λ count c.
+tokens_within-nonempty (suc n) line place (b ∷ xs) t h =
+    by (input_element (b ∷ xs)) (input_element-is_piece (b ∷ xs)) (λ count c.
     let p = ahead_after count (here line place (b ∷ xs) t) in
     let e = length-ahead_after count (here line place (b ∷ xs) t) in
     tokens_within-nonempty n p.line p.offset p.bytes p.too_long (omega (arith, e, h, c)))
@@ -222,7 +226,8 @@ tokens_within-nonempty (suc n) line place (b ∷ xs) t h = by (input_element (b 
         ((count : ℕ) → 0 < count →
         (first : LocatedToken) × (others : List LocatedToken) ×
         (tokens_within n (ahead_after count a) ≡ first ∷ others)) →
-        (first : LocatedToken) × (others : List LocatedToken) × (tokens_of_element f a (tokens_within n) ≡ first ∷ others)
+        (first : LocatedToken) × (others : List LocatedToken) ×
+        (tokens_of_element f a (tokens_within n) ≡ first ∷ others)
     by Nothing p g = (_, _, refl)
     by Unclosed p g = (_, _, refl)
     by (Space count) p g = g count p

@@ -37,7 +37,8 @@ token_span-is_piece test f b rest e = by (test b) e
     by true e = omega arith
     by false e = absurd cc
 
-either-is_piece : (t : Bool) (x y : InputElement) → (t ≡ true → IsPiece x) → (t ≡ false → IsPiece y) → IsPiece (cond t x y)
+either-is_piece : (t : Bool) (x y : InputElement) → (t ≡ true → IsPiece x) → (t ≡ false → IsPiece y) →
+    IsPiece (cond t x y)
 either-is_piece true x y f g = f refl
 either-is_piece false x y f g = g refl
 
@@ -52,7 +53,8 @@ pub input_element-is_piece : (bytes : List ℕ) → IsPiece (input_element bytes
 input_element-is_piece [] = tt
 input_element-is_piece (b ∷ rest) =
     either-is_piece (is_blank b) _ _ (λ e. lit< tt) (λ n.
-    either-is_piece (is_letter b) _ _ (λ e. token_span-is_piece is_name_byte name_token b rest (letter-is_name_byte b e))
+    either-is_piece (is_letter b) _ _
+    (λ e. token_span-is_piece is_name_byte name_token b rest (letter-is_name_byte b e))
     (λ n.
     either-is_piece (is_digit b) _ _ (λ e. token_span-is_piece is_digit constant_token b rest e) (λ n.
     either-is_piece _ _ _ (λ e. comment_element-is_piece (up_to_close (drop 1 rest)))
@@ -70,7 +72,8 @@ pub length-ahead_after : (n : ℕ) (a : UnreadSource) → length (ahead_after n 
 length-ahead_after zero a = omega arith
 length-ahead_after (suc n) a = omega (arith, length-ahead_after n (ahead_after_byte a), length-ahead_after_byte a)
 
-tokens_of_element-same : (f : InputElement) (a : UnreadSource) (others others' : UnreadSource → List LocatedToken) → IsPiece f →
+tokens_of_element-same : (f : InputElement) (a : UnreadSource) (others others' : UnreadSource → List LocatedToken) →
+    IsPiece f →
     ((count : ℕ) → 0 < count → others (ahead_after count a) ≡ others' (ahead_after count a)) →
     tokens_of_element f a others ≡ tokens_of_element f a others'
 tokens_of_element-same Nothing a others others' p h = refl
@@ -97,7 +100,8 @@ located_tokens-here : (line place : ℕ) (bytes : List ℕ) (too_long : Bool) �
 unfolding located_tokens
 located_tokens-here line place [] t = refl
 located_tokens-here line place (b ∷ xs) t =
-    tokens_of_element-same (input_element (b ∷ xs)) (here line place (b ∷ xs) t) (tokens_within (length (b ∷ xs))) located_tokens
+    tokens_of_element-same (input_element (b ∷ xs)) (here line place (b ∷ xs) t) (tokens_within (length (b ∷ xs)))
+    located_tokens
     (input_element-is_piece (b ∷ xs)) (λ count c.
     let p = ahead_after count (here line place (b ∷ xs) t) in
     let e = length-ahead_after count (here line place (b ∷ xs) t) in
@@ -106,5 +110,6 @@ located_tokens-here line place (b ∷ xs) t =
     (omega arith))
 
 -- the law of which all others are cases
-pub located_tokens-input_element : (a : UnreadSource) → located_tokens a ≡ tokens_of_element (input_element a.bytes) a located_tokens
+pub located_tokens-input_element : (a : UnreadSource) →
+    located_tokens a ≡ tokens_of_element (input_element a.bytes) a located_tokens
 located_tokens-input_element a = located_tokens-here a.line a.offset a.bytes a.too_long

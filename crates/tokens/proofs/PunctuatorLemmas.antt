@@ -301,7 +301,8 @@ located_token-here CloseCurly line place rest t = refl
 located_token-here Comma line place rest t = refl
 located_token-here Semicolon line place rest t = refl
 
-pub punctuator_element-located_token : (m : Punctuator) (a : UnreadSource) (rest : List ℕ) → a.bytes ≡ spelling m ++ rest →
+pub punctuator_element-located_token : (m : Punctuator) (a : UnreadSource) (rest : List ℕ) →
+    a.bytes ≡ spelling m ++ rest →
     located (variant.Punctuator m) (length (spelling m)) a ≡
     token_ending (variant.Punctuator m) (ahead_after (length (spelling m)) a)
 punctuator_element-located_token m a rest e =

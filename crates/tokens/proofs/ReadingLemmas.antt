@@ -106,13 +106,15 @@ reach-first place first (x ∷ others) r = omega (arith, r.1.0, open-end first)
 
 pub opened-stopped : (bytes : List ℕ) (n : ℕ) (window : Window) (to_come : Option (List ℕ)) → window ≡ untouched →
     to_come ≡ Some bytes →
-    ((first : LocatedToken) (others : List LocatedToken) → to_read located_tokens window to_come ≡ Some (first ∷ others) →
+    ((first : LocatedToken) (others : List LocatedToken) →
+    to_read located_tokens window to_come ≡ Some (first ∷ others) →
     n ≤ undecided_until first) → n ≤ undecided_reach_of (tokens bytes)
 unfolding tokens
 opened-stopped bytes n window to_come w t f =
     let some = located_tokens-nonempty (ahead_of_source (source bytes)) in
     let here =
-    ap (λ h. to_read located_tokens h to_come) w ∙ ap (to_read located_tokens untouched) t ∙ shown-opened (Some bytes) in
+    ap (λ h. to_read located_tokens h to_come) w ∙ ap (to_read located_tokens untouched) t ∙
+    shown-opened (Some bytes) in
     let rising = subst (StaysUndecided 0) some.2 (located_tokens-open (ahead_of_source (source bytes))) in
     subst (λ (xs : List LocatedToken). n ≤ undecided_reach_of xs) (sym some.2)
     (omega (arith, f some.0 some.1 (here ∙ ap Some some.2), reach-first 0 some.0 some.1 rising))
@@ -142,7 +144,8 @@ second-stopped bytes n next first second to_come to_come' w t last e f =
 
 pub advanced-stopped : (n : ℕ) (next after : LocatedToken) (window : Window) (to_come : Option (List ℕ)) →
     is_last next.token ≡ false → is_last after.token ≡ false →
-    ((first : LocatedToken) (others : List LocatedToken) → to_read located_tokens window to_come ≡ Some (first ∷ others) →
+    ((first : LocatedToken) (others : List LocatedToken) →
+    to_read located_tokens window to_come ≡ Some (first ∷ others) →
     n ≤ undecided_until first) → (x : LocatedToken) (others : List LocatedToken) →
     shown (reading next after window) to_come ≡ Some (x ∷ others) → n ≤ undecided_reach_of others
 unfolding to_read tokens_after_lookahead

@@ -23,17 +23,21 @@ use Rattle.tokens.proofs.LocatedTokensLemmas.{IsPiece, input_element-is_piece}
 use Rattle.tokens.proofs.CommentLemmas.{in_star}
 use Rattle.tokens.proofs.BeginLemmas.{in_slash}
 
-pub TakesBytes-then : {old mid new : ℕ} {to_come to_come' to_come'' : Option (List ℕ)} → TakesBytes old mid to_come to_come' →
+pub TakesBytes-then : {old mid new : ℕ} {to_come to_come' to_come'' : Option (List ℕ)} →
+    TakesBytes old mid to_come to_come' →
     TakesBytes mid new to_come' to_come'' → TakesBytes old new to_come to_come''
 TakesBytes-then f g = record { rest = λ total e. g.rest total (f.rest total e) }
 
 -- nothing is taken if the window goes on
-pub TakesBytes-pass : {old mid new : ℕ} {to_come to_come' : Option (List ℕ)} → new ≡ mid → TakesBytes old mid to_come to_come' →
+pub TakesBytes-pass : {old mid new : ℕ} {to_come to_come' : Option (List ℕ)} → new ≡ mid →
+    TakesBytes old mid to_come to_come' →
     TakesBytes old new to_come to_come'
-TakesBytes-pass {old} {mid} {new} {to_come} {to_come'} e f = subst (λ (n : ℕ). TakesBytes old n to_come to_come') (sym e) f
+TakesBytes-pass {old} {mid} {new} {to_come} {to_come'} e f =
+    subst (λ (n : ℕ). TakesBytes old n to_come to_come') (sym e) f
 
 -- a window that went on goes on
-goes_on : (counted counted' : FailureCount) (old mid new : Window) (to_come to_come' to_come'' : Option (List ℕ)) (after : FailureCount)
+goes_on : (counted counted' : FailureCount) (old mid new : Window) (to_come to_come' to_come'' : Option (List ℕ))
+    (after : FailureCount)
     (ended : Bool) → TakesBytes old.taken mid.taken to_come to_come' → old.offset ≤ mid.offset → counted' ≡ counted →
     HasReadOn mid new to_come' to_come'' counted' after ended → HasReadOn old new to_come to_come'' counted after ended
 goes_on counted counted' old mid new to_come to_come' to_come'' after ended took forward count asks = record {
@@ -46,7 +50,8 @@ goes_on counted counted' old mid new to_come to_come' to_come'' after ended took
   known = asks.known;
 }
 
-pub then-asks : {T : Type 0} (r : Result T DeviceFault) (old mid new : Window) (to_come to_come' to_come'' : Option (List ℕ))
+pub then-asks : {T : Type 0} (r : Result T DeviceFault) (old mid new : Window)
+    (to_come to_come' to_come'' : Option (List ℕ))
     (before between after : FailureCount) (ended : Bool) → TakesBytes old.taken mid.taken to_come to_come' →
     old.offset ≤ mid.offset → between ≡ before → LeavesAsked r mid new to_come' to_come'' between after ended →
     LeavesAsked r old new to_come to_come'' before after ended
@@ -58,17 +63,20 @@ then-asks (Err x) old mid new to_come to_come' to_come'' before between after en
 
 -- and may fail then
 pub then-fails : {T : Type 0} (r : Result T DeviceFault) (P : DeviceFault → Type 0) → IsErrAnd r P →
-    (old mid new : Window) (to_come to_come' to_come'' : Option (List ℕ)) (before between after : FailureCount) (ended : Bool) →
+    (old mid new : Window) (to_come to_come' to_come'' : Option (List ℕ)) (before between after : FailureCount)
+    (ended : Bool) →
     TakesBytes old.taken mid.taken to_come to_come' → old.offset ≤ mid.offset → between ≡ before →
     HasReadOn mid new to_come' to_come'' (failed_again between) after ended →
     LeavesAsked r old new to_come to_come'' before after ended
-then-fails (Ok x) P h old mid new to_come to_come' to_come'' before between after ended took forward count asks = absurd h
+then-fails (Ok x) P h old mid new to_come to_come' to_come'' before between after ended took forward count asks =
+    absurd h
 then-fails (Err x) P h old mid new to_come to_come' to_come'' before between after ended took forward count asks =
     goes_on (failed_again before) (failed_again between) old mid new to_come to_come' to_come'' after ended took forward
     (ap failed_again count) asks
 
 -- nothing was taken before the window went on
-pub TakesBytes-from : {old mid new : ℕ} {to_come to_come' : Option (List ℕ)} → mid ≡ old → TakesBytes mid new to_come to_come' →
+pub TakesBytes-from : {old mid new : ℕ} {to_come to_come' : Option (List ℕ)} → mid ≡ old →
+    TakesBytes mid new to_come to_come' →
     TakesBytes old new to_come to_come'
 TakesBytes-from {old} {mid} {new} {to_come} {to_come'} e f = subst (λ (n : ℕ). TakesBytes n new to_come to_come') e f
 
@@ -136,7 +144,8 @@ last-open token line end h = by end.too_long
     by true = omega arith
     by false = here (is_decided_by_last_byte token) h
 
-pub last-window_after : (token : Token) (line : ℕ) (end : UnreadSource) → end.offset ≤ (last_located_token token line end).end
+pub last-window_after : (token : Token) (line : ℕ) (end : UnreadSource) →
+    end.offset ≤ (last_located_token token line end).end
 last-window_after token line end = by end.too_long
   where
     by : (t : Bool) →
@@ -148,7 +157,8 @@ last-window_after token line end = by end.too_long
     by true = omega arith
     by false = omega arith
 
-last-ends : (place : ℕ) (token : Token) (line : ℕ) (a : UnreadSource) (first : LocatedToken) (others : List LocatedToken) →
+last-ends : (place : ℕ) (token : Token) (line : ℕ) (a : UnreadSource) (first : LocatedToken)
+    (others : List LocatedToken) →
     is_decided_by_last_byte token ≡ false → place ≤ a.offset →
     last_located_token token line (at_end a) ∷ [] ≡ first ∷ others → place ≤ undecided_until first
 last-ends place token line a first others u h e =
@@ -160,7 +170,8 @@ tokens_within-ends : (n : ℕ) (a : UnreadSource) (first : LocatedToken) (others
     a.offset ≤ undecided_until first
 tokens_within-ends zero a first others e = absurd cc
 tokens_within-ends (suc n) a first others e =
-    by (input_element a.bytes) (input_element-is_piece a.bytes) (λ count. tokens_within-ends n (ahead_after count a) first others) e
+    by (input_element a.bytes) (input_element-is_piece a.bytes)
+    (λ count. tokens_within-ends n (ahead_after count a) first others) e
   where
     by : (f : InputElement) → IsPiece f →
         ((count : ℕ) → tokens_within n (ahead_after count a) ≡ first ∷ others →
@@ -268,19 +279,23 @@ in_slash-ends line = record {
 }
 
 -- a read that failed took nothing after the offset that was reached
-pub stops : (made : UnreadSource → List LocatedToken) → EndsBehind made → (here new : Window) (to_come : Option (List ℕ)) →
+pub stops : (made : UnreadSource → List LocatedToken) → EndsBehind made →
+    (here new : Window) (to_come : Option (List ℕ)) →
     new.taken ≡ new.offset → new.offset ≡ here.offset → StopsWithin made here new to_come
 unfolding to_read
 stops made ends here new None t p = λ first others e. absurd cc
 stops made ends here new (Some to_come) t p =
     λ first others e. omega (arith, ends.ends (ahead here to_come) first others (same_Some _ _ e))
 
-pub stops-from : (made made' : UnreadSource → List LocatedToken) (here old new : Window) (to_come to_come' : Option (List ℕ)) →
-    to_read made here to_come' ≡ to_read made' old to_come → StopsWithin made here new to_come' → StopsWithin made' old new to_come
+pub stops-from : (made made' : UnreadSource → List LocatedToken) (here old new : Window)
+    (to_come to_come' : Option (List ℕ)) →
+    to_read made here to_come' ≡ to_read made' old to_come → StopsWithin made here new to_come' →
+    StopsWithin made' old new to_come
 stops-from made made' here old new to_come to_come' s f = λ first others e. f first others (s ∙ e)
 
 -- nor did it put a token
-pub fails-from : (made made' : UnreadSource → List LocatedToken) (here old new : Window) (to_come to_come' : Option (List ℕ))
+pub fails-from : (made made' : UnreadSource → List LocatedToken) (here old new : Window)
+    (to_come to_come' : Option (List ℕ))
     {located_token mid_token new_token : LocatedToken} → to_read made here to_come' ≡ to_read made' old to_come →
     mid_token ≡ located_token → LeavesUnread made here new to_come' mid_token new_token →
     LeavesUnread made' old new to_come located_token new_token
@@ -302,7 +317,8 @@ found-reads here old new forward found =
     record { progress = λ e. forward; reached = found.reached; fits = found.fits }
 
 -- what finds a token after its first byte reads it
-pub finds-reads : {T : Type 0} (r : Result T DeviceFault) (inside : UnreadSource → List LocatedToken) (old mid new : Window)
+pub finds-reads : {T : Type 0} (r : Result T DeviceFault) (inside : UnreadSource → List LocatedToken)
+    (old mid new : Window)
     (before after : Device) (here here' : LocatedToken) →
     to_read inside mid before.to_come ≡ to_read located_tokens old before.to_come → old.offset < mid.offset →
     LeavesAsked r mid new before.to_come after.to_come before.account after.account after.ended →

@@ -67,7 +67,8 @@ blanks-pass new here to_come n =
     (omega arith)
 
 -- nothing is left
-pub nothing-left : (a : UnreadSource) → a.bytes ≡ [] → followed (last_located_token variant.End a.line a) a ≡ located_tokens a
+pub nothing-left : (a : UnreadSource) → a.bytes ≡ [] →
+    followed (last_located_token variant.End a.line a) a ≡ located_tokens a
 unfolding followed
 nothing-left a e =
     by a.too_long ∙
@@ -151,7 +152,8 @@ token_span-takes test token_of token_of' b n h s a rest e =
     token_span-goes_on test token_of b h (no_line test b n h) a rest e
 
 -- a name takes one byte more, while it has room
-pub name-takes : (name : List ℕ) (too_long : Bool) (b : ℕ) → is_name_byte b ≡ true → (a : UnreadSource) (rest : List ℕ) →
+pub name-takes : (name : List ℕ) (too_long : Bool) (b : ℕ) → is_name_byte b ≡ true →
+    (a : UnreadSource) (rest : List ℕ) →
     a.bytes ≡ b ∷ rest → in_name (name ++ b ∷ []) too_long (ahead_after_byte a) ≡ in_name name too_long a
 name-takes name too_long b h =
     token_span-takes is_name_byte (name_going_on name too_long) (name_going_on (name ++ b ∷ []) too_long) b refl h
@@ -160,7 +162,8 @@ name-takes name too_long b h =
 
 -- and is too long from then on
 pub name-overflows : (name : List ℕ) (too_long : Bool) (b : ℕ) → 31 ≤ length name → is_name_byte b ≡ true →
-    (a : UnreadSource) (rest : List ℕ) → a.bytes ≡ b ∷ rest → in_name name true (ahead_after_byte a) ≡ in_name name too_long a
+    (a : UnreadSource) (rest : List ℕ) → a.bytes ≡ b ∷ rest →
+    in_name name true (ahead_after_byte a) ≡ in_name name too_long a
 name-overflows name too_long b full h =
     token_span-takes is_name_byte (name_going_on name too_long) (name_going_on name true) b refl h
     (λ more. by too_long more)
@@ -225,7 +228,8 @@ pub token_span-stops : (test : ℕ → Bool) (token_of : List ℕ → Token) (lo
     (here : Window) (to_come : Option (List ℕ)) (first : Option ℕ) → IsAtHandOrEnd here →
     first ≡ slice_get here.at_hand 0 →
     StopsAt test first → ((to_come : List ℕ) → located_token ≡ token_ending token (ahead here to_come)) →
-    token ≡ token_of [] → to_read (followed located_token) here to_come ≡ to_read (in_token_span test token_of) here to_come
+    token ≡ token_of [] →
+    to_read (followed located_token) here to_come ≡ to_read (in_token_span test token_of) here to_come
 token_span-stops test token_of located_token token here to_come first ready f stops x t =
     to_read-here (followed located_token) (in_token_span test token_of) here to_come (λ to_come.
     let a = ahead here to_come in
@@ -258,8 +262,10 @@ punctuator_element-grows-here old longer line place b rest t e = by (punctuator_
     by (Some m) e =
         let d : m ≡ longer = cc in ap (λ k. extended k rest (ahead_after_byte (here line place (b ∷ rest) t))) (sym d)
 
-pub punctuator_element-grows : (old longer : Punctuator) (b : ℕ) → punctuator_of (spelling old ++ b ∷ []) ≡ Some longer →
-    (a : UnreadSource) (rest : List ℕ) → a.bytes ≡ b ∷ rest → in_punctuator longer (ahead_after_byte a) ≡ in_punctuator old a
+pub punctuator_element-grows : (old longer : Punctuator) (b : ℕ) →
+    punctuator_of (spelling old ++ b ∷ []) ≡ Some longer →
+    (a : UnreadSource) (rest : List ℕ) → a.bytes ≡ b ∷ rest →
+    in_punctuator longer (ahead_after_byte a) ≡ in_punctuator old a
 punctuator_element-grows old longer b h a rest e =
     subst
     (λ (xs : List ℕ). in_punctuator longer (ahead_after_byte (here a.line a.offset xs a.too_long)) ≡
@@ -288,7 +294,8 @@ punctuator_element-ends-at old a b rest e h =
     by (Some m) h = absurd cc
 
 -- a punctuator stops at the end, and at a byte that makes no longer one
-pub punctuator_element-stops : (old : Punctuator) (located_token : LocatedToken) (here : Window) (to_come : Option (List ℕ))
+pub punctuator_element-stops : (old : Punctuator) (located_token : LocatedToken) (here : Window)
+    (to_come : Option (List ℕ))
     (first : Option ℕ) → IsAtHandOrEnd here → first ≡ slice_get here.at_hand 0 →
     option_and_then (λ b. punctuator_of (spelling old ++ b ∷ [])) first ≡ None →
     ((to_come : List ℕ) → located_token ≡ token_ending (variant.Punctuator old) (ahead here to_come)) →
@@ -304,9 +311,11 @@ punctuator_element-stops old located_token here to_come first ready f stops x =
     by None f stops to_come =
         punctuator_element-ends-none old (ahead here to_come) (none-ahead here to_come ready (sym f))
     by (Some b) f stops to_come =
-        let r = first-ahead here b to_come (sym f) in punctuator_element-ends-at old (ahead here to_come) b r.0 r.1 stops
+        let r = first-ahead here b to_come (sym f) in
+        punctuator_element-ends-at old (ahead here to_come) b r.0 r.1 stops
 
-pub punctuator_element-passes : (old longer : Punctuator) (new here : Window) (to_come : Option (List ℕ)) (first : Option ℕ)
+pub punctuator_element-passes : (old longer : Punctuator) (new here : Window) (to_come : Option (List ℕ))
+    (first : Option ℕ)
     →
     new ≡ window_after_byte here → first ≡ slice_get here.at_hand 0 →
     option_and_then (λ b. punctuator_of (spelling old ++ b ∷ [])) first ≡ Some longer →
@@ -317,7 +326,8 @@ punctuator_element-passes old longer new here to_come (Some b) n f h =
     (punctuator_element-grows old longer b h)
 
 -- a punctuator with which no longer one begins
-pub punctuator_element-whole : (old : Punctuator) (located_token : LocatedToken) (here : Window) (to_come : Option (List ℕ))
+pub punctuator_element-whole : (old : Punctuator) (located_token : LocatedToken) (here : Window)
+    (to_come : Option (List ℕ))
     →
     ((b : ℕ) → punctuator_of (spelling old ++ b ∷ []) ≡ None) →
     ((to_come : List ℕ) → located_token ≡ token_ending (variant.Punctuator old) (ahead here to_come)) →
@@ -333,7 +343,8 @@ punctuator_element-whole old located_token here to_come whole x =
     by a (b ∷ rest) e = punctuator_element-ends-at old a b rest e (whole b)
 
 -- one before a byte that makes no longer one
-pub punctuator_element-ended : (old : Punctuator) (located_token : LocatedToken) (here : Window) (to_come : Option (List ℕ))
+pub punctuator_element-ended : (old : Punctuator) (located_token : LocatedToken) (here : Window)
+    (to_come : Option (List ℕ))
     (b : ℕ)
     → Some b ≡ slice_get here.at_hand 0 → punctuator_of (spelling old ++ b ∷ []) ≡ None →
     ((to_come : List ℕ) → located_token ≡ token_ending (variant.Punctuator old) (ahead here to_come)) →

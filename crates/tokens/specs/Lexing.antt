@@ -114,7 +114,8 @@ pub record IsRead (located_token : LocatedToken) (old new : Window) : Type 0 whe
   pub fits : FitsToken located_token.token
 
 -- A token was found from inside of it: it is the first of those that were to be read, and the others follow it.
-pub record Finds (inside : UnreadSource → List LocatedToken) (old new : Window) (before after : Device) (here : LocatedToken)
+pub record Finds (inside : UnreadSource → List LocatedToken) (old new : Window) (before after : Device)
+    (here : LocatedToken)
     : Type 0 where
   pub tokens : to_read (followed here) new after.to_come ≡ to_read inside old before.to_come
   pub found : IsFound here new
@@ -137,7 +138,8 @@ ReadsToken (Ok x) old new before after here here' = Reads old new before after h
 ReadsToken (Err e) old new before after here here' = LeavesUnread located_tokens old new before.to_come here here'
 
 -- A call that was at a `/`: it found a token, or went past a comment and put none.
-pub record ReadsSlash (found : Bool) (old new : Window) (to_come to_come' : Option (List ℕ)) (here here' : LocatedToken) :
+pub record ReadsSlash (found : Bool) (old new : Window) (to_come to_come' : Option (List ℕ)) (here here' : LocatedToken)
+    :
     Type 0
   where
     pub tokens : to_read (after_slash found here') new to_come' ≡ to_read located_tokens old to_come

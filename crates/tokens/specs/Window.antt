@@ -115,7 +115,8 @@ pub record IsWindow (next filled start taken line : ℕ) (beyond : Beyond) : Typ
 
 -- what a device has still to give is all but the bytes taken, of which there were `before` and are `now`
 pub record TakesBytes (before now : ℕ) (to_come to_come' : Option (List ℕ)) : Type 0 where
-  pub rest : (total : Option (List ℕ)) → to_come ≡ option_map (drop before) total → to_come' ≡ option_map (drop now) total
+  pub rest : (total : Option (List ℕ)) → to_come ≡ option_map (drop before) total →
+      to_come' ≡ option_map (drop now) total
 
 -- What each call on a window needs and keeps. Every contract of the lexer cites these facts.
 
@@ -133,7 +134,8 @@ pub record MayAsk (window : Window) (device : Device) : Type 0 where
 
 -- A window went on, or stayed: its device has still to give all but the bytes taken, and has failed as often as
 -- counted. The window is as every window is, and knows if the device has ended.
-pub record HasReadOn (old new : Window) (to_come to_come' : Option (List ℕ)) (counted account : FailureCount) (ended : Bool)
+pub record HasReadOn (old new : Window) (to_come to_come' : Option (List ℕ)) (counted account : FailureCount)
+    (ended : Bool)
     : Type 0 where
   pub took : TakesBytes old.taken new.taken to_come to_come'
   pub forward : old.offset ≤ new.offset

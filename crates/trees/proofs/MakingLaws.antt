@@ -102,7 +102,8 @@ return_continues e xs ys a =
     (rw (tree-Return e) refl)
     (rw (tree-Return e) (append_assoc (open_actions xs) (expr_actions (expr_tree e)) (GiveBack ∷ [])))
 
-pub when_continues : (b : body_type.OpenBody) (c : Expr) (xs ys : List entry.OpenItem) → b.heading ≡ body_owner.First c →
+pub when_continues : (b : body_type.OpenBody) (c : Expr) (xs ys : List entry.OpenItem) →
+    b.heading ≡ body_owner.First c →
     AddsStatement (statement.IfStatement c b.statements) xs ys →
     Continues EndIf (open_item.Body b ∷ xs) ys
 when_continues b c xs ys is a =
@@ -118,7 +119,8 @@ choose_continues b c s xs ys is a =
     (rw (is, tree-IfElseStatement c s b.statements) refl)
     (rw (is, tree-IfElseStatement c s b.statements) (simp append_assoc refl))
 
-pub while_continues : (b : body_type.OpenBody) (c : Expr) (xs ys : List entry.OpenItem) → b.heading ≡ body_owner.Loop c →
+pub while_continues : (b : body_type.OpenBody) (c : Expr) (xs ys : List entry.OpenItem) →
+    b.heading ≡ body_owner.Loop c →
     AddsStatement (statement.While c b.statements) xs ys →
     Continues EndWhile (open_item.Body b ∷ xs) ys
 while_continues b c xs ys is a =

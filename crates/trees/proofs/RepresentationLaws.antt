@@ -267,7 +267,8 @@ stops m n a by counted over ends may p acts s =
       profile = s.profile ∙ sym by;
       known = subst IsProfile (sym by) s.known;
       builds = λ fits. absurd (omega (arith, limit, fits, over));
-      passed = λ _. subst (λ p. ExceedsLimit p (acts ++ a ∷ [])) (sym by) (passed_by m n a acts p counted over ends may s);
+      passed =
+          λ _. subst (λ p. ExceedsLimit p (acts ++ a ∷ [])) (sym by) (passed_by m n a acts p counted over ends may s);
     }
 
 -- A function ends.
@@ -327,7 +328,8 @@ stays_inside (EndFunction variables) e = absurd (cc)
 stays_inside a e = refl
 
 pub stopped : (m q : TreeMaker) (a : Action) (over : Bool) → q.profile ≡ m.profile →
-    q.length ≡ min (m.length + instructions m.profile a) 65535 → over ≡ nat_le m.profile.instructions q.length → over ≡ true →
+    q.length ≡ min (m.length + instructions m.profile a) 65535 → over ≡ nat_le m.profile.instructions q.length →
+    over ≡ true →
     ends_function a ≡ false →
     MayFollow (λ p acts. TreeMakerRepresents m p acts) a →
     Appends (λ p acts. TreeMakerRepresents m p acts) (λ p acts. TreeMakerRepresents q p acts) a
@@ -345,16 +347,19 @@ pub went_on : {A : Type 0} (m q : TreeMaker) (xs : List entry.OpenItem) (a : Act
     (r : Result A BuildFault) →
     q.profile ≡ m.profile → q.functions ≡ m.functions → q.stack ≡ m.stack →
     q.length ≡ min (m.length + instructions m.profile a) 65535 →
-    over ≡ nat_le m.profile.instructions q.length → over ≡ false → MayFollow (λ p acts. TreeMakerRepresents m p acts) a →
+    over ≡ nat_le m.profile.instructions q.length → over ≡ false →
+    MayFollow (λ p acts. TreeMakerRepresents m p acts) a →
     OnOk r (Continues a q.stack xs) →
     OnOk r
     (Appends (λ p acts. TreeMakerRepresents m p acts)
-    (λ p acts. TreeMakerRepresents (record { profile = q.profile; functions = q.functions; stack = xs; length = q.length })
+    (λ p acts. TreeMakerRepresents
+    (record { profile = q.profile; functions = q.functions; stack = xs; length = q.length })
     p
     acts) a)
 went_on m q xs a over r by functions stack counted is not_over may told =
     on_ok_weaker r
-    (λ k. goes_on m (record { profile = q.profile; functions = q.functions; stack = xs; length = q.length }) a by functions
+    (λ k. goes_on m (record { profile = q.profile; functions = q.functions; stack = xs; length = q.length }) a by
+    functions
     (subst (λ ys. Continues a ys xs) stack k) counted
     (within_limit m q a over may.stood.known counted is not_over).1 may)
     told
@@ -374,7 +379,8 @@ pub ended : {A : Type 0} (m q : TreeMaker) (fs : List Function) (xs : List entry
     EndsFunctionTree v q.stack xs f → OnOk r (fs ≡ q.functions ++ f ∷ []) →
     OnOk r
     (Appends (λ p acts. TreeMakerRepresents m p acts)
-    (λ p acts. TreeMakerRepresents (record { profile = q.profile; functions = fs; stack = xs; length = q.length }) p acts)
+    (λ p acts. TreeMakerRepresents (record { profile = q.profile; functions = fs; stack = xs; length = q.length }) p
+    acts)
     (EndFunction v))
 ended m q fs xs v f over r by functions stack counted is not_over may ends_at longer =
     on_ok_weaker r

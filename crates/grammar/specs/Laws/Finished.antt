@@ -17,7 +17,8 @@ use Rattle.grammar.specs.Tree.{File}
 
 -- the derivation leads from the first token to the end, and nothing is left to match or to do
 abbrev pub PassesAll : Profile → List LocatedToken → Scope → List Definition → Type 0
-PassesAll profile located_tokens scope ds = DerivesWithoutFault profile (initial_state located_tokens) (state [] [] [] scope ds)
+PassesAll profile located_tokens scope ds =
+    DerivesWithoutFault profile (initial_state located_tokens) (state [] [] [] scope ds)
 
 -- the names of externals and functions that are known
 abbrev pub known_names : Scope → Pools

@@ -19,7 +19,8 @@ pub returns-then-surely_excludes-clause-value : goal.returns-then-surely_exclude
 returns-then-surely_excludes-clause-value c = λ a b at is.
     let arc = c.args.arc.now in
     let way = c.way_to-way.ensures in
-    let beside = rw (way.east a b at is, way.north a b at is) at (c.surely_excludes.ensures c.if-surely_excludes.true) in
+    let beside =
+    rw (way.east a b at is, way.north a b at is) at (c.surely_excludes.ensures c.if-surely_excludes.true) in
     rw (beside_unseen a arc.degree arc.resolution b beside) refl
 
 pub returns-clause-value : goal.returns-clause-value
@@ -44,7 +45,8 @@ pub returns-then-surely_excludes-clause-seen : goal.returns-then-surely_excludes
 returns-then-surely_excludes-clause-seen c = λ a b at is seen.
     let arc = c.args.arc.now in
     let way = c.way_to-way.ensures in
-    let beside = rw (way.east a b at is, way.north a b at is) at (c.surely_excludes.ensures c.if-surely_excludes.true) in
+    let beside =
+    rw (way.east a b at is, way.north a b at is) at (c.surely_excludes.ensures c.if-surely_excludes.true) in
     absurd (off (sym seen ∙ beside_unseen a arc.degree arc.resolution b beside))
 
 pub returns-clause-seen : goal.returns-clause-seen

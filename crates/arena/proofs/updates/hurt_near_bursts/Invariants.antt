@@ -15,7 +15,8 @@ invariant-loop-robot l = record {
   rest : (k : ℕ) → l.robot-index ≤ k → get_or l.robot-items k none ≡ get_or l.initial.robot-items k none;
   robots : (f : Field) → l.update ≡ f.updates + 1 → l.initial.robot-items ≡ map robot_ahead f.robots →
       HoldsShots f.updates l.missiles f.shots →
-      ((i : ℕ) → i < length f.robots → collision_count (map attempted_move f.robots) i ≡ 0) → (k : ℕ) → k < l.robot-index →
+      ((i : ℕ) → i < length f.robots → collision_count (map attempted_move f.robots) i ≡ 0) → (k : ℕ) →
+      k < l.robot-index →
       get_or l.robot-items k none ≡ after_at f k;
   places : (k : ℕ) → k < l.robot-index →
       IsAtPlace (get_or l.initial.robot-items k none).motion (get_or l.robot-items k none).motion;

@@ -28,7 +28,8 @@ loop-i-preserved c =
           sym c.index-robots-i.is ∙ was ∙ ap (λ l. get_or l i none) e ∙
           get_or-map robot_ahead f.robots i no_robot none within in
           let seen =
-          mapped_is attempted_move _ f.robots _ _ no_robot m (omega (arith, first, c.requires.count)) c.index-movers-i.is in
+          mapped_is attempted_move _ f.robots _ _ no_robot m (omega (arith, first, c.requires.count))
+          c.index-movers-i.is in
           let bursts =
           same_harm c.args.update f.shots _ _ c.as_slice.ensures.value
           (c.bursts-bursts.ensures.harm f.updates f.shots u holds) in

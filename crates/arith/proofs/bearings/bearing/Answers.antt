@@ -14,7 +14,8 @@ found c =
     let most = c.greatest_projection-furthest.result in
     let fits : FitsSigned w32 most = search (rules, c.greatest_projection-furthest.type_inv) in
     let is : IsGreatest (projections c.args.dx c.args.dy) most =
-    rw (to_z-of_z w32 c.args.dx c.ranges.dx, to_z-of_z w32 c.args.dy c.ranges.dy) at c.greatest_projection-furthest.ensures
+    rw (to_z-of_z w32 c.args.dx c.ranges.dx, to_z-of_z w32 c.args.dy c.ranges.dy) at
+    c.greatest_projection-furthest.ensures
     in
     let before =
     rw (to_z-of_z w32 c.args.dx c.ranges.dx, to_z-of_z w32 c.args.dy c.ranges.dy, to_z-of_z w32 most fits) at
@@ -40,7 +41,8 @@ loop-chunk-preserved c =
     let most = c.greatest_projection-furthest.result in
     let fits : FitsSigned w32 most = search (rules, c.greatest_projection-furthest.type_inv) in
     let is : IsGreatest (projections c.args.dx c.args.dy) most =
-    rw (to_z-of_z w32 c.args.dx c.ranges.dx, to_z-of_z w32 c.args.dy c.ranges.dy) at c.greatest_projection-furthest.ensures
+    rw (to_z-of_z w32 c.args.dx c.ranges.dx, to_z-of_z w32 c.args.dy c.ranges.dy) at
+    c.greatest_projection-furthest.ensures
     in
     let before =
     rw (to_z-of_z w32 c.args.dx c.ranges.dx, to_z-of_z w32 c.args.dy c.ranges.dy, to_z-of_z w32 most fits) at
@@ -57,7 +59,8 @@ past_all c =
     let most = c.greatest_projection-furthest.result in
     let fits : FitsSigned w32 most = search (rules, c.greatest_projection-furthest.type_inv) in
     let is : IsGreatest (projections c.args.dx c.args.dy) most =
-    rw (to_z-of_z w32 c.args.dx c.ranges.dx, to_z-of_z w32 c.args.dy c.ranges.dy) at c.greatest_projection-furthest.ensures
+    rw (to_z-of_z w32 c.args.dx c.ranges.dx, to_z-of_z w32 c.args.dy c.ranges.dy) at
+    c.greatest_projection-furthest.ensures
     in
     let before =
     rw (to_z-of_z w32 c.args.dx c.ranges.dx, to_z-of_z w32 c.args.dy c.ranges.dy, to_z-of_z w32 most fits) at

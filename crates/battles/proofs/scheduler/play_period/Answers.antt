@@ -20,7 +20,9 @@ not_two n = grind (arith, nat_tests)
 turned : (c : goal.After-has_two_live) (robots : List Behaviour) (s : BattleState) →
     AreRobotsOf c.args.executables.now robots
     → HasReached c.args.runners.now c.args.executables.now c.args.arena.now s
-    → HasReached c.if-not-advance_if_ahead.runners c.args.executables.now c.if-not-advance_if_ahead.arena (cycles_without_updates robots 15 s)
+    →
+    HasReached c.if-not-advance_if_ahead.runners c.args.executables.now c.if-not-advance_if_ahead.arena
+    (cycles_without_updates robots 15 s)
 turned c robots s are reached = elim c.if-not-advance_if_ahead.branch [
   | then-not-advance_if_ahead w ↦
       rw (w.runners-is, w.arena-is)

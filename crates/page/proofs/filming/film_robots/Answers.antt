@@ -16,7 +16,8 @@ returns-in-Ok-None-clause-films c =
     c.compile_feeds.new.faults
     (search rules)
     (by_robots
-    (λ (setup : Settings) (sources : List SourceFile) (before : Taken). Compiles setup sources c.compile_feeds.result before
+    (λ (setup : Settings) (sources : List SourceFile) (before : Taken). Compiles setup sources c.compile_feeds.result
+    before
     (on_both (contents_of c.compile_feeds.new.text) (contents_of c.compile_feeds.new.faults)))
     c.args.order.now c.args.robots.now c.in_ok-settings.settings
     (map (λ (word : Bor (List ℕ)). word.now) c.as_slice.result.now) _ c.clear.new.self c.clear-2.new.self
@@ -34,7 +35,8 @@ returns-clause-films c =
     let good : c.compile_feeds.result ≡ Ok (Some programs) = search rules in
     let compiled : CompilesRobots order robots c.compile_feeds.result text faults =
     by_robots
-    (λ (setup : Settings) (sources : List SourceFile) (before : Taken). Compiles setup sources c.compile_feeds.result before
+    (λ (setup : Settings) (sources : List SourceFile) (before : Taken). Compiles setup sources c.compile_feeds.result
+    before
     (on_both (contents_of c.compile_feeds.new.text) (contents_of c.compile_feeds.new.faults)))
     c.args.order.now c.args.robots.now c.in_ok-settings.settings
     (map (λ (word : Bor (List ℕ)). word.now) c.as_slice.result.now) _ c.clear.new.self c.clear-2.new.self

@@ -12,7 +12,8 @@ use Rattle.parser.proofs.function_headers.parameter_list.Goals as goal
 
 pub returns-in_err-expect_declaration-clause-matches : goal.returns-in_err-expect_declaration-clause-matches
 returns-in_err-expect_declaration-clause-matches g c =
-    let sound : is_lexical_error c.args.parser.now.position.lookahead.cursor.next.token ≡ false = c.requires.ready.sound in
+    let sound : is_lexical_error c.args.parser.now.position.lookahead.cursor.next.token ≡ false =
+    c.requires.ready.sound in
     let is : c.args.parser.now.position.lookahead.cursor.next.token ≡ token.Name c.in-Name.field-0 = cc in
     let p = err_from_is_err_and c.from_residual.result c.from_residual.ensures.1 in
     rw (p.1, p.2) (leaves _ (Part Parameters ∷ []) (AName Parameter ∷ []) (Part (More Parameter) ∷ []) _ _
@@ -21,7 +22,8 @@ returns-in_err-expect_declaration-clause-matches g c =
 
 pub returns-in_err-more_names-clause-matches : goal.returns-in_err-more_names-clause-matches
 returns-in_err-more_names-clause-matches g c =
-    let sound : is_lexical_error c.args.parser.now.position.lookahead.cursor.next.token ≡ false = c.requires.ready.sound in
+    let sound : is_lexical_error c.args.parser.now.position.lookahead.cursor.next.token ≡ false =
+    c.requires.ready.sound in
     let is : c.args.parser.now.position.lookahead.cursor.next.token ≡ token.Name c.in-Name.field-0 = cc in
     let p = err_from_is_err_and c.from_residual-in_err-more_names.result c.from_residual-in_err-more_names.ensures.1 in
     rw (p.1, p.2) (leaves _ (Part Parameters ∷ []) (Part (More Parameter) ∷ []) [] _ _ c.in_err-more_names.field-0.0
@@ -31,7 +33,8 @@ returns-in_err-more_names-clause-matches g c =
 
 pub returns-in_ok-more_names-clause-matches : goal.returns-in_ok-more_names-clause-matches
 returns-in_ok-more_names-clause-matches g c =
-    let sound : is_lexical_error c.args.parser.now.position.lookahead.cursor.next.token ≡ false = c.requires.ready.sound in
+    let sound : is_lexical_error c.args.parser.now.position.lookahead.cursor.next.token ≡ false =
+    c.requires.ready.sound in
     let is : c.args.parser.now.position.lookahead.cursor.next.token ≡ token.Name c.in-Name.field-0 = cc in
     item_on (Part Parameters ∷ []) (Part (More Parameter)) [] _ _ _ (λ stack. refl)
     (parameter_first _ _ c.in-Name.field-0 sound is c.in_ok-expect_declaration.ensures.matches)
@@ -39,7 +42,8 @@ returns-in_ok-more_names-clause-matches g c =
 
 pub returns-in_default : goal.returns-in_default
 returns-in_default g c =
-    let sound : is_lexical_error c.args.parser.now.position.lookahead.cursor.next.token ≡ false = c.requires.ready.sound in
+    let sound : is_lexical_error c.args.parser.now.position.lookahead.cursor.next.token ≡ false =
+    c.requires.ready.sound in
     record {
       matches = no_parameters _ sound
           (λ bytes is. c.in_default.not-Name bytes (ap (λ (l : LocatedToken). l.token) c.peek.ensures.value ∙ is));

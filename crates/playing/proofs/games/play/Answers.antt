@@ -6,7 +6,8 @@ pub returns-clause-battle : goal.returns-clause-battle
 unfolding battle
 returns-clause-battle g c = λ robots are.
     let come =
-    (rw c.new-game.ensures.codes at (c.run.ensures.battle robots (first_state (length robots) c.args.seed c.args.number)))
+    (rw c.new-game.ensures.codes at
+    (c.run.ensures.battle robots (first_state (length robots) c.args.seed c.args.number)))
     are (c.new-game.ensures.battle robots are) in
     let limit : c.run.new.game.limit ≡ c.args.limit = c.run.ensures.limit ∙ c.new-game.ensures.limit in
     rw c.ending.ensures.ending (rw limit at come.ends)

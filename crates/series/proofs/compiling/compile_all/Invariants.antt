@@ -29,5 +29,7 @@ invariant-loop-file g l =
     ×
     IfSome (g.K.TakesPrograms.kept l.keeper)
     (λ kept. kept_by l.status kept ≡ programs_of l.settings.profile (take l.file sources)))
-    × TakesOfFirst l.settings.profile (known_to_come g.F.Feed.device l.fn.feeds) (known_to_come g.F.Feed.device l.feeds) l.file
+    ×
+    TakesOfFirst l.settings.profile (known_to_come g.F.Feed.device l.fn.feeds)
+    (known_to_come g.F.Feed.device l.feeds) l.file
     × IfSome (g.K.TakesPrograms.kept l.keeper) (λ kept. AreOfProfile l.settings.profile kept)

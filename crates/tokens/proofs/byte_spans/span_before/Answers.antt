@@ -27,7 +27,8 @@ loop-count-preserved g c =
     record {
       within = omega (arith, whole);
       count = rw whole (n.count ∙ ap (λ k. c.loop-count.count + k) passed ∙ omega arith);
-      lines = counts_block (λ b. eqb b 10) c.args.bytes.now c.loop-count.count c.span_in_vector-run.result.0 _ _ n.within
+      lines =
+          counts_block (λ b. eqb b 10) c.args.bytes.now c.loop-count.count c.span_in_vector-run.result.0 _ _ n.within
           e.within n.lines e.lines;
     }
 

@@ -95,12 +95,14 @@ report_expr-act-requires-in-Assign g t c =
     rw c.deref-in-Assign.ensures at c.in_ok-report_expr-in-Assign.ensures.ok in
     record { follows = may_first _ _ _ (may_then _ (at c.report_expr-in-Assign.new.build) _ _ right whole) }
 
-pub report_expr-returns-in_ok-report_expr-in-Assign-clause-ok : goal.report_expr-returns-in_ok-report_expr-in-Assign-clause-ok
+pub report_expr-returns-in_ok-report_expr-in-Assign-clause-ok :
+    goal.report_expr-returns-in_ok-report_expr-in-Assign-clause-ok
 report_expr-returns-in_ok-report_expr-in-Assign-clause-ok g t c =
     let at = g.B.Build.stands in
     let first = at c.args.build.now in
     let last = at c.act-in-Assign.new.self in
-    let right : AppendsAll first (at c.report_expr-in-Assign.new.build) (expr_actions (expr_tree c.in-Assign.right.value))
+    let right : AppendsAll first (at c.report_expr-in-Assign.new.build)
+    (expr_actions (expr_tree c.in-Assign.right.value))
     =
     rw c.deref-in-Assign.ensures at c.in_ok-report_expr-in-Assign.ensures.ok in
     on_ok_weaker _

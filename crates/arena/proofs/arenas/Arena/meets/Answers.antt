@@ -21,4 +21,7 @@ pub returns-else-a-b : goal.returns-else-a-b
 unfolding collides_with
 returns-else-a-b c = λ f s.
     let same : (c.args.a == c.args.b) ≡ true = eq-eqb c.args.a c.args.b c.if-a-b.false in
-    ap not same ∙ sym (ap (λ t. not t && collides (attempted_move (robot_at f c.args.a)) (attempted_move (robot_at f c.args.b))) same)
+    ap not same ∙
+    sym
+    (ap (λ t. not t && collides (attempted_move (robot_at f c.args.a)) (attempted_move (robot_at f c.args.b)))
+    same)

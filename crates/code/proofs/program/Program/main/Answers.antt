@@ -5,4 +5,5 @@ use Rattle.code.proofs.program.Program.main.Goals as goal
 
 pub returns-clause-known : goal.returns-clause-known
 returns-clause-known c =
-    omega (arith, main_is_known _ c.self.invariant.1, ap (λ (program : Program). length program.functions) c.self.view_is)
+    omega
+    (arith, main_is_known _ c.self.invariant.1, ap (λ (program : Program). length program.functions) c.self.view_is)

@@ -238,7 +238,8 @@ operand-returns-in_err-levels-clause-parses g t c =
           c.in_err-levels.field-0.0 (at_its_own _ c.args.binary c.requires.at.is) c.in_ok-advance.ensures.consumes
           c.in_err-levels.ensures.parses.refused;
       grown =
-          λ device. grown_behind _ _ _ _ c.in_ok-report_middle.ensures.told (c.in_err-levels.ensures.parses.grown device);
+          λ device. grown_behind _ _ _ _ c.in_ok-report_middle.ensures.told
+          (c.in_err-levels.ensures.parses.grown device);
     })
 
 pub operand-act-requires : goal.operand-act-requires

@@ -7,13 +7,15 @@ use Rattle.parser.proofs.scoped_cursor.ScopedCursor.expect.Goals as goal
 
 pub returns-then-not-is_punctuator-clause-matches : goal.returns-then-not-is_punctuator-clause-matches
 returns-then-not-is_punctuator-clause-matches g c =
-    let sound : is_lexical_error c.args.self.now.position.lookahead.cursor.next.token ≡ false = c.requires.ready.sound in
+    let sound : is_lexical_error c.args.self.now.position.lookahead.cursor.next.token ≡ false =
+    c.requires.ready.sound in
     let misses : is_punctuator c.args.punctuator c.args.self.now.position.lookahead.cursor.next.token ≡ false = cc in
     rw c.unexpected_token.ensures (punctuator_misfits _ c.args.punctuator c.requires.ready.near sound misses)
 
 pub returns-in_err-advance-clause-matches : goal.returns-in_err-advance-clause-matches
 returns-in_err-advance-clause-matches g c =
-    let sound : is_lexical_error c.args.self.now.position.lookahead.cursor.next.token ≡ false = c.requires.ready.sound in
+    let sound : is_lexical_error c.args.self.now.position.lookahead.cursor.next.token ≡ false =
+    c.requires.ready.sound in
     let fits : is_punctuator c.args.punctuator c.args.self.now.position.lookahead.cursor.next.token ≡ true = cc in
     let p = err_from_is_err_and c.from_residual.result c.from_residual.ensures.1 in
     rw (p.1, p.2)
@@ -23,7 +25,8 @@ returns-in_err-advance-clause-matches g c =
 
 pub returns-clause-matches : goal.returns-clause-matches
 returns-clause-matches g c =
-    let sound : is_lexical_error c.args.self.now.position.lookahead.cursor.next.token ≡ false = c.requires.ready.sound in
+    let sound : is_lexical_error c.args.self.now.position.lookahead.cursor.next.token ≡ false =
+    c.requires.ready.sound in
     let fits : is_punctuator c.args.punctuator c.args.self.now.position.lookahead.cursor.next.token ≡ true = cc in
     punctuator_derives c.args.self.now.position.lookahead.cursor c.args.self.now.position.lookahead.scope _ _
     c.args.punctuator

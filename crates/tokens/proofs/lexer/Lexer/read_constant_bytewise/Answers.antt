@@ -37,7 +37,8 @@ returns-in_default-clause-finds g c =
     ] in
     record {
       tokens =
-          token_span-stops is_digit (constant_going_on c.loop-b.value) c.token_ending_here.result c.constant_token.result
+          token_span-stops is_digit (constant_going_on c.loop-b.value) c.token_ending_here.result
+          c.constant_token.result
           _ _ _
           seen.next.ready
           seen.next.first stops (λ _. c.token_ending_here.ensures) c.constant_token.ensures.token
@@ -60,7 +61,8 @@ returns-in_err-b-clause-finds g c =
     fails-finds c.from_residual.result _ c.from_residual.ensures.1 (in_constant (c.args.first - 48)) _ _
     (g.F.Feed.device c.args.feed.now) (g.F.Feed.device c.peek.new.feed) _ _ (record {
       within = stops-from now (in_constant (c.args.first - 48)) _ _ c.peek.new.self _ _ chain
-          (stops now (in_token_span-ends is_digit (constant_going_on c.loop-b.value) (constant-undecided c.loop-b.value))
+          (stops now
+          (in_token_span-ends is_digit (constant_going_on c.loop-b.value) (constant-undecided c.loop-b.value))
           c.loop-b.self.window c.peek.new.self _ seen.failed seen.offset.offset);
       unread = c.loop-b.invariant.here;
     })

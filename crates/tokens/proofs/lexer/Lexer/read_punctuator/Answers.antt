@@ -28,7 +28,8 @@ returns-in-None-clause-finds g c =
     let seen = c.in_ok-next.ensures in
     record {
       tokens =
-          punctuator_element-stops c.loop-next.punctuator c.token_ending_here.result _ _ c.in_ok-next.next seen.next.ready
+          punctuator_element-stops c.loop-next.punctuator c.token_ending_here.result _ _ c.in_ok-next.next
+          seen.next.ready
           seen.next.first
           (sym c.in-None.ensures) (λ _. c.token_ending_here.ensures)
           ∙ to_read-seen now _ _ _ _ seen.seen ∙ c.loop-next.invariant.tokens;
