@@ -30,22 +30,22 @@ abbrev pub assigned : Vars → Var → ℤ → Vars
 assigned vars (External j) x = record { externals = slice_set vars.externals j x; locals = vars.locals }
 assigned vars (Local j) x = record { externals = vars.externals; locals = slice_set vars.locals j x }
 
--- an evaluation is done, with the replies left, or wants an event
+-- an evaluation is done, with the replies left, or wants something
 pub data EvaluationResult (A : Type 0) : Type 0 where
   Gives : (value : A) (vars : Vars) (rest : List ℤ) → EvaluationResult A
-  Awaits : (event : Want) → EvaluationResult A
+  Awaits : (want : Want) → EvaluationResult A
 
 -- an evaluation, and what follows it
 abbrev pub and_then : {A B : Type 0} → EvaluationResult A → (A → Vars → List ℤ → EvaluationResult B) →
     EvaluationResult B
 and_then (Gives x vars rest) go = go x vars rest
-and_then (Awaits event) go = Awaits event
+and_then (Awaits want) go = Awaits want
 
 -- One cycle. What doesn't fit wants a restart; a reply that isn't there yet is awaited.
 abbrev pub tick : {A : Type 0} → Bool → Want → List ℤ → (ℤ → List ℤ → EvaluationResult A) → EvaluationResult A
-tick false event trace go = Awaits Restart
-tick true event [] go = Awaits event
-tick true event (reply ∷ rest) go = go reply rest
+tick false want trace go = Awaits Restart
+tick true want [] go = Awaits want
+tick true want (reply ∷ rest) go = go reply rest
 
 -- how a body ends: it is passed through, or returns a value
 pub data Completion : Type 0 where
@@ -250,7 +250,7 @@ effect_within p file (suc n) body vars depth frames trace =
 
 -- main does not end: when it would return, it wants a restart
 abbrev pub wanted : EvaluationResult ℤ → Want
-wanted (Awaits event) = event
+wanted (Awaits want) = want
 wanted (Gives x vars rest) = Restart
 
 abbrev pub zeros : ℕ → List ℤ

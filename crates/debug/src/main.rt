@@ -26,7 +26,7 @@ const FRAME: ProgramFrame = ProgramFrame {
 const ROBOT_OPTIONS: [Known; 1] = [Known::Valued(
     "robot",
     "N",
-    "the robot that is looked at, from 1 (default 1)",
+    "the robot to look into, from 1 (default 1)",
 )];
 
 /// Answers the commands of standard input about the match that the command line asks for, and returns the status.

@@ -19,7 +19,7 @@ pub struct TreeMaker {
     profile: Profile,
     functions: Vec<Function>,
     stack: TreeStack,
-    code: u16,
+    length: u16,
 }
 
 impl Model for TreeMaker {
@@ -45,7 +45,7 @@ impl TreeMaker {
             profile,
             functions: Vec::new(alloc),
             stack: TreeStack::new(alloc),
-            code: 0,
+            length: 0,
         }
     }
 
@@ -61,11 +61,11 @@ impl TreeMaker {
         ensures profile { self.new.profile ≡ self.old.profile }
         ensures functions { self.new.functions ≡ self.old.functions }
         ensures stack { self.new.stack ≡ self.old.stack }
-        ensures code { self.new.length ≡ min (self.old.length + instructions) 65535 }
+        ensures length { self.new.length ≡ min (self.old.length + instructions) 65535 }
         ensures passes { result ≡ nat_le self.old.profile.instructions self.new.length }
     {
-        self.code = self.code.saturating_add(instructions);
-        self.code >= self.profile.instructions()
+        self.length = self.length.saturating_add(instructions);
+        self.length >= self.profile.instructions()
     }
 }
 
