@@ -35,9 +35,9 @@ returns-clause-ends c = λ some quiet.
           let m = machine_of c.loop-left.registers c.loop-left.self in
           let i = w.instr_at-instr.result.now in
           let none =
-          ap (λ (o : Option Registers). machine_if o w.step.new.self) (sym w.in-None.is) ∙
-          w.step.ensures.next (pos 0) in
-          let same = w.self-is ∙ w.step.ensures.stays w.in-None.is in
+          ap (λ (o : Option Registers). machine_if o w.run_instr.new.self) (sym w.in-None.is) ∙
+          w.run_instr.ensures.next (pos 0) in
+          let same = w.self-is ∙ w.run_instr.ensures.stays w.in-None.is in
           not_taken code m i w.instr_at-instr.ensures.next.here none
           (ap (λ (s : Storage). want_next code (machine_of c.loop-left.registers s)) (sym same) ∙ quiet)
     ]
@@ -46,6 +46,6 @@ pub returns-clause-coasted : goal.returns-clause-coasted
 returns-clause-coasted c =
     let same : c.loop-left-test.self ≡ c.loop-left.self = elim c.loop-left-test.branch [
       | else-loop-left-test w ↦ w.self-is
-      | then-loop-left-test+in-None w ↦ w.self-is ∙ w.step.ensures.stays w.in-None.is
+      | then-loop-left-test+in-None w ↦ w.self-is ∙ w.run_instr.ensures.stays w.in-None.is
     ] in
     rw same c.loop-left.invariant.coasted
