@@ -7,7 +7,7 @@ use Rattle.std.proofs.lemmas.Bool.Decides.{nat_tests}
 use Rattle.std.proofs.lemmas.List.{get_or_read, get_or-drop, get_or-map, get_or-set_same, get_or-set_other, length-drop, length-map, length-set}
 use Rattle.std.proofs.lemmas.List.Elements.{All-more}
 use Rattle.arena.specs.Field.{FieldRobot, Field, no_robot}
-use Rattle.arena.specs.Collisions.{Mover, attempted_move, is_close, collision_count}
+use Rattle.arena.specs.Collisions.{AttemptedMove, attempted_move, is_close, collision_count}
 use Rattle.arena.specs.Arena.{Motion, motion_of, Robot}
 use Rattle.arena.specs.Ahead.{robot_ahead}
 use Rattle.arena.specs.Apart.{gap, IsNearby, IsAtPlace, AreApartFor}
@@ -117,17 +117,18 @@ and_false true = refl
 and_false false = refl
 
 -- two that were far, and moved a little, aren't close
-far_on_x : (a b : Mover) → 10 ≤ abs_diff a.to.x b.to.x → is_close a b ≡ false
+far_on_x : (a b : AttemptedMove) → 10 ≤ abs_diff a.to.x b.to.x → is_close a b ≡ false
 unfolding is_close
 far_on_x a b far = let off : nat_lt (abs_diff a.to.x b.to.x) 10 ≡ false = grind (arith, nat_tests) in rw off refl
 
-far_on_y : (a b : Mover) → 10 ≤ abs_diff a.to.y b.to.y → is_close a b ≡ false
+far_on_y : (a b : AttemptedMove) → 10 ≤ abs_diff a.to.y b.to.y → is_close a b ≡ false
 unfolding is_close
 far_on_y a b far =
     let off : nat_lt (abs_diff a.to.y b.to.y) 10 ≡ false = grind (arith, nat_tests) in
     rw off (and_false (nat_lt (abs_diff a.to.x b.to.x) 10))
 
-not_close : (a b : Mover) (from_a from_b to_a to_b : Motion) → a.to.x ≡ to_a.x → a.to.y ≡ to_a.y → b.to.x ≡ to_b.x →
+not_close : (a b : AttemptedMove) (from_a from_b to_a to_b : Motion) → a.to.x ≡ to_a.x → a.to.y ≡ to_a.y →
+    b.to.x ≡ to_b.x →
     b.to.y ≡ to_b.y → IsNearby from_a to_a → IsNearby from_b to_b → 210 ≤ gap from_a from_b → is_close a b ≡ false
 not_close a b from_a from_b to_a to_b ax ay bx by_ near_a near_b far = by_axis (cases_lt (abs_diff a.to.x b.to.x) 10)
   where
@@ -136,12 +137,12 @@ not_close a b from_a from_b to_a to_b ax ay bx by_ near_a near_b far = by_axis (
     by_axis (inr wide) = far_on_x a b wide
 
 -- where a robot drives
-goes_to : (r : FieldRobot) (m : Mover) (b : Robot) → m ≡ attempted_move r → b ≡ robot_ahead r →
+goes_to : (r : FieldRobot) (m : AttemptedMove) (b : Robot) → m ≡ attempted_move r → b ≡ robot_ahead r →
     (m.to.x ≡ b.motion.x) × (m.to.y ≡ b.motion.y)
 unfolding attempted_move robot_ahead motion_of
 goes_to r m b p q = (
-  ap (λ (m : Mover). m.to.x) p ∙ sym (ap (λ (b : Robot). b.motion.x) q),
-  ap (λ (m : Mover). m.to.y) p ∙ sym (ap (λ (b : Robot). b.motion.y) q),
+  ap (λ (m : AttemptedMove). m.to.x) p ∙ sym (ap (λ (b : Robot). b.motion.x) q),
+  ap (λ (m : AttemptedMove). m.to.y) p ∙ sym (ap (λ (b : Robot). b.motion.y) q),
 )
 
 -- if all are far from each other, none touches another

@@ -7,7 +7,7 @@ use Rattle.std.proofs.lemmas.List.Elements.{All-get_or, All-take, All-drop}
 use Rattle.std.proofs.lemmas.List.FromFn.{map-range_with_len_more}
 use Rattle.arena.specs.Leg.{Leg, place_x, place_y, tried, stopped_by_walls, clamped_at_walls, hits_wall}
 use Rattle.arena.specs.Field.{Shot, FieldRobot, Field, damage_of, is_alive, no_robot, robot_at}
-use Rattle.arena.specs.Collisions.{Mover, leg_alone, attempted_move, moves, is_close, is_no_further, collides, collision_count}
+use Rattle.arena.specs.Collisions.{AttemptedMove, leg_alone, attempted_move, moves, is_close, is_no_further, collides, collision_count}
 use Rattle.arena.specs.Shots.{bursts}
 use Rattle.arena.specs.Moved.{moved_robot, moved}
 use Rattle.arena.specs.Arena.{Arena, robot_of}
@@ -61,14 +61,14 @@ blocked true false c d = refl
 blocked true true false d = refl
 blocked true true true d = refl
 
-collides_not : (a b : Mover) → moves a ≡ false → moves b ≡ false → collides a b ≡ false
+collides_not : (a b : AttemptedMove) → moves a ≡ false → moves b ≡ false → collides a b ≡ false
 unfolding collides
 collides_not a b p q = rw (p, q) (blocked a.live b.live (is_close a b) (is_no_further a b))
 
-touches_still : (movers : List Mover) (i : ℕ) → i < length movers → All (λ m. moves m ≡ false) movers →
+touches_still : (movers : List AttemptedMove) (i : ℕ) → i < length movers → All (λ m. moves m ≡ false) movers →
     collision_count movers i ≡ 0
 touches_still movers i inside still =
-    let Still : Mover → Type 0 = λ m. moves m ≡ false in
+    let Still : AttemptedMove → Type 0 = λ m. moves m ≡ false in
     let m = get_or movers i (attempted_move no_robot) in
     let here = All-get_or Still movers i (attempted_move no_robot) inside still in
     touches_none movers i

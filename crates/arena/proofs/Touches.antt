@@ -8,9 +8,9 @@ use Rattle.std.proofs.lemmas.List.Elements.{All-append}
 use Rattle.std.proofs.lemmas.List.Sums.{sum_by-append, length-filter}
 use Rattle.arena.specs.Field.{no_robot}
 use Rattle.arena.proofs.SlotLaws.{inside_is}
-use Rattle.arena.specs.Collisions.{Mover, attempted_move, moves, is_close, is_no_further, collides, others, collision_count}
+use Rattle.arena.specs.Collisions.{AttemptedMove, attempted_move, moves, is_close, is_no_further, collides, others, collision_count}
 
-pub touches_is : (movers : List Mover) (i : ℕ) (m : Mover) (before after : ℕ) → i < length movers →
+pub touches_is : (movers : List AttemptedMove) (i : ℕ) (m : AttemptedMove) (before after : ℕ) → i < length movers →
     m ≡ get_or movers i m →
     before ≡ count_by (collides m) (take i movers) →
     after ≡ count_by (collides m) (take (length movers - (i + 1)) (drop (i + 1) movers)) →
@@ -29,7 +29,7 @@ none_passes : {X : Type 0} (p : X → Bool) (xs : List X) → All (λ x. p x ≡
 none_passes p [] h = refl
 none_passes p (x ∷ xs) h = rw (h 0 x (omega arith)) (none_passes p xs (λ k d l. h (suc k) d (omega arith)))
 
-pub touches_none : (movers : List Mover) (i : ℕ) →
+pub touches_none : (movers : List AttemptedMove) (i : ℕ) →
     All (λ m. collides (get_or movers i (attempted_move no_robot)) m ≡ false) (take i movers) →
     All (λ m. collides (get_or movers i (attempted_move no_robot)) m ≡ false) (drop (i + 1) movers) →
     collision_count movers i ≡ 0
@@ -41,7 +41,7 @@ touches_none movers i before after =
     ap length (none_passes p xs (All-append (λ m. p m ≡ false) (take i movers) (drop (i + 1) movers) before after))
 
 -- two that aren't close don't collide
-close_both : (a b : Mover) → is_close a b ≡ is_close b a
+close_both : (a b : AttemptedMove) → is_close a b ≡ is_close b a
 unfolding is_close
 close_both a b =
     let x : abs_diff a.to.x b.to.x ≡ abs_diff b.to.x a.to.x = omega arith in
@@ -54,20 +54,20 @@ blocked false b c d = refl
 blocked true false c d = refl
 blocked true true c d = refl
 
-collides_not : (a b : Mover) → is_close a b ≡ false → collides a b ≡ false
+collides_not : (a b : AttemptedMove) → is_close a b ≡ false → collides a b ≡ false
 unfolding collides
 collides_not a b h = rw h (blocked a.live b.live (moves a || moves b) (is_no_further a b))
 
 -- if no pair is close, each touches none
-abbrev pub AreApart : List Mover → ℕ → ℕ → Type 0
+abbrev pub AreApart : List AttemptedMove → ℕ → ℕ → Type 0
 AreApart movers a b =
     is_close (get_or movers a (attempted_move no_robot)) (get_or movers b (attempted_move no_robot)) ≡ false
 
-pub untouched : (movers : List Mover) (i : ℕ) → i < length movers →
+pub untouched : (movers : List AttemptedMove) (i : ℕ) → i < length movers →
     ((a b : ℕ) → a < b → b < length movers → AreApart movers a b) → collision_count movers i ≡ 0
 untouched movers i inside apart =
     let m = get_or movers i (attempted_move no_robot) in
-    let Passes : Mover → Type 0 = λ x. collides m x ≡ false in
+    let Passes : AttemptedMove → Type 0 = λ x. collides m x ≡ false in
     touches_none movers i
     (λ k d l.
     let less : k < i = omega (arith, l, length-take i movers) in
@@ -82,7 +82,7 @@ untouched movers i inside apart =
     (collides_not m (get_or movers (i + 1 + k) (attempted_move no_robot)) (apart i (i + 1 + k) (omega arith) less)))
 
 -- one robot more is apart from those after it
-pub apart_more : (movers : List Mover) (i : ℕ) (m : Mover) → i < length movers → m ≡ get_or movers i m →
+pub apart_more : (movers : List AttemptedMove) (i : ℕ) (m : AttemptedMove) → i < length movers → m ≡ get_or movers i m →
     ((a b : ℕ) → a < i → a < b → b < length movers → AreApart movers a b) →
     All (λ other. is_close m other ≡ false) (drop (i + 1) movers) → (a b : ℕ) → a < i + 1 → a < b → b < length movers →
     AreApart movers a b

@@ -44,7 +44,8 @@ pub record ReadsOn (before after : Representation) (front pending : List Item) (
         → TakesTokens consumed located_tokens there
     pub follows : (rest : List LocatedToken) → MayContinue there rest → MayContinue here (consumed ++ rest)
     pub added : AppendsAll before after (definitions_actions more)
-    pub passes : (rest : List LocatedToken) → MayContinue there rest → (profile : Profile) (functions : List Definition) →
+    pub passes : (rest : List LocatedToken) → MayContinue there rest →
+        (profile : Profile) (functions : List Definition) →
         before profile (definitions_actions functions) →
         DerivesWithoutFault profile (state front (consumed ++ rest) [] (scope_at here) functions)
         (state pending rest [] (scope_at there) (functions ++ more))

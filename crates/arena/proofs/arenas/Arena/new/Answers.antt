@@ -6,7 +6,7 @@ pub returns-clause-stands : goal.returns-clause-stands
 unfolding start
 returns-clause-stands c = record {
   updates = refl;
-  robots = c.drawn_robots-robots.ensures.robots c.args.seed c.args.match_number c.generator-random.ensures;
+  robots = c.drawn_robots-robots.ensures.robots c.args.seed c.args.number c.generator-random.ensures;
   missiles = c.none_in_air.ensures.none;
-  random = c.drawn_robots-robots.ensures.words c.args.seed c.args.match_number c.generator-random.ensures;
+  random = c.drawn_robots-robots.ensures.words c.args.seed c.args.number c.generator-random.ensures;
 }
