@@ -85,7 +85,7 @@ impl Score {
     /// Returns the score with one more match, in which the given number of robots survived.
     fn with_match(self, alive: bool, survivors: usize) -> Score
         requires { self.won + self.tied + self.lost < 2 ^ 32 - 1 }
-        ensures { result ≡ with_match self is_survivor survivors }
+        ensures { result ≡ with_match self alive survivors }
     {
         match (alive, survivors) {
             (false, _) => Score {
