@@ -35,6 +35,6 @@ returns-clause-robots c = λ f u e holds.
       | else-not-has_no_burst_by w ↦
           let none : (x y : ℕ) → sum (bursts (f.updates + 1) f.shots x y) ≡ 0 =
           λ x y. subst (λ n. sum (bursts n f.shots x y) ≡ 0) u
-          (c.has_no_burst_by.ensures w.if-not-is_quiet.false f.updates f.shots x y u holds) in
+          (c.has_no_burst_by.ensures w.if-not-has_no_burst_by.false f.updates f.shots x y u holds) in
           w.robots-is ∙ there ∙ ahead_of_all f untouched none
     ]

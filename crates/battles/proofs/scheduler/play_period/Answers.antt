@@ -27,10 +27,10 @@ turned c robots s are reached = elim c.if-not-advance_if_ahead.branch [
   | then-not-advance_if_ahead w ↦
       rw (w.runners-is, w.arena-is)
       (w.play_interval.ensures.stage robots s are
-      (rw (c.advance_if_ahead.ensures.stays w.if-not-pass_interval.true) reached))
+      (rw (c.advance_if_ahead.ensures.stays w.if-not-advance_if_ahead.true) reached))
   | else-not-advance_if_ahead w ↦
       rw (w.runners-is, w.arena-is)
-      (c.advance_if_ahead.ensures.stage w.if-not-pass_interval.false c.args.executables.now robots s are reached)
+      (c.advance_if_ahead.ensures.stage w.if-not-advance_if_ahead.false c.args.executables.now robots s are reached)
 ]
 
 pub returns-clause-stage : goal.returns-clause-stage

@@ -23,9 +23,9 @@ use Rattle.parser.proofs.parser.Parser.+statements.Goals as goal
 
 -- Blocks.
 
-pub block-returns-in_err-check_level-clause-parses : goal.block-returns-in_err-check_level-clause-parses
-block-returns-in_err-check_level-clause-parses g t c =
-    let refused = c.in_err-check_level.ensures.refused in
+pub block-returns-in_err-check_nesting-clause-parses : goal.block-returns-in_err-check_nesting-clause-parses
+block-returns-in_err-check_nesting-clause-parses g t c =
+    let refused = c.in_err-check_nesting.ensures.refused in
     let p = err_from_is_err_and c.from_residual.result c.from_residual.ensures.1 in
     rw (p.1, p.2, refused.is) (record {
       refused =
@@ -36,7 +36,7 @@ block-returns-in_err-check_level-clause-parses g t c =
 
 pub block-returns-in_err-advance-clause-parses : goal.block-returns-in_err-advance-clause-parses
 block-returns-in_err-advance-clause-parses g t c =
-    let shallow : c.args.self.now.depth < 64 = c.in_ok-check_level.ensures.ok in
+    let shallow : c.args.self.now.depth < 64 = c.in_ok-check_nesting.ensures.ok in
     let p = err_from_is_err_and c.from_residual-in_err-advance.result c.from_residual-in_err-advance.ensures.1 in
     rw (p.1, p.2) (record {
       refused = refused_map _ _ _ ⊥ _ c.in_err-advance.field-0.0
@@ -48,7 +48,7 @@ block-returns-in_err-advance-clause-parses g t c =
 
 pub block-returns-in_err-declarations-clause-parses : goal.block-returns-in_err-declarations-clause-parses
 block-returns-in_err-declarations-clause-parses g t c =
-    let shallow : c.args.self.now.depth < 64 = c.in_ok-check_level.ensures.ok in
+    let shallow : c.args.self.now.depth < 64 = c.in_ok-check_nesting.ensures.ok in
     let p =
     err_from_is_err_and c.from_residual-in_err-declarations.result c.from_residual-in_err-declarations.ensures.1 in
     rw (p.1, p.2) (record {
@@ -60,7 +60,7 @@ block-returns-in_err-declarations-clause-parses g t c =
 
 pub block-returns-in_err-statements-clause-parses : goal.block-returns-in_err-statements-clause-parses
 block-returns-in_err-statements-clause-parses g t c =
-    let shallow : c.args.self.now.depth < 64 = c.in_ok-check_level.ensures.ok in
+    let shallow : c.args.self.now.depth < 64 = c.in_ok-check_nesting.ensures.ok in
     let p = err_from_is_err_and c.from_residual-in_err-statements.result c.from_residual-in_err-statements.ensures.1 in
     rw (p.1, p.2) (record {
       refused = refused_map _ _ _ _ _ c.in_err-statements.field-0.0
@@ -72,7 +72,7 @@ block-returns-in_err-statements-clause-parses g t c =
 
 pub block-returns-in_err-expect-clause-parses : goal.block-returns-in_err-expect-clause-parses
 block-returns-in_err-expect-clause-parses g t c =
-    let shallow : c.args.self.now.depth < 64 = c.in_ok-check_level.ensures.ok in
+    let shallow : c.args.self.now.depth < 64 = c.in_ok-check_nesting.ensures.ok in
     let p = err_from_is_err_and c.from_residual-in_err-expect.result c.from_residual-in_err-expect.ensures.1 in
     rw (p.1, p.2) (record {
       refused = refused_map _ _ _ ⊥ _ c.in_err-expect.field-0.0
@@ -84,16 +84,17 @@ block-returns-in_err-expect-clause-parses g t c =
 
 pub block-returns-clause-parses : goal.block-returns-clause-parses
 block-returns-clause-parses g t c =
-    let shallow : c.args.self.now.depth < 64 = c.in_ok-check_level.ensures.ok in
+    let shallow : c.args.self.now.depth < 64 = c.in_ok-check_nesting.ensures.ok in
     block_adds _ _ _ _ _ _ _ c.args.self.now.depth c.requires.at.ready.sound c.requires.at.is shallow
     c.in_ok-advance.ensures.consumes c.in_ok-declarations.ensures.matches c.in_ok-statements.ensures.parses.0
     c.in_ok-expect.ensures.matches c.in_ok-expect.ensures.kept.ready.sound
 
 -- Branches.
 
-pub if_statement-returns-in_err-check_level-clause-parses : goal.if_statement-returns-in_err-check_level-clause-parses
-if_statement-returns-in_err-check_level-clause-parses g t c =
-    let refused = c.in_err-check_level.ensures.refused in
+pub if_statement-returns-in_err-check_nesting-clause-parses :
+    goal.if_statement-returns-in_err-check_nesting-clause-parses
+if_statement-returns-in_err-check_nesting-clause-parses g t c =
+    let refused = c.in_err-check_nesting.ensures.refused in
     let p = err_from_is_err_and c.from_residual.result c.from_residual.ensures.1 in
     rw (p.1, p.2, refused.is) (record {
       refused =
@@ -104,7 +105,7 @@ if_statement-returns-in_err-check_level-clause-parses g t c =
 
 pub if_statement-returns-in_err-advance-clause-parses : goal.if_statement-returns-in_err-advance-clause-parses
 if_statement-returns-in_err-advance-clause-parses g t c =
-    let shallow : c.args.self.now.depth < 64 = c.in_ok-check_level.ensures.ok in
+    let shallow : c.args.self.now.depth < 64 = c.in_ok-check_nesting.ensures.ok in
     let p = err_from_is_err_and c.from_residual-in_err-advance.result c.from_residual-in_err-advance.ensures.1 in
     rw (p.1, p.2) (record {
       refused = refused_map _ _ _ ⊥ _ c.in_err-advance.field-0.0
@@ -115,7 +116,7 @@ if_statement-returns-in_err-advance-clause-parses g t c =
 
 pub if_statement-returns-in_err-condition-clause-parses : goal.if_statement-returns-in_err-condition-clause-parses
 if_statement-returns-in_err-condition-clause-parses g t c =
-    let shallow : c.args.self.now.depth < 64 = c.in_ok-check_level.ensures.ok in
+    let shallow : c.args.self.now.depth < 64 = c.in_ok-check_nesting.ensures.ok in
     let begun =
     if_past c.args.self.now.tokens.position c.advance.new.self.position c.args.self.now.depth c.requires.at.ready.sound
     c.requires.at.is shallow
@@ -135,7 +136,7 @@ if_statement-returns-in_err-statement-clause-parses g t c =
     body_fails_at _ _ (c.args.self.now.depth + 1) (Part Statement ∷ []) c.condition.new.self.tokens.position
     g.B.Build.denied
     c.in_err-statement.field-0.0 c.in_ok-condition.ensures.kept.depth c.in_err-statement.ensures.parses.refused in
-    let shallow : c.args.self.now.depth < 64 = c.in_ok-check_level.ensures.ok in
+    let shallow : c.args.self.now.depth < 64 = c.in_ok-check_nesting.ensures.ok in
     let begun =
     if_past c.args.self.now.tokens.position c.advance.new.self.position c.args.self.now.depth c.requires.at.ready.sound
     c.requires.at.is shallow
@@ -165,7 +166,7 @@ if_statement-returns-in_err-else_part-clause-parses g t c =
     c.in_err-else_part.field-0.0
     (c.in_ok-statement.ensures.kept.depth ∙ c.in_ok-condition.ensures.kept.depth)
     c.in_err-else_part.ensures.parses.refused in
-    let shallow : c.args.self.now.depth < 64 = c.in_ok-check_level.ensures.ok in
+    let shallow : c.args.self.now.depth < 64 = c.in_ok-check_nesting.ensures.ok in
     let begun =
     if_past c.args.self.now.tokens.position c.advance.new.self.position c.args.self.now.depth c.requires.at.ready.sound
     c.requires.at.is shallow
@@ -198,7 +199,7 @@ if_statement-returns-clause-parses g t c =
     else_at (g.B.Build.stands c.statement.new.self.builder.now) (g.B.Build.stands c.else_part.new.self.builder.now) _
     (c.args.self.now.depth + 1) c.statement.new.self.tokens.position c.else_part.new.self.tokens.position
     (c.in_ok-statement.ensures.kept.depth ∙ c.in_ok-condition.ensures.kept.depth) c.in_ok-else_part.ensures.parses in
-    let shallow : c.args.self.now.depth < 64 = c.in_ok-check_level.ensures.ok in
+    let shallow : c.args.self.now.depth < 64 = c.in_ok-check_nesting.ensures.ok in
     let begun =
     if_past c.args.self.now.tokens.position c.advance.new.self.position c.args.self.now.depth c.requires.at.ready.sound
     c.requires.at.is shallow
@@ -214,10 +215,10 @@ if_statement-returns-clause-parses g t c =
 
 -- Loops.
 
-pub while_statement-returns-in_err-check_level-clause-parses :
-    goal.while_statement-returns-in_err-check_level-clause-parses
-while_statement-returns-in_err-check_level-clause-parses g t c =
-    let refused = c.in_err-check_level.ensures.refused in
+pub while_statement-returns-in_err-check_nesting-clause-parses :
+    goal.while_statement-returns-in_err-check_nesting-clause-parses
+while_statement-returns-in_err-check_nesting-clause-parses g t c =
+    let refused = c.in_err-check_nesting.ensures.refused in
     let p = err_from_is_err_and c.from_residual.result c.from_residual.ensures.1 in
     rw (p.1, p.2, refused.is) (record {
       refused =
@@ -228,7 +229,7 @@ while_statement-returns-in_err-check_level-clause-parses g t c =
 
 pub while_statement-returns-in_err-advance-clause-parses : goal.while_statement-returns-in_err-advance-clause-parses
 while_statement-returns-in_err-advance-clause-parses g t c =
-    let shallow : c.args.self.now.depth < 64 = c.in_ok-check_level.ensures.ok in
+    let shallow : c.args.self.now.depth < 64 = c.in_ok-check_nesting.ensures.ok in
     let p = err_from_is_err_and c.from_residual-in_err-advance.result c.from_residual-in_err-advance.ensures.1 in
     rw (p.1, p.2) (record {
       refused = refused_map _ _ _ ⊥ _ c.in_err-advance.field-0.0
@@ -240,7 +241,7 @@ while_statement-returns-in_err-advance-clause-parses g t c =
 
 pub while_statement-returns-in_err-condition-clause-parses : goal.while_statement-returns-in_err-condition-clause-parses
 while_statement-returns-in_err-condition-clause-parses g t c =
-    let shallow : c.args.self.now.depth < 64 = c.in_ok-check_level.ensures.ok in
+    let shallow : c.args.self.now.depth < 64 = c.in_ok-check_nesting.ensures.ok in
     let begun =
     while_past c.args.self.now.tokens.position c.advance.new.self.position c.args.self.now.depth
     c.requires.at.ready.sound
@@ -263,7 +264,7 @@ while_statement-returns-in_err-statement-clause-parses g t c =
     body_fails_at _ _ (c.args.self.now.depth + 1) (Part Statement ∷ []) c.condition.new.self.tokens.position
     g.B.Build.denied
     c.in_err-statement.field-0.0 c.in_ok-condition.ensures.kept.depth c.in_err-statement.ensures.parses.refused in
-    let shallow : c.args.self.now.depth < 64 = c.in_ok-check_level.ensures.ok in
+    let shallow : c.args.self.now.depth < 64 = c.in_ok-check_nesting.ensures.ok in
     let begun =
     while_past c.args.self.now.tokens.position c.advance.new.self.position c.args.self.now.depth
     c.requires.at.ready.sound
@@ -290,7 +291,7 @@ while_statement-returns-clause-parses g t c =
     (c.args.self.now.depth + 1)
     (Part Statement ∷ []) [] c.condition.new.self.tokens.position c.statement.new.self.tokens.position
     c.in_ok-condition.ensures.kept.depth c.in_ok-statement.ensures.parses in
-    let shallow : c.args.self.now.depth < 64 = c.in_ok-check_level.ensures.ok in
+    let shallow : c.args.self.now.depth < 64 = c.in_ok-check_nesting.ensures.ok in
     let begun =
     while_past c.args.self.now.tokens.position c.advance.new.self.position c.args.self.now.depth
     c.requires.at.ready.sound
@@ -309,7 +310,7 @@ while_statement-returns-clause-parses g t c =
 
 pub block-statements-requires : goal.block-statements-requires
 block-statements-requires g t c κs within =
-    let shallow : c.args.self.now.depth < 64 = c.in_ok-check_level.ensures.ok in
+    let shallow : c.args.self.now.depth < 64 = c.in_ok-check_nesting.ensures.ok in
     let place = place_deeper _ c.args.self.now.depth shallow c.requires.at.builder in (
       deeper t c.args.self.now.depth (c.args.self.now.depth + 1) 4 c.decreases shallow refl (le_refl 4),
       (within.0, (within.1, record { builder = place; ready = c.in_ok-declarations.ensures.kept.ready; is = tt })),
@@ -317,7 +318,7 @@ block-statements-requires g t c κs within =
 
 pub if_statement-condition-requires : goal.if_statement-condition-requires
 if_statement-condition-requires g t c =
-    let shallow : c.args.self.now.depth < 64 = c.in_ok-check_level.ensures.ok in
+    let shallow : c.args.self.now.depth < 64 = c.in_ok-check_nesting.ensures.ok in
     record {
       at =
           record {
@@ -329,7 +330,7 @@ if_statement-condition-requires g t c =
 
 pub if_statement-act-requires : goal.if_statement-act-requires
 if_statement-act-requires g t c =
-    let shallow : c.args.self.now.depth < 64 = c.in_ok-check_level.ensures.ok in
+    let shallow : c.args.self.now.depth < 64 = c.in_ok-check_nesting.ensures.ok in
     record {
       follows =
           may_test_if _ _ c.args.self.now.depth _ _ _ shallow c.requires.at.builder c.in_ok-condition.ensures.parses;
@@ -337,7 +338,7 @@ if_statement-act-requires g t c =
 
 pub if_statement-statement-requires : goal.if_statement-statement-requires
 if_statement-statement-requires g t c κs within =
-    let shallow : c.args.self.now.depth < 64 = c.in_ok-check_level.ensures.ok in
+    let shallow : c.args.self.now.depth < 64 = c.in_ok-check_nesting.ensures.ok in
     let inside =
     branch_open _ _ _ c.args.self.now.depth _ _ _ shallow c.requires.at.builder c.in_ok-condition.ensures.parses
     c.in_ok-act.ensures.ok in
@@ -355,7 +356,7 @@ if_statement-else_part-requires g t c κs within =
     (c.args.self.now.depth + 1)
     (Part Statement ∷ []) [] c.condition.new.self.tokens.position c.statement.new.self.tokens.position
     c.in_ok-condition.ensures.kept.depth c.in_ok-statement.ensures.parses in
-    let shallow : c.args.self.now.depth < 64 = c.in_ok-check_level.ensures.ok in
+    let shallow : c.args.self.now.depth < 64 = c.in_ok-check_nesting.ensures.ok in
     let inside =
     branch_open _ _ _ c.args.self.now.depth _ _ _ shallow c.requires.at.builder c.in_ok-condition.ensures.parses
     c.in_ok-act.ensures.ok in
@@ -380,7 +381,7 @@ if_statement-act-requires-2 g t c =
     else_at (g.B.Build.stands c.statement.new.self.builder.now) (g.B.Build.stands c.else_part.new.self.builder.now) _
     (c.args.self.now.depth + 1) c.statement.new.self.tokens.position c.else_part.new.self.tokens.position
     (c.in_ok-statement.ensures.kept.depth ∙ c.in_ok-condition.ensures.kept.depth) c.in_ok-else_part.ensures.parses in
-    let shallow : c.args.self.now.depth < 64 = c.in_ok-check_level.ensures.ok in
+    let shallow : c.args.self.now.depth < 64 = c.in_ok-check_nesting.ensures.ok in
     let inside =
     branch_open _ _ _ c.args.self.now.depth _ _ _ shallow c.requires.at.builder c.in_ok-condition.ensures.parses
     c.in_ok-act.ensures.ok in
@@ -407,7 +408,7 @@ while_statement-act-requires g t c =
 
 pub while_statement-condition-requires : goal.while_statement-condition-requires
 while_statement-condition-requires g t c =
-    let shallow : c.args.self.now.depth < 64 = c.in_ok-check_level.ensures.ok in
+    let shallow : c.args.self.now.depth < 64 = c.in_ok-check_nesting.ensures.ok in
     record {
       at =
           record {
@@ -420,13 +421,13 @@ while_statement-condition-requires g t c =
 
 pub while_statement-act-requires-2 : goal.while_statement-act-requires-2
 while_statement-act-requires-2 g t c =
-    let shallow : c.args.self.now.depth < 64 = c.in_ok-check_level.ensures.ok in
+    let shallow : c.args.self.now.depth < 64 = c.in_ok-check_nesting.ensures.ok in
     let inside = loop_open _ _ c.args.self.now.depth shallow c.requires.at.builder c.in_ok-act.ensures.ok in
     record { follows = may_test_loop _ _ _ _ _ _ inside c.in_ok-condition.ensures.parses }
 
 pub while_statement-statement-requires : goal.while_statement-statement-requires
 while_statement-statement-requires g t c κs within =
-    let shallow : c.args.self.now.depth < 64 = c.in_ok-check_level.ensures.ok in
+    let shallow : c.args.self.now.depth < 64 = c.in_ok-check_nesting.ensures.ok in
     let inside = loop_open _ _ c.args.self.now.depth shallow c.requires.at.builder c.in_ok-act.ensures.ok in
     let deep : c.condition.new.self.depth ≡ c.args.self.now.depth + 1 = c.in_ok-condition.ensures.kept.depth in
     let place : HasStatementRoom (g.B.Build.stands c.act-2.new.self) (room c.condition.new.self.depth 1) =
@@ -443,7 +444,7 @@ while_statement-act-requires-3 g t c =
     (c.args.self.now.depth + 1)
     (Part Statement ∷ []) [] c.condition.new.self.tokens.position c.statement.new.self.tokens.position
     c.in_ok-condition.ensures.kept.depth c.in_ok-statement.ensures.parses in
-    let shallow : c.args.self.now.depth < 64 = c.in_ok-check_level.ensures.ok in
+    let shallow : c.args.self.now.depth < 64 = c.in_ok-check_nesting.ensures.ok in
     let inside = loop_open _ _ c.args.self.now.depth shallow c.requires.at.builder c.in_ok-act.ensures.ok in
     record {
       follows =
@@ -651,7 +652,7 @@ else_part-returns-else-is_keyword-clause-kept g t c = nothing_read c.args.self.n
 
 pub if_statement-returns-in_err-act-clause-parses : goal.if_statement-returns-in_err-act-clause-parses
 if_statement-returns-in_err-act-clause-parses g t c =
-    let shallow : c.args.self.now.depth < 64 = c.in_ok-check_level.ensures.ok in
+    let shallow : c.args.self.now.depth < 64 = c.in_ok-check_nesting.ensures.ok in
     let begun =
     if_past c.args.self.now.tokens.position c.advance.new.self.position c.args.self.now.depth c.requires.at.ready.sound
     c.requires.at.is shallow
@@ -682,7 +683,7 @@ if_statement-returns-in_err-act-2-clause-parses g t c =
     else_at (g.B.Build.stands c.statement.new.self.builder.now) (g.B.Build.stands c.else_part.new.self.builder.now) _
     (c.args.self.now.depth + 1) c.statement.new.self.tokens.position c.else_part.new.self.tokens.position
     (c.in_ok-statement.ensures.kept.depth ∙ c.in_ok-condition.ensures.kept.depth) c.in_ok-else_part.ensures.parses in
-    let shallow : c.args.self.now.depth < 64 = c.in_ok-check_level.ensures.ok in
+    let shallow : c.args.self.now.depth < 64 = c.in_ok-check_nesting.ensures.ok in
     let begun =
     if_past c.args.self.now.tokens.position c.advance.new.self.position c.args.self.now.depth c.requires.at.ready.sound
     c.requires.at.is shallow
@@ -722,7 +723,7 @@ while_statement-returns-in_err-act-clause-parses g t c =
 
 pub while_statement-returns-in_err-act-2-clause-parses : goal.while_statement-returns-in_err-act-2-clause-parses
 while_statement-returns-in_err-act-2-clause-parses g t c =
-    let shallow : c.args.self.now.depth < 64 = c.in_ok-check_level.ensures.ok in
+    let shallow : c.args.self.now.depth < 64 = c.in_ok-check_nesting.ensures.ok in
     let begun =
     while_past c.args.self.now.tokens.position c.advance.new.self.position c.args.self.now.depth
     c.requires.at.ready.sound
@@ -749,7 +750,7 @@ while_statement-returns-in_err-act-3-clause-parses g t c =
     (c.args.self.now.depth + 1)
     (Part Statement ∷ []) [] c.condition.new.self.tokens.position c.statement.new.self.tokens.position
     c.in_ok-condition.ensures.kept.depth c.in_ok-statement.ensures.parses in
-    let shallow : c.args.self.now.depth < 64 = c.in_ok-check_level.ensures.ok in
+    let shallow : c.args.self.now.depth < 64 = c.in_ok-check_nesting.ensures.ok in
     let begun =
     while_past c.args.self.now.tokens.position c.advance.new.self.position c.args.self.now.depth
     c.requires.at.ready.sound
