@@ -321,11 +321,11 @@ unfolding robot_turn
 step_dead robot i f trace dead = rw dead refl
 
 -- An answer leaves the robot itself as alive as it is.
-keeps_hurts : (l : List Body) (i : ℕ) (x none : Body) → x.hurts ≡ (get_or l i none).hurts
-    → (get_or (set l i x) i none).hurts ≡ (get_or l i none).hurts
-keeps_hurts [] i x none same = refl
-keeps_hurts (y ∷ l) zero x none same = same
-keeps_hurts (y ∷ l) (suc i) x none same = keeps_hurts l i x none same
+keeps_damages : (l : List Body) (i : ℕ) (x none : Body) → x.damages ≡ (get_or l i none).damages
+    → (get_or (set l i x) i none).damages ≡ (get_or l i none).damages
+keeps_damages [] i x none same = refl
+keeps_damages (y ∷ l) zero x none same = same
+keeps_damages (y ∷ l) (suc i) x none same = keeps_damages l i x none same
 
 answer_lives : (intrinsic : Intrinsic) (a : List ℤ) (i : ℕ) (f : Field) →
     is_live_at (answer f i intrinsic a).1 i ≡ is_live_at f i
@@ -333,7 +333,7 @@ unfolding answer field_with_wanted is_live_at is_alive damage_of robot_at
 answer_lives Cannon a i f = ap (λ robots. is_alive (get_or robots i no_robot)) (robots_of_fired f i _ _)
 answer_lives Drive a i f =
     ap (λ hurts. nat_lt (min (sum hurts) 100) 100)
-    (keeps_hurts f.robots i
+    (keeps_damages f.robots i
     (record (robot_at f i)
     { leg = with_wanted (robot_at f i).leg (degree_of (argument_at a 0)) (clamped 100 (argument_at a 1)) }) no_robot
     refl)
