@@ -12,7 +12,7 @@ use crate::told::add_token;
 use crate::walks::Walk;
 use crate::wanted::add_wanted;
 use derivations::{Located, fitting};
-use grammar::{Code, Diagnostic, MOST_NESTED, MOST_NAMES, Profile};
+use grammar::{Code, Diagnostic, MOST_NAMES, MOST_NESTED, Profile};
 use tokens::{MOST_CONSTANT_VALUE, MOST_NAME_BYTES, MOST_SOURCE_BYTES};
 
 /// A fault whose token is found.

@@ -6,7 +6,7 @@ use crate::misnamed::name_at;
 use crate::walks::{Event, Meaning, Walk};
 use arrayvec::ArrayVec;
 use derivations::{Located, SemanticAction};
-use grammar::{Callee, MOST_NESTED, MOST_NAMES, Op, Profile, StoreOp, Var};
+use grammar::{Callee, MOST_NAMES, MOST_NESTED, Op, Profile, StoreOp, Var};
 
 /// The most nodes of a source that compiles: each makes at least one instruction.
 const MOST_NODES: usize = 4000;

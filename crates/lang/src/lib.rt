@@ -3,8 +3,8 @@
 #![tactic(auto)]
 
 pub use grammar::{
-    Action, Build, BuildFault, Callee, Code, Diagnostic, FunctionNames, Intrinsic, MOST_NESTED,
-    MOST_NAMES, Op, ParseFault, Pools, Profile, StoreOp, Var, Watch, Watched,
+    Action, Build, BuildFault, Callee, Code, Diagnostic, FunctionNames, Intrinsic, MOST_NAMES,
+    MOST_NESTED, Op, ParseFault, Pools, Profile, StoreOp, Var, Watch, Watched,
 };
 pub use grammar_laws::{known, laws};
 pub use parser::parse;
