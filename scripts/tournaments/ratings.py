@@ -86,17 +86,15 @@ class Rounds:
     def _each(self, does: Callable[[int], Found], places: Sequence[int]) -> list[Found]:
         """Does something with each of these rounds; answers what it came to."""
 
-        def work(those: Sequence[int]) -> list[tuple[Found, Steps]]:
-            return [(does(at), self.all[at].steps()) for at in those]
+        def work(at: int) -> tuple[Found, Steps]:
+            return does(at), self.all[at].steps()
 
-        most = self._processes or min(processors(), len(places) * self._pairs // WORTH) or 1
-        found = dict[int, Found]()
-        parts = [places[at::most] for at in range(most)]
-        for those, answers in zip(parts, shared(work, parts, most)):
-            for at, (answer, steps) in zip(those, answers):
-                found[at] = answer
-                self.all[at].resume(steps)
-        return [found[at] for at in places]
+        most = self._processes or min(processors(), len(places) * self._pairs // WORTH)
+        found = []
+        for at, (answer, steps) in zip(places, shared(work, places, most)):
+            self.all[at].resume(steps)
+            found.append(answer)
+        return found
 
 
 class Column:

@@ -3,12 +3,11 @@
 from __future__ import annotations
 
 import contextlib
+import itertools
 import os
 import pickle
 import signal
-from collections import deque
-from dataclasses import dataclass
-from typing import Callable, Generic, Iterable, Iterator, NoReturn, TypeVar
+from typing import IO, Callable, Generator, Generic, Iterable, Iterator, NoReturn, TypeVar
 
 from .output import ERRORS, write_all
 from .signals import ENDING
@@ -24,74 +23,65 @@ def processors() -> int:
     return len(os.sched_getaffinity(0)) if hasattr(os, "sched_getaffinity") else os.cpu_count() or 1
 
 
-def shared(work: Callable[[Part], Answer], parts: Iterable[Part], processes: int) -> Iterator[Answer]:
-    """What work makes of each part, in the order of the parts: by so many children at a time, or here, if that is one.
+def shared(work: Callable[[Part], Answer], parts: Iterable[Part], processes: int) -> Generator[Answer, None, None]:
+    """What work makes of each part, in the order of the parts: by so many children, or here, if that is one.
 
-    What a child doesn't answer is worked out here. So nothing is lost if it dies, and what is wrong is raised here."""
+    Each child goes through all parts itself, so an iterator must not have begun, and works out every so many-th of them. What
+    a child doesn't answer is worked out here. So nothing is lost if it dies, and what is wrong is raised here."""
     if processes < 2:
         yield from map(work, parts)
         return
-    left, running = iter(parts), deque[Child[Part, Answer]]()
+    children: list[Child[Part, Answer]] = []
     try:
-        while True:
-            while len(running) < processes and (part := next(left, None)) is not None:
-                running.append(Child(work, part))
-                running[-1].begin()
-            if not running:
-                return
-            yield running[0].answer()
-            running.popleft()
+        for at in range(processes):
+            children.append(Child(work))
+            children[-1].begin(itertools.islice(parts, at, None, processes))
+        for at, part in enumerate(parts):
+            yield children[at % processes].answer(part)
     finally:
-        for child in running:
+        for child in children:
             child.end()
 
 
-@dataclass
 class Child(Generic[Part, Answer]):
-    """A part of the work, and the process that works it out, as long as there is one."""
+    """A process that works out parts one after another, as long as there is one."""
 
-    work: Callable[[Part], Answer]
-    part: Part
-    process: int = 0
-    output: int = -1
+    def __init__(self, work: Callable[[Part], Answer]) -> None:
+        self._work = work
+        self._process = 0
+        self._answers: IO[bytes] | None = None
 
-    def begin(self) -> None:
-        """Begins the work, if there may be one process more."""
+    def begin(self, parts: Iterator[Part]) -> None:
+        """Begins the work on these parts, if there may be one process more."""
         with contextlib.suppress(OSError), waiting():
-            self.output, writing = os.pipe()
+            reading, writing = os.pipe()
             try:
-                self.process = os.fork()
-                if not self.process:
-                    send(self.work, self.part, writing)
+                self._answers = open(reading, "rb")
+                self._process = os.fork()
+                if not self._process:
+                    send(map(self._work, parts), writing)
             finally:
                 os.close(writing)
 
-    def answer(self) -> Answer:
-        """What the work came to."""
-        said = bytearray()
-        while self.process and (chunk := os.read(self.output, 1 << 20)):
-            said += chunk
-        if self._ended():
-            found: Answer = pickle.loads(said)
-            return found
-        return self.work(self.part)
+    def answer(self, part: Part) -> Answer:
+        """What the work on the next of its parts came to."""
+        if self._answers:
+            with contextlib.suppress(EOFError, pickle.UnpicklingError):
+                found: Answer = pickle.load(self._answers)
+                return found
+            self.end()
+        return self._work(part)
 
     def end(self) -> None:
         """Ends the process."""
-        if self.process:
-            with contextlib.suppress(ProcessLookupError):
-                os.kill(self.process, signal.SIGKILL)
-        self._ended()
-
-    def _ended(self) -> bool:
-        """Waits for the end of the process, and reports whether it sent all of its answer."""
-        process, output = self.process, self.output
-        self.process, self.output = 0, -1
-        if output >= 0:
-            os.close(output)
-        with contextlib.suppress(ChildProcessError):
-            return bool(process) and os.waitpid(process, 0)[1] == 0
-        return False
+        process, self._process = self._process, 0
+        if self._answers:
+            self._answers.close()
+            self._answers = None
+        if process:
+            with contextlib.suppress(ProcessLookupError, ChildProcessError):
+                os.kill(process, signal.SIGKILL)
+                os.waitpid(process, 0)
 
 
 @contextlib.contextmanager
@@ -105,18 +95,15 @@ def waiting() -> Iterator[None]:
         signal.pthread_sigmask(signal.SIG_SETMASK, before)
 
 
-def send(work: Callable[[Part], Answer], part: Part, output: int) -> NoReturn:
-    """Sends what the work comes to, and ends this process, a child.
+def send(answers: Iterable[object], output: int) -> NoReturn:
+    """Sends answers one by one, and ends this process, a child.
 
-    A signal that asks for the end comes to its parent too, which ends it. A lock would outlast a parent that is killed, so no
-    file stays open but the answer's."""
-    status = 1
+    Signals that ask for the end still wait: its parent gets them too, and ends it. If the parent is killed, the next answer
+    can't be sent. A lock would outlast such a parent, so no file stays open but the one for answers."""
     try:
-        for number in ENDING:
-            signal.signal(number, signal.SIG_IGN)
         os.closerange(ERRORS + 1, output)
         os.closerange(output + 1, os.sysconf("SC_OPEN_MAX"))
-        write_all(output, pickle.dumps(work(part)))
-        status = 0
+        for answer in answers:
+            write_all(output, pickle.dumps(answer))
     finally:
-        os._exit(status)
+        os._exit(0)

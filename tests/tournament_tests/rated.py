@@ -11,7 +11,8 @@ import statistics
 import unittest.mock
 from collections import defaultdict
 
-from tournaments import bootstrap, ratings, resampling, strengths, tallies
+from tournaments import bootstrap, ratings, resampling, sharing, strengths, tallies
+from tournaments.faults import Fault
 from tournaments.records import Record, Series
 from tournaments.settings import Settings
 
@@ -122,6 +123,32 @@ class Rated(Base):
         with unittest.mock.patch.object(os, "fork", side_effect=BlockingIOError):
             wrong += [] if ratings.ratings(tally, 24, None, 2) == alone else ["no child can be begun"]
         return wrong + children_left()
+
+    def what_is_wrong_with_a_part_is_raised(self) -> list[str]:
+        """Three children share nine parts; the sixth is wrong, those before it are answered, and no child is left."""
+        answers: list[tuple[int, int]] = []
+
+        def work(part: int) -> tuple[int, int]:
+            if part == 5:
+                raise Fault("five")
+            return part, os.getpid()
+
+        said = ""
+        try:
+            for answer in sharing.shared(work, range(9), 3):
+                answers.append(answer)
+        except Fault as why:
+            said = f"{why}"
+        processes = [process for _, process in answers]
+        are_children = processes[:2] == processes[3:] and len({*processes, os.getpid()}) == 4
+        right = said == "five" and [part for part, _ in answers] == [*range(5)] and are_children
+        return ([] if right else [f"{said} {answers}"]) + children_left()
+
+    def a_child_keeps_no_lock(self) -> list[str]:
+        """A file that the parent has locked isn't open in children."""
+        with open(self._at("locked"), "w", encoding="ascii") as file:
+            answers = [*sharing.shared(lambda _: os.path.exists(f"/dev/fd/{file.fileno()}"), range(2), 2)]
+        return [] if answers == [False, False] else [f"{answers}"]
 
     def few_looks_at_all_pairs(self) -> list[str]:
         """Of many robots a round wants its first step, one look at all of its pairs, and a second one in few rounds."""
