@@ -4,14 +4,18 @@ from __future__ import annotations
 
 import math
 from dataclasses import dataclass
-from typing import Sequence
+from typing import Callable, Iterable, Sequence, TypeVar
 
 from .bootstrap import ROUNDS
-from .resampling import SCOUTS, Left, Round, Whole, left_by, resampled
+from .resampling import SCOUTS, Left, Round, Steps, Whole, left_by, left_of, resampled
+from .sharing import processors, shared
 from .tallies import Tally
 
 SCALE = 400 / math.log(10)
 OUTSIDE = ROUNDS // 40
+# A process is worth its start if it has a step of rounds of so many pairs together.
+WORTH = 200_000
+Found = TypeVar("Found")
 
 
 @dataclass(frozen=True)
@@ -27,39 +31,70 @@ class Rating:
         return round(self.low) <= round(other.high) and round(other.low) <= round(self.high)
 
 
-def ratings(tally: Tally, robots: int, anchor: int | None = None) -> list[Rating]:
+def ratings(tally: Tally, robots: int, anchor: int | None = None, processes: int = 0) -> list[Rating]:
     """The ratings of the robots by their positions, with intervals from the bootstrap.
 
-    With an anchor they say how far a robot is above the one with this position, whose own rating is 0 in all rounds."""
+    With an anchor they say how far a robot is above the one with this position, whose own rating is 0 in all rounds. They are
+    worked out by so many processes, or by as many as there are processors and work for; all digits are the same."""
     whole = Whole(tally, robots)
-    rounds = [*resampled(tally, whole)]
-    left = begun(rounds, whole.is_firm())
+    rounds = Rounds([*resampled(tally, whole)], len(tally.pairs), processes)
+    left = rounds.begin(whole.is_firm())
     found: dict[int, Rating] = {}
     while True:
-        far = [(it.left(left.of_any), it.left(left.of_one)) for it in rounds]
+        far = [(it.left(left.of_any), it.left(left.of_one)) for it in rounds.all]
         unsure = set[int]()
         for robot in {*range(robots)} - found.keys():
-            column = Column(rounds, far, robot, anchor)
+            column = Column(rounds.all, far, robot, anchor)
             if those := column.unsure():
                 unsure |= those
             else:
                 found[robot] = column.rating(rated(whole.strengths, robot, anchor))
         if not unsure:
             return [found[robot] for robot in range(robots)]
-        for at in unsure:
-            rounds[at].go_on()
+        rounds.go_on(unsure)
 
 
-def begun(rounds: Sequence[Round], is_firm: bool) -> Left:
-    """Fits all rounds to the end, or so far that it is known what is left after a step."""
-    if not is_firm:
-        for it in rounds:
-            it.finish()
-        return Left()
-    left = left_by(rounds[:SCOUTS])
-    for it in rounds[SCOUTS:]:
-        it.go_on()
-    return left
+class Rounds:
+    """All rounds. Each is fitted by itself, but for what is known from the first ones, so any process may fit any of them."""
+
+    def __init__(self, every: list[Round], pairs: int, processes: int) -> None:
+        self.all = every
+        self._pairs = pairs
+        self._processes = processes
+
+    def begin(self, is_firm: bool) -> Left:
+        """Fits all rounds to the end, or so far that it is known what is left after a step."""
+
+        def fit(at: int) -> tuple[float, float]:
+            it = self.all[at]
+            it.begin()
+            if is_firm and at < SCOUTS:
+                return left_of(it)
+            if is_firm:
+                it.go_on()
+            else:
+                it.finish()
+            return 0.0, 0.0
+
+        parts = self._each(fit, range(len(self.all)))
+        return left_by(parts[:SCOUTS]) if is_firm else Left()
+
+    def go_on(self, places: Iterable[int]) -> None:
+        """Goes a step on in these rounds."""
+        self._each(lambda at: self.all[at].go_on(), sorted(places))
+
+    def _each(self, does: Callable[[int], Found], places: Sequence[int]) -> list[Found]:
+        """Does something with each of these rounds; answers what it came to."""
+
+        def work(at: int) -> tuple[Found, Steps]:
+            return does(at), self.all[at].steps()
+
+        most = self._processes or min(processors(), len(places) * self._pairs // WORTH)
+        found = []
+        for at, (answer, steps) in zip(places, shared(work, places, most)):
+            self.all[at].resume(steps)
+            found.append(answer)
+        return found
 
 
 class Column:

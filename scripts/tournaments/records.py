@@ -60,8 +60,7 @@ class Match:
         return "".join("l" if it >= DEAD else "w" if alive == 1 else "t" for it in self.damage)
 
 
-@dataclass(frozen=True)
-class Record:
+class Record(NamedTuple):
     """A series that was played, or is to be played (then without results). Robots and results are in the order of seats."""
 
     settings: Settings
@@ -82,10 +81,10 @@ class Record:
         text = f"{self.head()} results={self.results}"
         return f"{text} sum={checksum(text)}\n"
 
-    @functools.cached_property
+    @property
     def ended(self) -> list[str]:
         """What the robots of each match did, a letter for each; nothing for damage that can't be."""
-        return [letters(it.partition(":")[2]) for it in self.results.split(",")]
+        return endings(self.results)
 
     def matches(self) -> Iterator[tuple[int, Match]]:
         """The matches with their numbers."""
@@ -113,6 +112,12 @@ def match(result: str) -> Match:
     """Reads a result, as 22275:0:100."""
     cycles, *damage = map(int, result.split(":"))
     return Match(cycles, tuple(damage))
+
+
+@functools.lru_cache(1)
+def endings(results: str) -> list[str]:
+    """What the robots of each match did. A record is checked and then added up, so the last one's are kept."""
+    return [letters(it.partition(":")[2]) for it in results.split(",")]
 
 
 @functools.lru_cache(1 << 16)

@@ -17,7 +17,7 @@ from dataclasses import dataclass
 from itertools import pairwise
 from operator import mul, sub
 from statistics import fmean
-from typing import Iterable, Iterator, Sequence
+from typing import Iterable, Iterator, NamedTuple, Sequence
 
 from . import matrices
 from .bootstrap import SEED, Packed, counts, rounds
@@ -145,16 +145,36 @@ class Left:
     of_one: float = math.inf
 
 
+class Steps(NamedTuple):
+    """All of a round that its steps change: where they led, the last one's length, and what the next one goes by."""
+
+    strengths: list[float]
+    last: float
+    lengths: list[float]
+    mixing: Mixing
+    bends: list[float]
+
+
 class Round:
     """A round with its strengths so far."""
 
     def __init__(self, whole: Whole, those: Matches) -> None:
         self._whole = whole
         self._those = those
-        self._mixing = Mixing()
-        self._lengths: list[float] = []
-        self.strengths, self.last = whole.strengths, math.inf
-        slope, self._bends = whole.slope(those)
+        self.resume(Steps(whole.strengths, math.inf, [], Mixing(), []))
+
+    def steps(self) -> Steps:
+        """Its steps so far."""
+        return Steps(self.strengths, self.last, self._lengths, self._mixing, self._bends)
+
+    def resume(self, steps: Steps) -> None:
+        """Goes on from these steps, which may have been worked out elsewhere."""
+        self.strengths, self.last, self._lengths, self._mixing, self._bends = steps
+        self._powers = [*map(math.exp, self.strengths)]
+
+    def begin(self) -> None:
+        """Goes the first step, from the strengths of all matches."""
+        slope, self._bends = self._whole.slope(self._those)
         self._go(slope)
 
     def go_on(self) -> None:
@@ -186,9 +206,9 @@ class Round:
         self._powers = [*map(math.exp, self.strengths)]
 
 
-def left_by(scouts: Iterable[Round]) -> Left:
-    """Fits some rounds to the end; answers what may be left of others after a step."""
-    return Left(*(SAFER * max(parts) for parts in zip(*map(left_of, scouts))))
+def left_by(parts: Iterable[tuple[float, float]]) -> Left:
+    """What may be left of others after a step, by what was left of some rounds that were fitted to the end."""
+    return Left(*(SAFER * max(those) for those in zip(*parts)))
 
 
 def left_of(it: Round) -> tuple[float, float]:
@@ -221,7 +241,7 @@ def left(lengths: list[float]) -> float:
 
 
 def resampled(tally: Tally, whole: Whole) -> Iterator[Round]:
-    """All rounds, each after its first step."""
+    """All rounds, before their first step."""
     robots, opponents = len(whole.strengths), whole.opponents
     rows = zip(*counts([it.rounds for it in tally.pairs.values()], opponents.places))
     scored = rounds(tally.rounds[at] for at in range(robots))

@@ -48,7 +48,7 @@ class Tally:
     def add(self, record: Record) -> None:
         """Adds the matches of a record."""
         series = record.series
-        cells = defaultdict[str, list[Packed]](list)
+        cells: defaultdict[str, list[Packed]] = defaultdict(list)
         for ended, rounds in zip(record.ended, weights(series.seed + series.first, series.matches)):
             cells[ended].append(rounds)
         for ended, those in cells.items():

@@ -6,11 +6,13 @@ import itertools
 import math
 import os
 import random
+import signal
 import statistics
 import unittest.mock
 from collections import defaultdict
 
-from tournaments import bootstrap, ratings, resampling, strengths, tallies
+from tournaments import bootstrap, ratings, resampling, sharing, strengths, tallies
+from tournaments.faults import Fault
 from tournaments.records import Record, Series
 from tournaments.settings import Settings
 
@@ -28,6 +30,20 @@ def tally_of(scores: Scores) -> tallies.Tally:
         series = Series(pair, 7919 * (100 * pair[0] + pair[1]), 1, len(letters))
         tally.add(Record(settings, series, (), ",".join(DAMAGE[it] for it in letters)))
     return tally
+
+
+def made_tally(robots: int) -> tallies.Tally:
+    """The tally of six made matches of each pair."""
+    source = random.Random(robots)
+    return tally_of({pair: "".join(source.choice("wwtll") for _ in range(6)) for pair in itertools.combinations(range(robots), 2)})
+
+
+def children_left() -> list[str]:
+    """Says if there are children that nobody waited for."""
+    try:
+        return [f"a child is left: {os.waitpid(-1, os.WNOHANG)}"]
+    except ChildProcessError:
+        return []
 
 
 def rated(scores: Scores) -> list[ratings.Rating]:
@@ -81,6 +97,59 @@ class Rated(Base):
                     wrong.append(f"{len(pairs)} of {letters}: {one} and not {other}")
         return wrong
 
+    def the_same_ratings_by_any_number_of_processes(self) -> list[str]:
+        """Of robots whose rounds are fitted to the end, and of many, whose rounds aren't: each digit is the same."""
+        wrong = []
+        for robots, anchor in ((7, None), (7, 2), (24, None), (24, 3)):
+            tally = made_tally(robots)
+            alone = ratings.ratings(tally, robots, anchor, 1)
+            wrong += [f"{robots} robots by {many}" for many in (2, 3, 4, 0) if ratings.ratings(tally, robots, anchor, many) != alone]
+        return wrong + children_left()
+
+    def the_same_ratings_if_children_are_killed(self) -> list[str]:
+        """Each dies in its eighth round, or none can be begun."""
+        tally, ours, begin = made_tally(24), os.getpid(), resampling.Round.begin
+        alone, wrong, begun = ratings.ratings(tally, 24, None, 1), list[str](), 0
+
+        def dying(it: resampling.Round) -> None:
+            nonlocal begun
+            begun += 1
+            if begun == 8 and os.getpid() != ours:
+                os.kill(os.getpid(), signal.SIGKILL)
+            begin(it)
+
+        with unittest.mock.patch.object(resampling.Round, "begin", dying):
+            wrong += [] if ratings.ratings(tally, 24, None, 3) == alone else ["each child is killed"]
+        with unittest.mock.patch.object(os, "fork", side_effect=BlockingIOError):
+            wrong += [] if ratings.ratings(tally, 24, None, 2) == alone else ["no child can be begun"]
+        return wrong + children_left()
+
+    def what_is_wrong_with_a_part_is_raised(self) -> list[str]:
+        """Three children share nine parts; the sixth is wrong, those before it are answered, and no child is left."""
+        answers: list[tuple[int, int]] = []
+
+        def work(part: int) -> tuple[int, int]:
+            if part == 5:
+                raise Fault("five")
+            return part, os.getpid()
+
+        said = ""
+        try:
+            for answer in sharing.shared(work, range(9), 3):
+                answers.append(answer)
+        except Fault as why:
+            said = f"{why}"
+        processes = [process for _, process in answers]
+        are_children = processes[:2] == processes[3:] and len({*processes, os.getpid()}) == 4
+        right = said == "five" and [part for part, _ in answers] == [*range(5)] and are_children
+        return ([] if right else [f"{said} {answers}"]) + children_left()
+
+    def a_child_keeps_no_lock(self) -> list[str]:
+        """A file that the parent has locked isn't open in children."""
+        with open(self._at("locked"), "w", encoding="ascii") as file:
+            answers = [*sharing.shared(lambda _: os.path.exists(f"/dev/fd/{file.fileno()}"), range(2), 2)]
+        return [] if answers == [False, False] else [f"{answers}"]
+
     def few_looks_at_all_pairs(self) -> list[str]:
         """Of many robots a round wants its first step, one look at all of its pairs, and a second one in few rounds."""
         source, looks = random.Random(5), 0
@@ -93,7 +162,7 @@ class Rated(Base):
 
         tally = tally_of({pair: "".join(source.choice("wwtll") for _ in range(6)) for pair in itertools.combinations(range(40), 2)})
         with unittest.mock.patch.object(strengths.Matches, "slope", counted):
-            ratings.ratings(tally, 40)
+            ratings.ratings(tally, 40, None, 1)
         return [] if looks <= 1.4 * bootstrap.ROUNDS else [f"{looks} looks"]
 
     def intervals_hold_the_truth(self) -> list[str]:
