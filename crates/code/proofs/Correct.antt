@@ -228,7 +228,8 @@ module _ (p : Profile) (file : File) where
       (chain e l e l n o w (flown program at [] first_frame []) end k f
       (λ flow vars rest sizes short.
       elim flow as
-      (λ (flow : Completion). Follows e l n (end flow vars rest) (flown program at [] first_frame [] flow vars rest) k) [
+      (λ (flow : Completion). Follows e l n (end flow vars rest)
+      (flown program at [] first_frame [] flow vars rest) k) [
         | Through ↦
             on_const program e l n [] (first_frame ∷ []) at k l vars [] l (pos 0) rest
             (λ rest. tick (nat_lt 1 1) Quiet rest (λ reply rest. Awaits Restart)) s.0 sizes deep
