@@ -7,10 +7,8 @@ from __future__ import annotations
 
 import argparse
 import os
-import shlex
 import statistics
 from dataclasses import dataclass
-from decimal import Decimal
 from typing import Iterator
 
 from . import plans, programs, robots, words
@@ -19,21 +17,14 @@ from .intervals import Mean, mean
 from .main import tell_rounded
 from .output import show
 from .playing import Player
-from .records import Match, Record, Series
+from .records import Record, Series
 from .robots import Robot
 from .seats import keys, seatings
 from .sessions import session
 from .settings import Settings
 from .signals import stopping
-from .tables import aligned
-
-NEW, OLD = 0, 1
-# What is in the place of both versions' keys, so that they have the same seeds.
-CHALLENGER = "challenger"
-DID = {"w": "won", "t": "tied", "l": "lost"}
-
-# A match by the seat of NEW or OLD and by its number.
-Place = tuple[int, int]
+from .tables import RESULTS, aligned
+from .versions import CHALLENGER, NEW, OLD, Place, Versions
 
 
 @dataclass
@@ -68,101 +59,79 @@ def series_of_both(settings: Settings, among: list[Robot]) -> Iterator[Series]:
 
 
 class Challenge:
-    """The matches of both versions against the field, and against each other."""
+    """What both versions did against the field, and against each other."""
 
     def __init__(self, given: argparse.Namespace, paths: list[str]) -> None:
-        self._given = given
-        self._paths = paths
-        self._names = robots.names(paths)
-        self._played: dict[tuple[int, int], dict[Place, Match]] = {}
-        self._seeds: dict[tuple[int, ...], int] = {}
+        self._all = given.all
+        self._it = Versions(given, paths)
 
     def add(self, record: Record) -> None:
-        seats = record.series.seats
-        self._seeds[seats] = record.series.seed
-        seat = seats.index(min(seats))
-        matches = self._played.setdefault((min(seats), max(seats)), {})
-        matches.update({(seat, number): match for number, match in record.matches()})
+        self._it.add(record)
 
     def text(self) -> str:
-        """What the change is worth, on which opponents, how both played each other, and what was lost."""
-        worth = {opponent: self._worth(opponent) for opponent in range(2, len(self._paths))}
+        """What the change is worth, on which opponents, how both played each other, what was lost, and what changed if that is
+        asked for."""
+        names = self._it.names
+        worth = {opponent: self._worth(opponent) for opponent in self._it.opponents}
         whole = Worth([both for it in worth.values() for both in it.of_each])
         best_first = sorted(worth.items(), key=lambda it: -it[1].change().value)
-        rows = [[self._names[opponent], *it.cells()] for opponent, it in best_first]
+        rows = [[names[opponent], *it.cells()] for opponent, it in best_first]
         head = ["against", "new", "old", "change", "low", "high"]
         table = aligned([head, *rows, ["all", *whole.cells()]], (0,))
-        return table + self._said(worth, whole) + self._both() + self._lost()
+        changed = self._changed() if self._all else ""
+        return table + self._said(worth, whole) + self._both() + self._lost() + changed
 
     def _said(self, worth: dict[int, Worth], whole: Worth) -> str:
         """The same in words."""
-        changes = sorted((it.change().value, self._names[opponent]) for opponent, it in worth.items() if it.change().is_sure)
+        names = self._it.names
+        changes = sorted((it.change().value, names[opponent]) for opponent, it in worth.items() if it.change().is_sure)
         gained = [name for change, name in sorted(changes, key=lambda it: (-it[0], it[1])) if change > 0]
         lost = [name for change, name in changes if change < 0]
         _, _, change, low, high = whole.cells()
         matches = len(whole.of_each[0][NEW])
         return (
-            f"{self._names[NEW]} in place of {self._names[OLD]}: {change} points a match, 95 % interval {low} to {high}, "
+            f"{names[NEW]} in place of {names[OLD]}: {change} points a match, 95 % interval {low} to {high}, "
             f"by {matches} matches against each of {len(worth)}\n"
             f"gained on: {', '.join(gained) or 'none'}\nlost on: {', '.join(lost) or 'none'}\n"
         )
 
     def _worth(self, opponent: int) -> Worth:
-        new, old = self._played[NEW, opponent], self._played[OLD, opponent]
-        return Worth([([points(self._given, place, new[place]) for place in sorted(new)],
-                       [points(self._given, place, old[place]) for place in sorted(new)])])
+        places = sorted(self._it.places(opponent))
+        new, old = ([self._it.points(version, opponent, place) for place in places] for version in (NEW, OLD))
+        return Worth([(new, old)])
 
     def _both(self) -> str:
         """What both versions did against each other."""
-        matches = self._played[NEW, OLD]
-        did = [match.results[seat] for (seat, _), match in matches.items()]
-        counts = ", ".join(f"{DID[letter]} {did.count(letter)}" for letter in DID)
-        return f"{self._names[NEW]} against {self._names[OLD]}: {counts} of {len(did)} matches\n"
+        did = [self._it.did(NEW, OLD, place) for place in self._it.places(OLD)]
+        counts = ", ".join(f"{how} {did.count(how)}" for how in RESULTS.values())
+        return f"{self._it.names[NEW]} against {self._it.names[OLD]}: {counts} of {len(did)} matches\n"
 
     def _lost(self) -> str:
-        """The match that the new version lost and in which the old one did best, of these the shortest; or all that the old
-        one won. Each with a command that draws it."""
-        lost = sorted(
-            (-points(self._given, place, self._played[OLD, opponent][place]), match.cycles, opponent, place)
-            for (robot, opponent), matches in self._played.items() if robot == NEW and opponent != OLD
-            for place, match in matches.items() if match.results[place[0]] == "l"
-        )
+        """The match that the new version lost and in which the old one did best, of these the shortest, with a command that
+        draws it."""
+        it, names = self._it, self._it.names
+        lost = [(-it.points(OLD, *match), it.cycles(NEW, *match), *match) for match in it.matches() if it.did(NEW, *match) == "lost"]
         if not lost:
-            return f"{self._names[NEW]} lost no match\n"
-        if not self._given.all:
-            _, _, opponent, place = lost[0]
-            return f"worst lost match: {self._match(opponent, place)}\n{self._command(opponent, place)} > match.svg\n"
-        won = [(opponent, place) for _, _, opponent, place in lost if self._did(OLD, opponent, place) == "w"]
-        return "".join(
-            f"lost match: {self._match(*it)}\n{self._command(*it)} > lost{at}.svg\n" for at, it in enumerate(won, 1)
-        ) or f"{self._names[NEW]} lost no match that {self._names[OLD]} won\n"
+            return f"{names[NEW]} lost no match\n"
+        _, cycles, opponent, place = min(lost)
+        said = f"{it.called(opponent, place)}, in {cycles} cycles; {names[OLD]} {it.did(OLD, opponent, place)} it"
+        return f"worst lost match: {said}\n{it.showing('crobots-tracks', opponent, place)} > match.svg\n"
 
-    def _did(self, version: int, opponent: int, place: Place) -> str:
-        return self._played[version, opponent][place].results[place[0]]
+    def _changed(self) -> str:
+        """All matches that changed, those first that cost most, each with the commands that show it."""
+        matches = self._it.matches()
+        changed = sorted((self._it.gain(*match), *match) for match in matches if self._it.has_changed(*match))
+        lines = [line for number, (_, opponent, place) in enumerate(changed, 1) for line in self._change(number, opponent, place)]
+        return "\n".join([f"{len(changed)} of {len(matches)} matches changed", *lines, ""])
 
-    def _match(self, opponent: int, place: Place) -> str:
-        """A match in words."""
-        seat, number = place
-        did, cycles = DID[self._did(OLD, opponent, place)], self._played[NEW, opponent][place].cycles
-        return f"{number} against {self._names[opponent]} in seat {seat + 1}, in {cycles} cycles; {self._names[OLD]} {did} it"
-
-    def _command(self, opponent: int, place: Place) -> str:
-        """The command that draws a match of the new version."""
-        given, (seat, number) = self._given, place
-        seats = (NEW, opponent) if seat == 0 else (opponent, NEW)
-        options = [f"-k{number}", f"-l{given.cycles}", f"-s{self._seeds[seats]}", f"-p{given.profile}"]
-        return shlex.join(["crobots-tracks", *options, *(dashless(self._paths[at]) for at in seats)])
-
-
-def points(given: argparse.Namespace, place: Place, match: Match) -> float:
-    """What a match was worth to the version in its seat."""
-    won, tied = given.points
-    return float({"w": won, "t": tied, "l": Decimal(0)}[match.results[place[0]]])
-
-
-def dashless(path: str) -> str:
-    """A path that is no option."""
-    return f"./{path}" if path.startswith("-") else path
+    def _change(self, number: int, opponent: int, place: Place) -> list[str]:
+        """A match that changed, in words, and the commands that play it with both versions, compare these, and show it."""
+        it, match = self._it, (opponent, place)
+        did = [f"{it.names[version]} {it.did(version, *match)} it in {it.cycles(version, *match)} cycles" for version in (OLD, NEW)]
+        return [
+            f"changed match: {it.called(*match)}; {', '.join(did)}", *(it.again(version, *match) for version in (OLD, NEW)),
+            it.comparing(*match), f"{it.showing('crobots-replay', *match)} > changed{number}.html",
+        ]
 
 
 def challenge(name: str, arguments: list[str]) -> None:

@@ -135,7 +135,7 @@ def challenge(name: str) -> Parser:
     it = common(name, "Plays a robot and its older version against the same robots in the same matches, "
                       "and says what the change is worth.")
     it.add_argument("--old", metavar="OLD", required=True, help="the older version")
-    it.add_argument("--all", action="store_true", help="list all lost matches that the older version won")
+    it.add_argument("--all", action="store_true", help="list all matches that changed, with the commands that show them")
     it.add_argument("new", metavar="NEW", help="the newer version")
     it.add_argument("field", metavar="ROBOT", nargs="+", help="the robots that they play against")
     return it

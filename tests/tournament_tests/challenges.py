@@ -1,4 +1,4 @@
-"""Challenges: differences, their intervals, and the matches that were lost."""
+"""Challenges: differences, their intervals, and the matches that were lost or changed."""
 
 from __future__ import annotations
 
@@ -8,6 +8,17 @@ import statistics
 from tournaments import intervals
 
 from .base import COUNTER, SHOOTER, Base, seed_of, sha256, write
+
+
+def changed_match(number: int, said: str, seed: int, files: str) -> str:
+    """What is said of a match that b.r did better than a.r, which is lost after 90 cycles: the files have a place for both."""
+    options = f"-l100 -s{seed} -p1"
+    seat = said.partition(" in seat ")[2][0]
+    old, new = files.format("b.r"), files.format("a.r")
+    return (f"changed match: 1 against {said}, a.r lost it in 90 cycles\n"
+            f"crobots -f1 -m1 {options} {old}\ncrobots -f1 -m1 {options} {new}\n"
+            f"crobots-compare -k1 {options} --robot {seat} --old b.r {new}\n"
+            f"crobots-replay -k1 {options} {new} > changed{number}.html\n")
 
 
 class Challenges(Base):
@@ -28,8 +39,6 @@ b.r lost no match
 
     def a_change_for_the_worse(self) -> list[str]:
         """Against another that shoots itself both die and the older one wins, which is worse than a tie that was lost."""
-        seed = seed_of(7, "challenger", sha256(SHOOTER))
-        other = seed_of(7, sha256(SHOOTER), "challenger")
         shown = """\
 against   new   old  change    low   high
 c.r      0.00  1.00   -1.00  -1.00  -1.00
@@ -40,30 +49,46 @@ gained on: none
 lost on: x.r, c.r
 a.r against b.r: won 0, tied 0, lost 2 of 2 matches
 """
-        worst = "worst lost match: 1 against x.r in seat 1, in 90 cycles; b.r won it\n"
-        command = "crobots-tracks -k1 -l100 -s{} -p1 {} > {}.svg\n"
-        both = (
-            "lost match: 1 against x.r in seat 1, in 90 cycles; b.r won it\n" + command.format(seed, "a.r one/x.r", "lost1")
-            + "lost match: 1 against x.r in seat 2, in 90 cycles; b.r won it\n" + command.format(other, "one/x.r a.r", "lost2")
-        )
+        seed = seed_of(7, "challenger", sha256(SHOOTER))
+        worst = ("worst lost match: 1 against x.r in seat 1, in 90 cycles; b.r won it\n"
+                 f"crobots-tracks -k1 -l100 -s{seed} -p1 a.r one/x.r > match.svg\n")
+        changed = "4 of 4 matches changed\n" + "".join([
+            changed_match(1, "x.r in seat 1; b.r won it in 90 cycles", seed, "{} one/x.r"),
+            changed_match(2, "x.r in seat 2; b.r won it in 90 cycles", seed_of(7, sha256(SHOOTER), "challenger"), "one/x.r {}"),
+            changed_match(3, "c.r in seat 1; b.r tied it in 100 cycles", seed_of(7, "challenger", sha256(COUNTER)), "{} c.r"),
+            changed_match(4, "c.r in seat 2; b.r tied it in 100 cycles", seed_of(7, sha256(COUNTER), "challenger"), "c.r {}"),
+        ])
         words = ("-m2", "-l100", "-s7", "a.r", "--old", "b.r", "a.r", "c.r", "one/x.r")
-        return (self._answers(self._run(*words, script="challenge"), shown + worst + command.format(seed, "a.r one/x.r", "match"))
-                + self._answers(self._run(*words, "--all", script="challenge"), shown + both))
+        return (self._answers(self._run(*words, script="challenge"), shown + worst)
+                + self._answers(self._run(*words, "--all", script="challenge"), shown + worst + changed))
 
-    def all_that_was_lost(self) -> list[str]:
-        """With --all each match that the new version lost and the old one won is named, and its command plays that match."""
-        words = ("-m20", "-l20000", "0/centre.r", "--old", "0/sweeper.r", "0/hunter.r", "0/sniper.r")
-        told = self._run(*words, "--all", script="challenge").stdout
-        pattern = r"lost match: (\d+) against \S+ in seat ([12]), in (\d+) cycles; sweeper.r won it\ncrobots-tracks -k(\d+) (-l\d+ -s\d+ -p1) (.*) > "
-        rows = re.findall(pattern, told)
-        wrong = [] if len(rows) == told.count("lost match:") == told.count("crobots-tracks") > 3 else [told]
-        for number, seat, cycles, again, options, files in rows:
-            for file, did in ((files, "lost"), (files.replace("0/centre.r", "0/sweeper.r"), "won")):
-                report = self._sh(f"$PROGRAM -m1 -f{number} {options} {file}").stdout
-                right = number == again and f"  {seat}) won {int(did == 'won')} tied 0 lost {int(did == 'lost')} " in report
-                fine = right and (did == "won" or f"Match {number}: cycles = {cycles}\n" in report)
-                wrong += [] if fine else [f"{did} {file}: {report}"]
-        return wrong
+    def matches_that_did_not_change(self) -> list[str]:
+        """None do if both versions stand still. If nothing has points those that one version alone won have changed all the same,
+        and not those that one tied and the other lost."""
+        same = self._run("-m2", "-l100", "--all", "b.r", "--old", "c.r", "one/x.r", script="challenge").stdout
+        words = ("-m2", "-l100", "--all", "--points", "0,0", "a.r", "--old", "b.r", "c.r", "one/x.r")
+        told = self._run(*words, script="challenge").stdout
+        rows = re.findall(r"^changed match: (.*); ", told, re.MULTILINE)
+        wrong = [] if same.endswith("\n0 of 2 matches changed\n") else [same]
+        return wrong + ([] if rows == ["1 against x.r in seat 1", "1 against x.r in seat 2"] and "\n2 of 4 matches changed\n" in told else [told])
+
+    def all_that_changed(self) -> list[str]:
+        """With --all the command lines of each match that changed play it as the row says. All others were worth the same: so the
+        differences of points add up to the change of all matches."""
+        told = self._run("-m20", "-l20000", "--all", "0/centre.r", "--old", "0/sweeper.r", "0/hunter.r", "0/sniper.r", script="challenge").stdout
+        rows = re.findall(r"^changed match: .* in seat ([12]); sweeper.r (\w+) it in (\d+) cycles, centre.r (\w+) it in (\d+) cycles\n"
+                          r"crobots (.*)\ncrobots (.*)\n", told, re.MULTILINE)
+        wrong = [] if f"\n{len(rows)} of 40 matches changed\n" in told and len(rows) == told.count("changed match:") > 3 else [told]
+        for seat, old, old_cycles, new, new_cycles, old_words, new_words in rows:
+            for robot, did, cycles, words in (("sweeper.r", old, old_cycles, old_words), ("centre.r", new, new_cycles, new_words)):
+                report = self._sh(f"$PROGRAM {words}").stdout
+                result = " ".join(f"{how} {int(did == how)}" for how in ("won", "tied", "lost"))
+                fine = f": cycles = {cycles}\n" in report and f"  {seat}) {result} {robot}\n" in report
+                wrong += [] if fine else [f"{did} in {cycles} cycles: {words}: {report}"]
+        worth = {"won": 3, "tied": 1, "lost": 0}
+        gain = sum(worth[new] - worth[old] for _, old, _, new, _, _, _ in rows) / 40
+        change = float(next(line.split()[3] for line in told.splitlines() if line.startswith("all ")))
+        return wrong + ([] if abs(gain - change) <= 0.0051 else [f"{gain}, not {change}"])
 
     def only_sure_gains_are_named(self) -> list[str]:
         """An opponent whose own interval has 0 in it is in neither list."""
