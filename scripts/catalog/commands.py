@@ -52,7 +52,8 @@ PROGRAMS = (
 )
 SCRIPTS = (
     Script("crobots-tournament", "tournament", ("tournaments", "sites")),
-    Script("crobots-challenge", "challenge", ("tournaments",)),
+    Script("crobots-challenge", "challenge", ("tournaments", "sites")),
+    Script("crobots-compare", "compare", ("comparisons", "tournaments", "sites", "replays")),
     Script("crobots-league", "league", ("leagues", "tournaments", "sites")),
     Script("crobots-replay", "replay", ("replays",)),
 )

@@ -126,6 +126,8 @@ def command_lines() -> Results:
     words = commands.again(SETTINGS, battle, ["-a.r", "b.r"])
     wanted = ["crobots", "-f17", "-m1", "-l500000", "-s18446744073709551615", "-p1", "./-a.r", "b.r"]
     yield "the words of a match", words == wanted
+    shown = commands.showing("crobots-trace", SETTINGS, battle, ["-a.r", "b.r"], ["--robot", "2"])
+    yield "the words that show it", shown == ["crobots-trace", "-k17", *wanted[3:6], "--robot", "2", *wanted[6:]]
     for word, quoted in WORDS.items():
         yield f"the word {word!r}", commands.quoted(word) == quoted
         ran = subprocess.run(["bash", "-c", f"printf %s {commands.quoted(word)}"], capture_output=True, check=False)

@@ -1,0 +1,104 @@
+"""The script `compare`: where a robot and its older version first do something else in the same match."""
+
+from __future__ import annotations
+
+import argparse
+from contextlib import ExitStack
+from dataclasses import dataclass
+
+from replays.words import plain
+
+from tournaments.faults import unreadable
+from tournaments.output import show
+from tournaments.robots import names
+from tournaments.signals import stopping
+
+from . import traces, words
+from .columns import Row, columns, side_by_side
+from .moments import Moment, moment
+from .questions import Comparison, Question, comparison, questions
+
+NOTHING = "nothing"
+
+
+@dataclass(frozen=True)
+class Version:
+    """A version: its file, its name, and the words by which `crobots-trace` plays the match with it."""
+
+    path: str
+    name: str
+    match: list[str]
+
+
+def versions(given: argparse.Namespace) -> list[Version]:
+    """The newer version and the older one."""
+    at = given.robot - 1
+    paths = [given.files[at], given.old]
+    options = [f"-k{given.match}", f"-l{given.cycles}", f"-s{given.seed}", f"-p{given.profile}", f"--robot={given.robot}"]
+    return [Version(path, plain(name), [*options, "--", *given.files[:at], path, *given.files[given.robot :]])
+            for path, name in zip(paths, names(paths))]
+
+
+def compared(trace: str, both: list[Version]) -> Comparison:
+    """Plays the match with both versions side by side, until they ask something else."""
+    with ExitStack() as playing:
+        new, old = (questions(playing.enter_context(traces.lines(trace, ["--asks", *it.match]))) for it in both)
+        return comparison(new, old)
+
+
+def moment_of(trace: str, version: Version, cycle: int) -> Moment:
+    """Where a version is after a cycle."""
+    with traces.lines(trace, [f"--at={cycle}", *version.match]) as rows:
+        return moment(rows)
+
+
+def said(given: argparse.Namespace, both: list[Version], found: Comparison) -> str:
+    """What both versions do alike, and whether they ever do something else."""
+    new, old = (it.name for it in both)
+    count = f"{found.alike} question{'' if found.alike == 1 else 's'}"
+    if found.cycle is None:
+        return f"{new} and {old} do the same in match {given.match}: {count}, each in the same cycle with the same reply\n"
+    last = f", the last in cycle {found.last.cycle}: {found.last.call} = {found.last.reply}" if found.last else ""
+    return (f"{new} and {old} first do something else in cycle {found.cycle} of match {given.match}\n"
+            f"before it they do the same: {count}{last}\n")
+
+
+def question_rows(new: Question | None, old: Question | None) -> list[Row]:
+    """What both ask next, each in which cycle, and the replies."""
+    calls, cycles, replies = ([str(it[at]) if it else "" for it in (new, old)] for at in (1, 0, 2))
+    return [Row("asks", calls[0] or NOTHING, calls[1] or NOTHING), Row("in cycle", *cycles), Row("reply", *replies)]
+
+
+def moment_rows(both: list[Version], moments: list[Moment]) -> list[Row]:
+    """Where both are: the text of the line, what restarts them, calls and variables. What one lacks is empty."""
+    new, old = moments
+    rows = [Row("line", *(f"{it.line}: {line_of(version, it.line)}" for version, it in zip(both, moments)))]
+    if new.restarts or old.restarts:
+        rows.append(Row("restarts", new.restarts, old.restarts))
+    for place in sorted({*new.groups, *old.groups}):
+        one, other = new.groups.get(place, {}), old.groups.get(place, {})
+        rows += [Row(label, one.get(label, ""), other.get(label, "")) for label in {**one, **other}]
+    return rows
+
+
+def line_of(version: Version, number: int) -> str:
+    """The text of a line of a version's source."""
+    try:
+        with open(version.path, encoding="utf-8", errors="replace", newline="\n") as file:
+            return next((plain(" ".join(line.split())) for at, line in enumerate(file, 1) if at == number), "")
+    except OSError as why:
+        unreadable(version.path, why)
+
+
+def compare(name: str, arguments: list[str]) -> None:
+    """Does what the words ask for."""
+    given = words.read(name, arguments)
+    trace, both = traces.found(), versions(given)
+    with stopping("stopped while the match was played"):
+        found = compared(trace, both)
+        text = said(given, both, found)
+        if found.cycle is not None:
+            moments = [moment_of(trace, it, found.cycle - 1) for it in both]
+            rows = question_rows(found.new, found.old) + moment_rows(both, moments)
+            text += side_by_side(Row("", both[0].name, both[1].name), rows, columns())
+    show([text])

@@ -1,0 +1,40 @@
+"""The words of the command line."""
+
+from __future__ import annotations
+
+import argparse
+
+from tournaments.faults import Fault
+from tournaments.words import CYCLES_MAX, DEFAULTS, MATCHES_MAX, SEED_MAX, Parser, within
+
+MOST_ROBOTS = 4
+
+
+def parser(name: str) -> Parser:
+    """The words of `compare`, under the name by which it was called."""
+    it = Parser(prog=name, description="Plays a match once with a robot and once with its older version, "
+                                       "and shows where they first do something else.", allow_abbrev=False)
+    it.add_version()
+    it.add_argument("--old", metavar="OLD", required=True, help="the older version")
+    it.add_argument("--robot", metavar="N", type=within(1, MOST_ROBOTS), default=1, help="number of the newer version among the files (default 1)")
+    it.add_argument("-k", dest="match", metavar="MATCH", type=within(1, MATCHES_MAX), default=1, help="number of the match (default 1)")
+    it.add_argument("-l", dest="cycles", metavar="CYCLES", type=within(1, CYCLES_MAX), default=DEFAULTS["cycles"],
+                    help="most cycles of the match (default 500000)")
+    it.add_argument("-s", dest="seed", metavar="SEED", type=within(0, SEED_MAX), default=DEFAULTS["seed"],
+                    help="seed of the random numbers (default 1)")
+    it.add_argument("-p", dest="profile", metavar="PROFILE", type=within(1, 2), default=DEFAULTS["profile"],
+                    help="language profile, 1 or 2 (default 1)")
+    it.add_argument("files", metavar="FILE", nargs="+", help="the robots of the match, the newer version among them")
+    return it
+
+
+def read(name: str, arguments: list[str]) -> argparse.Namespace:
+    """What the words ask for; refuses a match that isn't one of the newer version and others."""
+    given = parser(name).parse_intermixed_args(arguments)
+    if len(given.files) == 1:
+        raise Fault("there is no robot to play against")
+    if given.robot > len(given.files):
+        raise Fault(f"--robot {given.robot}: there are only {len(given.files)} robots")
+    if len(given.files) > MOST_ROBOTS:
+        raise Fault("over four files")
+    return given
