@@ -55,6 +55,7 @@ SCRIPTS = (
     Script("crobots-challenge", "challenge", ("tournaments",)),
     Script("crobots-league", "league", ("leagues", "tournaments", "sites")),
     Script("crobots-replay", "replay", ("replays",)),
+    Script("crobots-step", "step", ("stepping", "replays")),
 )
 COMMANDS: tuple[Command, ...] = (*PROGRAMS, *SCRIPTS)
 # The game by itself, which is installed before the others.

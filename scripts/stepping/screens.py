@@ -15,7 +15,7 @@ from .sessions import Session
 PLAIN, BOLD, REVERSE = "plain", "bold", "reverse"
 PROMPT = "(step) "
 # From so many columns on two panes stand side by side; the right one has at least and at most so many.
-WIDE, LEAST_RIGHT, MOST_RIGHT = 60, 26, 60
+WIDE, LEAST_RIGHT, MOST_RIGHT = 60, 28, 60
 # How many lines what is said has at least, and how many calls are shown, however few rows there are.
 LEAST_SAID, LEAST_CALLS = 3, 3
 

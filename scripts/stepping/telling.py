@@ -22,8 +22,8 @@ def question(moment: Moment, since: int) -> list[str]:
     """What the robot asked in this cycle or later, and what it does in the next one."""
     asked = moment.asked
     told = [f"asked {asked.call}, reply {asked.reply}{at_cycle(asked.cycle, moment)}"] if asked and asked.cycle >= since > 0 else []
-    told += [f"asks {moment.asks} in the next cycle"] if moment.asks else []
-    return told + ([f"restarts in the next cycle: {moment.restarts}"] if moment.restarts else [])
+    told += [f"next: asks {moment.asks}"] if moment.asks else []
+    return told + ([f"next: restart, {moment.restarts}"] if moment.restarts else [])
 
 
 def at_cycle(cycle: int, moment: Moment) -> str:
