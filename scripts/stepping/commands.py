@@ -5,7 +5,7 @@ from __future__ import annotations
 import re
 import shlex
 from dataclasses import dataclass
-from typing import Callable
+from typing import Callable, Sequence
 
 from . import telling
 from .marks import Mark, breakpoint_of, watch_of
@@ -56,11 +56,9 @@ def ending(found: Found | None, way: str) -> list[str]:
 
 
 def returned(session: Session, before: Moment, found: Found | None) -> list[str]:
-    """What the function returned, if its call has just ended; or why the robot restarted."""
-    if not found or not found.events[-1].startswith("in ") or found.cycle < before.cycle:
-        return []
-    why = session.before().restarts
-    return [f"restart: {why}" if why else f"{before.function} returned {session.moment.stack[-1]}"]
+    """What the function returned, if its call has just ended."""
+    has_ended = found and found.events[-1].startswith("in ") and found.cycle > before.cycle and not session.restarted()
+    return [f"{before.function} returned {session.moment.stack[-1]}"] if has_ended else []
 
 
 def continuing(way: str) -> Act:
@@ -77,18 +75,17 @@ def continuing(way: str) -> Act:
 def reasons(session: Session, found: Found) -> list[str]:
     """Which marks the robot is stopped at, and what happened."""
     marks = {mark.number: mark for event in found.events for mark in session.marks.stopped(event, session.moment.line)}
-    before = session.before()
-    return [f"{mark.told()}{happening(session, mark, before)}" for _, mark in sorted(marks.items())]
+    return [f"{mark.told()}{happening(session, mark)}" for _, mark in sorted(marks.items())]
 
 
-def happening(session: Session, mark: Mark, before: Moment) -> str:
+def happening(session: Session, mark: Mark) -> str:
     """What a mark found, if its text doesn't say it."""
-    now = session.moment
+    before, now = session.before, session.moment
     if mark.is_watch():
         return f" from {before.value(mark.text)} to {now.value(mark.text)}"
     if mark.text == "hit":
         return f", damage from {before.damage(session.robot)}% to {now.damage(session.robot)}%"
-    return f", {before.restarts}" if mark.text == "restart" else ""
+    return ""
 
 
 def set_breakpoint(session: Session, text: str) -> list[str]:
@@ -168,7 +165,7 @@ def show_help(_: Session, name: str) -> list[str]:
     """All commands, or one."""
     if name and name not in NAMED:
         raise Refused(f"{name}: no command; help lists them")
-    shown = [NAMED[name]] if name else COMMANDS
+    shown: Sequence[Command] = [NAMED[name]] if name else COMMANDS
     width = max(len(command.head()) for command in shown)
     return [f"{command.head():{width}}  {command.about}" for command in shown]
 

@@ -6,7 +6,7 @@ import io
 import os
 import signal
 import sys
-from typing import Iterable
+from typing import Iterable, NoReturn
 
 from replays.faults import MEMORY, UNWRITTEN, Fault, Misuse
 from replays.words import plain
@@ -90,8 +90,16 @@ def do(asked: Asked) -> None:
         step(asked)
 
 
+def stop(number: int, _: object) -> NoReturn:
+    """Ends by a signal, but not before the terminal is as it was."""
+    sys.exit(128 + number)
+
+
 def run(words: list[str]) -> int:
     """Does what the words ask for; answers the status."""
+    for number in (signal.SIGTERM, signal.SIGHUP):
+        if signal.getsignal(number) != signal.SIG_IGN:
+            signal.signal(number, stop)
     if isinstance(sys.stderr, io.TextIOWrapper):
         sys.stderr.reconfigure(errors="surrogateescape")
     try:

@@ -107,9 +107,15 @@ def take_row(it: Moment, kind: str, fields: Row) -> None:
     elif kind == "stack":
         it.stack = [int(word) for word in fields[0].split()]
     elif kind == "robot":
-        it.robots.append(Robot(*map(int, fields[:6]), fields[6] == "alive"))
+        it.robots.append(robot_of(fields))
     else:
         take_variable(it, kind, fields)
+
+
+def robot_of(fields: Row) -> Robot:
+    """The robot of a row."""
+    number, x, y, heading, speed, damage = map(int, fields[:6])
+    return Robot(number, x, y, heading, speed, damage, fields[6] == "alive")
 
 
 def take_variable(it: Moment, kind: str, fields: Row) -> None:

@@ -4,6 +4,7 @@ from __future__ import annotations
 
 import os
 import shutil
+import signal
 import subprocess
 import tempfile
 from types import TracebackType
@@ -92,6 +93,9 @@ class Debugger:
     def _ended(self) -> Fault:
         """Why there is no answer: what the program said, with the name of this one."""
         status = self._child.wait()
+        if status == -signal.SIGINT:
+            # a terminal sends it to both
+            raise KeyboardInterrupt
         self._said.seek(0)
         lines = [said(line) for line in self._said.read().decode(errors="surrogateescape").splitlines(keepends=True)]
         told = [line for line in lines if not line.startswith("usage: ")]

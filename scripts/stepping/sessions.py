@@ -6,7 +6,6 @@ events that are marked."""
 from __future__ import annotations
 
 from dataclasses import dataclass
-from typing import Callable
 
 from .marks import Marks
 from .moments import Moment
@@ -36,30 +35,29 @@ class Session:
         self.robot = asked.number()
         self.marks = Marks()
         self._debugger = debugger
-        self.moment = debugger.moment(0)
+        self.moment = self.before = debugger.moment(0)
         self.source = Source(asked.file())
 
     def check(self, event: str) -> None:
         """Stops if an event has a wrong word."""
         self._debugger.check(event)
 
-    def before(self) -> Moment:
-        """The moment a cycle earlier."""
-        return self._debugger.moment(max(self.moment.cycle - 1, 0))
-
-    def go(self, cycle: int) -> Moment:
-        """Looks at the robot after another cycle."""
+    def go(self, cycle: int) -> None:
+        """Looks at the robot after another cycle, and a cycle before it."""
         self.moment = self._debugger.moment(cycle)
-        return self.moment
+        self.before = self._debugger.moment(max(self.moment.cycle - 1, 0))
+
+    def restarted(self) -> str:
+        """Why the robot restarted in this cycle, if it did."""
+        return self.before.restarts if self.before.cycle < self.moment.cycle else ""
 
     def find(self, way: str, events: list[str]) -> Found | None:
         """The first cycle on a way in which one of the events happens."""
         cycles = {event: self._debugger.found(way, self.moment.cycle, event) for event in events}
-        nearest: Callable[[list[int]], int] = min if way == FORWARDS else max
         told = [cycle for cycle in cycles.values() if cycle is not None]
         if not told:
             return None
-        best = nearest(told)
+        best = min(told) if way == FORWARDS else max(told)
         return Found(best, [event for event, cycle in cycles.items() if cycle == best])
 
     def move(self, way: str, events: list[str]) -> Found | None:

@@ -13,9 +13,10 @@ def place(moment: Moment) -> str:
 
 
 def stop(session: Session) -> list[str]:
-    """Where the robot is, the line, and its question."""
-    moment = session.moment
-    return [place(moment), session.source.numbered(moment.line), *question(moment, moment.cycle)]
+    """Where the robot is, the line, its question, and whether it has just restarted."""
+    moment, why = session.moment, session.restarted()
+    told = [place(moment), session.source.numbered(moment.line), *question(moment, moment.cycle)]
+    return [*told, f"restart: {why}"] if why else told
 
 
 def question(moment: Moment, since: int) -> list[str]:

@@ -60,8 +60,7 @@ class Model:
         if name == "continue":
             return [*(text for text, mark in self.marks.items() if mark(found)), *self.stop()]
         if is_forwards and name in ("next", "finish") and state.frames < frames:
-            ended = "restart" if found in self.history.restarts else f"{before} returned {state.words[-1]}"
-            return [ended, *self.stop()]
+            return [*([] if found in self.history.restarts else [f"{before} returned {state.words[-1]}"]), *self.stop()]
         return self.stop()
 
     def function(self) -> str:
@@ -77,4 +76,4 @@ class Model:
         asked = next((it for it in self.history.asked if it.cycle == self.cycle), None)
         return [f"cycle {self.cycle}, {self.function()}, line {self.line()}{dead}{over}",
                 f" {self.line():{len(str(len(self.source)))}}  {self.source[self.line() - 1].expandtabs(8)}".rstrip(),
-                *([f"asked {asked.call}, reply {asked.reply}"] if asked else [])]
+                *([f"asked {asked.call}, reply {asked.reply}"] if asked else []), *(["restart"] if self.cycle in self.history.restarts else [])]

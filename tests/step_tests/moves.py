@@ -83,9 +83,11 @@ class Moves(Base):
         return wrong + differ(self._last(["goto 500"], "suicide.r")[0].partition(", column")[2][3:], ", dead, the match is over")
 
     def a_restart(self) -> list[str]:
-        """A breakpoint says why; finish tells it, too."""
-        wrong = differ(self._last(["b restart", "c"], "-l9000", "diver.r")[0], "breakpoint 1: restart, frames")
-        return wrong + differ(self._last(["s", "s", "s", "finish"], "-l9000", "diver.r")[0], "restart: frames")
+        """Each move that leads there says why."""
+        wrong = []
+        for commands in (["b restart", "c"], ["s", "s", "s", "finish"], ["s", "finish"], ["b 2", "c"]):
+            wrong += differ(self._last(commands, "-l9000", "diver.r")[-1], "restart: frames")
+        return wrong
 
     def several_breakpoints_in_one_cycle(self) -> list[str]:
         """After cycle 7 the reply is stored, which no line enters; in cycle 12 `seen` changes."""

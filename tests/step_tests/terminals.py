@@ -4,6 +4,7 @@ from __future__ import annotations
 
 import os
 import shutil
+import signal
 import subprocess
 import sys
 import time
@@ -95,7 +96,7 @@ class Terminals(Base):
         return wrong + tmux.typed("quit", "status 0")
 
     def it_ends_in_a_terminal(self) -> list[str]:
-        """By Ctrl-C, by Ctrl-D, and if crobots-debug is killed: the terminal is as it was, and there is a status."""
+        """By Ctrl-C, by Ctrl-D, by a signal, and if crobots-debug is killed: the terminal is as it was, and there is a status."""
         if not shutil.which("tmux"):
             return []
         wrong = []
@@ -104,7 +105,13 @@ class Terminals(Base):
                 wrong += tmux.lacks("(step)")
                 tmux.send(*keys)
                 wrong += tmux.lacks(wanted)
-        return wrong + self._killed()
+        return wrong + self._ended() + self._killed()
+
+    def _ended(self) -> list[str]:
+        with Tmux(self._folder, self._environment(), 80, 24) as tmux:
+            wrong = tmux.lacks("(step)")
+            os.kill(int(tmux.child()), signal.SIGTERM)
+            return wrong + tmux.lacks("status 143")
 
     def _killed(self) -> list[str]:
         with Tmux(self._folder, self._environment(), 80, 24) as tmux:
