@@ -137,7 +137,7 @@ class Tmux:
     def __init__(self, folder: str, environment: dict[str, str], columns: int, rows: int) -> None:
         self._socket = os.path.join(folder, "tmux")
         self._environment = environment
-        line = f"'{SCRIPT}' -l9000 deep.r '{ROBOTS}/runner.r'; echo status $?; exec sleep {SECONDS * 4}"
+        line = f"trap : INT; '{SCRIPT}' -l9000 deep.r '{ROBOTS}/runner.r'; echo status $?; exec sleep {SECONDS * 4}"
         self._tmux("-f", "/dev/null", "new-session", "-d", "-x", str(columns), "-y", str(rows), "-c", folder, f"exec sh -c {quoted(line)}")
 
     def __enter__(self) -> Tmux:
