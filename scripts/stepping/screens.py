@@ -86,7 +86,7 @@ def state_rows(session: Session, columns: int, rows: int) -> list[Row]:
     """What the robot asked, the calls that go on, and the variables that it sees."""
     moment = session.moment
     most = max(LEAST_CALLS, rows // 3)
-    found = [[Piece(line)] for line in wrapped(telling.question(moment, 1), columns)]
+    found = [[Piece(line)] for line in wrapped(telling.news(session, 1), columns)]
     found += listed("calls", fitted_lines(telling.calls(moment), min(most, len(moment.calls))))
     found += listed(f"variables of {moment.function}", telling.variables(moment.locals(), "none"))
     found += listed("externals", telling.variables(moment.externals, "none"))

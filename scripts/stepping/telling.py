@@ -14,17 +14,26 @@ def place(moment: Moment) -> str:
 
 def stop(session: Session) -> list[str]:
     """Where the robot is, the line, its question, and whether it has just restarted."""
-    moment, why = session.moment, session.restarted()
-    told = [place(moment), session.source.numbered(moment.line), *question(moment, moment.cycle)]
-    return [*told, f"restart: {why}"] if why else told
+    moment = session.moment
+    return [place(moment), session.source.numbered(moment.line), *news(session, moment.cycle)]
+
+
+def news(session: Session, since: int) -> list[str]:
+    """What the robot asked in this cycle or later, whether it has just restarted, and what it does in the next cycle."""
+    why = session.restarted()
+    return [*question(session.moment, since), *([f"restart: {why}"] if why else []), *following(session.moment)]
 
 
 def question(moment: Moment, since: int) -> list[str]:
-    """What the robot asked in this cycle or later, and what it does in the next one."""
+    """What the robot asked last, if that was in this cycle or later."""
     asked = moment.asked
-    told = [f"asked {asked.call}, reply {asked.reply}{at_cycle(asked.cycle, moment)}"] if asked and asked.cycle >= since > 0 else []
-    told += [f"next: asks {moment.asks}"] if moment.asks else []
-    return told + ([f"next: restart, {moment.restarts}"] if moment.restarts else [])
+    return [f"asked {asked.call}, reply {asked.reply}{at_cycle(asked.cycle, moment)}"] if asked and asked.cycle >= since > 0 else []
+
+
+def following(moment: Moment) -> list[str]:
+    """What the next cycle does, if it asks or restarts."""
+    told = [f"next: asks {moment.asks}"] if moment.asks else []
+    return [*told, f"next: restart, {moment.restarts}"] if moment.restarts else told
 
 
 def at_cycle(cycle: int, moment: Moment) -> str:

@@ -7,6 +7,7 @@ import locale
 import os
 import sys
 
+from . import telling
 from .commands import Quit, answer, is_move
 from .screens import BOLD, PLAIN, REVERSE, screen
 from .sessions import Session
@@ -103,7 +104,9 @@ class Terminal:
         if line.strip():
             self._before += [line] if line != last else []
             self._place = len(self._before)
-            self._said = answer(self._session, line)
+            told = answer(self._session, line)
+            # where the robot is stands above
+            self._said = [it for it in told if it not in telling.stop(self._session)]
 
 
 def show(session: Session) -> None:

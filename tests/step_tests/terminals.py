@@ -37,6 +37,9 @@ class Made:
     def lines(self) -> set[int]:
         return {3, 30}
 
+    def restarted(self) -> str:
+        return "frames"
+
     def file(self) -> str:
         return "a folder/a long name of a robot.r"
 
