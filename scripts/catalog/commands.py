@@ -56,6 +56,7 @@ SCRIPTS = (
     Script("crobots-compare", "compare", ("comparisons", "tournaments", "sites", "replays")),
     Script("crobots-league", "league", ("leagues", "tournaments", "sites")),
     Script("crobots-replay", "replay", ("replays",)),
+    Script("crobots-step", "step", ("stepping", "replays")),
 )
 COMMANDS: tuple[Command, ...] = (*PROGRAMS, *SCRIPTS)
 # The game by itself, which is installed before the others.

@@ -9,7 +9,7 @@ from catalog.commands import COMMANDS, Command
 from catalog.options import Option, about, options, words
 
 # Values that are paths: their names in the pages, and whether these are of folders.
-PATHS = {"FILE": False, "PLAN": False, "PROGRAM": False, "ARCHIVE": False, "FOLDER": True, "DIR": True, "LEAGUE": True}
+PATHS = {"FILE": False, "SCRIPT": False, "PLAN": False, "PROGRAM": False, "ARCHIVE": False, "FOLDER": True, "DIR": True, "LEAGUE": True}
 PROFILES = ("1", "2")
 # Where the completions of a shell are looked for, below `share`.
 PLACES = {"bash": "bash-completion/completions", "zsh": "zsh/site-functions", "fish": "fish/vendor_completions.d"}

@@ -1,0 +1,110 @@
+"""A running `crobots-debug`, and the questions that it answers through a pipe."""
+
+from __future__ import annotations
+
+import os
+import shutil
+import signal
+import subprocess
+import tempfile
+from types import TracebackType
+
+from replays.faults import USAGE, Fault, Misuse
+
+from .moments import Moment, Row, moment_of
+from .words import NAME
+
+PROGRAM = "crobots-debug"
+HERE = os.path.dirname(os.path.realpath(__file__))
+
+
+class Refused(Exception):
+    """A question has a wrong word, which the text names."""
+
+
+class Ended(Fault):
+    """`crobots-debug` ended before its time: the lines that it said, and its status."""
+
+    def __init__(self, lines: list[str], status: int) -> None:
+        super().__init__("".join(lines), status)
+        self.lines = lines
+
+
+def program() -> str:
+    """Finds `crobots-debug`: the one on the path, or the one built or installed with this script."""
+    built = os.path.normpath(os.path.join(HERE, "..", "..", "crates", "debug", "out", "debug"))
+    installed = os.path.normpath(os.path.join(HERE, "..", "..", "..", "..", "bin", PROGRAM))
+    found = next((path for place in (PROGRAM, built, installed) if (path := shutil.which(place))), None)
+    if not found:
+        raise Fault(f"{PROGRAM} is not there, or is no program; README.md says how it is built", USAGE)
+    return found
+
+
+class Debugger:
+    """A running `crobots-debug`."""
+
+    def __init__(self, path: str, words: list[str]) -> None:
+        self._said = tempfile.TemporaryFile()
+        self._child = subprocess.Popen([path, *words], stdin=subprocess.PIPE, stdout=subprocess.PIPE, stderr=self._said)
+
+    def __enter__(self) -> Debugger:
+        return self
+
+    def __exit__(self, _: type[BaseException] | None, __: BaseException | None, ___: TracebackType | None) -> None:
+        self._child.kill()
+        self._child.communicate()
+        self._said.close()
+
+    def rows(self, question: str) -> list[Row]:
+        """The rows of the answer to a question."""
+        assert self._child.stdin and self._child.stdout
+        try:
+            self._child.stdin.write(f"{question}\n".encode())
+            self._child.stdin.flush()
+        except BrokenPipeError:
+            raise self._ended() from None
+        rows: list[Row] = []
+        for line in self._child.stdout:
+            if line == b"\n":
+                return rows
+            rows.append(line.decode(errors="replace").rstrip("\n").split("\t"))
+        raise self._ended()
+
+    def moment(self, cycle: int) -> Moment:
+        """Where the robot is after a cycle."""
+        return moment_of(self._right(f"at {cycle}"))
+
+    def found(self, way: str, cycle: int, event: str) -> int | None:
+        """The cycle in which an event happens: the next or the last one, as the way says."""
+        first = self._right(f"{way} {cycle} {event}")[0]
+        return int(first[1]) if first[0] == "found" else None
+
+    def check(self, event: str) -> None:
+        """Stops if an event has a wrong word; nothing happens before cycle 0."""
+        self._right(f"last 0 {event}")
+
+    def _right(self, question: str) -> list[Row]:
+        """The rows of an answer, if the question isn't wrong."""
+        rows = self.rows(question)
+        if rows and rows[0][0] == "wrong":
+            raise Refused(rows[0][1])
+        return rows
+
+    def _ended(self) -> Fault:
+        """Why there is no answer: what the program said, with the name of this one."""
+        status = self._child.wait()
+        if status == -signal.SIGINT:
+            # a terminal sends it to both
+            raise KeyboardInterrupt
+        self._said.seek(0)
+        lines = [said(line) for line in self._said.read().decode(errors="surrogateescape").splitlines(keepends=True)]
+        told = [line for line in lines if not line.startswith("usage: ")]
+        if status == USAGE:
+            return Misuse("".join(told).removeprefix(f"{NAME}: ").rstrip("\n"))
+        return Ended(told or [f"{NAME}: {PROGRAM} ended{f' by signal {-status}' if status < 0 else ''}\n"],
+                     status if status > 0 else 128 - status)
+
+
+def said(line: str) -> str:
+    """A line of `crobots-debug` on standard error, with the name of this script."""
+    return f"{NAME}: {line.removeprefix(f'{PROGRAM}: ')}" if line.startswith(f"{PROGRAM}: ") else line

@@ -1,0 +1,186 @@
+"""The screen: its rows by themselves, and in a terminal by tmux, if that is installed."""
+
+from __future__ import annotations
+
+import os
+import shutil
+import signal
+import subprocess
+import sys
+import time
+from pathlib import Path
+
+from .base import ROBOTS, SCRIPT, Base, differ
+
+sys.path.append(str(SCRIPT.parent))
+from stepping.moments import Call, Moment, Question, Robot  # noqa: E402
+from stepping.screens import screen, width  # noqa: E402
+from stepping.sources import Source  # noqa: E402
+
+SECONDS = 30
+
+
+class Made:
+    """A session made by hand, with long and strange texts."""
+
+    def __init__(self, robots: int, text: str, path: Path) -> None:
+        path.write_text(text, encoding="utf-8")
+        self.source = Source(str(path))
+        calls = [Call(number, number, f"function{number}", {"a_long_name": -2**31, "b": number}) for number in range(40, 0, -1)]
+        self.moment = Moment(10**9, True, False, 30, 5, "function40", "CHOP", "scan(359, 10)", "words",
+                             Question(10**9 - 1, "scan(-2147483648, 2147483647)", -2**31), calls, {f"e{it}": it for it in range(30)}, [0] * 90,
+                             [Robot(number, 9999, 9999, 359, 100, 100, False) for number in range(1, robots + 1)])
+        self.robot = robots
+        self.asked = self
+        self.marks = self
+
+    def lines(self) -> set[int]:
+        return {3, 30}
+
+    def restarted(self) -> str:
+        return "frames"
+
+    def file(self) -> str:
+        return "a folder/a long name of a robot.r"
+
+
+class Terminals(Base):
+    """Screens of many sizes."""
+
+    def rows_of_any_size(self) -> list[str]:
+        """Each row but the prompt's has as many columns as the screen, and there are as many rows."""
+        text = "\tint a; /* \u4e2d\u6587 e\u0301 \x07 */\n" * 50
+        wrong = []
+        for robots in (2, 4):
+            session = Made(robots, text, Path(self._folder, "made.r"))
+            for columns in (1, 2, 8, 9, 10, 30, 59, 60, 61, 80, 200):
+                for rows in (1, 2, 3, 4, 5, 8, 12, 24, 50):
+                    found = screen(session, ["said " * 30, "more"], "typed", columns, rows)  # type: ignore[arg-type]
+                    widths = {sum(width(piece.text) for piece in row) for row in found[:-1]} - {columns}
+                    wrong += [f"{columns} {rows}: {len(found)} rows, {widths}"] if len(found) != rows or widths else []
+        return wrong[:5]
+
+    def what_a_screen_shows(self) -> list[str]:
+        """The line, the innermost calls, variables and the question are there in 24 rows, wide or narrow."""
+        session = Made(4, "int a;\n" * 50, Path(self._folder, "made.r"))
+        wrong = []
+        for columns, rows in ((80, 24), (200, 50), (40, 30)):
+            text = "\n".join("".join(piece.text for piece in row) for row in screen(session, ["said"], "typed", columns, rows))  # type: ignore[arg-type]
+            wanted = ["cycle 1000000000, function40, line 30", ">*30  int a;", "#0  function40, line 40", ".. and", "a_long_name = -2147483648",
+                      "1: 999,999 359d s100 100%", "said", "(step) typed"]
+            wrong += [f"{columns}x{rows}: {it} isn't there:\n{text}" for it in wanted if it not in text]
+        return wrong
+
+    def in_a_terminal(self) -> list[str]:
+        """In 80, 40 and 200 columns: commands, an empty line that repeats a move, a line called back, another size of the window, the end."""
+        if not shutil.which("tmux"):
+            print("left out: terminals, since tmux isn't installed")
+            return []
+        wrong = []
+        for columns, rows in ((80, 24), (40, 24), (200, 50)):
+            with Tmux(self._folder, self._environment(), columns, rows) as tmux:
+                wrong += [f"{columns}x{rows}: {why}" for why in self._played(tmux)]
+        return wrong
+
+    def _played(self, tmux: Tmux) -> list[str]:
+        """What goes wrong in a terminal."""
+        wrong = tmux.lacks("cycle 0, main, line 3", "(step)", "3    n = down(2);", "help lists the commands")
+        wrong += tmux.typed("step", "cycle 3, down, line 9", "#1  main, line 3", "n = 2", "variables of down")
+        wrong += tmux.typed("", "down, line 10", "> 10")
+        wrong += tmux.typed("b 11", "breakpoint 1: line 11") + tmux.typed("c", "down, line 11", ">*11", "#3  main, line 3")
+        tmux.send("frog")
+        tmux.send("BSpace", "BSpace", "BSpace", "BSpace", "Up", "Up")
+        wrong += tmux.lacks("(step) b 11")
+        tmux.send("C-u")
+        tmux.size(70, 30)
+        wrong += tmux.typed("info field", ">1: x ", " 2: x ")
+        tmux.size(30, 12)
+        wrong += tmux.typed("frob", "frob: no command")
+        return wrong + tmux.typed("quit", "status 0")
+
+    def it_ends_in_a_terminal(self) -> list[str]:
+        """By Ctrl-C, by Ctrl-D, by a signal, and if crobots-debug is killed: the terminal is as it was, and there is a status."""
+        if not shutil.which("tmux"):
+            return []
+        wrong = []
+        for keys, wanted in ((["C-c"], "status 130"), (["C-d"], "status 0")):
+            with Tmux(self._folder, self._environment(), 80, 24) as tmux:
+                wrong += tmux.lacks("(step)")
+                tmux.send(*keys)
+                wrong += tmux.lacks(wanted)
+        return wrong + self._ended() + self._killed()
+
+    def _ended(self) -> list[str]:
+        with Tmux(self._folder, self._environment(), 80, 24) as tmux:
+            wrong = tmux.lacks("(step)")
+            os.kill(int(tmux.child()), signal.SIGTERM)
+            return wrong + tmux.lacks("status 143")
+
+    def _killed(self) -> list[str]:
+        with Tmux(self._folder, self._environment(), 80, 24) as tmux:
+            wrong = tmux.lacks("(step)")
+            child = subprocess.run(["pgrep", "-P", tmux.child()], capture_output=True, text=True, check=False).stdout.split()
+            os.kill(int(child[0]), 9)
+            return wrong + tmux.typed("s", "crobots-step: crobots-debug ended by signal 9", "status 137")
+
+    def a_terminal_without_a_cursor(self) -> list[str]:
+        """Lines are read and written as elsewhere."""
+        if not shutil.which("script"):
+            print("left out: a terminal without a cursor, since script isn't installed")
+            return []
+        line = f"{SCRIPT} -l100 looker.r"
+        ran = subprocess.run(["script", "-qec", line, "/dev/null"], cwd=self._folder, env=self._environment() | {"TERM": "dumb"}, input=b"print seen\nquit\n",
+                             capture_output=True, timeout=100, check=False)
+        return differ(b"seen = 0\r\n" in ran.stdout, True)
+
+
+class Tmux:
+    """A session in a terminal of this size."""
+
+    def __init__(self, folder: str, environment: dict[str, str], columns: int, rows: int) -> None:
+        self._socket = os.path.join(folder, "tmux")
+        self._environment = environment
+        line = f"trap : INT; '{SCRIPT}' -l9000 deep.r '{ROBOTS}/runner.r'; echo status $?; exec sleep {SECONDS * 4}"
+        self._tmux("-f", "/dev/null", "new-session", "-d", "-x", str(columns), "-y", str(rows), "-c", folder, f"exec sh -c {quoted(line)}")
+
+    def __enter__(self) -> Tmux:
+        return self
+
+    def __exit__(self, *_: object) -> None:
+        self._tmux("kill-server")
+
+    def _tmux(self, *words: str) -> str:
+        return subprocess.run(["tmux", "-S", self._socket, *words], env=self._environment, capture_output=True, text=True, timeout=60, check=True).stdout
+
+    def child(self) -> str:
+        """The number of the process of the script."""
+        shell = self._tmux("list-panes", "-F", "#{pane_pid}").strip()
+        return subprocess.run(["pgrep", "-P", shell], capture_output=True, text=True, check=False).stdout.split()[0]
+
+    def send(self, *keys: str) -> None:
+        self._tmux("send-keys", *keys)
+
+    def size(self, columns: int, rows: int) -> None:
+        self._tmux("resize-window", "-x", str(columns), "-y", str(rows))
+
+    def typed(self, line: str, *wanted: str) -> list[str]:
+        """Types a line; answers which of the texts don't come."""
+        if line:
+            self._tmux("send-keys", "-l", line)
+        self.send("Enter")
+        return self.lacks(*wanted)
+
+    def lacks(self, *wanted: str) -> list[str]:
+        """Waits until the screen has all texts; answers those that don't come."""
+        end = time.monotonic() + SECONDS
+        while True:
+            shown = self._tmux("capture-pane", "-p")
+            lacking = [text for text in wanted if text not in shown]
+            if not lacking or time.monotonic() > end:
+                return [f"{text!r} isn't there:\n{shown}" for text in lacking]
+            time.sleep(0.05)
+
+
+def quoted(line: str) -> str:
+    """A line as one word of a shell."""
+    return "'" + line.replace("'", "'\\''") + "'"
