@@ -43,15 +43,15 @@ def moving(way: str, events_of: Callable[[Moment], list[str]]) -> Act:
     def act(session: Session, _: str) -> list[str]:
         before = session.moment
         found = session.move(way, events_of(before))
-        return [*ending(found, way), *returned(session, before, found), *telling.stop(session)]
+        # the start is a place like others, but none can be found there
+        is_over = not found and (way == FORWARDS or before.cycle == 0)
+        return [*(ending(way) if is_over else []), *returned(session, before, found), *telling.stop(session)]
 
     return act
 
 
-def ending(found: Found | None, way: str) -> list[str]:
-    """That nothing was found on a way."""
-    if found:
-        return []
+def ending(way: str) -> list[str]:
+    """That there is nothing more on a way."""
     return ["no more: this is the last cycle of the match" if way == FORWARDS else "no more: this is the start of the match"]
 
 
@@ -66,7 +66,7 @@ def continuing(way: str) -> Act:
 
     def act(session: Session, _: str) -> list[str]:
         found = session.move(way, session.marks.events())
-        told = reasons(session, found) if found else ending(found, way)
+        told = reasons(session, found) if found else ending(way)
         return [*told, *telling.stop(session)]
 
     return act

@@ -52,6 +52,9 @@ class Model:
     def arrive(self, is_forwards: bool, found: int | None, name: str) -> list[str]:
         """What is said where a move leads."""
         before, frames = self.function(), self.frames_of_call()
+        if found is None and not is_forwards and name != "continue" and self.cycle > 0:
+            self.cycle = 0
+            return self.stop()
         if found is None:
             self.cycle = self.history.last if is_forwards else 0
             return ["no more: this is the last cycle of the match" if is_forwards else "no more: this is the start of the match", *self.stop()]

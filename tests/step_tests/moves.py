@@ -56,7 +56,7 @@ class Moves(Base):
         """Into down, twice into itself, and out of it; next and finish go over calls. Each is undone backwards."""
         words = ("-l200", "deep.r")
         steps = [plain(lines)[0].partition(", ")[2] for lines in self._answers(["s"] * 8, *words)]
-        wrong = differ(steps, ["main, line 3"] + ["down, line 9", "down, line 10"] * 2 + ["down, line 9", "down, line 11", "main, line 4", "main, line 5"])
+        wrong = differ(steps, ["main, line 3"] + ["down, line 9", "down, line 10"] * 2 + ["down, line 9", "down, line 11", "main, line 4", "main, line 4"])
         wrong += differ(plain(self._last(["next"], *words))[0].partition(", ")[2], "main, line 4")
         wrong += differ(self._last(["s", "s", "s", "finish"], *words)[0], "down returned 7")
         there = self._answers(["s"] * 6 + ["rs"] * 6, *words)
@@ -73,7 +73,8 @@ class Moves(Base):
         """Forwards to the last cycle, backwards to cycle 0, and so again."""
         answers = self._answers(["c", "c", "s", "rc", "rs"], "-l200", "deep.r")[1:]
         wrong = differ([lines[0] for lines in answers], ["no more: this is the last cycle of the match"] * 3 + ["no more: this is the start of the match"] * 2)
-        return wrong + differ([lines[1].partition(",")[0] for lines in answers], ["cycle 200"] * 3 + ["cycle 0"] * 2)
+        wrong += differ([lines[1].partition(",")[0] for lines in answers], ["cycle 200"] * 3 + ["cycle 0"] * 2)
+        return wrong + differ(self._last(["s", "rs"], "-l200", "deep.r")[0].partition(",")[0], "cycle 0")
 
     def a_death(self) -> list[str]:
         """Its shots burst at its feet at each update from cycle 15 on. It is dead after cycle 90, and the match is over."""

@@ -2,6 +2,7 @@
 
 from __future__ import annotations
 
+import itertools
 import os
 import shutil
 import signal
@@ -18,6 +19,7 @@ from stepping.screens import screen, width  # noqa: E402
 from stepping.sources import Source  # noqa: E402
 
 SECONDS = 30
+NUMBERS = itertools.count()
 
 
 class Made:
@@ -87,7 +89,7 @@ class Terminals(Base):
         wrong = tmux.lacks("cycle 0, main, line 3", "(step)", "3    n = down(2);", "help lists the commands")
         wrong += tmux.typed("step", "cycle 3, down, line 9", "#1  main, line 3", "n = 2", "variables of down")
         wrong += tmux.typed("", "down, line 10", "> 10")
-        wrong += tmux.typed("b 11", "breakpoint 1: line 11") + tmux.typed("c", "down, line 11", ">*11", "#3  main, line 3")
+        wrong += tmux.typed("b 11", "breakpoint 1: line 11") + tmux.typed("c", "down, line 11", ">*11", "#1  down, line 10")
         tmux.send("frog")
         tmux.send("BSpace", "BSpace", "BSpace", "BSpace", "Up", "Up")
         wrong += tmux.lacks("(step) b 11")
@@ -138,7 +140,8 @@ class Tmux:
     """A session in a terminal of this size."""
 
     def __init__(self, folder: str, environment: dict[str, str], columns: int, rows: int) -> None:
-        self._socket = os.path.join(folder, "tmux")
+        # a server that was told to end may not have ended yet
+        self._socket = os.path.join(folder, f"tmux{next(NUMBERS)}")
         self._environment = environment
         line = f"trap : INT; '{SCRIPT}' -l9000 deep.r '{ROBOTS}/runner.r'; echo status $?; exec sleep {SECONDS * 4}"
         self._tmux("-f", "/dev/null", "new-session", "-d", "-x", str(columns), "-y", str(rows), "-c", folder, f"exec sh -c {quoted(line)}")
