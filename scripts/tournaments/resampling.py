@@ -55,7 +55,7 @@ class Whole:
         self._chances = half(chances)
         self._bends = half([tuple([chance * (1 - chance) for chance in row]) for row in chances])
         self._ties = [1 / (1 + math.exp(-it)) for it in self.strengths]
-        self._as_one = [as_one(row, *it) for row, *it in zip(rows, chances, self._bends.rows, self._ties)]
+        self._as_one = [as_one(*it) for it in zip(rows, chances, self._bends.rows, self._ties)]
 
     def is_firm(self) -> bool:
         """Reports whether the first steps of a round tell what is left: there are many robots, whose strengths are known well."""
@@ -99,7 +99,7 @@ class Whole:
 
 def as_one(row: Sequence[int], chances: Sequence[float], bends: Sequence[float], tie: float) -> float:
     """A robot's chance against the one opponent that bends its slope as all of them do: the mean chance by their bends."""
-    every = [*map(mul, row, bends), tie * (1 - tie)]
+    every: list[float] = [*map(mul, row, bends), tie * (1 - tie)]
     return product(every, [*chances, tie]) / sum(every)
 
 
