@@ -43,7 +43,8 @@ def compared(trace: str, both: list[Version]) -> Comparison:
     """Plays the match with both versions side by side, until they ask something else."""
     with ExitStack() as playing:
         new, old = (questions(playing.enter_context(traces.lines(trace, ["--asks", *it.match]))) for it in both)
-        return comparison(new, old)
+        found = comparison(new, old)
+    return found
 
 
 def moment_of(trace: str, version: Version, cycle: int) -> Moment:
