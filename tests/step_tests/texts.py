@@ -73,13 +73,13 @@ class Texts(Base):
 
     def command_lines_for_this_moment(self) -> list[str]:
         """That of `trace` says the same cycle and line; that of `replay` makes a page."""
-        stop, traced, replayed = self._answers(["goto 3000", "trace", "replay"], *MATCH)[1:]
+        stop, traced, replayed = self._answers(["goto 1500", "trace", "replay"], *MATCH)[1:]
         rows = self._shell(traced[0], "crobots-trace", self._programs["crobots-trace"]).splitlines()
         found = {row.split("\t")[0]: row.split("\t") for row in rows}
         wrong = differ(stop[0].split(", ")[:3], [f"cycle {found['cycle'][1]}", found["at"][4], f"line {found['at'][2]}"])
         self._shell(replayed[0], "crobots-replay", str(TOP / "scripts" / "replay"))
         wrong += [] if Path(self._folder, "match.html").stat().st_size > 1000 else ["no page"]
-        return wrong + differ(replayed[1], "then open match.html#3000")
+        return wrong + differ(replayed[1], "then open match.html#1500")
 
     def _shell(self, line: str, name: str, path: str) -> str:
         """Runs a command line."""
