@@ -93,7 +93,7 @@ class Signals(Base):
     def a_signal_while_children_rate(self) -> list[str]:
         """Three children, each of which says that it is there and waits; the signal comes to them too, or to their parent alone."""
         slow = ("import os, time\nprocessors, WORTH = lambda: 3, 1\n"
-                "Round.begin = lambda _: (os.write(1, b'child'), time.sleep(60))\n")
+                "Round.begin = lambda _: (os.write(1, b'child'), time.sleep(600))\n")
         for package in ("tournaments", "sites", "replays"):
             shutil.copytree(os.path.join(SCRIPTS, package), self._at(f"rating/{package}"))
         shutil.copy(os.path.join(SCRIPTS, "tournament"), self._at("rating/tournament"))
@@ -108,7 +108,7 @@ class Signals(Base):
             assert child.stdout
             begun = child.stdout.read(15)
             send(child.pid, number)
-            text, faults = child.communicate(timeout=20)
+            text, faults = child.communicate(timeout=120)
             left = [it for it in os.listdir("/proc") if it.isdigit() and session_of(it) == child.pid]
             got = (child.returncode, begun, text, faults, left)
             wanted = (128 + number, "child" * 3, "", "tournament: stopped while records were merged\n", [])
