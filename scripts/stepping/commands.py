@@ -80,7 +80,7 @@ def reasons(session: Session, found: Found) -> list[str]:
 
 def happening(session: Session, mark: Mark) -> str:
     """What a mark found, if its text doesn't say it."""
-    before, now = session.before, session.moment
+    before, now = session.before(), session.moment
     if mark.is_watch():
         return f" from {before.value(mark.text)} to {now.value(mark.text)}"
     if mark.text == "hit":

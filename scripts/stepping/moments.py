@@ -75,6 +75,10 @@ class Moment:
         """The variables of the innermost call."""
         return self.calls[0].variables if self.calls else {}
 
+    def is_blank(self) -> bool:
+        """Whether the robot may have just restarted: main alone is open, and all is 0."""
+        return len(self.calls) == 1 and not any(self.stack) and not any(self.externals.values())
+
     def frames(self) -> int:
         """How many frames are open with the innermost call."""
         return self.calls[0].frames if self.calls else 1

@@ -35,7 +35,8 @@ class Session:
         self.robot = asked.number()
         self.marks = Marks()
         self._debugger = debugger
-        self.moment = self.before = debugger.moment(0)
+        self.moment = debugger.moment(0)
+        self._before: Moment | None = None
         self.source = Source(asked.file())
 
     def check(self, event: str) -> None:
@@ -43,13 +44,19 @@ class Session:
         self._debugger.check(event)
 
     def go(self, cycle: int) -> None:
-        """Looks at the robot after another cycle, and a cycle before it."""
+        """Looks at the robot after another cycle."""
         self.moment = self._debugger.moment(cycle)
-        self.before = self._debugger.moment(max(self.moment.cycle - 1, 0))
+        self._before = None
+
+    def before(self) -> Moment:
+        """The moment a cycle earlier, which is asked for only if it is wanted."""
+        if not self._before:
+            self._before = self._debugger.moment(max(self.moment.cycle - 1, 0))
+        return self._before
 
     def restarted(self) -> str:
         """Why the robot restarted in this cycle, if it did."""
-        return self.before.restarts if self.before.cycle < self.moment.cycle else ""
+        return self.before().restarts if self.moment.cycle and self.moment.is_blank() else ""
 
     def find(self, way: str, events: list[str]) -> Found | None:
         """The first cycle on a way in which one of the events happens."""
