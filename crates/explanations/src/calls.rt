@@ -10,6 +10,15 @@ use tokens::Name;
 /// How far a shot flies at most, in metres.
 const MOST_RANGE: i32 = 700;
 
+/// The greatest speed that `drive` takes, in percent.
+const MOST_SPEED: i32 = 100;
+
+/// The greatest resolution of a scan, in degrees.
+const MOST_RESOLUTION: i32 = 10;
+
+/// The degrees of a whole circle.
+const CIRCLE: i32 = 360;
+
 /// Warns of the call of a node's index, which has `count` arguments.
 pub fn warn_of_call(
     out: &mut Warnings,
@@ -125,9 +134,9 @@ fn may_be_swapped(intrinsic: Intrinsic, values: (Option<i32>, Option<i32>)) -> b
         return false;
     };
     match intrinsic {
-        Intrinsic::Cannon => first >= 360 && first <= MOST_RANGE && second < 360,
-        Intrinsic::Drive => first <= 100 && second > 100,
-        Intrinsic::Scan => first <= 10 && second > 10,
+        Intrinsic::Cannon => first >= CIRCLE && first <= MOST_RANGE && second < CIRCLE,
+        Intrinsic::Drive => first <= MOST_SPEED && second > MOST_SPEED,
+        Intrinsic::Scan => first <= MOST_RESOLUTION && second > MOST_RESOLUTION,
         Intrinsic::Damage
         | Intrinsic::Speed
         | Intrinsic::LocX
