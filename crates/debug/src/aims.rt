@@ -3,10 +3,11 @@
 use crate::places::{entries, instructions, of_function};
 use crate::refusals::Refusal;
 use crate::sessions::Session;
-use crate::variables::{Variable, named};
+use crate::variables::named;
 use code::Intrinsic;
 use grammar::Var;
 use moments::Sought;
+use notes::Variable;
 use settings::value_number;
 use std::alloc::Global;
 
@@ -139,7 +140,7 @@ fn number<'a>(word: &'a str) -> Result<i32, Refusal<'a>> {
 /// Reads the variable that is to change.
 fn change<'a>(alloc: Global, session: &Session<'_>, words: &[&'a str]) -> Result<Aim, Refusal<'a>> {
     match words {
-        [name] => match named(&session.noted.note.names, name)? {
+        [name] => match named(alloc, &session.noted.note.names, name)? {
             Variable::External(number) => Ok(Aim::Change(number)),
             Variable::Local(function, number) => Ok(Aim::LocalChange(
                 of_function(alloc, session.noted.program, function)?,
@@ -153,7 +154,10 @@ fn change<'a>(alloc: Global, session: &Session<'_>, words: &[&'a str]) -> Result
 /// Reads the variable that is to have a value, and the value.
 fn value<'a>(alloc: Global, session: &Session<'_>, words: &[&'a str]) -> Result<Aim, Refusal<'a>> {
     match words {
-        [name, value] => match (named(&session.noted.note.names, name)?, number(value)?) {
+        [name, value] => match (
+            named(alloc, &session.noted.note.names, name)?,
+            number(value)?,
+        ) {
             (Variable::External(number), value) => Ok(Aim::Value(number, value)),
             (Variable::Local(function, number), value) => Ok(Aim::LocalValue(
                 of_function(alloc, session.noted.program, function)?,

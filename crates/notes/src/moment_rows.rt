@@ -91,7 +91,7 @@ fn add_next(text: &mut Draft, noted: &NotedProgram<'_>, address: usize) -> Resul
 }
 
 /// Returns the name in an instruction, the empty text if it has none.
-fn name_in<'a>(noted: &NotedProgram<'a>, address: usize) -> &'a str {
+pub fn name_in<'a>(noted: &NotedProgram<'a>, address: usize) -> &'a str {
     match noted.program.instructions().get(address) {
         Some(Instr::Fetch(variable) | Instr::Store(variable, _)) => {
             variable_name(noted, address, *variable)

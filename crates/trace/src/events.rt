@@ -2,11 +2,12 @@
 
 ghost use Rattle.std.specs.Prelude.{◌<◌, length};
 
+use crate::aims::{Aims, Miss};
 use crate::requests::Request;
 use crate::rows::Rows;
 use crate::tellers::Teller;
 use arena::{Arena, MOST_ROBOTS};
-use code::Cause;
+use code::{Cause, Intrinsic};
 use findings::{Event, Field, Listener, Seen, Stance};
 use notes::{Note, note_of, place_of};
 use playing::{Exchange, Pilot, Turn, Watcher, word_of};
@@ -22,6 +23,7 @@ pub struct Events<'a> {
     notes: &'a [Note],
     is_film: bool,
     seen: [Seen; MOST_ROBOTS],
+    aims: Aims,
     robots: usize,
 }
 
@@ -33,6 +35,7 @@ impl<'a> Events<'a> {
             notes,
             is_film: request.is_film(),
             seen: [Seen::default(); MOST_ROBOTS],
+            aims: Aims::new(),
             robots: 0,
         }
     }
@@ -91,6 +94,13 @@ impl<'a> Events<'a> {
         }
     }
 
+    /// Writes by how much the bursts of an update missed.
+    fn tell_misses(&mut self, cycle: u32, arena: &Arena) {
+        for miss in &self.aims.misses(arena) {
+            self.tell(cycle, miss.robot, &event_of(miss));
+        }
+    }
+
     /// Writes where the robots' ways end, and their damages after the last cycle of the match. Those of a film that
     /// ends before it are another kind.
     fn end(&mut self, cycle: u32) {
@@ -138,6 +148,25 @@ impl Watcher for Events<'_> {
         self.look(0, arena);
     }
 
+    fn asked(&mut self, turn: Turn, _: &Pilot<'_>, question: Exchange, arena: &Arena) {
+        self.aims.hear(turn, &question, arena);
+        match question.intrinsic {
+            Intrinsic::Cannon => self.shot(turn, question, arena),
+            Intrinsic::Scan => self.scanned(turn, question),
+            Intrinsic::Drive
+            | Intrinsic::Damage
+            | Intrinsic::Speed
+            | Intrinsic::LocX
+            | Intrinsic::LocY
+            | Intrinsic::Rand
+            | Intrinsic::Sqrt
+            | Intrinsic::Sin
+            | Intrinsic::Cos
+            | Intrinsic::Tan
+            | Intrinsic::Atan => {}
+        }
+    }
+
     fn shot(&mut self, turn: Turn, question: Exchange, arena: &Arena) {
         let [degree, range] = question.arguments;
         let event = if question.reply == 0 {
@@ -172,10 +201,14 @@ impl Watcher for Events<'_> {
     }
 
     fn updates(&mut self, cycle: u32, arena: &Arena) {
+        self.aims.choose(arena);
         self.tell_update(cycle, arena);
     }
 
     fn updated(&mut self, cycle: u32, arena: &Arena) {
+        if !self.is_film {
+            self.tell_misses(cycle, arena);
+        }
         self.look(cycle, arena);
     }
 
@@ -189,4 +222,15 @@ impl Teller for Events<'_> {
         self.end(cycles);
         self.rows.finish()
     }
+}
+
+/// Makes the event that a burst missed: its target, how far, how much too far and to the left, and the age of the scan.
+fn event_of(miss: &Miss) -> Event<'static> {
+    let target = (miss.target.min(MOST_ROBOTS) as i32).saturating_add(1);
+    let numbers = [target, miss.distance as i32, miss.far, miss.left];
+    let mut event = Event::of_numbers("miss", &numbers);
+    if let Some(age) = miss.age {
+        let _ = event.fields.try_push(Field::Number(i64::from(age)));
+    }
+    event
 }

@@ -31,7 +31,7 @@ pub fn add_streak(text: &mut Draft, subject: &Subject<'_>) -> Result<(), AllocEr
     if streak.count == 1 || cycles < tally.cycles() / TOLD_PART {
         return Ok(());
     }
-    let mut items = Items::new("in a row", text);
+    let mut items = Items::new("in a row", text, subject.columns);
     add_place(items.begin(), &streak, subject);
     add_span(items.begin(), streak.first.cycle, streak.last);
     add_replies(items.begin(), "reply ", Some([streak.least, streak.most]));
@@ -59,9 +59,9 @@ fn add_span(text: &mut Draft, first: u32, last: u32) {
 }
 
 /// Adds a robot's calls of intrinsic functions.
-pub fn add_calls(text: &mut Draft, tally: &RobotCounts) -> Result<(), AllocError> {
-    let mut items = Items::new("calls", text);
-    for calls in tally.calls.iter() {
+pub fn add_calls(text: &mut Draft, subject: &Subject<'_>) -> Result<(), AllocError> {
+    let mut items = Items::new("calls", text, subject.columns);
+    for calls in subject.tally.calls.iter() {
         if let Some(intrinsic) = calls.intrinsic {
             let item = items.begin();
             item.number(calls.all);

@@ -3,9 +3,6 @@
 use std::alloc::AllocError;
 use tools::{Draft, Text, add_left};
 
-/// The most characters of a line.
-pub const MOST_COLUMNS: usize = 80;
-
 /// How many characters a line has before its items.
 const INDENT: usize = 14;
 
@@ -16,15 +13,19 @@ const NEXT_LINE: &str = "\n              ";
 #[derive(Drop)]
 pub struct Items {
     label: &'static str,
+    /// The most characters of a line.
+    columns: usize,
     /// All items, each but the last with its comma and a line end.
     all: Draft,
 }
 
 impl Items {
-    /// Makes the items of a line with this label, without any so far. The line belongs to a report.
-    pub fn new(label: &'static str, report: &Draft) -> Items {
+    /// Makes the items of a line with this label, without any so far. The line belongs to a report, whose lines have at
+    /// most so many characters.
+    pub fn new(label: &'static str, report: &Draft, columns: usize) -> Items {
         Items {
             label,
+            columns,
             all: Draft::new(report.alloc()),
         }
     }
@@ -48,30 +49,31 @@ impl Items {
         add_left(report, self.label, 11);
         let mut column = INDENT;
         for item in all.as_str().split('\n') {
-            column = add_item(report, item, column);
+            column = add_item(report, item, column, self.columns);
         }
         report.add("\n");
         Ok(())
     }
 }
 
-/// Adds an item after this column. One that is too long for any line is cut at its blanks. Returns the column after it.
-fn add_item(report: &mut Draft, item: &str, column: usize) -> usize {
-    if item.chars().count() <= MOST_COLUMNS - INDENT {
-        return add_piece(report, item, column);
+/// Adds an item after this column, in lines of so many columns. One that is too long for any line is cut at its blanks.
+/// Returns the column after it.
+fn add_item(report: &mut Draft, item: &str, column: usize, columns: usize) -> usize {
+    if item.chars().count() <= columns.saturating_sub(INDENT) {
+        return add_piece(report, item, column, columns);
     }
     let mut after = column;
     for word in item.split(' ') {
-        after = add_piece(report, word, after);
+        after = add_piece(report, word, after, columns);
     }
     after
 }
 
 /// Adds a piece after a blank, or in the next line if this one has no room for it. Returns the column after it.
-fn add_piece(report: &mut Draft, piece: &str, column: usize) -> usize {
+fn add_piece(report: &mut Draft, piece: &str, column: usize, columns: usize) -> usize {
     let width = piece.chars().count();
     let after = column.saturating_add(1).saturating_add(width);
-    if column != INDENT && after <= MOST_COLUMNS {
+    if column != INDENT && after <= columns {
         report.add(" ");
         report.add(piece);
         return after;

@@ -1,14 +1,17 @@
-//! Plays one match, and tells what happened in it: sums, events, questions, steps, or a film.
+//! Plays one match, and tells what happened in it: sums, events, questions, steps, a film, a moment, or changes of
+//! variables.
 #![tactic(auto)]
 
 ghost use Rattle.std.specs.Prelude.{◌≤◌, length};
 
+mod aims;
 mod asks;
 mod clocks;
 mod events;
 mod habits;
 mod items;
 mod measured;
+mod misses;
 mod reports;
 mod requests;
 mod restarts;
@@ -20,6 +23,7 @@ mod sums;
 mod tallies;
 mod tellers;
 mod turns;
+mod watches;
 
 use crate::events::Events;
 use crate::requests::{FORM_OPTIONS, Form, Request};
@@ -27,6 +31,7 @@ use crate::stands::tell_moments;
 use crate::sums::Sums;
 use crate::tellers::tell;
 use crate::turns::Turns;
+use crate::watches::tell_changes;
 use arena::MOST_ROBOTS;
 use notes::{Note, compiled};
 use playing::{Pilot, pilots};
@@ -37,7 +42,7 @@ use tools::{Fault, MATCH_OPTIONS, Options, ProgramFrame, SPAN_OPTIONS, Work};
 const FRAME: ProgramFrame = ProgramFrame {
     name: "crobots-trace",
     about: "Plays one match, and reports what each robot did and suffered.",
-    usage: "[-kMATCH] [-lCYCLES] [-sSEED] [-pPROFILE] [--robot N] [--from CYCLE] [--to CYCLE] [--sum | --events | --asks | --steps | --film | --at CYCLE] FILE..",
+    usage: "[-kMATCH] [-lCYCLES] [-sSEED] [-pPROFILE] [--robot N] [--from CYCLE] [--to CYCLE] [--columns N] [--sum | --events | --asks | --steps | --film | --at CYCLE | --watch NAMES] FILE..",
     known: &[&MATCH_OPTIONS, &SPAN_OPTIONS, &FORM_OPTIONS],
 };
 
@@ -79,5 +84,6 @@ fn told(
         Form::Events | Form::Film => tell(Events::new(rt, request, notes), request, pilots),
         Form::Asks | Form::Steps => tell(Turns::new(rt, request, notes), request, pilots),
         Form::At => tell_moments(rt, request, notes, pilots, request.at),
+        Form::Watch => tell_changes(rt, request, notes, pilots),
     }
 }

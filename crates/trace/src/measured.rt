@@ -2,7 +2,6 @@
 
 use crate::clocks::Taken;
 use crate::habits::add_count;
-use crate::items::MOST_COLUMNS;
 use crate::subjects::Subject;
 use cycles::Span;
 use facts::{Facts, Part, add_span};
@@ -56,7 +55,7 @@ fn add_row(
     row.add(what);
     row.add(subject.note.function_name(usize::from(part.number)));
     let row = row.finish()?;
-    for character in row.chars().take(MOST_COLUMNS - 1) {
+    for character in row.chars().take(subject.columns.saturating_sub(1)) {
         rows.push(character);
     }
     rows.add("\n");

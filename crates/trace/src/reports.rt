@@ -1,8 +1,9 @@
 //! The report of a match's sums.
 
 use crate::habits::{add_calls, add_directions, add_streak};
-use crate::items::{Items, MOST_COLUMNS};
+use crate::items::Items;
 use crate::measured::add_measured;
+use crate::misses::add_misses;
 use crate::requests::Request;
 use crate::restarts::add_restarts;
 use crate::subjects::Subject;
@@ -47,6 +48,7 @@ pub fn add_report(
                 tally,
                 note,
                 program,
+                columns: request.columns,
             };
             add_robot(text, robot, &subject)?;
         }
@@ -81,16 +83,17 @@ fn add_end(text: &mut Draft, robot: usize, tally: &RobotCounts, name: &str) {
 fn add_robot(text: &mut Draft, robot: usize, subject: &Subject<'_>) -> Result<(), AllocError> {
     let tally = subject.tally;
     add_name(text, robot, subject);
-    add_losses(text, robot, tally)?;
-    add_taken(text, tally)?;
-    add_shots(text, tally)?;
+    add_losses(text, robot, subject)?;
+    add_taken(text, subject)?;
+    add_shots(text, subject)?;
+    add_misses(text, &tally.misses);
     add_restarts(text, subject)?;
     add_streak(text, subject)?;
-    add_time(text, tally)?;
-    add_calls(text, tally)?;
+    add_time(text, subject)?;
+    add_calls(text, subject)?;
     add_directions(text, tally);
     add_functions(text, subject)?;
-    add_lines(text, tally, subject.note)?;
+    add_lines(text, subject)?;
     add_measured(text, subject)
 }
 
@@ -108,8 +111,9 @@ fn add_name(text: &mut Draft, robot: usize, subject: &Subject<'_>) {
 }
 
 /// Adds what was taken from a robot, and by what.
-fn add_losses(text: &mut Draft, robot: usize, tally: &RobotCounts) -> Result<(), AllocError> {
-    let mut items = Items::new("lost", text);
+fn add_losses(text: &mut Draft, robot: usize, subject: &Subject<'_>) -> Result<(), AllocError> {
+    let tally = subject.tally;
+    let mut items = Items::new("lost", text, subject.columns);
     for (by, percent) in tally.shots.iter().enumerate() {
         if by == robot {
             add_share(&mut items, *percent, "% by its own shots");
@@ -133,9 +137,9 @@ fn add_share(items: &mut Items, percent: u64, how: &str) {
 }
 
 /// Adds what a robot's shots took from others.
-fn add_taken(text: &mut Draft, tally: &RobotCounts) -> Result<(), AllocError> {
-    let mut items = Items::new("took", text);
-    for (from, percent) in tally.taken.iter().enumerate() {
+fn add_taken(text: &mut Draft, subject: &Subject<'_>) -> Result<(), AllocError> {
+    let mut items = Items::new("took", text, subject.columns);
+    for (from, percent) in subject.tally.taken.iter().enumerate() {
         if *percent > 0 {
             let item = items.begin();
             item.number(*percent);
@@ -147,8 +151,9 @@ fn add_taken(text: &mut Draft, tally: &RobotCounts) -> Result<(), AllocError> {
 }
 
 /// Adds a robot's shots.
-fn add_shots(text: &mut Draft, tally: &RobotCounts) -> Result<(), AllocError> {
-    let mut items = Items::new("shots", text);
+fn add_shots(text: &mut Draft, subject: &Subject<'_>) -> Result<(), AllocError> {
+    let tally = subject.tally;
+    let mut items = Items::new("shots", text, subject.columns);
     let calls = tally.calls_of(Intrinsic::Cannon);
     if calls.all > 0 {
         add_part(&mut items, calls.all.saturating_sub(calls.zero), " fired");
@@ -167,15 +172,15 @@ fn add_part(items: &mut Items, count: u64, what: &str) {
 }
 
 /// Adds what a robot's cycles were for.
-fn add_time(text: &mut Draft, tally: &RobotCounts) -> Result<(), AllocError> {
-    let shares = &tally.shares;
-    let all = tally.cycles();
+fn add_time(text: &mut Draft, subject: &Subject<'_>) -> Result<(), AllocError> {
+    let shares = &subject.tally.shares;
+    let all = subject.tally.cycles();
     let others = [
         (shares.scanning, "% to scan"),
         (shares.shooting, "% to shoot"),
         (shares.sums.saturating_add(shares.open_cycles), "% else"),
     ];
-    let mut items = Items::new("time", text);
+    let mut items = Items::new("time", text, subject.columns);
     let item = items.begin();
     item.number(all);
     item.add(" cycles: ");
@@ -189,7 +194,7 @@ fn add_time(text: &mut Draft, tally: &RobotCounts) -> Result<(), AllocError> {
 
 /// Adds the cycles of each function, and their share in all of the robot's.
 fn add_functions(text: &mut Draft, subject: &Subject<'_>) -> Result<(), AllocError> {
-    let mut items = Items::new("functions", text);
+    let mut items = Items::new("functions", text, subject.columns);
     let mut counts = cycles_by_function(text.alloc(), subject)?;
     let all = subject.tally.cycles();
     for _ in subject.program.addresses() {
@@ -224,7 +229,8 @@ fn cycles_by_function(alloc: Global, subject: &Subject<'_>) -> Result<Vec<u64>, 
 }
 
 /// Adds the lines that took most cycles.
-fn add_lines(text: &mut Draft, tally: &RobotCounts, note: &Note) -> Result<(), AllocError> {
+fn add_lines(text: &mut Draft, subject: &Subject<'_>) -> Result<(), AllocError> {
+    let (tally, note) = (subject.tally, subject.note);
     let (lines, mut counts) = cycles_by_line(text.alloc(), tally, note)?;
     let all = tally.cycles();
     text.add("   line      cycles    %  text\n");
@@ -237,7 +243,7 @@ fn add_lines(text: &mut Draft, tally: &RobotCounts, note: &Note) -> Result<(), A
         add_right(text, cycles, 12);
         add_right(text, percent(cycles, all), 5);
         text.add("  ");
-        add_source(text, note.text_of(line))?;
+        add_source(text, note.text_of(line), subject.columns)?;
     }
     Ok(())
 }
@@ -272,10 +278,14 @@ fn position(lines: &[u32], line: u32) -> usize {
     lines.len()
 }
 
-/// Adds the begin of a line of a source, without the blanks before it.
-fn add_source(text: &mut Draft, bytes: &[u8]) -> Result<(), AllocError> {
+/// Adds the begin of a line of a source, without the blanks before it, in a line of so many columns.
+fn add_source(text: &mut Draft, bytes: &[u8], columns: usize) -> Result<(), AllocError> {
     let line = plain(text.alloc(), bytes)?;
-    for c in line.trim().chars().take(MOST_COLUMNS - TEXT_COLUMN) {
+    for c in line
+        .trim()
+        .chars()
+        .take(columns.saturating_sub(TEXT_COLUMN))
+    {
         text.push(c);
     }
     text.add("\n");

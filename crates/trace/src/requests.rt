@@ -4,13 +4,23 @@ use settings::{MOST_CYCLES, Settings};
 use tools::{Fault, Known, Options, Span, number_of, wish};
 
 /// The options that a form is asked for by.
-pub const FORM_OPTIONS: [Known; 6] = [
+pub const FORM_OPTIONS: [Known; 8] = [
     Known::Flag("sum", "sums of each robot, which is the default"),
     Known::Flag("events", "a row for each event"),
     Known::Flag("asks", "a row for each call of an intrinsic function"),
     Known::Flag("steps", "a row for each cycle of a robot"),
     Known::Flag("film", "the events, and where the robots were and looked"),
     Known::Valued("at", "CYCLE", "where each robot is after this cycle"),
+    Known::Valued(
+        "watch",
+        "NAMES",
+        "a row for each change of these variables, as a,main.b",
+    ),
+    Known::Valued(
+        "columns",
+        "N",
+        "the most characters of a line of sums (default 80)",
+    ),
 ];
 
 /// In which form a match is told.
@@ -28,17 +38,25 @@ pub enum Form {
     Film,
     /// Where the robots are after a cycle.
     At,
+    /// The changes of variables.
+    Watch,
 }
 
 /// The forms by the names of their options.
-const FORMS: [(&str, Form); 6] = [
+const FORMS: [(&str, Form); 7] = [
     ("sum", Form::Sum),
     ("events", Form::Events),
     ("asks", Form::Asks),
     ("steps", Form::Steps),
     ("film", Form::Film),
     ("at", Form::At),
+    ("watch", Form::Watch),
 ];
+
+/// The fewest and the most characters that a line of sums may be given.
+const LEAST_COLUMNS: u64 = 80;
+
+const MOST_COLUMNS: u64 = 1000;
 
 /// What is asked for.
 #[derive(Drop)]
@@ -51,6 +69,10 @@ pub struct Request<'a> {
     pub span: Span,
     /// The cycle after which the robots are looked at, if that is the form.
     pub at: u32,
+    /// The names of the variables that are watched, with commas between them, if that is the form.
+    pub names: &'a str,
+    /// The most characters of a line of sums.
+    pub columns: usize,
 }
 
 impl<'a> Request<'a> {
@@ -60,11 +82,20 @@ impl<'a> Request<'a> {
         let form = options.only(&FORMS)?.unwrap_or(Form::Sum);
         let span = Span::read(options, wish.file_words().len().max(2))?;
         let at = number_of(options, "at", 0, u64::from(MOST_CYCLES), 0)? as u32;
+        let columns = number_of(
+            options,
+            "columns",
+            LEAST_COLUMNS,
+            MOST_COLUMNS,
+            LEAST_COLUMNS,
+        )?;
         Ok(Request {
             wish,
             form,
             span,
             at,
+            names: options.value("watch").unwrap_or(""),
+            columns: columns as usize,
         })
     }
 

@@ -52,7 +52,7 @@ fn calls_to(frames: &[Frame], back: u16) -> usize {
 /// Adds where and why a robot restarted, the most frequent places first. Those in one line of a function for one cause
 /// are one.
 pub fn add_restarts(text: &mut Draft, subject: &Subject<'_>) -> Result<(), AllocError> {
-    let mut items = Items::new("restarts", text);
+    let mut items = Items::new("restarts", text, subject.columns);
     let mut counts = restarts_by_place(text.alloc(), subject)?;
     for _ in 0..MOST_TOLD {
         let Some((address, count)) = take_largest(counts.as_mut_slice()) else {

@@ -1,28 +1,58 @@
 //! Steps: a row for each cycle, with the instruction and the stack before it.
 
 use crate::rows::add_turn;
-use notes::{add_instruction, add_words};
+use grammar::Name;
+use notes::{NotedProgram, add_instruction, add_words, name_in};
 use playing::{Pilot, Turn};
-use std::alloc::{AllocError, Global};
-use tools::{Draft, Text};
+use std::alloc::AllocError;
+use std::str;
+use tools::{Draft, Text, add_signed};
 
 /// The names of the columns.
-pub const STEP_COLUMNS: &str = "cycle\trobot\taddress\tinstruction\tstack";
+pub const STEP_COLUMNS: &str = "cycle\trobot\taddress\tinstruction\tstack\tline\tname\tchanged";
 
-/// Adds the row of a step. The only error is that memory is refused.
+/// Adds the row of a step: its instruction, the stack before it, its line, the name in it, and the externals that have
+/// other values than these. The only error is that memory is refused.
 pub fn add_step(
     text: &mut Draft,
-    alloc: Global,
     turn: Turn,
+    noted: &NotedProgram<'_>,
     pilot: &Pilot<'_>,
+    externals: &[i32],
 ) -> Result<(), AllocError> {
-    let address = pilot.machine().address();
+    let machine = pilot.machine();
+    let address = machine.address();
     add_turn(text, turn);
     text.number(address as u64);
     text.add("\t");
-    add_instruction(text, alloc, pilot.program(), address)?;
+    add_instruction(text, text.alloc(), noted.program, address)?;
     text.add("\t");
-    add_words(text, pilot.machine().words());
+    add_words(text, machine.words());
+    text.add("\t");
+    text.number(u64::from(noted.note.line(address)));
+    text.add("\t");
+    text.add(name_in(noted, address));
+    text.add("\t");
+    add_changes(
+        text,
+        noted.note.names.externals(),
+        externals,
+        machine.externals(),
+    );
     text.add("\n");
     Ok(())
+}
+
+/// Adds the names of externals whose values changed, each with its new value.
+fn add_changes(text: &mut Draft, names: &[Name], before: &[i32], after: &[i32]) {
+    let mut gap = "";
+    for ((name, old), new) in names.iter().zip(before).zip(after) {
+        if new != old {
+            text.add(gap);
+            text.add(str::from_utf8(name.as_bytes()).unwrap_or("?"));
+            text.add("=");
+            add_signed(text, i64::from(*new));
+            gap = " ";
+        }
+    }
 }

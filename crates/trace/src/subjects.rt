@@ -14,6 +14,8 @@ pub struct Subject<'a> {
     pub note: &'a Note,
     /// Its program.
     pub program: &'a Program,
+    /// The most characters of a line.
+    pub columns: usize,
 }
 
 impl<'a> Subject<'a> {

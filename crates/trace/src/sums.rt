@@ -2,6 +2,7 @@
 
 ghost use Rattle.std.specs.Prelude.{◌<◌, length};
 
+use crate::aims::Aims;
 use crate::reports::add_report;
 use crate::requests::Request;
 use crate::tallies::RobotCounts;
@@ -20,6 +21,7 @@ pub struct Sums<'a> {
     span: Span,
     notes: &'a [Note],
     tallies: Vec<RobotCounts>,
+    aims: Aims,
 }
 
 impl<'a> Sums<'a> {
@@ -42,6 +44,7 @@ impl<'a> Sums<'a> {
             span: request.span,
             notes,
             tallies,
+            aims: Aims::new(),
         })
     }
 
@@ -71,6 +74,15 @@ impl<'a> Sums<'a> {
         }
     }
 
+    /// Counts by how much the bursts of an update missed.
+    fn count_misses(&mut self, cycle: u32, arena: &Arena) {
+        for miss in &self.aims.misses(arena) {
+            if let Some(tally) = self.tally(cycle, miss.robot) {
+                tally.miss(miss);
+            }
+        }
+    }
+
     /// Counts the bursts of an update.
     fn count_bursts(&mut self, cycle: u32, arena: &Arena) {
         for burst in &arena.due() {
@@ -92,7 +104,8 @@ impl Watcher for Sums<'_> {
         }
     }
 
-    fn asked(&mut self, turn: Turn, pilot: &Pilot<'_>, question: Exchange, _arena: &Arena) {
+    fn asked(&mut self, turn: Turn, pilot: &Pilot<'_>, question: Exchange, arena: &Arena) {
+        self.aims.hear(turn, &question, arena);
         if let Some(tally) = self.tally(turn.cycle, turn.robot) {
             tally.ask(turn.cycle, pilot.machine().address(), &question);
         }
@@ -106,6 +119,7 @@ impl Watcher for Sums<'_> {
     }
 
     fn updates(&mut self, cycle: u32, arena: &Arena) {
+        self.aims.choose(arena);
         self.count_bursts(cycle, arena);
         for robot in 0..arena.robot_count() {
             self.count_losses(cycle, robot, arena);
@@ -113,6 +127,7 @@ impl Watcher for Sums<'_> {
     }
 
     fn updated(&mut self, cycle: u32, arena: &Arena) {
+        self.count_misses(cycle, arena);
         for robot in 0..arena.robot_count() {
             if let Some(tally) = self.tallies.get_mut(robot) {
                 tally.see(cycle, arena.damage(robot), arena.alive(robot));

@@ -1,7 +1,9 @@
 //! What is counted of a robot: the sums are made of that. Each cycle, call, restart, loss and burst is counted while
 //! the match is played.
 
+use crate::aims::Miss;
 use crate::clocks::Clock;
+use crate::misses::{MissCounts, Misses, count_miss};
 use crate::restarts::{Crowd, crowd_of};
 use arena::MOST_ROBOTS;
 use code::{Cause, Frame, Intrinsic, Program};
@@ -107,6 +109,8 @@ pub struct RobotCounts {
     pub bursts: u64,
     /// How many of these hurt another robot.
     pub hits: u64,
+    /// By how much these missed whom they were aimed at.
+    pub misses: Misses,
     /// What walls took from it, in percent.
     pub walls: u64,
     /// What collisions took from it, in percent.
@@ -138,6 +142,7 @@ impl RobotCounts {
             longest: None,
             bursts: 0,
             hits: 0,
+            misses: [MissCounts::default(); 4],
             walls: 0,
             collisions: 0,
             shots: [0; MOST_ROBOTS],
@@ -217,6 +222,11 @@ impl RobotCounts {
         if is_hit {
             self.hits = self.hits.saturating_add(1);
         }
+    }
+
+    /// Counts by how much a shot of the robot missed.
+    pub fn miss(&mut self, miss: &Miss) {
+        count_miss(&mut self.misses, miss);
     }
 
     /// Counts what the robot's shots take from another one.

@@ -5,19 +5,21 @@ use crate::requests::{Form, Request};
 use crate::rows::Rows;
 use crate::steps::{STEP_COLUMNS, add_step};
 use crate::tellers::Teller;
-use arena::Arena;
-use notes::Note;
+use arena::{Arena, MOST_ROBOTS};
+use code::Machine;
+use grammar::MOST_NAMES;
+use notes::{Note, NotedProgram, note_of};
 use playing::{Exchange, Pilot, Turn, Watcher};
-use std::alloc::Global;
 use tools::Fault;
 
 /// What writes questions as they are asked, or steps before they are done.
 #[derive(Drop)]
 pub struct Turns<'a> {
-    alloc: Global,
     rows: Rows<'a>,
     notes: &'a [Note],
     is_stepwise: bool,
+    /// The externals of each robot before its last step.
+    externals: [[i32; MOST_NAMES]; MOST_ROBOTS],
 }
 
 impl<'a> Turns<'a> {
@@ -30,21 +32,46 @@ impl<'a> Turns<'a> {
             ASK_COLUMNS
         };
         Turns {
-            alloc: rt.alloc(),
             rows: Rows::new(rt, request.span, columns),
             notes,
             is_stepwise,
+            externals: [[0; MOST_NAMES]; MOST_ROBOTS],
+        }
+    }
+
+    /// Adds the row of a step.
+    fn add_step(&mut self, turn: Turn, pilot: &Pilot<'_>) {
+        let notes = self.notes;
+        if let Some(note) = note_of(notes, turn.robot)
+            && let Some(externals) = self.externals.get(turn.robot)
+        {
+            let program = pilot.program();
+            let noted = NotedProgram { note, program };
+            let added = add_step(self.rows.text(), turn, &noted, pilot, externals);
+            self.rows.note(added);
+            self.rows.pass();
+        }
+    }
+
+    /// Keeps the externals of a robot.
+    fn keep(&mut self, robot: usize, machine: &Machine) {
+        if let Some(externals) = self.externals.get_mut(robot) {
+            for (kept, value) in externals.iter_mut().zip(machine.externals()) {
+                *kept = *value;
+            }
         }
     }
 }
 
 impl Watcher for Turns<'_> {
     fn turn(&mut self, turn: Turn, pilot: &Pilot<'_>) {
-        if self.is_stepwise && self.rows.span.has(turn.cycle, turn.robot) {
-            let added = add_step(self.rows.text(), self.alloc, turn, pilot);
-            self.rows.note(added);
-            self.rows.pass();
+        if !self.is_stepwise {
+            return;
         }
+        if self.rows.span.has(turn.cycle, turn.robot) {
+            self.add_step(turn, pilot);
+        }
+        self.keep(turn.robot, pilot.machine());
     }
 
     fn asked(&mut self, turn: Turn, pilot: &Pilot<'_>, question: Exchange, _arena: &Arena) {
