@@ -29,7 +29,7 @@ def columns() -> int:
 
 
 def side_by_side(head: Row, rows: list[Row], whole: int) -> str:
-    """The rows below their head, in so many columns of a terminal."""
+    """The rows below their head, in the `whole` columns of a terminal."""
     label = min(MOST_LABEL, max(width(row.label) for row in rows))
     cell = (whole - label - len("  ") - len(SAME)) // 2
     return lines_of(head, SAME, label, cell) + "".join(
@@ -46,12 +46,12 @@ def lines_of(row: Row, between: str, label: int, cell: int) -> str:
 
 
 def filled(text: str, most: int) -> str:
-    """A text with blanks behind it."""
+    """A text, filled up with blanks."""
     return text + " " * (most - width(text))
 
 
 def wrapped(text: str, most: int) -> list[str]:
-    """A text in lines of at most so many columns, which end at blanks where it has some."""
+    """A text in lines of at most `most` columns, which end at blanks where it has some."""
     found = []
     while width(text) > most:
         fits = next(at for at in range(min(len(text), most), 0, -1) if width(text[:at]) <= most)

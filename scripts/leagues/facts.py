@@ -19,7 +19,7 @@ from .seasons import Field, Season
 from .standings import Standing as LeagueStanding
 from .store import Store
 
-# So many of its last lost matches stand on a robot's page.
+# A robot's page has at most this number of its last lost matches.
 LOST = 5
 Lost = dict[str, list[tuple[str, Battle]]]
 

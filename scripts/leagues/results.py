@@ -62,7 +62,7 @@ class Results:
         return [number for number, in self._store.rows("SELECT number FROM battle WHERE seating = ?", seating)]
 
     def counts(self, look: int) -> dict[int, dict[int, Count]]:
-        """Of each seating of two robots what the first one did, in each part of so many matches."""
+        """Of each seating of two robots what the first one did, in each part of `look` matches."""
         query = (f"SELECT seating, (battle.number - 1) / {look}, count(*), sum(damage1 < {DEAD} AND damage2 = {DEAD}), "
                  f"sum(damage1 = {DEAD} AND damage2 < {DEAD}) {JOINED} AND damage3 IS NULL GROUP BY 1, 2")
         found: dict[int, dict[int, Count]] = {}

@@ -29,7 +29,7 @@ class Rules:
     tie: str = "1"
     # the weights of pairs, threes and fours, if all sizes are played
     weights: tuple[str, ...] = ()
-    # of one size only so many groups, if any
+    # how many groups of one size are played, if not all
     sample: int = 0
     # whom all others play in a gauntlet
     champion: str = ""

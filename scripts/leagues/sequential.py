@@ -15,7 +15,7 @@ is the likelihood ratio of Wald's sequential test of a chance p against 1/2, ave
 For one p a match multiplies the ratio by 1 + (2p - 1)(2x - 1). If m = 1/2, the means of both seatings are 1/2 + d and
 1/2 - d, so a match of each is expected to multiply it by (1 + a)(1 - a) <= 1. So after whole rounds of both seatings
 the ratios and their average are supermartingales, and by Ville's inequality `sides` ever comes to 1 / SHARE with a
-chance of at most SHARE. If m > 1/2 that holds of the average over p < 1/2 alone, which is at least as large as `sides`
+chance of at most SHARE. If m > 1/2 the same is true of the average over p < 1/2 alone, which is at least as large as `sides`
 when l > w. So SECOND is decided with a chance of at most SHARE then, and so is FIRST if m < 1/2.
 
 Even. For a bet b let each match multiply by
@@ -41,7 +41,7 @@ SHARE = ERROR / 2
 MARGIN = 0.1
 # Bets against a difference: small ones if nearly all matches are won or lost, large ones if nearly all are ties.
 BETS = (0.4, 1.0, 2.2)
-# A pair is looked at after so many matches, in both seatings alike, and after as many again.
+# A pair is judged after each LOOK matches, of which both seatings have equally many.
 LOOK = 10
 FIRST, SECOND, EVEN = "first", "second", "even"
 

@@ -18,7 +18,7 @@ Seat = tuple[Group, int, int]
 
 
 def sums(schedule: Schedule, results: Results, folder: str, many: int, jobs: int) -> dict[str, str]:
-    """Of each robot what the program says of so many of its matches; nothing if the program isn't there."""
+    """Of each robot what the program says of at most `many` of its matches; nothing if the program isn't there."""
     try:
         trace = program() if many else ""
     except faults.Fault:
@@ -40,7 +40,7 @@ def sums(schedule: Schedule, results: Results, folder: str, many: int, jobs: int
 
 
 def spread(them: Sequence[Seat], many: int) -> list[Seat]:
-    """So many of them, in equal distances."""
+    """At most `many` of them, in equal distances."""
     return [them[at * len(them) // many] for at in range(many)] if len(them) > many else [*them]
 
 

@@ -101,7 +101,7 @@ def unequal(season: Season, theirs: str, ours: str) -> Iterator[str]:
 
 
 def chosen(store: Store, count: int | None) -> list[Run]:
-    """So many matches, drawn by chance, or all, in runs of matches that follow each other."""
+    """This count of matches, drawn by chance, or all, in runs of matches that follow each other."""
     total = store.one("SELECT count(*) FROM battle")[0]
     places = None if count is None else {*random.SystemRandom().sample(range(total), min(count, total))}
     found: list[Run] = []

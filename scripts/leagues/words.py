@@ -194,9 +194,9 @@ class Words:
         it.add_argument("--title", metavar="TEXT", help="the site's title (default: the league's folder)")
         it.add_argument("--page", metavar="URL", default="", help="the page that plays battles in a browser")
         it.add_argument("--replays", metavar="N", type=within(0, 100_000), default=100,
-                        help="make so many new pages of matches, if crobots-trace is there (default 100)")
+                        help="make at most N new pages of matches, if crobots-trace is there (default 100)")
         it.add_argument("--sums", metavar="N", type=within(0, 1000), default=10,
-                        help="sum up so many matches of each robot, if crobots-trace is there (default 10)")
+                        help="sum up at most N matches of each robot, if crobots-trace is there (default 10)")
         of_jobs(it)
         of_day(it)
         it = self._command("verify", "replays matches of an archive, and compares")

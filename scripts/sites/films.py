@@ -48,7 +48,7 @@ def order(settings: Settings, battle: Battle, robots: Sequence[tuple[str, bytes]
 
 
 def made(orders: Mapping[str, Order], jobs: int) -> Iterator[tuple[str, bytes]]:
-    """The pages of these matches by their places, so many at a time. A match that can't be played has none."""
+    """The pages of these matches by their places, `jobs` of them at a time. A match that can't be played has none."""
     with ThreadPoolExecutor(jobs) as pool:
         for place, text in zip(orders, pool.map(film, orders.values())):
             if text:

@@ -12,7 +12,7 @@ from .numbers import percent
 from .shares import share
 from .tables import scrolling
 
-# From so many robots on the cells have no room for numbers.
+# From this number of robots on the cells have no room for numbers.
 DENSE = 25
 
 

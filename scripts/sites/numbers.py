@@ -16,7 +16,7 @@ def count(number: int) -> str:
 
 
 def counted(number: int, what: str) -> str:
-    """So many of something, as '1 match' or '2 matches'."""
+    """A number of something, as '1 match' or '2 matches'."""
     many = what if number == 1 else what + ("es" if what.endswith("ch") else "s")
     return f"{count(number)} {many}"
 

@@ -21,7 +21,7 @@ Content = Callable[[], bytes]
 
 
 def publish(facts: Facts, folder: str, replays: int = 0, jobs: int = 1) -> None:
-    """Writes the site of these facts into a folder, and at most so many new replays, if `crobots-trace` is there.
+    """Writes the site of these facts into a folder, and at most `replays` new replays, if `crobots-trace` is there.
 
     Replays that the folder has from before are kept. Raises Foreign if a file is in the way, and OSError."""
     lookup, site = Lookup(facts), Folder(folder)

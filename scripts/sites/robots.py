@@ -13,7 +13,7 @@ from .numbers import INTERVAL, count, counted, decimal, interval, percent
 from .shares import share
 from .tables import NUMBER, TEXT, Column, listed, scrolling, table
 
-# So many opponents are the best and the worst ones.
+# How many opponents are listed as the best, and how many as the worst.
 FEW = 5
 COLUMNS = [("Opponent", TEXT), ("Share", NUMBER), (INTERVAL, TEXT), ("Won", NUMBER), ("Tied", NUMBER),
            ("Lost", NUMBER), ("Results", TEXT), ("Pair", TEXT)]

@@ -18,7 +18,7 @@ from .facts import Battle, Facts, Program, Score, Seat, Settings, Standing, Vers
 from .facts import Robot as SiteRobot
 from .gathering import Gathering
 
-# So many lost matches stand on a robot's page.
+# A robot's page has at most this number of lost matches.
 LOST = 5
 
 

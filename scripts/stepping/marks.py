@@ -16,7 +16,7 @@ FORM = "the form is FUNCTION if reply > 0, with ==, !=, <, <=, > or >=, and && b
 
 @dataclass(frozen=True)
 class Mark:
-    """What is stopped at: its number, how it is told, and the events of which each is one."""
+    """What stops: its number, how it is named to the user, and the events of which each is one."""
 
     number: int
     kind: str

@@ -1,6 +1,6 @@
-"""What the screen shows: rows of pieces with styles, for so many columns and rows. A terminal only paints them.
+"""What the screen shows: rows of pieces with styles, for the columns and rows of a terminal, which only paints them.
 
-Above stands what is looked at; then the source, and beside it the calls, the variables and the last question, or below it
+Above stands which robot is stepped; then the source, and beside it the calls, the variables and the last question, or below it
 if there are few columns; then the field, what the last command said, and the prompt."""
 
 from __future__ import annotations
@@ -14,7 +14,7 @@ from .sessions import Session
 
 PLAIN, BOLD, REVERSE = "plain", "bold", "reverse"
 PROMPT = "(step) "
-# From so many columns on two panes stand side by side; the right one has at least and at most so many.
+# From WIDE columns on two panes stand side by side. The right one has LEAST_RIGHT to MOST_RIGHT columns.
 WIDE, LEAST_RIGHT, MOST_RIGHT = 60, 28, 60
 # How many lines what is said has at least, and how many calls are shown, however few rows there are.
 LEAST_SAID, LEAST_CALLS = 3, 3
@@ -43,7 +43,7 @@ def screen(session: Session, said: list[str], typed: str, columns: int, rows: in
 
 
 def wrapped(lines: list[str], columns: int) -> list[str]:
-    """Lines of at most so many columns: what follows a first part stands further right."""
+    """Lines of at most `columns` columns: what follows a first part stands further right."""
     indent = "  " if columns > 9 else ""
     return [part for line in lines for part in textwrap.wrap(line, max(1, columns), subsequent_indent=indent) or [""]]
 
@@ -54,7 +54,7 @@ def prompt(typed: str, columns: int) -> str:
 
 
 def title(session: Session) -> str:
-    """What is looked at, and where it is."""
+    """The robot that is stepped, and where it is."""
     return f"{telling.place(session.moment)}   {session.asked.file().rpartition('/')[2]} ({session.robot})"
 
 
@@ -99,7 +99,7 @@ def listed(head: str, lines: list[str]) -> list[Row]:
 
 
 def fitted_lines(lines: list[str], rows: int) -> list[str]:
-    """So many lines: blank ones follow if there are fewer, and the last one says it if there are more."""
+    """Exactly `rows` lines: blank ones follow if there are fewer, and the last one says it if there are more."""
     if len(lines) > rows:
         return [*lines[:rows - 1], f".. and {len(lines) - rows + 1} more"] if rows > 0 else []
     return lines + [""] * (rows - len(lines))

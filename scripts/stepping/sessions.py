@@ -1,4 +1,4 @@
-"""A session: the cycle at which the robot is looked at, the marks, and how it goes on from there.
+"""A session: a robot after a cycle, the marks, and how it goes on from there.
 
 Each move is one or several questions: a step to the next line that is entered, forwards or backwards, or to the first of the
 events that are marked."""
@@ -28,7 +28,7 @@ class Found:
 
 
 class Session:
-    """What is looked at: a robot of a match, after a cycle."""
+    """A robot of a match, after a cycle, and how to move to another cycle."""
 
     def __init__(self, debugger: Debugger, asked: Asked) -> None:
         self.asked = asked
@@ -44,7 +44,7 @@ class Session:
         self._debugger.check(event)
 
     def go(self, cycle: int) -> None:
-        """Looks at the robot after another cycle."""
+        """Moves to another cycle."""
         self.moment = self._debugger.moment(cycle)
         self._before = None
 

@@ -14,7 +14,7 @@ from .sessions import Session
 
 ENTER, ERASE = ("\n", "\r", curses.KEY_ENTER), ("\x7f", "\b", curses.KEY_BACKSPACE)
 CLEAR, END = "\x15", "\x04"
-# After so many faults in a row there is no terminal any more.
+# After this number of faults in a row there is no terminal any more.
 MOST_FAULTS = 100
 GREETING = ["help lists the commands; Enter alone repeats a move"]
 Key = str | int | None

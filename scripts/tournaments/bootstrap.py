@@ -54,7 +54,7 @@ def rounds(sums: Iterable[Packed], signed: bool = False) -> Iterator[list[int]]:
 
 
 def narrowed(it: Packed, size: int) -> bytes:
-    """A sum with so many bytes a round."""
+    """A sum with `size` bytes a round."""
     wide = it.to_bytes(BYTES * ROUNDS, sys.byteorder)
     begin = 0 if sys.byteorder == "little" else BYTES - size
     if size == 1:
@@ -77,7 +77,7 @@ def counts(sums: Sequence[Packed], rows: Iterable[Sequence[int]]) -> Iterator[li
 
 
 def split(packed: bytes, size: int) -> Iterator[Sequence[int]]:
-    """Of each round its numbers, of so many bytes each."""
+    """Of each round its numbers, of `size` bytes each."""
     if size == 1:
         return (packed[at::ROUNDS] for at in range(ROUNDS))
     parts = memoryview(packed).cast(FORMATS[size])

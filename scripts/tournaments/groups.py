@@ -44,7 +44,7 @@ def series_of(settings: Settings, keys: Sequence[str], group: Group) -> Iterator
 
 @lru_cache(1)
 def sample(seed: int, keys: tuple[str, ...], size: int, many: int) -> list[Group]:
-    """So many groups, those with the least numbers. A group's number depends on its robots and the seed alone."""
+    """The `many` groups with the least numbers. A group's number depends on its robots and the seed alone."""
     return sorted(group for _, group in heapq.nsmallest(many, numbered(seed, keys, size)))
 
 

@@ -8,7 +8,7 @@ from . import matrices
 from .matrices import product
 
 Point = list[float]
-# So many steps are mixed in. What is added to a product of one with itself lets them be alike.
+# How many of the last steps are mixed in; and what is added to each change's product with itself, so that steps may be alike.
 DEPTH, MORE = 2, 1e-9
 
 

@@ -65,7 +65,7 @@ class Plan:
 
 
 def cut(series: Series, most: int) -> Iterator[Series]:
-    """Cuts a series into some of at most so many matches."""
+    """Cuts a series into some of at most `most` matches."""
     for begin in range(series.first, series.last + 1, most):
         yield series._replace(first=begin, matches=min(most, series.last + 1 - begin))
 

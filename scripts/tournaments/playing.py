@@ -29,7 +29,7 @@ class Child:
 
 
 class Player:
-    """Plays series by children of one program, so many at a time, with the robots' copies in a folder."""
+    """Plays series by children of one program, `jobs` of them at a time, with the robots' copies in a folder."""
 
     def __init__(self, program: Program, jobs: int, folder: str) -> None:
         self._program = program
@@ -48,7 +48,7 @@ class Player:
                     ended = self._read(key.fd)
                     glance()
                     if ended:
-                        # the next series plays while this one is looked at
+                        # the next series plays while this one is read
                         self._start(left)
                         yield self._finished(*ended)
                         glance()

@@ -13,7 +13,7 @@ from .tallies import Tally
 
 SCALE = 400 / math.log(10)
 OUTSIDE = ROUNDS // 40
-# A process is worth its start if it has a step of rounds of so many pairs together.
+# A process is worth its start if its rounds have this number of pairs together.
 WORTH = 200_000
 Found = TypeVar("Found")
 
@@ -35,7 +35,7 @@ def ratings(tally: Tally, robots: int, anchor: int | None = None, processes: int
     """The ratings of the robots by their positions, with intervals from the bootstrap.
 
     With an anchor they say how far a robot is above the one with this position, whose own rating is 0 in all rounds. They are
-    worked out by so many processes, or by as many as there are processors and work for; all digits are the same."""
+    worked out by this number of processes, or by as many as there are processors and work for; all digits are the same."""
     whole = Whole(tally, robots)
     rounds = Rounds([*resampled(tally, whole)], len(tally.pairs), processes)
     left = rounds.begin(whole.is_firm())

@@ -16,7 +16,7 @@ TOTALS_ROW = rb"  %d\) won (\d+) tied (\d+) lost (\d+) [^\n]*\n"
 
 @functools.cache
 def patterns(robots: int) -> tuple[re.Pattern[bytes], re.Pattern[bytes]]:
-    """The patterns of a report and of the totals of so many robots."""
+    """The patterns of a report and of the totals of this number of robots."""
     places = range(1, robots + 1)
     return re.compile(HEAD + b"".join(ROW % at for at in places)), re.compile(TOTALS + b"".join(TOTALS_ROW % at for at in places))
 

@@ -26,18 +26,19 @@ from .mixing import Mixing
 from .strengths import EXACT, STEP_MAX, Matches, Opponents, length
 from .tallies import Tally
 
-# A round is fitted by its own curvature if a step isn't shorter than so much of the last one, or after so many steps.
+# A round is fitted by its own curvature if a step isn't shorter than SHORTER times the last one, or after STEPS steps.
 SHORTER, STEPS = 0.7, 20
-# What is left after a step is taken for so much of what a sequence leaves whose steps get shorter by the same factor.
+# What is left after a step is taken for SAFE times what a sequence leaves whose steps get shorter by the same factor, which is
+# taken for FASTEST at least.
 SAFE, FASTEST = 3.0, 0.1
-# So many rounds are fitted to the end, and so many times what was left there at most may be left of others.
+# SCOUTS rounds are fitted to the end, and SAFER times what was left there at most may be left of others.
 SCOUTS, SAFER = 8, 2.0
 # Of few robots, or of strengths that are known less well than with this deviation, what is left can't be told from the first
 # steps: a way on which steps hardly get shorter shows itself when the others are at their end.
 MANY, SHARP, FINE = 20, 0.2, 1e-6
-# So often the factors of all matches are applied to find the way on which strengths are known worst.
+# How often the factors of all matches are applied to find the way on which strengths are known worst.
 TURNS = 12
-# A robot alone goes no further than to odds of so much of what they were.
+# Both factors by which the odds of a robot alone change in a step are at least this.
 LEAST = 1 / 8
 
 

@@ -45,5 +45,5 @@ def drawn(seed: int, seated: Sequence[str]) -> int:
 
 
 def rounded(matches: int, size: int) -> int:
-    """So many matches, or as many more as it takes to play each seating equally often."""
+    """A number of matches, rounded up so that each seating is played equally often."""
     return -(-matches // size) * size

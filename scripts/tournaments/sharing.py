@@ -24,9 +24,9 @@ def processors() -> int:
 
 
 def shared(work: Callable[[Part], Answer], parts: Iterable[Part], processes: int) -> Generator[Answer, None, None]:
-    """What work makes of each part, in the order of the parts: by so many children, or here, if that is one.
+    """What work makes of each part, in the order of the parts: by this number of processes, or here, if that is one.
 
-    Each child goes through all parts itself, so an iterator must not have begun, and works out every so many-th of them. What
+    Each child goes through all parts itself, so an iterator must not have begun, and works out its share of them. What
     a child doesn't answer is worked out here. So nothing is lost if it dies, and what is wrong is raised here."""
     if processes < 2:
         yield from map(work, parts)

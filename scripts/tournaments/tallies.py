@@ -69,7 +69,7 @@ class Tally:
                 score.lost += matches
 
     def _add_pair(self, one: Did, other: Did, matches: int, rounds: Packed) -> None:
-        """Adds matches of two robots with so many in each round: one or both of them died, or none."""
+        """Adds matches of two robots, and how often each round has them: one or both of them died, or none."""
         pair = self.pairs[one[0], other[0]]
         pair.played += matches
         pair.rounds += rounds

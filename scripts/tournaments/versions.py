@@ -1,6 +1,6 @@
 """The matches of a robot's older version and its newer one: what each did in them, and the command lines that show them.
 
-Robots are told by their positions: the newer version, the older one, and then the opponents."""
+Robots are known by their positions: the newer version, the older one, and then the opponents."""
 
 from __future__ import annotations
 

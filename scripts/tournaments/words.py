@@ -43,7 +43,7 @@ def within(least: int, most: int) -> Callable[[str], int]:
 
 
 def decimals(count: int) -> Callable[[str], list[Decimal]]:
-    """Reads so many numbers with commas between them, each with at most three digits after its point."""
+    """Reads `count` numbers with commas between them, each with at most three digits after its point."""
 
     def read(text: str) -> list[Decimal]:
         one = r"[0-9]{1,6}(?:\.[0-9]{1,3})?"
@@ -125,7 +125,7 @@ def tournament(name: str) -> Parser:
     it.add_argument("--title", metavar="TEXT", help="with --html: the site's title (default Tournament)")
     it.add_argument("--page", metavar="URL", help="with --html: the page that plays battles in a browser")
     it.add_argument("--replays", metavar="N", type=within(0, 100_000),
-                    help="with --html: make so many new pages of matches, if crobots-trace is there (default 100)")
+                    help="with --html: make at most N new pages of matches, if crobots-trace is there (default 100)")
     it.add_argument("robots", metavar="ROBOT", nargs="*", help="source files; with --merge, outputs")
     return it
 

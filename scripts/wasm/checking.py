@@ -6,7 +6,7 @@ sections and by instructions. The lowered one may differ from the wide one in th
 - the memory has 32-bit addresses, and as many pages
 - the place of a piece of data is a constant of 32 bits, and the same number
 - sections for tools are gone
-- each function has three more locals behind its own, which nothing but the accesses uses
+- each function has three more locals after its own, which nothing but the accesses uses
 - each access to the memory is the same, with its address wrapped, and its count if it is a copy or a fill
 - an exported function begins with a test of each 64-bit argument: one that isn't below the memory's size ends the call
 - numbers in code may be written shorter

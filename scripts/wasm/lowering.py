@@ -6,7 +6,7 @@ exported function begins with tests: the call ends if an argument of 64 bits isn
 address it could wrap to one inside.
 
 The linker leaves room in many numbers. All are written anew, as short as they can be. Sections for tools alone, such as
-names, are left out. What this program doesn't know it refuses; `checking` looks at what it wrote."""
+names, are left out. What this program doesn't know it refuses; `checking` checks what it wrote."""
 
 from __future__ import annotations
 

@@ -62,7 +62,7 @@ class Reader:
         self.leading = leading
 
     def while_(self, holds: Callable[[str], bool]) -> list[str]:
-        """The next lines, as long as something holds of them."""
+        """The next lines, up to the first for which `holds` is false."""
         begun = self.at
         while self.at < len(self.lines) and holds(self.lines[self.at]):
             self.at += 1
