@@ -243,7 +243,7 @@ def win(reader: Reader) -> tuple[str, str]:
     page = reader.page
     names = {"step": win_by_step, "sample": win_by_sample}[reader.way.wins_by](reader)
     reader.press(by_id("run"))
-    told(page, "#report", f" {names[1]}")
+    told(page, "#report", f" {names[0]}")
     won = page.js("return /^Totals: (\\d+) match[^]*1\\) won (\\d+) .* (\\S+)$/m.exec(document.getElementById('report').textContent)")
     if won[3] != names[0] or 2 * int(won[2]) <= int(won[1]):
         raise TimeoutError(f"no win: {won}")
