@@ -61,7 +61,7 @@ def out_of_sight(page: Page) -> list[str]:
     page.size(360, 640)
     page.fresh()
     page.js("Storage.prototype.setItem = () => { throw new DOMException('full', 'QuotaExceededError'); };"
-            "document.querySelector('#writing').scrollIntoView({block: 'end'})")
+            "document.querySelector('#writing').scrollIntoView({block: 'start'})")
     page.write("main() { }")
     place = page.js("const box = document.getElementById('unkept').getBoundingClientRect(); return [box.top, box.bottom]")
     page.whole_window()
