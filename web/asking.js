@@ -25,6 +25,12 @@ export function ask(question, yes) {
     });
 }
 
+/** Shows a line of the page, and scrolls to it if it isn't in sight: what was pressed may stand far from it. */
+export function reveal(box) {
+    box.hidden = false;
+    box.scrollIntoView({block: "nearest"});
+}
+
 /** A line that says what was done, with buttons for what may be done next. */
 export class Notice {
     constructor(id) {
@@ -39,7 +45,7 @@ export class Notice {
         }));
         const words = Object.assign(document.createElement("span"), {textContent: text});
         this.box.replaceChildren(words, ...buttons);
-        this.box.hidden = false;
+        reveal(this.box);
     }
 
     clear() {

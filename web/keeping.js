@@ -1,5 +1,5 @@
 // Which battle is edited: one's own, one that came with a link, or one that was kept before; and that none of them is lost.
-import {Notice, buttonOf} from "./asking.js";
+import {Notice, buttonOf, reveal} from "./asking.js";
 import {copyOf, firstBattle, namesOf} from "./battles.js";
 import {battleOf, isBattle} from "./links.js";
 import {Keeper, Kept} from "./shelves.js";
@@ -14,9 +14,9 @@ const LINKED = "This battle came with a link.";
 const byId = id => document.getElementById(id);
 
 export class Keeping {
-    /** `show` is called with each battle that comes to be edited, and `told` with what there is to say of a link. */
-    constructor(show, told) {
-        Object.assign(this, {show, told, keeper: new Keeper(), noted: new Notice("noted"), linked: new Notice("linked")});
+    /** `show` is called with each battle that comes to be edited. */
+    constructor(show) {
+        Object.assign(this, {show, keeper: new Keeper(), noted: new Notice("noted"), linked: new Notice("linked")});
         byId("unkept").textContent = UNKEPT;
         byId("kept").addEventListener("toggle", () => this.showEntries());
         byId("new").addEventListener("click", () => this.beginNew());
@@ -36,7 +36,7 @@ export class Keeping {
             this.edit(firstBattle(samples, {name: "robot1.r", source: NEW_SOURCE}));
         }
         if (isBroken) {
-            this.told(BROKEN);
+            this.noted.say(BROKEN);
         }
     }
 
@@ -98,7 +98,7 @@ export class Keeping {
         if (battle) {
             this.take(battle);
         } else if (isBattle(hash)) {
-            this.told(BROKEN);
+            this.noted.say(BROKEN);
         }
     }
 
@@ -106,11 +106,20 @@ export class Keeping {
     changed() {
         this.leaveLink();
         const kept = this.keeper.keep(this.battle);
-        byId("unkept").hidden = kept !== Kept.NOT;
+        this.sayUnkept(kept === Kept.NOT);
         if (kept === Kept.APART) {
             this.noted.say(APART);
         }
         this.showEntries();
+    }
+
+    /** Says that nothing is kept, as long as it is so. */
+    sayUnkept(isUnkept) {
+        const box = byId("unkept");
+        if (isUnkept && box.hidden) {
+            reveal(box);
+        }
+        box.hidden = !isUnkept;
     }
 
     /** Says what was done, and offers the way back to the battle before. */

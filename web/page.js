@@ -33,7 +33,7 @@ class Page {
         this.data = data;
         this.workbench = new Workbench(editor, newCaller(), () => this.changed());
         this.playing = new Playing(newCaller(), setting => this.changed(setting));
-        this.keeping = new Keeping((battle, shown) => this.show(battle, shown), text => tell("said", text, true));
+        this.keeping = new Keeping((battle, shown) => this.show(battle, shown));
         this.listen();
         this.showSteps();
     }

@@ -16,10 +16,11 @@ import zlib
 from string import Template
 
 from replays.modules import script_of
-from replays.pages import framed, framed_script
+from replays.pages import framed_script, put_together
 
 from .helping import functions, panel, steps, text_of, whole
 from .manuals import Page
+from .slimming import Unclear, short
 from .texts import pages
 
 TOP = os.path.normpath(os.path.join(os.path.dirname(os.path.abspath(__file__)), "..", ".."))
@@ -60,23 +61,27 @@ def data_of(module: str, manual: Page) -> str:
     with open(module, "rb") as file:
         coded = packed(file.read())
     data = {"robots": samples(), "steps": steps(WEB), "functions": functions(manual), "editor": os.path.isdir(EDITOR),
-            "player": framed(), "worker": script_of(os.path.join(WEB, "worker.js")), "module": coded}
+            "player": put_together(player()), "worker": short(script_of(os.path.join(WEB, "worker.js"))), "module": coded}
     return f"globalThis.CROBOTS = {json.dumps(data, indent=1)};\n"
+
+
+def player() -> str:
+    """The script of the page in a frame."""
+    return short(framed_script())
 
 
 def policy() -> str:
     """What the page may do."""
-    digest = hashlib.sha256(f"\n{framed_script()}".encode()).digest()
+    digest = hashlib.sha256(f"\n{player()}".encode()).digest()
     return Template(POLICY).substitute(player=base64.b64encode(digest).decode())
 
 
 def slim(text: str) -> str:
-    """A script of the editor without its comments and the blanks before its lines; the notice of its licence stays."""
-    head, lines = text.split("\n\n")[0], [line.strip() for line in text.split("\n")]
-    code = [line for line in lines if line and not line.startswith("//")]
-    if any(line.endswith("\\") or "`" in line.replace('"`"', "") for line in code):
+    """A script of the editor without its comments and needless blanks, if that is clear; the notice of its licence stays."""
+    try:
+        return text.split("\n\n")[0] + "\n" + short(text)
+    except Unclear:
         return text
-    return "\n".join([head, *code, ""])
 
 
 def version() -> str:
@@ -128,7 +133,7 @@ def lay(folder: str, module: str) -> None:
         shutil.copy(os.path.join(WEB, name), folder)
     if licence():
         shutil.copy(os.path.join(TOP, licence()), os.path.join(folder, f"{licence()}.txt"))
-    put(folder, "page.js", script_of(os.path.join(WEB, "page.js")))
+    put(folder, "page.js", short(script_of(os.path.join(WEB, "page.js"))))
     put(folder, "data.js", data_of(module, manuals[0]))
     pack(folder)
     if os.path.abspath(module) != f"{folder}.wasm":

@@ -159,12 +159,12 @@ def second_tab(page: Page) -> list[str]:
     shown = page.js("return document.querySelector('[role=tab][aria-selected=true]').id")
     wrong = [] if shown == "tab-1" else [f"after a link is made the robot shown is that of {shown}"]
     cut = page.js("return location.hash")[:-9]
-    page.js("document.getElementById('said').textContent = ''; location.hash = arguments[0]", cut)
-    page.wait("return document.getElementById('said').textContent")
-    said = [page.text("said")]
+    page.js("document.getElementById('noted').textContent = ''; location.hash = arguments[0]", cut)
+    page.wait("return document.getElementById('noted').textContent")
+    told = [page.seen("noted")]
     page.open(cut)
-    page.wait("return document.getElementById('said').textContent")
-    return wrong + [it for it in [*said, page.text("said")] if not it.startswith("The link carries no battle")]
+    page.wait("return document.getElementById('noted').textContent")
+    return wrong + [it for it in [*told, page.seen("noted")] if not it.startswith("The link carries no battle")]
 
 
 def unset(page: Page) -> list[str]:
@@ -354,17 +354,32 @@ def older(page: Page, folder: str) -> list[str]:
     return wrong
 
 
+# the first draw comes within so many milliseconds on a machine with nothing else to do: of some openings the fastest tells of it
+MOST_TO_DRAW, OPENINGS = 300, 20
+
+
+def first_draw(page: Page) -> float:
+    """After how many milliseconds something is drawn, by the browser's own account; of some openings the fastest."""
+    least = float("inf")
+    for _ in range(OPENINGS):
+        page.open()
+        drawn = page.wait("return performance.getEntriesByName('first-contentful-paint')[0]?.startTime")
+        least = min(least, drawn)
+        if least <= MOST_TO_DRAW:
+            break
+    return least
+
+
 def speed(page: Page) -> list[str]:
-    """The first draw comes within half a second, and a match of 100,000 cycles within one."""
-    page.open()
-    drawn = page.js("return performance.getEntriesByName('first-contentful-paint')[0].startTime")
+    """The first draw comes within 0.3 seconds, and a match of 100,000 cycles within one."""
+    drawn = first_draw(page)
     scanner = b"main(){int d;while(1){scan(d,10);d+=10;}}"
     page.show(Battle([("a.r", scanner), ("b.r", scanner)], Settings(limit=100_000)))
     report = page.run()
     took = float(page.text("said").split()[2])
     print(f"the page is drawn after {drawn:.0f} ms; 100,000 cycles take {took} s")
     played = report.startswith("Match 1: cycles = 100000\n")
-    return ([f"first draw after {drawn} ms"] if drawn > 500 else []) + ([] if took <= 1 and played else [f"100,000 cycles in {took} s: {report}"])
+    return ([f"first draw after {drawn:.0f} ms"] if drawn > MOST_TO_DRAW else []) + ([] if took <= 1 and played else [f"100,000 cycles in {took} s: {report}"])
 
 
 def results(crobots: str, _stages: str, folder: str) -> Iterator[tuple[str, list[str]]]:

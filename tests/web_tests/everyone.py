@@ -14,6 +14,9 @@ WIDTHS = (320, 360, 683, 768, 1366, 1920)
 HEIGHT = 800
 FAULTY = b"/* a comment */\nmain()\n{\n  int angle;\n  while (scan(angle, 10) == 0) angle += 20;\n  break;\n}\n"
 ROLES = {"button", "textbox", "combobox", "spinbutton", "slider", "tab", "listbox", "option", "meter", "Iframe", "link", "dialog", "progressbar"}
+# of the page with a film, at any width
+LEAST_CONTROLS = 30
+OTHERS = ("manual.html", "about.html", "pages/language.html")
 MOMENT = r"Cycle 450: 1 at \d+, \d+, damage \d+ percent; 2 at \d+, \d+, damage \d+ percent"
 
 
@@ -27,17 +30,13 @@ def widths(page: Page) -> list[str]:
     """No width needs scrolling sideways."""
     wrong = []
     for width in WIDTHS:
-        page.driver.set_window_size(max(width, 500), HEIGHT)
-        if page.driver.name == "chrome":
-            page.size(width, HEIGHT)
+        page.size(width, HEIGHT)
         page.open()
         page.run()
         page.js("document.querySelectorAll('details').forEach(it => { it.open = true; })")
         wide = page.js("return document.documentElement.scrollWidth - document.documentElement.clientWidth")
         wrong += [f"{width} pixels: {wide} too wide"] if wide > 0 else []
-    if page.driver.name == "chrome":
-        page.driver.execute_cdp_cmd("Emulation.clearDeviceMetricsOverride", {})
-    page.driver.set_window_size(1280, 1000)
+    page.whole_window()
     return wrong
 
 
@@ -60,23 +59,33 @@ def film(page: Page) -> None:
     page.inside("it.getElementById('to-end').click(); it.getElementById('describe').click()")
 
 
+def shown(page: Page, code: str) -> list[tuple[str, Any]]:
+    """What code that is given a window answers at each width: of the page with all that it has, and of a film."""
+    found = []
+    for name, show, view in (("page", full_of_things, "window"), ("film", film, "document.getElementById('film').contentWindow")):
+        show(page)
+        probe(page)
+        for width in WIDTHS:
+            page.size(width, HEIGHT)
+            found.append((f"{name} at {width} pixels", page.js(code.format(view=view))))
+    return found
+
+
 def contrast(page: Page) -> list[str]:
-    """In both themes texts have a contrast of 4.5 with what is behind them, also selected ones, and borders one of 3."""
+    """In both themes and at each width texts have a contrast of 4.5 with what is behind them, also selected ones, and borders one of 3."""
     wrong = []
     page.fresh()
     for theme in ("light", "dark"):
         page.media(color_scheme=theme)
-        for name, show, view in (("page", full_of_things, "window"), ("film", film, "document.getElementById('film').contentWindow")):
-            show(page)
-            probe(page)
-            found = page.js(f"return probe({view})")
+        for name, found in shown(page, "return probe({view})"):
             wrong += [f"{theme}, {name}: {it}" for it in found["texts"] + found["borders"]]
-        for other in ("manual.html", "about.html", "pages/language.html"):
+        for other in OTHERS:
             page.driver.get(page.address + other)
             probe(page)
             wrong += [f"{theme}, {other}: {it}" for it in page.js("return probe(window).texts")]
         page.open()
     page.media()
+    page.whole_window()
     return wrong
 
 
@@ -84,33 +93,45 @@ def touch(page: Page) -> list[str]:
     """On a screen that is touched all that is pressed is at least 24 pixels high and wide, rows of the listing too."""
     wrong = []
     page.driver.execute_cdp_cmd("Emulation.setTouchEmulationEnabled", {"enabled": True})
-    for width in WIDTHS:
-        page.driver.execute_cdp_cmd("Emulation.setDeviceMetricsOverride", {"width": width, "height": HEIGHT, "deviceScaleFactor": 2, "mobile": True})
-        page.fresh()
-        page.run()
-        page.js("document.querySelectorAll('details').forEach(it => { it.open = true; })")
-        probe(page)
-        found = page.js("return [document.querySelectorAll('#code [role=option]').length, probe(window).sizes]")
-        wrong += [f"{width}: {it}" for it in found[1]] + ([] if found[0] > 10 else ["no rows"])
+    page.fresh()
+    page.run()
+    page.js("document.querySelectorAll('details').forEach(it => { it.open = true; })")
     page.watch(1)
     probe(page)
-    wrong += [f"film: {it}" for it in page.js("return probe(document.getElementById('film').contentWindow).sizes")]
-    page.driver.execute_cdp_cmd("Emulation.clearDeviceMetricsOverride", {})
+    for width in WIDTHS:
+        page.driver.execute_cdp_cmd("Emulation.setDeviceMetricsOverride", {"width": width, "height": HEIGHT, "deviceScaleFactor": 2, "mobile": True})
+        found = page.js("return [document.querySelectorAll('#code [role=option]').length, probe(window).sizes,"
+                        "probe(document.getElementById('film').contentWindow).sizes]")
+        wrong += [f"{width}: {it}" for it in found[1]] + [f"{width}, film: {it}" for it in found[2]] + ([] if found[0] > 10 else ["no rows"])
     page.driver.execute_cdp_cmd("Emulation.setTouchEmulationEnabled", {"enabled": False})
+    page.whole_window()
     return wrong
 
 
+def nameless(page: Page) -> list[str]:
+    """The controls without a name that a screen reader says."""
+    tree = page.driver.execute_cdp_cmd("Accessibility.getFullAXTree", {})["nodes"]
+    controls = [node for node in tree if not node["ignored"] and node["role"]["value"] in ROLES]
+    wrong = [f"{node['role']['value']} without a name: {node.get('nodeId')}" for node in controls if not node.get("name", {}).get("value", "").strip()]
+    return wrong + ([] if len(controls) > LEAST_CONTROLS else [f"{len(controls)} controls"])
+
+
 def named(page: Page) -> list[str]:
-    """Each control has a name that a screen reader says, and the editor is a text field of several lines."""
+    """At each width each control has a name that a screen reader says, and the editor is a text field of several lines."""
     page.fresh()
     full_of_things(page)
     page.show(Battle(samples()[:2]))
     page.watch(1)
+    wrong = []
+    for width in WIDTHS:
+        page.size(width, HEIGHT)
+        wrong += [f"{width}: {it}" for it in nameless(page)]
     page.js("document.getElementById('remove').click()")
     tree = page.driver.execute_cdp_cmd("Accessibility.getFullAXTree", {})["nodes"]
     page.press("ESCAPE")
-    wrong = [f"{node['role']['value']} without a name: {node.get('nodeId')}" for node in tree
-             if not node["ignored"] and node["role"]["value"] in ROLES and not node.get("name", {}).get("value", "").strip()]
+    page.whole_window()
+    asked = [node["name"]["value"] for node in tree if not node["ignored"] and node["role"]["value"] in ("dialog", "button")]
+    wrong += [] if {"Remove boxer.r from this battle?", "Remove it", "Cancel"} <= set(asked) else [f"asked: {asked}"]
     kind = page.js("const it = document.querySelector('.CodeMirror [contenteditable]');"
                    "return [it.getAttribute('role'), it.getAttribute('aria-multiline'), it.getAttribute('aria-label')]")
     return wrong + ([] if kind == ["textbox", "true", "Source of the robot"] else [f"{kind}"])

@@ -59,6 +59,17 @@ def arguments(page: Page) -> list[str]:
     return wrong + ([] if page.seen("signature") == "" else ["Escape doesn't end it"])
 
 
+def tooltip(page: Page) -> list[str]:
+    """The name of a function that the pointer is on is explained, as long as it is there."""
+    page.fresh()
+    page.write("main() { cannon(1, 2); }")
+    page.js("document.querySelector('.cm-builtin').dispatchEvent(new MouseEvent('mouseover', {bubbles: true}))")
+    told = page.seen("signature")
+    page.js("document.querySelector('.cm-number').dispatchEvent(new MouseEvent('mouseover', {bubbles: true}))")
+    left = page.seen("signature")
+    return [] if told.startswith("cannon(degree, range): ") and left == "" else [f"{told!r}, then {left!r}"]
+
+
 def completion(page: Page) -> list[str]:
     """A word that is begun is completed, by keys: functions with their brackets, names of the source."""
     page.fresh()
@@ -133,8 +144,8 @@ def other_pages(page: Page, folder: str) -> list[str]:
 
 def results(page: Page, crobots: str, folder: str) -> Iterator[tuple[str, list[str]]]:
     """The tests' names, and what is wrong."""
-    tests: dict[str, Any] = {"panel": lambda: panel(page, crobots), "arguments": lambda: arguments(page), "completion": lambda: completion(page),
-                             "steps": lambda: steps(page, crobots, folder), "levels": lambda: levels(page),
+    tests: dict[str, Any] = {"panel": lambda: panel(page, crobots), "arguments": lambda: arguments(page), "tooltip": lambda: tooltip(page),
+                             "completion": lambda: completion(page), "steps": lambda: steps(page, crobots, folder), "levels": lambda: levels(page),
                              "other pages": lambda: other_pages(page, folder)}
     for name, test in tests.items():
         yield f"help: {name}", test()

@@ -12,7 +12,10 @@ import tempfile
 import time
 from typing import Any, Iterator
 
-SECONDS = 60
+# for an answer, and for the browser's start on a machine that has much else to do
+SECONDS, SECONDS_OF_A_START = 60, 300
+# a window is no narrower, so a narrower page is shown magnified by one of these
+LEAST_WIDTH, SCALES = 500, (1, 1.5, 2)
 ELEMENT = "element-6066-11e4-a52e-4f735466cecf"
 PREFERENCES = {"marionette.port": 0, "browser.shell.checkDefaultBrowser": False, "datareporting.policy.dataSubmissionEnabled": False,
                "browser.aboutwelcome.enabled": False, "app.update.enabled": False, "dom.w3c_touch_events.enabled": 1}
@@ -40,10 +43,11 @@ class Firefox:
     name = "firefox"
 
     def __init__(self, port: int) -> None:
-        self._socket = socket.create_connection(("127.0.0.1", port), SECONDS)
-        self._rest, self._count = b"", 0
+        self._socket = socket.create_connection(("127.0.0.1", port), SECONDS_OF_A_START)
+        self._rest, self._count, self._scale = b"", 0, 1.0
         self._hear()
         self.ask("WebDriver:NewSession", capabilities={})
+        self._socket.settimeout(SECONDS)
 
     def _hear(self) -> Any:
         """What the browser says next: a number of bytes, a colon, and these bytes."""
@@ -69,10 +73,12 @@ class Firefox:
     def get(self, address: str) -> None:
         """Opens an address."""
         self.ask("WebDriver:Navigate", url=address)
+        self._magnify(1)
 
     def refresh(self) -> None:
         """Loads the page anew."""
         self.ask("WebDriver:Refresh")
+        self._magnify(1)
 
     def execute_script(self, code: str, *words: Any) -> Any:
         """Runs code in the page."""
@@ -80,7 +86,17 @@ class Firefox:
 
     def set_window_size(self, width: int, height: int) -> None:
         """Gives the window a size."""
-        self.ask("WebDriver:SetWindowRect", width=width, height=height)
+        before, self._scale = self._scale, next(it for it in SCALES if width * it >= LEAST_WIDTH)
+        self.ask("WebDriver:SetWindowRect", width=round(width * self._scale), height=round(height * self._scale))
+        self._magnify(before)
+
+    def _magnify(self, present: float) -> None:
+        """Shows the page in the window's scale, and no more in the present one; a page that is opened has that of 1."""
+        if present == self._scale:
+            return
+        self.ask("Marionette:SetContext", value="chrome")
+        self.execute_script("Services.wm.getMostRecentWindow('navigator:browser').gBrowser.selectedBrowser.fullZoom = arguments[0]", self._scale)
+        self.ask("Marionette:SetContext", value="content")
 
     @property
     def switch_to(self) -> Firefox:
@@ -114,7 +130,7 @@ class Firefox:
 
 def port_of(profile: str) -> int:
     """The port at which a browser with this profile listens, once it does."""
-    end = time.monotonic() + SECONDS
+    end = time.monotonic() + SECONDS_OF_A_START
     path = os.path.join(profile, "MarionetteActivePort")
     while time.monotonic() < end:
         with contextlib.suppress(OSError, ValueError), open(path, encoding="ascii") as file:
@@ -129,7 +145,7 @@ def firefox() -> Iterator[Firefox]:
     with tempfile.TemporaryDirectory(ignore_cleanup_errors=True) as profile:
         with open(os.path.join(profile, "user.js"), "w", encoding="ascii") as file:
             file.writelines(f"user_pref({json.dumps(name)}, {json.dumps(value)});\n" for name, value in PREFERENCES.items())
-        words = [program() or "", "--headless", "--no-remote", "--marionette", "--profile", profile, "about:blank"]
+        words = [program() or "", "--headless", "--no-remote", "--marionette", "--remote-allow-system-access", "--profile", profile, "about:blank"]
         with subprocess.Popen(words, stdin=subprocess.DEVNULL, stdout=subprocess.DEVNULL, stderr=subprocess.DEVNULL) as child:
             try:
                 driver = Firefox(port_of(profile))

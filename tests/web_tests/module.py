@@ -13,6 +13,7 @@ import tempfile
 from dataclasses import replace
 from typing import Any, Iterator
 
+from . import slimmed
 from .battles import Battle, Settings, deepest, hostile_battles, mistakes, outcome, random_battles, sample_battles, samples, vectors
 
 HERE = os.path.dirname(os.path.abspath(__file__))
@@ -378,6 +379,7 @@ def size(folder: str) -> list[str]:
 def results(crobots: str, stages: str, folder: str) -> Iterator[tuple[str, list[str]]]:
     """The tests' names, and what is wrong."""
     yield "parts of the page", units()
+    yield "short scripts", slimmed.wrong()
     yield "size", size(folder)
     yield "blocks of any bytes", any_blocks(folder)
     yield "samples", differing(crobots, folder, sample_battles())

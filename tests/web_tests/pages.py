@@ -129,7 +129,7 @@ class Page:
             found = self.js(code, *words)
             if found:
                 return found
-            time.sleep(0.01)
+            time.sleep(0.03)
         raise TimeoutError(code)
 
     def text(self, name: str) -> str:
@@ -200,8 +200,20 @@ class Page:
 
     def size(self, width: int, height: int) -> None:
         """Gives the window's inside a size."""
-        self.driver.execute_cdp_cmd("Emulation.setDeviceMetricsOverride",
-                                    {"width": width, "height": height, "deviceScaleFactor": 1, "mobile": False})
+        if self.driver.name == "chrome":
+            self.driver.execute_cdp_cmd("Emulation.setDeviceMetricsOverride",
+                                        {"width": width, "height": height, "deviceScaleFactor": 1, "mobile": False})
+            return
+        self.driver.set_window_size(width, height)
+        around = self.js("return outerHeight - innerHeight")
+        self.driver.set_window_size(width, height + around)
+        self.wait("return Math.abs(innerWidth - arguments[0]) <= 2 && Math.abs(innerHeight - arguments[1]) <= 2", width, height)
+
+    def whole_window(self) -> None:
+        """Gives the window back its size."""
+        if self.driver.name == "chrome":
+            self.driver.execute_cdp_cmd("Emulation.clearDeviceMetricsOverride", {})
+        self.driver.set_window_size(1280, 1000)
 
     def media(self, **features: str) -> None:
         """Chooses what the reader prefers: color_scheme, reduced_motion, and forced_colors; none of them without words."""

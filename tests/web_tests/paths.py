@@ -1,37 +1,80 @@
-"""What a class does with the page: the way of someone who meets it for the first time, by mouse, by keys and by touch.
+"""What a class does with the page: the ways of those who meet it for the first time, by mouse, by keys and by touch.
 
 The sample is changed and broken, the advice is read, the fault is mended. The robot is watched at the moment it is hit. A
-better one wins. It is saved, a link is made, a friend's link is opened and changed, and the next day one's own robots are
-there. CROBOTS_PATHS=all walks it in all ways at all sizes, and once as a file: thirty ways in the three browsers. Else each way has
-a size of its own."""
+better one wins. It is saved, a link is made, a friend's link is opened, and the next day one's own robots are there. `WAYS`
+has who goes how. Each browser walks three of them; with CROBOTS_PATHS=all all ten, which are thirty in the three browsers."""
 
 from __future__ import annotations
 
 import os
 import time
-from typing import Any, Iterator
+from dataclasses import dataclass
+from typing import Any, Callable, Iterator
 
 from .battles import Battle
 from .pages import Page, fragment
 
-SIZES = ((360, 640), (1366, 651), (1920, 1000))
-KINDS = ("mouse", "keys", "touch")
+LAPTOP, PHONE, SCREEN = (1366, 651), (360, 640), (1920, 1000)
 MOST_TABS = 200
 FRIEND = "main() { while (1) drive(30, 40); }"
 MINE = "/* mine */"
 # keys as the protocol of drivers has them
-BACKSPACE, TAB, SHIFT = "\ue003", "\ue004", "\ue008"
+BACKSPACE, TAB, SHIFT, CONTROL, HOME, LEFT = "\ue003", "\ue004", "\ue008", "\ue009", "\ue011", "\ue012"
+
+
+@dataclass(frozen=True)
+class Way:
+    """One reader: by what, in which window, and what was chosen where the page leaves a choice."""
+
+    kind: str
+    size: tuple[int, int]
+    # what breaks the robot, written before all that it has, and what the page says of it
+    fault: tuple[str, str]
+    watches: str
+    wins_by: str
+    friends: str
+    is_file: bool = False
+
+    @property
+    def name(self) -> str:
+        return f"a first way by {self.kind} at {self.size[0]} by {self.size[1]}{', as a file' if self.is_file else ''}"
+
+
+BREAK, AT, BRACE = (" break;", "reserved word. This word of C"), (" @", "bad character. The language has"), (" }", "syntax error. Something before")
+NAME, NUMBER = (f" int {'a' * 32};", "name too long. A name has"), (" 2147483648", "constant too large. The largest number")
+TWICE = (" int angle", "syntax error. Something before")
+# The match is watched by the report or by the form. Who wins is the last step's robot, or the strongest sample in a battle of
+# its own. A friend's link is opened and changed, followed in the open page and changed, or only looked at.
+WAYS = (
+    Way("mouse", LAPTOP, BREAK, "report", "step", "changed"),
+    Way("keys", SCREEN, AT, "form", "sample", "followed"),
+    Way("touch", PHONE, BRACE, "report", "step", "looked at"),
+    Way("mouse", PHONE, NAME, "form", "sample", "looked at"),
+    Way("mouse", SCREEN, NUMBER, "report", "step", "followed"),
+    Way("keys", LAPTOP, TWICE, "report", "step", "looked at"),
+    Way("keys", PHONE, BREAK, "form", "step", "changed"),
+    Way("touch", LAPTOP, AT, "form", "sample", "changed"),
+    Way("touch", SCREEN, NAME, "report", "sample", "followed"),
+    Way("mouse", LAPTOP, BRACE, "form", "step", "changed", is_file=True),
+)
+# those of each browser at each run: one by mouse, by keys and by touch, each in a window of its own
+FEW = 3
 
 
 class Reader:
     """Someone who uses the page in one way."""
 
-    def __init__(self, page: Page, kind: str) -> None:
-        self.page, self.kind = page, kind
+    def __init__(self, page: Page, way: Way) -> None:
+        self.page, self.way = page, way
+
+    @property
+    def has_keys(self) -> bool:
+        """Whether nothing is pointed at."""
+        return self.way.kind == "keys"
 
     def press(self, element: str) -> None:
         """Presses an element of the page, by an expression of JavaScript."""
-        if self.kind == "keys":
+        if self.has_keys:
             self.tab(element)
             self.page.press("ENTER")
         else:
@@ -44,27 +87,60 @@ class Reader:
                                                "return [it.contains(now), (now.compareDocumentPosition(it) & 2) > 0]")
             if is_there:
                 return
-            keys = [SHIFT] if is_before else []
-            self.keys([*(("keyDown", key) for key in [*keys, TAB]), *(("keyUp", key) for key in [TAB, *keys])])
+            self.chord(*([SHIFT] if is_before else []), TAB)
         raise TimeoutError(f"no way by the tab key to {element}")
 
     def point(self, element: str) -> None:
         """Points at the middle of an element, once it is scrolled to and drawn there."""
-        self.page.js(f"window.isDrawn = false; {element}.scrollIntoView({{block: 'center'}});"
-                     "requestAnimationFrame(() => requestAnimationFrame(() => setTimeout(() => { window.isDrawn = true; }, 100)))")
-        self.page.wait("return window.isDrawn")
+        self.scroll(element, "center")
         place = self.page.js(f"const box = {element}.getBoundingClientRect();"
                              "return [Math.round(box.left + box.width / 2), Math.round(box.top + Math.min(box.height, 60) / 2)]")
         self.at(*place)
 
+    def scroll(self, element: str, block: str) -> None:
+        """Scrolls to an element, until it is drawn."""
+        self.page.js(f"window.isDrawn = false; {element}.scrollIntoView({{block: arguments[0]}});"
+                     "requestAnimationFrame(() => requestAnimationFrame(() => setTimeout(() => { window.isDrawn = true; }, 100)))", block)
+        self.page.wait("return window.isDrawn")
+
     def at(self, x: int, y: int) -> None:
         """Presses at a place of the window."""
+        kind = self.way.kind
         steps = [{"type": "pointerMove", "duration": 0, "x": x, "y": y, "origin": "viewport"}, {"type": "pointerDown", "button": 0}, {"type": "pointerUp", "button": 0}]
-        perform(self.page.driver, [{"type": "pointer", "id": self.kind, "parameters": {"pointerType": self.kind}, "actions": steps}])
+        perform(self.page.driver, [{"type": "pointer", "id": kind, "parameters": {"pointerType": kind}, "actions": steps}])
+
+    def place_in_film(self, name: str) -> tuple[int, int, int]:
+        """Where a button of the film is in the window, and how high that is."""
+        x, y, height = self.page.js("const frame = document.getElementById('film'); const box = frame.getBoundingClientRect();"
+                                    "const it = frame.contentDocument.querySelector(arguments[0]).getBoundingClientRect();"
+                                    "return [Math.round(box.left + it.left + it.width / 2), Math.round(box.top + it.top + it.height / 2), innerHeight]", name)
+        return x, y, height
+
+    def press_in_film(self, name: str, key: str) -> None:
+        """Presses a button of the film, or its key."""
+        if self.has_keys:
+            self.page.driver.switch_to.frame(0)
+            self.write(key)
+            self.page.driver.switch_to.default_content()
+        else:
+            self.scroll(f"document.getElementById('film').contentDocument.querySelector('{name}')", "nearest")
+            self.at(*self.place_in_film(name)[:2])
+
+    def edit(self) -> None:
+        """Goes to the first place of the source."""
+        if self.has_keys:
+            self.tab("document.querySelector('.CodeMirror')")
+        else:
+            self.point("document.querySelector('.CodeMirror-line')")
+        self.chord(CONTROL, HOME)
 
     def write(self, text: str) -> None:
         """Writes where the cursor is."""
         self.keys([(kind, letter) for letter in text for kind in ("keyDown", "keyUp")])
+
+    def chord(self, *keys: str) -> None:
+        """Presses keys together."""
+        self.keys([*(("keyDown", key) for key in keys), *(("keyUp", key) for key in reversed(keys))])
 
     def keys(self, steps: list[tuple[str, str]]) -> None:
         """Presses and releases keys."""
@@ -89,117 +165,166 @@ def told(page: Page, element: str, words: str) -> None:
     page.wait("return document.querySelector(arguments[0])?.textContent.includes(arguments[1])", element, words)
 
 
+def starts_well(reader: Reader) -> None:
+    """The page is there at this size, and needs no scrolling sideways."""
+    wide, high = reader.way.size
+    seen = reader.page.js("return [innerWidth, innerHeight, document.documentElement.scrollWidth]")
+    if abs(seen[0] - wide) > 2 or abs(seen[1] - high) > 2 or seen[2] > seen[0]:
+        raise TimeoutError(f"the window has {seen}")
+
+
 def write_and_mend(reader: Reader) -> None:
     """The sample is changed and broken, the advice is read at its line, and the fault is mended."""
-    page = reader.page
-    if reader.kind == "keys":
-        reader.tab("document.querySelector('.CodeMirror')")
-    else:
-        reader.point("document.querySelector('.CodeMirror-line')")
-    page.js("document.querySelector('.CodeMirror').CodeMirror.setCursor(0, 0)")
+    page, (fault, advice) = reader.page, reader.way.fault
+    reader.edit()
     reader.write(MINE)
     told(page, "#diagnostic", "No fault.")
-    reader.write(" break;")
-    told(page, ".fault-words", "reserved word. This word of C is not in the language")
-    reader.write(BACKSPACE * 7)
+    reader.write(fault)
+    told(page, ".fault-words", advice)
+    reader.write(BACKSPACE * len(fault))
     told(page, "#diagnostic", "No fault.")
 
 
 def watch_the_hit(reader: Reader) -> None:
-    """The battle is run, its first match is watched, and the film goes to the moment of a hit."""
+    """The battle is run and lost, its first match is watched, and the film goes to the moment at which one's robot is hit."""
     page = reader.page
     reader.press(by_id("run"))
     told(page, "#said", "Done in")
-    reader.press("document.querySelector('#report button')")
+    told(page, "#report", "won 0 tied 0 lost 1 hunter.r")
+    reader.press("document.querySelector('#report button')" if reader.way.watches == "report" else by_id("watch"))
     told(page, "#told", "can be watched")
     page.wait("return document.activeElement.id === 'film' && !document.getElementById('watch').disabled")
-    if reader.kind == "keys":
-        page.driver.switch_to.frame(0)
-        reader.write("n")
-        page.driver.switch_to.default_content()
-    else:
-        place = page.js("const frame = document.getElementById('film'); const box = frame.getBoundingClientRect();"
-                        "const it = frame.contentDocument.getElementById('hit-after').getBoundingClientRect();"
-                        "return [Math.round(box.left + it.left + it.width / 2), Math.round(box.top + it.top + it.height / 2), innerHeight]")
-        if place[1] > place[2]:
-            raise TimeoutError(f"the buttons of the film are at {place[1]}, below {place[2]}")
-        reader.at(place[0], place[1])
-    page.wait("return document.getElementById('film').contentDocument.getElementById('events').innerText.includes('loses')")
+    _, place, height = reader.place_in_film("#hit-after")
+    if place > height:
+        raise TimeoutError(f"the buttons of the film are at {place}, below {height}")
+    reader.press_in_film("#robots .number", "1")
+    reader.press_in_film("#hit-after", "n")
+    page.wait("return /^[\\d,]+\\s*1\\) hunter.r loses \\d+% to robot 2$/.test("
+              "document.getElementById('film').contentDocument.querySelector('#events li').innerText.replaceAll('\\n', ' ').trim())")
 
 
-def win(reader: Reader) -> None:
-    """The robot of the last step is tried in a new battle, and wins."""
-    page = reader.page
+def win_by_step(reader: Reader) -> tuple[str, str]:
+    """The robot of the last step is tried in a new battle."""
     reader.press("document.querySelector('#start summary')")
-    page.wait("return document.getElementById('start').open")
+    reader.page.wait("return document.getElementById('start').open")
     reader.press("document.querySelectorAll('#steps button')[4]")
-    told(page, "#noted", "This is a new battle")
+    told(reader.page, "#noted", "This is a new battle")
+    return "step5.r", "wallhugger.r"
+
+
+def win_by_sample(reader: Reader) -> tuple[str, str]:
+    """The strongest sample fights in a new battle against one that is weaker."""
+    page = reader.page
+    reader.press("document.querySelector('#kept summary')")
+    page.wait("return document.getElementById('kept').open")
+    reader.press(by_id("new"))
+    page.wait("return document.querySelectorAll('#tabs [role=tab]').length === 1")
+    for name, button in (("jouster.r", "replace"), ("sniper.r", "add-sample")):
+        # what a list of choices looks like, and how one chooses in it, is the browser's matter
+        page.js("document.getElementById('sample').value = arguments[0]", name)
+        reader.press(by_id(button))
+        page.wait("return [...document.querySelectorAll('#tabs [role=tab]')].at(-1).textContent === arguments[0]", name)
+    show_first(reader)
+    return "jouster.r", "sniper.r"
+
+
+def show_first(reader: Reader) -> None:
+    """The first robot is shown, of two of which the other one was."""
+    if reader.has_keys:
+        reader.tab("document.querySelector('#tabs [aria-selected=true]')")
+        reader.chord(LEFT)
+    else:
+        reader.point(by_id("tab-0"))
+    reader.page.wait("return document.getElementById('tab-0').getAttribute('aria-selected') === 'true'")
+
+
+def win(reader: Reader) -> tuple[str, str]:
+    """A better robot wins more than half of its matches. Returns its name and that of its opponent."""
+    page = reader.page
+    names = {"step": win_by_step, "sample": win_by_sample}[reader.way.wins_by](reader)
     reader.press(by_id("run"))
-    page.wait("return document.getElementById('report').textContent.startsWith('Match 1') && document.getElementById('report').textContent.includes('step5.r')")
+    told(page, "#report", f" {names[0]}")
+    won = page.js("return /^Totals: (\\d+) match[^]*1\\) won (\\d+) .* (\\S+)$/m.exec(document.getElementById('report').textContent)")
+    if won[3] != names[0] or 2 * int(won[2]) <= int(won[1]):
+        raise TimeoutError(f"no win: {won}")
+    return names
 
 
-def save_and_send(reader: Reader) -> None:
+def save_and_send(reader: Reader, name: str) -> None:
     """The robot is saved, and a link to the battle is made."""
     page = reader.page
     page.js("window.saved = ''; HTMLAnchorElement.prototype.click = function () { window.saved = this.download; }")
     reader.press(by_id("save"))
-    page.wait("return window.saved === 'step5.r'")
+    page.wait("return window.saved === arguments[0]", name)
     reader.press(by_id("link"))
     page.wait("return location.hash.startsWith('#battle=')")
 
 
-def friend(reader: Reader) -> None:
-    """A friend's link is opened and changed; the next day one's own robots are there."""
-    page = reader.page
-    page.open(fragment(Battle([("friend.r", FRIEND.encode())])))
-    if reader.kind == "keys":
-        reader.tab("document.querySelector('.CodeMirror')")
+def open_a_friends(reader: Reader) -> None:
+    """A friend's link is opened, or followed in the open page; it is changed, or only looked at."""
+    page, battle = reader.page, Battle([("friend.r", FRIEND.encode())])
+    if reader.way.friends == "followed":
+        page.show(battle)
     else:
-        reader.point("document.querySelector('.CodeMirror-line')")
-    reader.write(" ")
-    page.wait("return !location.hash")
+        page.open(fragment(battle))
+    told(page, "#linked", "This battle came with a link.")
+    if reader.way.friends != "looked at":
+        reader.edit()
+        reader.write(" ")
+        page.wait("return !location.hash")
+
+
+def come_back(reader: Reader, names: tuple[str, str]) -> None:
+    """The next day one's own robots are there, or a button leads to them; and all battles are in the list."""
+    page = reader.page
     page.open()
-    reader.press("document.querySelector('#linked button')")
-    page.wait("return document.getElementById('tab-0').textContent === 'step5.r'")
+    is_kept = reader.way.friends != "looked at"
+    if is_kept:
+        reader.press("document.querySelector('#linked button')")
+    page.wait("return document.getElementById('tab-0').textContent === arguments[0]", names[0])
     reader.press("document.querySelector('#kept summary')")
     page.wait("return document.getElementById('kept').open")
-    page.wait("return [...document.querySelectorAll('#entries button')].map(it => it.textContent).sort().join('; ') === arguments[0]",
-              "friend.r; hunter.r, sniper.r; step5.r, wallhugger.r")
+    wanted = sorted([", ".join(names), "hunter.r, sniper.r", *(["friend.r"] if is_kept else [])])
+    page.wait("return [...document.querySelectorAll('#entries button')].map(it => it.textContent).sort().join('; ') === arguments[0]", "; ".join(wanted))
     reader.press("[...document.querySelectorAll('#entries button')].find(it => it.textContent === 'hunter.r, sniper.r')")
     page.wait("return document.querySelector('.CodeMirror').CodeMirror.getValue().startsWith(arguments[0])", MINE)
 
 
-def path(page: Page, kind: str, width: int, height: int) -> list[str]:
-    """The whole way."""
-    if page.driver.name == "chrome":
-        page.size(width, height)
-    else:
-        page.driver.set_window_size(width, height)
+def whole(reader: Reader) -> Iterator[tuple[str, Callable[[], Any]]]:
+    """The parts of a way, by their names."""
+    names = ("", "")
+
+    def won() -> None:
+        nonlocal names
+        names = win(reader)
+
+    yield "the page", lambda: starts_well(reader)
+    yield "write and mend", lambda: write_and_mend(reader)
+    yield "watch the hit", lambda: watch_the_hit(reader)
+    yield "win", won
+    yield "save and send", lambda: save_and_send(reader, names[0])
+    yield "open a friend's", lambda: open_a_friends(reader)
+    yield "come back", lambda: come_back(reader, names)
+
+
+def path(page: Page, way: Way) -> list[str]:
+    """The whole way; what is wrong with it."""
+    page.size(*way.size)
     page.fresh()
-    reader = Reader(page, kind)
-    step = ""
-    try:
-        for part in (write_and_mend, watch_the_hit, win, save_and_send, friend):
-            step = part.__name__
-            part(reader)
-    except TimeoutError as why:
-        return [f"{step.replace('_', ' ')}: {why}; {page.js('return document.body.innerText').splitlines()[:40]}"]
+    for name, part in whole(Reader(page, way)):
+        try:
+            part()
+        except TimeoutError as why:
+            return [f"{name}: {why}; {page.js('return document.body.innerText').splitlines()[:40]}"]
     return []
 
 
-def walked(page: Page, kind: str, width: int, height: int, place: str = "") -> tuple[str, list[str]]:
-    """The name of a way, and what is wrong with it; how long it took is printed."""
-    begun, name = time.monotonic(), f"a first way by {kind} at {width} by {height}{place}"
-    wrong = path(page, kind, width, height)
-    print(f"{name} in {page.driver.name} took {time.monotonic() - begun:.1f} s")
-    return name, wrong
-
-
 def results(page: Page, folder: str) -> Iterator[tuple[str, list[str]]]:
-    """The tests' names, and what is wrong. If all ways are walked, one more is with the page as a file."""
-    every = os.environ.get("CROBOTS_PATHS") == "all"
-    for at, kind in enumerate(KINDS):
-        for width, height in SIZES if every else (SIZES[at],):
-            yield walked(page, kind, width, height)
-    if every:
-        yield walked(Page(page.driver, "file://" + os.path.join(os.path.abspath(folder), "index.html")), "mouse", *SIZES[1], ", as a file")
+    """The tests' names, and what is wrong; how long each took is printed."""
+    file = Page(page.driver, "file://" + os.path.join(os.path.abspath(folder), "index.html"))
+    for way in WAYS if os.environ.get("CROBOTS_PATHS") == "all" else WAYS[:FEW]:
+        begun = time.monotonic()
+        wrong = path(file if way.is_file else page, way)
+        print(f"{way.name} in {page.driver.name} took {time.monotonic() - begun:.1f} s")
+        yield way.name, wrong
+    page.whole_window()

@@ -6,8 +6,17 @@
     const canvas = Object.assign(document.createElement("canvas"), {width: 1, height: 1});
     const context = canvas.getContext("2d", {willReadFrequently: true});
 
-    /** The parts of a colour, from 0 to 1, and how much it covers. */
+    const known = new Map();
+
+    /** The parts of a colour, from 0 to 1, and how much it covers. Each colour is drawn once. */
     function parts(colour) {
+        if (!known.has(colour)) {
+            known.set(colour, drawn(colour));
+        }
+        return known.get(colour);
+    }
+
+    function drawn(colour) {
         context.clearRect(0, 0, 1, 1);
         context.fillStyle = colour;
         context.fillRect(0, 0, 1, 1);
@@ -46,21 +55,29 @@
 
     const nameOf = element => `${element.tagName.toLowerCase()}${element.id ? `#${element.id}` : ""}${element.className ? `.${element.className}` : ""}`;
 
+    const backgrounds = new Map();
+
+    /** The background of what has this class in an element, which is asked for once in each theme. */
+    function backgroundOf(name, element, view) {
+        const key = `${name} ${view.matchMedia("(prefers-color-scheme: dark)").matches}`;
+        if (!backgrounds.has(key)) {
+            const it = view.document.createElement("div");
+            it.className = name;
+            element.append(it);
+            backgrounds.set(key, parts(view.getComputedStyle(it).backgroundColor));
+            it.remove();
+        }
+        return backgrounds.get(key);
+    }
+
     /** Backgrounds that lie behind a line of the editor and aren't its ancestors'. */
     function layers(element, view) {
         const inEditor = element.closest(".CodeMirror-line");
         if (!inEditor) {
             return [[]];
         }
-        const made = name => {
-            const it = view.document.createElement("div");
-            it.className = name;
-            element.closest(".CodeMirror").append(it);
-            const colour = parts(view.getComputedStyle(it).backgroundColor);
-            it.remove();
-            return colour;
-        };
-        const [active, selected, faulty] = ["CodeMirror-activeline-background", "CodeMirror-selected", "faulty"].map(made);
+        const [active, selected, faulty] = ["CodeMirror-activeline-background", "CodeMirror-selected", "faulty"]
+            .map(name => backgroundOf(name, element.closest(".CodeMirror"), view));
         return [[], [active], [selected], [active, selected], [faulty], [active, faulty]];
     }
 
@@ -93,9 +110,10 @@
             const style = view.getComputedStyle(it);
             const width = parseFloat(style.borderTopWidth);
             const behind = ground(it.parentElement, view);
-            const edge = over(parts(style.borderTopColor), behind);
-            const isText = !width && contrast(over(parts(style.backgroundColor), behind), behind) < 1.1;
+            // what has no border ends where its background does
+            const edge = over(parts(width ? style.borderTopColor : style.backgroundColor), behind);
             const ratio = contrast(edge, behind);
+            const isText = !width && ratio < 1.1;
             return isText || ratio >= 3 ? [] : [`border of ${nameOf(it)} ${ratio.toFixed(2)}`];
         });
     }

@@ -79,7 +79,7 @@ def bomb(page: Page) -> list[str]:
     link = packed(text)
     begun = time.monotonic()
     page.open(link)
-    page.wait("return document.getElementById('said').textContent.startsWith('The link carries no battle')")
+    page.wait("return document.getElementById('noted').textContent.startsWith('The link carries no battle')")
     took = time.monotonic() - begun
     largest = [{"name": f"{n}.r", "source": " " * 1_048_577} for n in range(4)]
     page.open(packed(json.dumps({"robots": largest}).encode()))
@@ -148,7 +148,9 @@ def about(folder: str) -> list[str]:
         digest = hashlib.sha256(file.read()).hexdigest()
     with open(os.path.join(folder, "about.html"), encoding="utf-8") as file:
         text = file.read()
-    return [] if digest in text and re.search(r"<dt>Version</dt><dd>\S+</dd>", text) else ["the hash or the version is missing"]
+    wrong = [] if digest in text and re.search(r"<dt>Version</dt><dd>\S+</dd>", text) else ["the hash or the version is missing"]
+    told = ("What is proved", "What is not proved", "icence", "CodeMirror, by Marijn Haverbeke and others, under the MIT licence")
+    return wrong + [f"nothing of {it}" for it in told if it not in text]
 
 
 def results(page: Page, folder: str) -> Iterator[tuple[str, list[str]]]:

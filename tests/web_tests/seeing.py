@@ -27,8 +27,45 @@ def film_fits(page: Page) -> list[str]:
         inner = page.inside("return it.activeElement.id")
         if not (0 <= edge[0] < height / 2 and edge[1] <= height and edge[2] == "film" and inner == "play-pause"):
             wrong.append(f"{width} by {height}: the film begins at {edge[0]:.0f}, its button ends at {edge[1]:.0f}, the focus is at {edge[2]}, {inner}")
-    page.driver.execute_cdp_cmd("Emulation.clearDeviceMetricsOverride", {})
+    page.whole_window()
     return wrong
+
+
+# what is pressed, and the line that says something then
+PRESSES = {
+    "document.getElementById('run')": "said", "document.getElementById('link')": "said", "document.getElementById('replace')": "noted",
+    "document.getElementById('watch')": "told", "document.querySelector('#report button')": "told",
+    "document.querySelector('#steps button')": "noted",
+}
+
+
+def messages(page: Page) -> list[str]:
+    """What the page says once something is pressed is within the window then, wherever on the page that stands."""
+    wrong = []
+    for width, height in WINDOWS:
+        page.size(width, height)
+        page.fresh()
+        page.js("document.getElementById('start').open = true")
+        for pressed, line in PRESSES.items():
+            page.js(f"document.getElementById('{line}').textContent = ''; const it = {pressed}; it.scrollIntoView({{block: 'center'}}); it.click()")
+            page.wait(f"return document.getElementById('{line}').textContent && !document.getElementById('run').disabled")
+            page.wait("return !document.getElementById('watch').disabled")
+            place = page.js(f"const box = document.getElementById('{line}').getBoundingClientRect(); return [box.top, box.bottom]")
+            wrong += [] if 0 <= place[0] < place[1] <= height else [f"{width} by {height}, {pressed}: its message is at {place}"]
+    page.whole_window()
+    return wrong + out_of_sight(page)
+
+
+def out_of_sight(page: Page) -> list[str]:
+    """A storage that is full is told of where one writes."""
+    page.size(360, 640)
+    page.fresh()
+    page.js("Storage.prototype.setItem = () => { throw new DOMException('full', 'QuotaExceededError'); };"
+            "document.querySelector('#writing').scrollIntoView({block: 'start'})")
+    page.write("main() { }")
+    place = page.js("const box = document.getElementById('unkept').getBoundingClientRect(); return [box.top, box.bottom]")
+    page.whole_window()
+    return [] if 0 <= place[0] < place[1] <= 640 else [f"that nothing is kept is told at {place}"]
 
 
 def no_future(page: Page) -> list[str]:
@@ -97,7 +134,7 @@ def diagnostic(page: Page) -> list[str]:
     page.js("document.getElementById('tab-1').click()")
     page.wait("return document.getElementById('diagnostic').textContent === 'No fault.'")
     marked = page.js("return document.getElementById('tab-0').classList.contains('faulty')")
-    page.driver.execute_cdp_cmd("Emulation.clearDeviceMetricsOverride", {})
+    page.whole_window()
     page.show(Battle([("a.r", b"main(){}"), ("b.r", b"main(){break;}")]))
     page.wait("return document.getElementById('tab-1').classList.contains('faulty')")
     return wrong + ([] if marked else ["the mark of the tab is gone"])
@@ -196,6 +233,6 @@ def one_name(page: Page) -> list[str]:
 def results(page: Page, crobots: str) -> Iterator[tuple[str, list[str]]]:
     """The tests' names, and what is wrong."""
     yield "in sight: series", series(page, crobots)
-    tests: list[Any] = [film_fits, no_future, seeds, first_match, ages, diagnostic, listing_marks, progress, long_text, rows, found, one_name]
+    tests: list[Any] = [film_fits, messages, no_future, seeds, first_match, ages, diagnostic, listing_marks, progress, long_text, rows, found, one_name]
     for test in tests:
         yield f"in sight: {test.__name__.replace('_', ' ')}", test(page)

@@ -8,6 +8,7 @@ import importlib
 import os
 import shutil
 import subprocess
+import tempfile
 from typing import Any, Iterator
 
 from . import browser, everyone, paths, robust
@@ -16,7 +17,9 @@ from .pages import Page, served
 
 BROWSERS = "/usr/lib/*/webkit2gtk-4.*/MiniBrowser"
 DRIVER, DISPLAY = "WebKitWebDriver", "Xvfb"
-SCREEN = "1400x1100x24"
+SCREEN = "1920x1100x24"
+# the bar above the page takes so little width that a window can be as narrow as a phone
+STYLE = "window * { min-width: 0; min-height: 0; padding: 0; margin: 0; border-width: 0; font-size: 1px; }\n"
 # WebKit lays out a line of a megabyte of brackets for a minute; what the engine says of such sources is no matter of WebKit
 MOST_HOSTILE = 50_000
 
@@ -35,19 +38,38 @@ def lacking(folder: str) -> str:
 
 
 @contextlib.contextmanager
+def variable(name: str, value: str) -> Iterator[None]:
+    """A variable of the environment, for the programs that are started meanwhile."""
+    before = os.environ.get(name)
+    os.environ[name] = value
+    try:
+        yield
+    finally:
+        os.environ.pop(name)
+        os.environ.update({} if before is None else {name: before})
+
+
+@contextlib.contextmanager
+def style() -> Iterator[None]:
+    """A style of windows, for the programs that are started meanwhile."""
+    with tempfile.TemporaryDirectory() as folder, variable("XDG_CONFIG_HOME", folder):
+        os.mkdir(os.path.join(folder, "gtk-3.0"))
+        with open(os.path.join(folder, "gtk-3.0", "gtk.css"), "w", encoding="ascii") as file:
+            file.write(STYLE)
+        yield
+
+
+@contextlib.contextmanager
 def display() -> Iterator[None]:
     """A screen that nobody sees, for the programs that are started meanwhile."""
-    before = os.environ.get("DISPLAY")
     words = [DISPLAY, "-displayfd", "1", "-screen", "0", SCREEN, "-nolisten", "tcp"]
     with subprocess.Popen(words, stdout=subprocess.PIPE, stderr=subprocess.DEVNULL, text=True) as screen:
         assert screen.stdout
-        os.environ["DISPLAY"] = f":{screen.stdout.readline().strip()}"
         try:
-            yield
+            with variable("DISPLAY", f":{screen.stdout.readline().strip()}"):
+                yield
         finally:
             screen.terminate()
-            os.environ.pop("DISPLAY")
-            os.environ.update({"DISPLAY": before} if before else {})
 
 
 @contextlib.contextmanager
@@ -67,7 +89,7 @@ def webkit() -> Iterator[Any]:
 
 def results(crobots: str, _stages: str, folder: str) -> Iterator[tuple[str, list[str]]]:
     """The tests' names, and what is wrong."""
-    with display(), served(folder) as address, webkit() as driver:
+    with display(), style(), served(folder) as address, webkit() as driver:
         page = Page(driver, address)
         page.open()
         yield "samples", browser.reports(page, crobots, sample_battles())

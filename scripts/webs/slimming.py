@@ -1,0 +1,93 @@
+"""Makes a script short: without its comments, and without the blanks that nothing needs. Names, line ends and all else stay, so
+that it does the same, and a fault is still found in it."""
+
+from __future__ import annotations
+
+import re
+
+# A piece of a script. A slash that begins a regular expression isn't told from one that divides by the piece alone, and a
+# template may have templates in it: for both see `pieces`.
+PIECE = re.compile(r"""(?P<comment>//[^\n]*|/\*(?:.|\n)*?\*/)|(?P<text>"(?:\\(?:.|\n)|[^"\\\n])*"|'(?:\\(?:.|\n)|[^'\\\n])*')
+    |(?P<word>[\w$#@]+)|(?P<blank>[ \t]+)|(?P<end>\n)|(?P<sign>\+\+|--|=>|[^'"])""", re.VERBOSE)
+EXPRESSION = re.compile(r"/(?:\\.|\[(?:\\.|[^\]\\\n])*\]|[^/\\\[\n])+/\w*")
+# After these words, and after signs but these, a slash begins a regular expression.
+BEFORE_EXPRESSION = frozenset("return typeof case in of delete void throw new else do instanceof yield await".split())
+AFTER_VALUE = frozenset((")", "]", "}", "++", "--"))
+
+
+class Unclear(Exception):
+    """The script has something that isn't known here."""
+
+
+def template_end(script: str, at: int) -> int:
+    """Where the template ends that begins at a place; there may be others in its expressions."""
+    depth = 0
+    at += 1
+    while at < len(script):
+        if script[at] == "\\":
+            at += 1
+        elif script.startswith("${", at):
+            depth, at = depth + 1, at + 1
+        elif depth and script[at] == "}":
+            depth -= 1
+        elif depth and script[at] == "`":
+            at = template_end(script, at) - 1
+        elif script[at] == "`":
+            return at + 1
+        at += 1
+    raise Unclear("a template without an end")
+
+
+def pieces(script: str) -> list[tuple[str, str]]:
+    """The pieces of a script, each with its kind; comments are line ends if they have some, and else blanks."""
+    found: list[tuple[str, str]] = []
+    at, before = 0, ("sign", ";")
+    while at < len(script):
+        kind, text = piece_at(script, at, before)
+        at += len(text)
+        if kind == "comment":
+            kind, text = ("end", "\n") if "\n" in text else ("blank", " ")
+        if kind not in ("blank", "end"):
+            before = kind, text
+        found.append((kind, text))
+    return found
+
+
+def piece_at(script: str, at: int, before: tuple[str, str]) -> tuple[str, str]:
+    """The piece that begins at a place, after another one that is no blank."""
+    if script[at] == "`":
+        return "template", script[at:template_end(script, at)]
+    piece = PIECE.match(script, at)
+    if not piece:
+        raise Unclear(script[at:at + 20])
+    kind, text = piece.lastgroup or "", piece[0]
+    if text == "/" and (before[0] == "sign" and before[1] not in AFTER_VALUE or before[1] in BEFORE_EXPRESSION):
+        expression = EXPRESSION.match(script, at)
+        if not expression:
+            raise Unclear(script[at:at + 20])
+        return "expression", expression[0]
+    return kind, text
+
+
+def is_needed(before: tuple[str, str], after: tuple[str, str]) -> bool:
+    """Whether two pieces without a blank between them would be another thing."""
+    if before[0] in ("word", "expression"):
+        return after[0] == "word" or before[1][0].isdigit() and after[1] == "."
+    return f"{before[1][-1]}{after[1][0]}" in ("++", "--", "//", "/*", "<!")
+
+
+def short(script: str) -> str:
+    """The script without comments and needless blanks."""
+    made: list[tuple[str, str]] = [("end", "\n")]
+    is_parted = False
+    for piece in pieces(script):
+        if piece[0] == "blank":
+            is_parted = True
+        elif piece[0] != "end" or made[-1][0] != "end":
+            if is_parted and "end" not in (made[-1][0], piece[0]) and is_needed(made[-1], piece):
+                made.append(("blank", " "))
+            made.append(piece)
+            is_parted = False
+        else:
+            is_parted = False
+    return "".join(text for _, text in made[1:])
