@@ -30,6 +30,9 @@ def run(name: str, does: Callable[[], None], usage: str = "", stopped: str = "",
     except BrokenPipeError:
         signal.signal(signal.SIGPIPE, signal.SIG_DFL)
         os.kill(os.getpid(), signal.SIGPIPE)
+    except OSError as why:
+        what = f"{why.filename}: {why.strerror}" if why.filename else f"{why.strerror}"
+        return told(name, Fault(what, FILE), usage, stopped)
     return 0
 
 
