@@ -31,14 +31,16 @@ def loaded(name: str) -> ModuleType:
     return module
 
 
-def refused(usage: str, words: list[str], count: int) -> bool:
-    """Says in a line if the words aren't as many programs as this; a usage is a test's name, and what its words are called."""
-    lacking = next((word for word in words if not os.access(word, os.X_OK)), None)
-    if len(words) != count or lacking is not None:
+def refused(usage: str, words: list[str], count: int, numbers: int = 0) -> bool:
+    """Says in a line if the words aren't as many programs as this, and at most so many numbers; a usage is a test's name, and what
+    its words are called."""
+    programs, rest = words[:count], words[count:]
+    is_usage = len(programs) == count and len(rest) <= numbers and all(word.isascii() and word.isdigit() for word in rest)
+    lacking = next((word for word in programs if not os.access(word, os.X_OK)), None)
+    if not is_usage or lacking is not None:
         name = usage.partition(" ")[0]
-        print(f"usage: {usage}" if len(words) != count else f"{name}: {lacking} is no program", file=sys.stderr)
-        return True
-    return False
+        print(f"{name}: {lacking} is no program" if is_usage else f"usage: {usage}", file=sys.stderr)
+    return not is_usage or lacking is not None
 
 
 def take_signals() -> None:
