@@ -1,6 +1,7 @@
 """What tests share: how the methods of a class are run and counted, words of the command line, and tests that use another one.
 
-A test is a method whose name doesn't begin with `_`: it answers what is wrong, a line each, and nothing if all is right."""
+A test is a method whose name doesn't begin with `_`, of a class itself and not of one that it stands on: it answers what is wrong, a
+line each, and nothing if all is right."""
 
 from __future__ import annotations
 
@@ -10,8 +11,10 @@ import os
 import re
 import signal
 import sys
+import tempfile
+import time
 from types import ModuleType
-from typing import Collection, Iterable
+from typing import Callable, Collection, Iterable, Sequence
 
 HERE = os.path.dirname(os.path.abspath(__file__))
 sys.dont_write_bytecode = True
@@ -28,14 +31,16 @@ def loaded(name: str) -> ModuleType:
     return module
 
 
-def refused(usage: str, words: list[str], count: int) -> bool:
-    """Says in a line if the words aren't as many programs as this; a usage is a test's name, and what its words are called."""
-    lacking = next((word for word in words if not os.access(word, os.X_OK)), None)
-    if len(words) != count or lacking is not None:
+def refused(usage: str, words: list[str], count: int, numbers: int = 0) -> bool:
+    """Says in a line if the words aren't as many programs as this, and at most so many numbers; a usage is a test's name, and what
+    its words are called."""
+    programs, rest = words[:count], words[count:]
+    is_usage = len(programs) == count and len(rest) <= numbers and all(word.isascii() and word.isdigit() for word in rest)
+    lacking = next((word for word in programs if not os.access(word, os.X_OK)), None)
+    if not is_usage or lacking is not None:
         name = usage.partition(" ")[0]
-        print(f"usage: {usage}" if len(words) != count else f"{name}: {lacking} is no program", file=sys.stderr)
-        return True
-    return False
+        print(f"{name}: {lacking} is no program" if is_usage else f"usage: {usage}", file=sys.stderr)
+    return not is_usage or lacking is not None
 
 
 def take_signals() -> None:
@@ -44,19 +49,42 @@ def take_signals() -> None:
         signal.signal(ending, signal.SIG_DFL)
 
 
-def run(tests: object, faults: tuple[type[Exception], ...] = (), but: Collection[str] = ()) -> tuple[int, int]:
-    """Runs the tests of an object but some; says what is wrong. These faults fail the test in which they come. Answers how
-    many passed and how many failed."""
+def run(tests: object, faults: tuple[type[Exception], ...] = (), but: Collection[str] = (), only: Collection[str] = ()) -> tuple[int, int]:
+    """Runs the tests of an object but some, or some only; says what is wrong, and how long each took if TIMES is in the environment.
+    These faults fail the test in which they come. Answers how many passed and how many failed."""
     passed = failed = 0
-    for name in [name for name in dir(tests) if not name.startswith("_") and name not in but]:
+    for name in [name for name in names(tests) if name not in but and (not only or name in only)]:
+        begun = time.monotonic()
         try:
             wrong: Iterable[str] = getattr(tests, name)()
         except faults as fault:
             wrong = [f"{type(fault).__name__}: {fault}"]
         passed, failed = passed + (not wrong), failed + bool(wrong)
+        if os.environ.get("TIMES"):
+            print(f"{time.monotonic() - begun:6.1f} {name}", flush=True)
         for line in wrong:
-            print(f"{re.sub('_', ' ', name)}: {line}")
+            print(f"{re.sub('_', ' ', name)}: {line}", flush=True)
     return passed, failed
+
+
+def names(tests: object) -> list[str]:
+    """The names of the tests of an object."""
+    return sorted(name for name in vars(type(tests)) if not name.startswith("_"))
+
+
+def run_parts(usage: str, words: list[str], parts: Sequence[Callable[[str, str], object]]) -> int:
+    """Runs the parts of a test, each of which is made of a program and a folder. The words are the program, and names of tests if these
+    alone are wanted. Answers the status."""
+    if refused(usage, words[:1], 1):
+        return 2
+    take_signals()
+    with tempfile.TemporaryDirectory() as folder:
+        them = [part(os.path.abspath(words[0]), folder) for part in parts]
+        if strange := {*words[1:]} - {name for it in them for name in names(it)}:
+            print(f"{usage.partition(' ')[0]}: there is no test {min(strange)}", file=sys.stderr)
+            return 2
+        counts = [run(it, (AssertionError,), only=words[1:]) for it in them]
+    return counted(*map(sum, zip(*counts)))
 
 
 def counted(passed: int, failed: int) -> int:

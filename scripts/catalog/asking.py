@@ -2,10 +2,11 @@
 
 from __future__ import annotations
 
-import os
 import sys
 
-from catalog.commands import TOP
+from tools.output import OUTPUT
+from tools.output import write as write_pieces
+from tools.programs import number
 
 
 def is_asked(name: str, page: str, words: list[str]) -> bool:
@@ -15,7 +16,7 @@ def is_asked(name: str, page: str, words: list[str]) -> bool:
         write(name, f"usage: {use}\n\n{does[0].upper()}{does[1:].rstrip()}\n")
         return True
     if words == ["--version"]:
-        write(name, f"{name} {(TOP / 'VERSION').read_text(encoding='utf-8').strip()}\n")
+        write(name, f"{name} {number()}\n")
         return True
     return False
 
@@ -23,8 +24,6 @@ def is_asked(name: str, page: str, words: list[str]) -> bool:
 def write(name: str, text: str) -> None:
     """Writes to standard output, or ends with status 1."""
     try:
-        sys.stdout.write(text)
-        sys.stdout.flush()
+        write_pieces(OUTPUT, [text])
     except OSError as why:
-        os.dup2(os.open(os.devnull, os.O_WRONLY), 1)
         sys.exit(f"{name}: cannot write: {why.strerror}")

@@ -51,12 +51,12 @@ PROGRAMS = (
     Program("crobots-debug", "debug", ("--help",)),
 )
 SCRIPTS = (
-    Script("crobots-tournament", "tournament", ("tournaments", "sites")),
-    Script("crobots-challenge", "challenge", ("tournaments", "sites")),
-    Script("crobots-compare", "compare", ("comparisons", "tournaments", "sites", "replays")),
-    Script("crobots-league", "league", ("leagues", "tournaments", "sites")),
-    Script("crobots-replay", "replay", ("replays",)),
-    Script("crobots-step", "step", ("stepping", "replays")),
+    Script("crobots-tournament", "tournament", ("tools", "tournaments", "sites", "replays")),
+    Script("crobots-challenge", "challenge", ("tools", "tournaments", "sites", "replays")),
+    Script("crobots-compare", "compare", ("tools", "comparisons", "tournaments", "sites", "replays")),
+    Script("crobots-league", "league", ("tools", "leagues", "tournaments", "sites", "replays")),
+    Script("crobots-replay", "replay", ("tools", "replays")),
+    Script("crobots-step", "step", ("tools", "stepping", "replays")),
 )
 COMMANDS: tuple[Command, ...] = (*PROGRAMS, *SCRIPTS)
 # The game by itself, which is installed before the others.

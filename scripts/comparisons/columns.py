@@ -5,7 +5,7 @@ from __future__ import annotations
 import os
 from typing import NamedTuple
 
-from tournaments.output import OUTPUT
+from tools.output import OUTPUT
 from tournaments.tables import width
 
 LEAST_WIDTH, MOST_LABEL = 80, 24

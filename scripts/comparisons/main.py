@@ -6,12 +6,11 @@ import argparse
 from contextlib import ExitStack
 from dataclasses import dataclass
 
-from replays.words import plain
-
-from tournaments.faults import unreadable
-from tournaments.output import show
+from tools.faults import plain, unreadable
+from tools.output import show
+from tools.programs import found as path_of
+from tools.signals import stopping
 from tournaments.robots import names
-from tournaments.signals import stopping
 
 from . import traces, words
 from .columns import Row, columns, side_by_side
@@ -94,7 +93,7 @@ def line_of(version: Version, number: int) -> str:
 def compare(name: str, arguments: list[str]) -> None:
     """Does what the words ask for."""
     given = words.read(name, arguments)
-    trace, both = traces.found(), versions(given)
+    trace, both = path_of(traces.TRACE), versions(given)
     with stopping("stopped while the match was played"):
         found = compared(trace, both)
         text = said(given, both, found)

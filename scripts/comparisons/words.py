@@ -4,7 +4,7 @@ from __future__ import annotations
 
 import argparse
 
-from tournaments.faults import Fault
+from tools.faults import Fault
 from tournaments.words import CYCLES_MAX, DEFAULTS, MATCHES_MAX, SEED_MAX, Parser, within
 
 MOST_ROBOTS = 4

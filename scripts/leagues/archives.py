@@ -12,7 +12,7 @@ import zipfile
 import zlib
 from typing import Iterable, Iterator
 
-from tournaments.faults import FAULTY, FILE, Fault, unreadable, unwritable
+from tools.faults import FAULTY, FILE, Fault, unreadable, unwritable
 
 from . import tables
 from .entries import SOURCE_MAX, hashed

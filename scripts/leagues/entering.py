@@ -5,8 +5,8 @@ from __future__ import annotations
 import argparse
 import os
 
-from tournaments.faults import Fault
-from tournaments.output import show
+from tools.faults import Fault, plain
+from tools.output import show
 from tournaments.programs import Program, program
 from tournaments.robots import Robot, compiled, private
 
@@ -22,7 +22,7 @@ def init(given: argparse.Namespace) -> None:
     by = played_by(ruled(Rules(), given), program(given.crobots))
     with made(given.league) as store, store.change():
         seasons.begin(store, given.season, given.day or today(), by, {})
-    show([f"{given.league} is a league now\n"])
+    show([f"{plain(given.league)} is a league now\n"])
 
 
 def rules(given: argparse.Namespace) -> None:

@@ -6,8 +6,8 @@ import hashlib
 import re
 from dataclasses import dataclass
 
+from tools.faults import FILE, Fault
 from tournaments import seats
-from tournaments.faults import FILE, Fault
 
 from .store import Store
 

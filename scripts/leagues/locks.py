@@ -7,7 +7,7 @@ import fcntl
 import os
 from typing import Iterator
 
-from tournaments.faults import FILE, Fault, unwritable
+from tools.faults import FILE, Fault, unwritable
 
 NAME = "lock"
 

@@ -9,8 +9,8 @@ import tempfile
 
 from sites.folders import Foreign
 from sites.publishing import publish as write_site
-from tournaments.faults import FILE, Fault, unwritable
-from tournaments.output import show
+from tools.faults import FILE, Fault, plain, unwritable
+from tools.output import show
 
 from . import archives, publications
 from .days import today
@@ -48,4 +48,4 @@ def publish(given: argparse.Namespace) -> None:
             raise Fault(str(why), FILE) from why
         except OSError as why:
             unwritable(given.site, why)
-    show([f"{len(table)} robots, {len(facts.pairs)} pairs in {given.site}\n"])
+    show([f"{len(table)} robots, {len(facts.pairs)} pairs in {plain(given.site)}\n"])

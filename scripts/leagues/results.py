@@ -6,7 +6,7 @@ from itertools import groupby
 from operator import itemgetter
 from typing import Iterator, NamedTuple, Sequence
 
-from tournaments.faults import FILE, Fault
+from tools.faults import FILE, Fault
 from tournaments.records import Match, match
 
 from .rules import Rules

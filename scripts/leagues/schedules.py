@@ -5,9 +5,9 @@ from __future__ import annotations
 import itertools
 from typing import Iterator, Sequence
 
+from tools.faults import Fault
 from tournaments import groups as grouping
 from tournaments import seats
-from tournaments.faults import Fault
 from tournaments.settings import Group, Settings
 
 from .results import Seated, seated

@@ -5,7 +5,7 @@ from __future__ import annotations
 from dataclasses import dataclass
 from typing import Sequence
 
-from tournaments.faults import Fault
+from tools.faults import Fault
 
 from .entries import Entrant, Entry, entries, playing
 from .rules import Rules, rules

@@ -7,16 +7,17 @@ import math
 from contextlib import closing
 from dataclasses import dataclass
 
-from tournaments.faults import Fault
-from tournaments.output import show, tell
+from tools.faults import Fault
+from tools.output import say, show
+from tools.signals import Stopped, watch
 from tournaments.plans import Plan
 from tournaments.playing import Player
 from tournaments.programs import Program, program
 from tournaments.progress import Progress
 from tournaments.records import Record, Series
 from tournaments.robots import Robot
+from tournaments.sessions import done
 from tournaments.settings import Group
-from tournaments.signals import Stopped, watch
 
 from .days import today
 from .farm import planned
@@ -89,16 +90,16 @@ def play(given: argparse.Namespace) -> None:
 def play_all(store: Store, given: argparse.Namespace, found: Program) -> None:
     """Plays until nothing is wanted any more, or a signal asks for the end."""
     with alone(store.folder):
-        done = 0
+        matches = 0
         while True:
             season = running(store)
             checked(season, found)
             now = wanted(store, season, given.jobs, given.piece)
             if not now.records:
                 if not given.quiet:
-                    tell(f"{given.script}: {done} matches were played, and none is missing\n")
+                    say(given.script, f"{matches} matches were played, and none is missing")
                 return
-            done += play_round(store, given, found, season.rules, now)
+            matches += play_round(store, given, found, season.rules, now)
 
 
 def play_round(store: Store, given: argparse.Namespace, found: Program, by: Rules, now: Wanted) -> int:
@@ -117,8 +118,7 @@ def play_round(store: Store, given: argparse.Namespace, found: Program, by: Rule
                     progress.count(record.series.matches)
         except Stopped as why:
             progress.clear()
-            said = f"{progress.done} of {progress.series} series were played, {progress.matches} matches"
-            raise Stopped(why.number, f"stopped: {said}, and are kept") from why
+            raise Stopped(why.number, f"stopped: {done(progress)}, and are kept") from why
     progress.clear()
     return progress.matches
 

@@ -4,7 +4,7 @@ from __future__ import annotations
 
 import argparse
 
-from tournaments.output import show
+from tools.output import show
 
 from . import tables
 from .locks import is_played

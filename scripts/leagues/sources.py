@@ -8,7 +8,7 @@ import os
 import tempfile
 from typing import Iterable
 
-from tournaments.faults import unwritable
+from tools.faults import unwritable
 
 from .entries import source
 from .store import Store

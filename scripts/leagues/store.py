@@ -14,7 +14,7 @@ from dataclasses import dataclass
 from typing import Any, Iterator
 from urllib.parse import quote
 
-from tournaments.faults import FILE, Fault, unwritable
+from tools.faults import FILE, Fault, unwritable
 
 NAME = "league.db"
 APPLICATION = 0x43524F42

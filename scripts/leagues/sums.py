@@ -6,8 +6,9 @@ import subprocess
 from concurrent.futures import ThreadPoolExecutor
 from typing import Sequence
 
-from replays import faults
-from replays.main import program
+from replays.main import TRACE
+from tools.faults import Fault
+from tools.programs import found
 from tournaments.settings import Group
 
 from .results import Results
@@ -20,8 +21,8 @@ Seat = tuple[Group, int, int]
 def sums(schedule: Schedule, results: Results, folder: str, many: int, jobs: int) -> dict[str, str]:
     """Of each robot what the program says of at most `many` of its matches; nothing if the program isn't there."""
     try:
-        trace = program() if many else ""
-    except faults.Fault:
+        trace = found(TRACE) if many else ""
+    except Fault:
         trace = ""
     if not trace:
         return {}

@@ -7,10 +7,10 @@ import itertools
 from dataclasses import dataclass, field
 from typing import Iterator, Sequence
 
+from tools.faults import Fault
+from tools.output import say, show
 from tournaments import seats
-from tournaments.faults import Fault
 from tournaments.merging import opened
-from tournaments.output import show, tell
 from tournaments.records import NoRecord, Record, played
 
 from .days import today
@@ -35,7 +35,7 @@ def take(given: argparse.Namespace) -> None:
     with opened_league(given.league) as store:
         taken = taken_from(store, running(store).rules, given.files, given.day or today())
     for why in taken.wrong:
-        tell(f"{given.script}: {why}\n")
+        say(given.script, why)
     show([f"{taken.new} matches are new, {taken.known} were there\n"])
     if taken.wrong:
         raise Fault(f"{len(taken.wrong)} lines were refused")

@@ -5,8 +5,8 @@ from __future__ import annotations
 import argparse
 from dataclasses import replace
 
-from tournaments.faults import Fault
-from tournaments.output import show
+from tools.faults import Fault
+from tools.output import show
 from tournaments.programs import program
 from tournaments.tables import aligned
 from tournaments.words import SEED_MAX

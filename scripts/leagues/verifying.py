@@ -10,16 +10,16 @@ from dataclasses import dataclass
 from itertools import zip_longest
 from typing import Iterator
 
+from tools.faults import FAULTY, Fault
+from tools.output import say, show
+from tools.signals import watch
 from tournaments import seats
-from tournaments.faults import FAULTY, Fault
-from tournaments.output import show, tell
 from tournaments.playing import Player
 from tournaments.programs import Program, program, version
 from tournaments.progress import Progress
 from tournaments.records import Match, Record, Series
 from tournaments.robots import Robot, private
 from tournaments.settings import Settings
-from tournaments.signals import watch
 
 from . import archives, tables
 from .archives import SOURCES
@@ -130,7 +130,7 @@ def replayed(store: Store, found: Program, given: argparse.Namespace, runs: list
     by_series = {(it.robots, it.series): run for it, run in zip(records, runs)}
     for by in sorted({it.settings.program for it in records} - {found.sha256}):
         ours, theirs = named(version(found.sha256), found.sha256), named(versions(store).get(by, ""), by)
-        tell(f"{given.script}: {found.path} is {ours}, and matches of the archive are by {theirs}\n")
+        say(given.script, f"{found.path} is {ours}, and matches of the archive are by {theirs}")
     progress = Progress(len(records), given.quiet, given.script)
     with private() as folder, watch() as stop:
         for sha256, source in store.rows("SELECT sha256, bytes FROM source"):

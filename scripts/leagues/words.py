@@ -8,7 +8,7 @@ import re
 from dataclasses import replace
 from typing import Any
 
-from tournaments.faults import Fault
+from tools.faults import Fault
 from tournaments.words import CYCLES_MAX, MATCHES_MAX, SEED_MAX, Parser, decimals, within
 
 from .days import day

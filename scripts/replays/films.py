@@ -7,7 +7,8 @@ from __future__ import annotations
 import re
 from typing import Iterable
 
-from .faults import UNWRITTEN, USAGE, Fault
+from tools.faults import UNWRITTEN, Fault
+
 from .packing import Packer
 
 HEADER = "cycle robot kind a b c d e".split()
@@ -61,7 +62,7 @@ class Film:
     def _judge(self) -> None:
         """Looks whether the film is whole."""
         if self.names and not self._placed and not self._ended:
-            raise Fault("the match has none of these cycles", USAGE)
+            raise Fault("the match has none of these cycles")
         if not self.names or len(self._ended) != len(self.names):
             raise Fault("the film has no end", UNWRITTEN)
         if len(self._placed) != len(self.names):

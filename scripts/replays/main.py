@@ -2,70 +2,38 @@
 
 from __future__ import annotations
 
-import io
-import os
-import shutil
-import signal
-import subprocess
-import sys
-import tempfile
+from tools import output
+from tools.faults import UNWRITTEN, Ended, Fault
+from tools.programs import found, lines, number
+from tools.running import run as begin
 
-from .faults import MEMORY, UNWRITTEN, USAGE, Fault, Misuse
 from .films import Film
 from .pages import page
-from .words import HELP, NAME, USAGE_LINE, Asked, plain, read
+from .words import HELP, NAME, USAGE_LINE, Asked, read
 
-HERE = os.path.dirname(os.path.realpath(__file__))
-# The version's number, in the repository and where this is installed.
-VERSION = os.path.normpath(os.path.join(HERE, "..", "..", "VERSION"))
-TRACE = "crobots-trace: "
+TRACE = "crobots-trace"
 
 
-def program() -> str:
-    """Finds `trace`: the one on the path, or the one built or installed with this script."""
-    built = os.path.normpath(os.path.join(HERE, "..", "..", "crates", "trace", "out", "trace"))
-    installed = os.path.normpath(os.path.join(HERE, "..", "..", "..", "..", "bin", "crobots-trace"))
-    found = next((path for place in ("crobots-trace", built, installed) if (path := shutil.which(place))), None)
-    if not found:
-        raise Fault("crobots-trace is not there, or is no program; README.md says how it is built", USAGE)
-    return found
-
-
-def version() -> str:
-    """The line of the version."""
-    with open(VERSION, encoding="utf-8") as file:
-        return f"{NAME} {file.readline().strip()}\n"
-
-
-def said(line: str) -> str:
-    """A line of `trace` on standard error, with the name of this script."""
-    return f"{NAME}: {line.removeprefix(TRACE)}" if line.startswith(TRACE) else line
-
-
-def filmed(trace: str, words: list[str]) -> Film:
-    """The film of the match that words ask for; ends with the status of `trace` if that is not 0."""
-    film, wrong = Film(), None
-    with tempfile.TemporaryFile("w+", errors="surrogateescape") as told:
-        with subprocess.Popen([trace, "--film", *words], stdin=subprocess.DEVNULL, stdout=subprocess.PIPE, stderr=told) as child:
-            assert child.stdout
-            try:
-                film.read(io.TextIOWrapper(child.stdout, encoding="utf-8", errors="replace", newline="\n"))
-            except Fault as why:
-                wrong = why
-        told.seek(0)
-        pass_on(child.returncode, told.readlines())
-    if wrong:
-        raise wrong
+def filmed(words: list[str]) -> Film:
+    """The film of the match that words ask for."""
+    film = Film()
+    with lines(found(TRACE), ["--film", *words], pass_on, "replace") as rows:
+        try:
+            film.read(rows)
+        except Fault:
+            # how the program ended says more
+            for _ in rows:
+                pass
+            raise
     return film
 
 
-def pass_on(status: int, lines: list[str]) -> None:
-    """Passes on what `trace` said, but its usage, and ends with its status if that is not 0."""
-    sys.stderr.writelines(said(line) for line in lines if not line.startswith("usage: "))
-    if status == USAGE:
-        raise Misuse
+def pass_on(status: int, said: list[str]) -> None:
+    """Passes on what `trace` said, with the name of this script, and ends with its status if that is not 0."""
+    ours = [f"{NAME}{line.removeprefix(TRACE)}" if line.startswith(f"{TRACE}: ") else line for line in said]
     if status:
-        sys.exit(status if status > 0 else 128 - status)
+        raise Ended(ours, status)
+    output.tell("".join(ours))
 
 
 def write(text: str, path: str = "") -> None:
@@ -75,12 +43,9 @@ def write(text: str, path: str = "") -> None:
             with open(path, "wb") as file:
                 file.write(text.encode())
         else:
-            sys.stdout.buffer.write(text.encode())
-            sys.stdout.buffer.flush()
+            output.write_all(output.OUTPUT, text.encode())
     except OSError as why:
-        if not path:
-            os.dup2(os.open(os.devnull, os.O_WRONLY), 1)
-        raise Fault(f"cannot write {plain(path)}".rstrip(), UNWRITTEN) from why
+        raise Fault(f"cannot write {path}".rstrip(), UNWRITTEN) from why
 
 
 def answer(asked: Asked) -> None:
@@ -88,24 +53,11 @@ def answer(asked: Asked) -> None:
     if asked.flags & {"-h", "--help"}:
         write(HELP)
     elif asked.flags:
-        write(version())
+        write(f"{NAME} {number()}\n")
     else:
-        write(page(filmed(program(), asked.trace), asked.number), asked.file)
+        write(page(filmed(asked.trace), asked.number), asked.file)
 
 
 def run(words: list[str]) -> int:
     """Does what the words ask for; answers the status."""
-    if isinstance(sys.stderr, io.TextIOWrapper):
-        sys.stderr.reconfigure(errors="surrogateescape")
-    try:
-        answer(read(words))
-    except Fault as why:
-        lines = [f"{NAME}: {why}"] if str(why) else []
-        print(*lines, *([USAGE_LINE] if isinstance(why, Misuse) else []), sep="\n", file=sys.stderr)
-        return why.status
-    except MemoryError:
-        print(f"{NAME}: out of memory", file=sys.stderr)
-        return MEMORY
-    except KeyboardInterrupt:
-        return 128 + signal.SIGINT
-    return 0
+    return begin(NAME, lambda: answer(read(words)), USAGE_LINE)

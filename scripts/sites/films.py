@@ -10,8 +10,9 @@ from concurrent.futures import ThreadPoolExecutor
 from dataclasses import dataclass
 from typing import Iterator, Mapping, Sequence
 
-from replays.faults import Fault
-from replays.main import program
+from replays.main import TRACE
+from tools.faults import Fault
+from tools.programs import found
 
 from .facts import Battle, Settings
 
@@ -34,7 +35,7 @@ class Order:
 def can_film() -> bool:
     """Reports whether `crobots-trace` is there."""
     try:
-        return bool(program())
+        return bool(found(TRACE))
     except Fault:
         return False
 

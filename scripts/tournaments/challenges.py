@@ -11,18 +11,19 @@ import statistics
 from dataclasses import dataclass
 from typing import Iterator
 
+from tools.faults import Fault
+from tools.output import show
+from tools.signals import stopping
+
 from . import plans, programs, robots, words
-from .faults import Fault
 from .intervals import Mean, mean
 from .main import tell_rounded
-from .output import show
 from .playing import Player
 from .records import Record, Series
 from .robots import Robot
 from .seats import keys, seatings
 from .sessions import session
 from .settings import Settings
-from .signals import stopping
 from .tables import RESULTS, aligned
 from .versions import CHALLENGER, NEW, OLD, Place, Versions
 

@@ -9,7 +9,8 @@ import math
 from functools import lru_cache
 from typing import Iterable, Iterator, Sequence
 
-from .faults import Fault
+from tools.faults import Fault
+
 from .records import Series
 from .seats import seatings
 from .settings import Group, Settings

@@ -13,8 +13,9 @@ import stat
 import sys
 from typing import Callable, Iterator
 
-from .faults import FILE, Fault, unreadable, unwritable
-from .output import write_all
+from tools.faults import FILE, Fault, unreadable, unwritable
+from tools.output import write_all
+
 from .records import BEGIN, OLDER, NoRecord, Record, played
 from .settings import NAMES, Settings, shown
 

@@ -4,22 +4,23 @@ from __future__ import annotations
 
 import argparse
 import os
-import signal
 from decimal import Decimal
 from typing import Callable
 
+from tools.faults import Fault
+from tools.output import say, show
+from tools.running import run as begin
+from tools.signals import stopping
+
 from . import plans, programs, robots, words
-from .faults import FILE, Fault
 from .groups import check_sample
 from .merging import Merger, against, records
-from .output import open_standard_files, show, tell
 from .playing import Player
 from .programs import Program
 from .results import Results, check_files
 from .seats import keys, rounded
 from .sessions import session
 from .settings import SIZE_NAMES, Settings
-from .signals import Stopped, heeded, stop, stopping
 
 NOTHING = "stopped while no series was played"
 
@@ -102,7 +103,7 @@ def tell_rounded(given: argparse.Namespace, sizes: tuple[int, ...]) -> None:
     more = {size: rounded(given.matches, size) for size in sizes if given.matches % size}
     if more:
         said = ", ".join(f"{many} of {SIZE_NAMES[size]}" for size, many in more.items())
-        tell(f"{given.script}: -m{given.matches} is rounded up to {said}: each seating is played equally often\n")
+        say(given.script, f"-m{given.matches} is rounded up to {said}: each seating is played equally often")
 
 
 def tournament(name: str, arguments: list[str]) -> None:
@@ -131,29 +132,4 @@ def tournament(name: str, arguments: list[str]) -> None:
 def run(does: Callable[[str, list[str]], None], command: list[str]) -> int:
     """Runs a script with its command line, the script's own path first; answers its status."""
     name = os.path.basename(command[0])
-    try:
-        return status_of(does, name, command[1:])
-    except BrokenPipeError:
-        signal.signal(signal.SIGPIPE, signal.SIG_DFL)
-        os.kill(os.getpid(), signal.SIGPIPE)
-        return FILE
-
-
-def status_of(does: Callable[[str, list[str]], None], name: str, words: list[str]) -> int:
-    """Does what is asked for, and says what is wrong; answers the status."""
-    is_open = open_standard_files()
-    # a pipe for standard error that is closed ends nothing
-    signal.signal(signal.SIGPIPE, signal.SIG_IGN)
-    for number in heeded():
-        signal.signal(number, stop)
-    try:
-        if not is_open:
-            raise Fault("cannot write: standard output is closed", FILE)
-        does(name, words)
-    except Fault as why:
-        tell(f"{name}: {why}\n")
-        return why.status
-    except Stopped as why:
-        tell(f"{name}: {why.args[0] or NOTHING}\n")
-        return 128 + why.number
-    return 0
+    return begin(name, lambda: does(name, command[1:]), stopped=NOTHING, writes=True)

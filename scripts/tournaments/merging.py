@@ -6,9 +6,10 @@ import contextlib
 from collections import Counter, defaultdict
 from typing import IO, Iterable, Iterator
 
-from .faults import FILE, Fault, unreadable
+from tools.faults import FILE, Fault, unreadable
+from tools.output import INPUT
+
 from .groups import whole_series
-from .output import INPUT
 from .records import NoRecord, Record, Series, planned, played
 from .robots import Robot
 from .seats import keys

@@ -9,7 +9,8 @@ from dataclasses import dataclass
 from itertools import groupby
 from typing import Iterable, Iterator
 
-from .faults import Fault
+from tools.faults import Fault
+
 from .groups import count, whole_series
 from .journals import Journal
 from .records import Record, Series, encoded

@@ -9,11 +9,12 @@ import signal
 from dataclasses import dataclass, field
 from typing import Callable, Generator, Iterable, Iterator
 
-from .faults import FAULTY, PROGRAM, Fault
+from tools.faults import FAULTY, PROGRAM, Fault
+from tools.signals import ENDING, Stopped
+
 from .programs import Program
 from .records import NoRecord, Record, check_results
 from .reports import results
-from .signals import ENDING, Stopped
 
 GLANCE = 0.2
 CHUNK = 1 << 16

@@ -8,8 +8,10 @@ import os
 import shutil
 from dataclasses import dataclass
 
-from .faults import PROGRAM, Fault, unreadable
+from tools.faults import PROGRAM, Fault, unreadable
+from tools.programs import found, number, ours
 
+NAME = "crobots"
 Stamp = tuple[int, int, int, int]
 
 
@@ -29,7 +31,7 @@ class Program:
 
 def program(given: str | None) -> Program:
     """The program that was given, the one on the path, or the one built or installed with this script."""
-    path = found(given)
+    path = found(NAME, given)
     try:
         before = stamp(path)
         with open(path, "rb") as file:
@@ -40,37 +42,12 @@ def program(given: str | None) -> Program:
     return it
 
 
-HERE = os.path.dirname(os.path.realpath(__file__))
-# Where the program is that was built with this script, and the one that was installed with it; both have this version.
-OURS = [os.path.normpath(os.path.join(HERE, *way, "crobots")) for way in (
-    ("..", "..", "crates", "crobots", "out"), ("..", "..", "..", "..", "bin"))]
-VERSION = os.path.normpath(os.path.join(HERE, "..", "..", "VERSION"))
-
-
-def found(given: str | None) -> str:
-    """The path of the program."""
-    places = [given] if given else ["crobots", *OURS]
-    path = next((path for place in places if (path := shutil.which(place))), None)
-    if not path:
-        raise Fault(f"{given or 'crobots'} is not there, or is no program; README.md says how it is built")
-    return path
-
-
 def version(sha256: str) -> str:
     """The version of the program with this hash, if it is the one that was built or installed with this script."""
     with contextlib.suppress(OSError, Fault):
-        if any(program(path).sha256 == sha256 for path in OURS if shutil.which(path)):
-            return f"crobots {number()}"
+        if any(program(path).sha256 == sha256 for path in ours(NAME) if shutil.which(path)):
+            return f"{NAME} {number()}"
     return ""
-
-
-def number() -> str:
-    """The version's number, which this script has too."""
-    try:
-        with open(VERSION, encoding="utf-8", errors="replace") as file:
-            return file.readline().strip()
-    except OSError as why:
-        unreadable(VERSION, why)
 
 
 def stamp(path: str) -> Stamp | None:

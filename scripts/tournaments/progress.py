@@ -6,7 +6,7 @@ import os
 import time
 from typing import Callable
 
-from .output import ERRORS, tell
+from tools.output import ERRORS, tell
 
 EACH_TERMINAL, EACH_LOG = 0.2, 60.0
 

@@ -8,8 +8,8 @@ from typing import Iterable, Mapping
 from sites.folders import Foreign
 from sites.publishing import publish
 from sites.tournament_facts import facts_of_tournament
+from tools.faults import FILE, Fault, unwritable
 
-from .faults import FILE, Fault, unwritable
 from .records import Record
 from .robots import Robot
 from .settings import Settings

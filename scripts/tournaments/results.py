@@ -8,10 +8,10 @@ from functools import cached_property
 from typing import Iterable, Sequence
 
 from sites.tournament_facts import kept_sources
+from tools.faults import Fault, unwritable
+from tools.output import say, show, write
 
 from . import robots, tables
-from .faults import Fault, unwritable
-from .output import show, tell, write
 from .publishing import write_site
 from .records import Record
 from .robots import Robot
@@ -59,7 +59,7 @@ class Results:
                 faults.append(why)
         show(forms.pieces(self._given.form))
         for fault in faults[:-1]:
-            tell(f"{self._given.script}: {fault}\n")
+            say(self._given.script, str(fault))
         for fault in faults[-1:]:
             raise fault
 

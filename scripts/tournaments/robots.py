@@ -16,10 +16,11 @@ from collections import Counter
 from dataclasses import dataclass
 from typing import Iterable, Iterator
 
-from .faults import FAULTY, FILE, PROGRAM, Fault, unreadable, unwritable
-from .output import tell
+from tools.faults import FAULTY, FILE, PROGRAM, Fault, plain, unreadable, unwritable
+from tools.output import tell
+from tools.signals import watch
+
 from .programs import Program
-from .signals import watch
 
 
 @dataclass(frozen=True)
@@ -113,5 +114,5 @@ def diagnosed(crobots: str, profile: int, robot: Robot, folder: str) -> int:
     if ran.returncode and not ran.stderr:
         said = f"{crobots} -c -p{profile} -- {robot.path} ended with status {ran.returncode} and said nothing"
         raise Fault(said, PROGRAM)
-    tell(os.fsdecode(ran.stderr).replace(robot.sha256, os.path.basename(robot.path)))
+    tell(os.fsdecode(ran.stderr).replace(robot.sha256, plain(os.path.basename(robot.path))))
     return ran.returncode

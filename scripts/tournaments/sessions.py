@@ -4,15 +4,17 @@ from __future__ import annotations
 
 import argparse
 from contextlib import closing
+from functools import partial
 from typing import Callable, Iterator
 
+from tools.output import say
+from tools.signals import Stopped, stopping, watch
+
 from .journals import Journal, journal
-from .output import tell
 from .plans import Plan
 from .playing import Player
 from .progress import Progress
 from .records import Record
-from .signals import Stopped, stopping, watch
 
 Adds = Callable[[Record], None]
 
@@ -20,11 +22,8 @@ Adds = Callable[[Record], None]
 def session(given: argparse.Namespace, player: Player, plan: Plan, add: Adds) -> str:
     """Adds all series of a plan, those that the journal has and those that it plays; answers what it has done, in words."""
 
-    def say(what: str) -> None:
-        tell(f"{given.script}: {what}\n")
-
     kept_there = f"; {given.journal} has what was played" if given.journal else ""
-    with stopping(f"stopped while no series was played{kept_there}"), journal(given.journal, plan.settings, say) as kept:
+    with stopping(f"stopped while no series was played{kept_there}"), journal(given.journal, plan.settings, partial(say, given.script)) as kept:
         series = sum(not there for there, _ in plan.resumed(kept)) if given.journal else plan.count()
         progress = Progress(series, given.quiet, given.script)
         try:

@@ -9,8 +9,8 @@ import pickle
 import signal
 from typing import IO, Callable, Generator, Generic, Iterable, Iterator, NoReturn, TypeVar
 
-from .output import ERRORS, write_all
-from .signals import ENDING
+from tools.output import ERRORS, write_all
+from tools.signals import ENDING
 
 Part = TypeVar("Part")
 Answer = TypeVar("Answer")

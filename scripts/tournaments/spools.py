@@ -5,7 +5,8 @@ from __future__ import annotations
 import tempfile
 from typing import Iterator
 
-from .faults import unwritable
+from tools.faults import unwritable
+
 from .records import Record, Series, played
 
 

@@ -11,6 +11,8 @@ import unicodedata
 from decimal import Decimal
 from typing import Any, Iterable, Iterator
 
+from tools.faults import plain
+
 from .records import Record
 from .robots import Robot
 from .settings import SIZE_NAMES, Settings
@@ -28,6 +30,7 @@ def width(text: str) -> int:
 
 def aligned(rows: list[list[str]], left: Iterable[int]) -> str:
     """Rows in columns that line up: those that are named on their left, all others on their right."""
+    rows = [[*map(plain, row)] for row in rows]
     widths = [max(map(width, column)) for column in zip(*rows)]
     lefts = {*left}
     lines = []

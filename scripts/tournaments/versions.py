@@ -11,6 +11,7 @@ from typing import Collection, Sequence
 from sites import commands
 from sites.facts import Battle
 from sites.facts import Settings as SiteSettings
+from tools.faults import plain
 
 from . import robots
 from .records import Match, Record
@@ -31,7 +32,7 @@ class Versions:
         self._worth = dict(zip("wtl", (*given.points, Decimal(0))))
         self._settings = SiteSettings(given.matches, given.cycles, given.seed, given.profile)
         self._paths = paths
-        self.names = robots.names(paths)
+        self.names = [*map(plain, robots.names(paths))]
         self.opponents = range(2, len(paths))
         self._played: dict[tuple[int, int], dict[Place, Match]] = {}
         self._seeds: dict[tuple[int, ...], int] = {}

@@ -8,9 +8,10 @@ import re
 from decimal import Decimal
 from typing import Callable, NoReturn
 
-from .faults import Fault
-from .output import show
-from .programs import number
+from tools.faults import Fault
+from tools.output import show
+from tools.programs import number
+
 
 MATCHES_MAX, CYCLES_MAX, SEED_MAX = 1_000_000, 1_000_000_000, 2**64 - 1
 

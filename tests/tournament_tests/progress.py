@@ -16,7 +16,7 @@ from typing import Iterator
 
 from tournaments import progress
 
-from .base import TABLE, TOP, Base, read, unrated
+from .base import TABLE, Base, unrated
 
 WORDS = ("-m10", "-l100", "a.r", "b.r", "c.r")
 
@@ -98,29 +98,15 @@ class Told(Base):
         fine = all(line.startswith("series 2 ") for line in self._lines("closed"))
         return [] if unrated(ran.stdout) == TABLE and fine and len(self._lines("closed")) > 5 else [f"{ran} {self._lines('closed')}"]
 
-    def help_and_version(self) -> list[str]:
-        """Both go to standard output, whatever else is lacking, and a disk that is full is told."""
-        version, wrong = f"{read(os.path.join(TOP, 'VERSION')).strip()}\n", []
-        for name in ("tournament", "challenge", "league"):
-            for option, begin in (("-h", f"usage: {name} "), ("--help", f"usage: {name} "), ("--version", f"{name} {version}")):
-                ran, full = self._sh(f"{name} {option}"), self._sh(f"{name} {option} > /dev/full")
-                right = ran.stdout.startswith(begin) and (ran.stderr, ran.returncode) == ("", 0)
-                wrong += [] if right else [f"{ran}"]
-                wrong += self._answers(full, "", f"{name}: cannot write: No space left on device\n", 3)
-            wrong += [] if self._sh(f"{name} --version").stdout == f"{name} {version}" else [f"{name} has more than its version"]
-        return wrong
-
     def standard_output_that_cannot_be_written(self) -> list[str]:
         """Closed, it is refused before anything is played; full, it is told; a pipe that is closed ends it as others."""
-        play, help_ = shlex.join([*self._words(*WORDS)]), shlex.join(self._words("-h"))
+        play = shlex.join([*self._words(*WORDS)])
         full = "tournament: cannot write: No space left on device\n"
         wrong = []
         for command, status, faults in (
             (f"{play} >&-", 3, "tournament: cannot write: standard output is closed\n"), (f"{play} > /dev/full", 3, full),
-            (f"{play} --json > /dev/full", 3, full), (f"{play} --plan > /dev/full", 3, full), (f"{help_} > /dev/full", 3, full),
-            (f"{help_} >&-", 3, "tournament: cannot write: standard output is closed\n"),
+            (f"{play} --json > /dev/full", 3, full), (f"{play} --plan > /dev/full", 3, full),
             (f"({play}; echo $? > status) | true; exit $(cat status)", 141, ""),
         ):
             wrong += self._answers(self._sh(command), "", faults, status)
-        helped = self._sh(help_)
-        return wrong + ([] if helped.stdout.startswith("usage: ") and helped.returncode == 0 else [f"{helped}"])
+        return wrong

@@ -11,8 +11,8 @@ import statistics
 import unittest.mock
 from collections import defaultdict
 
+from tools.faults import Fault
 from tournaments import bootstrap, ratings, resampling, sharing, strengths, tallies
-from tournaments.faults import Fault
 from tournaments.records import Record, Series
 from tournaments.settings import Settings
 

@@ -11,8 +11,8 @@ import shlex
 import shutil
 from collections import Counter
 
+from tools.faults import Fault
 from tournaments import groups, robots
-from tournaments.faults import Fault
 from tournaments.records import Record
 from tournaments.seats import keys
 from tournaments.settings import Settings

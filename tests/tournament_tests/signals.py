@@ -43,29 +43,10 @@ class Signals(Base):
                 wrong.append(f"{child.returncode} {text!r} {faults!r} {left} {taken}")
         return wrong
 
-    def a_signal_before_anything_is_played(self) -> list[str]:
-        """While the robots are compiled, here by a program that takes long for that."""
-        wrong = []
-        self._program_of("long", "exec sleep 100")
-        for number in (signal.SIGINT, signal.SIGTERM, signal.SIGHUP):
-            child = self._started("-m2", "--crobots", "./long", "a.r", "b.r")
-            while child.poll() is None and not self._children(child.pid):
-                time.sleep(0.02)
-            child.send_signal(number)
-            text, faults = child.communicate(timeout=20)
-            got = (child.returncode, text, faults)
-            wrong += [] if got == (128 + number, "", "tournament: stopped while no series was played\n") else [f"{got}"]
-        return wrong
-
-    def _children(self, process: int) -> str:
-        """The children of a process, once the first of them runs its own program."""
-        children = read(f"/proc/{process}/task/{process}/children").split()
-        return next((child for child in children if "sleep" in read(f"/proc/{child}/cmdline")), "")
-
     def a_signal_after_all_was_played(self) -> list[str]:
         """While the table is made, and while records are merged: here modules wait there until the signal comes."""
         wait = "import time\ndef ratings(*_: object) -> None:\n    print(end='rating', flush=True)\n    time.sleep(9)\n"
-        for package in ("tournaments", "sites", "replays"):
+        for package in ("tools", "tournaments", "sites", "replays"):
             shutil.copytree(os.path.join(SCRIPTS, package), self._at(f"waiting/{package}"))
         shutil.copy(os.path.join(SCRIPTS, "tournament"), self._at("waiting/tournament"))
         with open(self._at("waiting/tournaments/ratings.py"), "a", encoding="ascii") as module:
@@ -94,7 +75,7 @@ class Signals(Base):
         """Three children, each of which says that it is there and waits; the signal comes to them too, or to their parent alone."""
         slow = ("import os, time\nprocessors, WORTH = lambda: 3, 1\n"
                 "Round.begin = lambda _: (os.write(1, b'child'), time.sleep(600))\n")
-        for package in ("tournaments", "sites", "replays"):
+        for package in ("tools", "tournaments", "sites", "replays"):
             shutil.copytree(os.path.join(SCRIPTS, package), self._at(f"rating/{package}"))
         shutil.copy(os.path.join(SCRIPTS, "tournament"), self._at("rating/tournament"))
         with open(self._at("rating/tournaments/ratings.py"), "a", encoding="ascii") as module:

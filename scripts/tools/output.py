@@ -8,7 +8,7 @@ import contextlib
 import os
 from typing import Iterable
 
-from .faults import FILE, Fault
+from .faults import FILE, Fault, plain
 
 CHUNK = 1 << 16
 INPUT, OUTPUT, ERRORS = 0, 1, 2
@@ -18,6 +18,11 @@ def tell(text: str) -> None:
     """Writes to standard error, as far as that goes."""
     with contextlib.suppress(OSError):
         write_all(ERRORS, os.fsencode(text))
+
+
+def say(name: str, what: str) -> None:
+    """Says something in a line that begins with the script's name."""
+    tell(f"{name}: {plain(what)}\n")
 
 
 def write_all(file: int, text: bytes) -> None:
@@ -48,13 +53,12 @@ def show(pieces: Iterable[str]) -> None:
 
 
 def open_standard_files() -> bool:
-    """Puts the null device where a standard file is closed, so that no other file gets its number.
-
-    Reports whether standard output was open."""
+    """Puts the null device where a standard file is closed, so that no other file gets its number; standard output still
+    takes nothing then. Reports whether it was open."""
     closed = []
     for file in (INPUT, OUTPUT, ERRORS):
         try:
             os.fstat(file)
         except OSError:
-            closed.append(os.open(os.devnull, os.O_RDWR))
+            closed.append(os.open(os.devnull, os.O_RDONLY if file == OUTPUT else os.O_RDWR))
     return OUTPUT not in closed

@@ -1,0 +1,51 @@
+"""What ends a script before its time: a line for its user, and a status."""
+
+from __future__ import annotations
+
+from typing import Iterable, NoReturn
+
+FAULTY, USAGE, FILE, PROGRAM, MEMORY = 1, 2, 3, 4, 5
+# As the programs have it: their output was not written.
+UNWRITTEN = 4
+
+
+class Fault(Exception):
+    """Something that the user is told in one line."""
+
+    def __init__(self, why: str, status: int = USAGE) -> None:
+        super().__init__(why)
+        self.status = status
+
+    def told(self, name: str, _: str) -> str:
+        """What a script of this name says of it; a line of usage may go with it."""
+        return f"{name}: {plain(str(self))}\n"
+
+
+class Misuse(Fault):
+    """Wrong words: the user is told which, if that is known, and the usage."""
+
+    def told(self, name: str, usage: str) -> str:
+        return (super().told(name, usage) if str(self) else "") + f"{usage}\n"
+
+
+class Ended(Fault):
+    """A program that a script runs ended before its time: what it said, in lines, and its status."""
+
+    def __init__(self, lines: Iterable[str], status: int) -> None:
+        super().__init__("".join(lines), status if status > 0 else 128 - status)
+
+    def told(self, name: str, usage: str) -> str:
+        return str(self) + (f"{usage}\n" if usage and self.status == USAGE else "")
+
+
+def plain(word: str) -> str:
+    """A word on a line: each control character is shown as a question mark."""
+    return "".join("?" if ord(c) < 32 or 127 <= ord(c) < 160 else c for c in word)
+
+
+def unreadable(path: str, why: OSError) -> NoReturn:
+    raise Fault(f"cannot read {path}: {why.strerror}", FILE) from why
+
+
+def unwritable(path: str, why: OSError) -> NoReturn:
+    raise Fault(f"cannot write {path}: {why.strerror}", FILE) from why

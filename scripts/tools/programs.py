@@ -1,0 +1,67 @@
+"""The programs that scripts run: where they are, which version they have, and what they write and say."""
+
+from __future__ import annotations
+
+import contextlib
+import os
+import shutil
+import subprocess
+import tempfile
+from typing import IO, Callable, Iterable, Iterator
+
+from .faults import Fault, unreadable
+
+HERE = os.path.dirname(os.path.realpath(__file__))
+# The version's number, in the repository and where this is installed.
+VERSION = os.path.normpath(os.path.join(HERE, "..", "..", "VERSION"))
+# Looks at how a program ended: its status, and the lines that it said but its usage.
+Judge = Callable[[int, list[str]], None]
+
+
+def ours(name: str) -> list[str]:
+    """Where the program of a command is that was built with this script, and the one that was installed with it."""
+    crate = name.removeprefix("crobots-")
+    places = (("..", "..", "crates", crate, "out", crate), ("..", "..", "..", "..", "bin", name))
+    return [os.path.normpath(os.path.join(HERE, *place)) for place in places]
+
+
+def found(name: str, given: str | None = None) -> str:
+    """The path of a command's program: the one that was given, on the path, or built or installed with this script."""
+    places = [given] if given else [name, *ours(name)]
+    path = next((path for place in places if (path := shutil.which(place))), None)
+    if not path:
+        raise Fault(f"{given or name} is not there, or is no program; README.md says how it is built")
+    return path
+
+
+def number() -> str:
+    """The version's number, which the programs have too."""
+    try:
+        with open(VERSION, encoding="utf-8", errors="replace") as file:
+            return file.readline().strip()
+    except OSError as why:
+        unreadable(VERSION, why)
+
+
+@contextlib.contextmanager
+def lines(path: str, words: Iterable[str], judge: Judge, errors: str = "surrogateescape") -> Iterator[Iterator[str]]:
+    """The lines that a program writes with these words; after the last one its end is judged.
+
+    It ends when they are needed no more."""
+    with tempfile.TemporaryFile() as said, subprocess.Popen(
+            [path, *words], stdin=subprocess.DEVNULL, stdout=subprocess.PIPE, stderr=said) as child:
+        try:
+            yield written(child, said, judge, errors)
+        finally:
+            child.kill()
+
+
+def written(child: subprocess.Popen[bytes], said: IO[bytes], judge: Judge, errors: str) -> Iterator[str]:
+    """All lines that a program writes, without their ends."""
+    assert child.stdout
+    for line in child.stdout:
+        yield line.decode("utf-8", errors).removesuffix("\n")
+    status = child.wait()
+    said.seek(0)
+    told = os.fsdecode(said.read()).splitlines(keepends=True)
+    judge(status, [line for line in told if not line.startswith("usage: ")])

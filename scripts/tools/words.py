@@ -1,0 +1,86 @@
+"""Words of command lines whose values are judged by the program that they are handed on to."""
+
+from __future__ import annotations
+
+from dataclasses import dataclass, field
+from typing import Collection
+
+from .faults import Misuse
+
+FLAGS = ("-h", "--help", "--version")
+
+
+@dataclass(frozen=True)
+class Option:
+    """An option with its value, and the words that gave it."""
+
+    name: str
+    value: str
+    words: tuple[str, ...]
+
+
+@dataclass
+class Given:
+    """The words of a command line: options in their order, flags, and files."""
+
+    options: list[Option] = field(default_factory=list)
+    flags: set[str] = field(default_factory=set)
+    files: list[str] = field(default_factory=list)
+
+    def handed_on(self, but: Collection[str] = ()) -> list[str]:
+        """The words of all options but some, and the files, which none can take for options."""
+        dashes = ["--"] if any(file.startswith("-") for file in self.files) else []
+        return [*(word for it in self.options if it.name not in but for word in it.words), *dashes, *self.files]
+
+    def last(self, *names: str) -> str | None:
+        """The value that one of these options has last."""
+        return next((it.value for it in reversed(self.options) if it.name in names), None)
+
+    def once(self, name: str) -> str | None:
+        """The value of an option that may be given once."""
+        if len([it for it in self.options if it.name == name]) > 1:
+            raise Misuse(f"{name} is given twice")
+        return self.last(name)
+
+
+def given(words: list[str], valued: Collection[str]) -> Given:
+    """Reads the words; these options have values."""
+    it, rest = Given(), [*words]
+    while rest:
+        word = rest.pop(0)
+        if word == "--":
+            it.files += rest
+            return it
+        if word.startswith("-"):
+            take_option(it, word, rest, valued)
+        else:
+            it.files.append(word)
+    return it
+
+
+def take_option(it: Given, word: str, rest: list[str], valued: Collection[str]) -> None:
+    """Takes the word of an option, and the next one if that is its value."""
+    name, value = parted(word)
+    if name in FLAGS and value is None:
+        it.flags.add(name)
+    elif name not in valued:
+        raise Misuse(f"unknown option {word}{' (the match is -k)' if name == '-m' else ''}")
+    elif value is not None:
+        it.options.append(Option(name, value, (word,)))
+    elif rest:
+        it.options.append(Option(name, rest[0], (word, rest.pop(0))))
+    else:
+        raise Misuse(f"{name} lacks its value")
+
+
+def parted(word: str) -> tuple[str, str | None]:
+    """The name of the option that a word begins with, and the value that is attached."""
+    if word.startswith("--"):
+        name, equals, value = word.partition("=")
+        return name, value if equals else None
+    return word[:2], word[2:] or None
+
+
+def number(text: str | None) -> int:
+    """A number of at most nine digits; 1 if it is none, which is told by whom it is handed on to."""
+    return int(text[:9]) if text and text.isascii() and text.isdigit() else 1
