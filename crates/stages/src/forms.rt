@@ -1,7 +1,7 @@
 //! What is asked for by the words of the command line.
 
+use crate::replies::{Replies, begins_replies};
 use grammar::Profile;
-use settings::value_number;
 use std::alloc::Global;
 use tools::{Fault, Known, Options, number_of, profile};
 
@@ -9,18 +9,21 @@ use tools::{Fault, Known, Options, number_of, profile};
 const MOST_CYCLES: u64 = 10_000;
 
 /// The options.
-pub const OPTIONS: [Known; 8] = [
+pub const OPTIONS: [Known; 11] = [
     Known::Flag("tokens", "its tokens"),
+    Known::Flag("derivation", "the steps of its derivation"),
     Known::Flag("tree", "its tree"),
     Known::Flag("dot", "its tree as a graph, for Graphviz"),
     Known::Flag("code", "its code below its lines"),
+    Known::Flag("operations", "its operations beside its code"),
+    Known::Flag("flow", "its blocks of code, and where each leads"),
     Known::Flag("bounds", "what is known of it before a match"),
     Known::Flag("html", "its code beside its lines, as a page"),
     Known::Valued("run", "CYCLES", "the first cycles of its machine"),
     Known::Valued(
         "replies",
         "LIST",
-        "with --run: what intrinsic functions reply",
+        "with --run: what intrinsic functions reply, as scan=500,0",
     ),
 ];
 
@@ -29,26 +32,35 @@ pub const OPTIONS: [Known; 8] = [
 pub enum Form {
     /// Its tokens.
     Tokens,
+    /// The steps of its derivation.
+    Derivation,
     /// Its tree, indented.
     Tree,
     /// Its tree as a graph.
     Dot,
     /// Its code, below its lines.
     Code,
+    /// Its three-address operations, beside its code.
+    Operations,
+    /// The control flow graph of each function.
+    Flow,
     /// What is known of it before it fights.
     Bounds,
-    /// Its code beside its lines, and what is known of it, as a page.
+    /// Its code beside its lines, its control flow, and what is known of it, as a page.
     Html,
     /// The given number of cycles of its machine.
     Run(u32),
 }
 
 /// The forms without a value, with the names of their options.
-const FLAGS: [(&str, Form); 6] = [
+const FLAGS: [(&str, Form); 9] = [
     ("tokens", Form::Tokens),
+    ("derivation", Form::Derivation),
     ("tree", Form::Tree),
     ("dot", Form::Dot),
     ("code", Form::Code),
+    ("operations", Form::Operations),
+    ("flow", Form::Flow),
     ("bounds", Form::Bounds),
     ("html", Form::Html),
 ];
@@ -60,33 +72,53 @@ pub struct Request<'a> {
     pub form: Form,
     /// The language profile.
     pub profile: Profile,
-    /// The replies of intrinsic functions in a run, the first first.
-    pub replies: Vec<i32>,
+    /// The replies of intrinsic functions in a run.
+    pub replies: Replies,
     /// The word of the file.
     pub file: &'a str,
 }
 
 impl<'a> Request<'a> {
-    /// Reads what options ask for: one form, one file, `-p`, the profile, and only with a run `--replies`. Everything
-    /// else is wrong usage.
+    /// Reads what options ask for: one form, one file, `-p`, the profile, and only with a run `--replies`. Behind these
+    /// words as `damage=1` are replies too. Everything else is wrong usage.
     pub fn read(alloc: Global, options: &Options<'a>) -> Result<Request<'a>, Fault> {
-        let [file] = options.files() else {
-            return Err(Fault::Usage);
-        };
         let form = form_of(options)?;
-        if options.has("replies") && !matches!(form, Form::Run(_)) {
-            return Err(Fault::Usage);
+        let mut replies = Replies::new(alloc);
+        if let Some(list) = options.value("replies") {
+            if !matches!(form, Form::Run(_)) {
+                return Err(Fault::Usage);
+            }
+            replies.add(list)?;
         }
-        let replies = replies_of(alloc, options)?;
+        let file = file_of(options, &mut replies)?;
         match profile(options) {
             Ok(profile) => Ok(Request {
                 form,
                 profile,
                 replies,
-                file: *file,
+                file,
             }),
             Err(fault) => Err(fault),
         }
+    }
+}
+
+/// Returns the only file among the words that aren't options. With replies, words that begin with a function's name and
+/// `=` are more of them.
+fn file_of<'a>(options: &Options<'a>, replies: &mut Replies) -> Result<&'a str, Fault> {
+    let mut file = None;
+    for word in options.files() {
+        if options.has("replies") && begins_replies(word) {
+            replies.add(word)?;
+        } else if file.is_none() {
+            file = Some(*word);
+        } else {
+            return Err(Fault::Usage);
+        }
+    }
+    match file {
+        Some(file) => Ok(file),
+        None => Err(Fault::Usage),
     }
 }
 
@@ -100,30 +132,4 @@ fn form_of(options: &Options<'_>) -> Result<Form, Fault> {
         }
         None => Err(Fault::Usage),
     }
-}
-
-/// Returns the replies that options list, with commas between them.
-fn replies_of(alloc: Global, options: &Options<'_>) -> Result<Vec<i32>, Fault> {
-    let mut replies = Vec::new(alloc);
-    let Some(list) = options.value("replies") else {
-        return Ok(replies);
-    };
-    for word in list.split(',') {
-        let Some(reply) = reply_of(word) else {
-            return Err(Fault::Usage);
-        };
-        if replies.push(reply).is_err() {
-            return Err(Fault::Memory);
-        }
-    }
-    Ok(replies)
-}
-
-/// Reads a reply: one or more digits, maybe with a `-` before them.
-fn reply_of(word: &str) -> Option<i32> {
-    let value = match word.strip_prefix('-') {
-        Some(digits) => -i64::try_from(value_number(digits, 0, 2_147_483_648)?).ok()?,
-        None => i64::try_from(value_number(word, 0, 2_147_483_647)?).ok()?,
-    };
-    i32::try_from(value).ok()
 }

@@ -8,7 +8,8 @@ pub const BEFORE_TITLE: &str = "<!DOCTYPE html>
 <meta name=\"viewport\" content=\"width=device-width, initial-scale=1\">
 <title>";
 
-/// The look of all pages. On a narrow screen the code is below the source, and each scrolls by itself.
+/// The look of all pages. On a narrow screen the code is below the source, and each scrolls by itself. On paper each
+/// line of the source is above its code, and nothing scrolls.
 pub const LOOK: &str = ": source and code</title>
 <style>
 :root { color-scheme: light dark; --ground: #ffffff; --ink: #1b1f24; --faint: #59636e; --edge: #d1d9e0; --light: 92%; --strong: 80%; }
@@ -38,6 +39,26 @@ b { min-width: 9.5rem; }
   main { grid-template-columns: minmax(0, 1fr); gap: .5rem; }
   section { max-height: 40vh; }
 }
+.flow { padding: .6rem; }
+.flow h3 { margin: 0 0 .4rem; font-size: .9rem; }
+svg { display: block; margin-bottom: 1.5rem; font: .8rem ui-monospace, monospace; fill: var(--ink); }
+svg rect { fill: hsl(var(--h) 60% var(--light)); stroke: hsl(var(--h) 60% 55%); }
+svg .u rect { stroke-dasharray: 4; }
+svg path { fill: none; stroke: var(--faint); }
+svg .t { fill: var(--faint); }
+svg .m { fill: var(--faint); }
+.paper { display: none; }
+@media print {
+  .screen { display: none; }
+  .paper { display: block; }
+  main { display: block; }
+  section { border: 0; max-height: none; overflow: visible; }
+  h2 { position: static; }
+  pre { margin: .3rem .6rem; white-space: pre-wrap; overflow-wrap: anywhere; }
+  .rows { width: auto; }
+  .rows > div { white-space: pre-wrap; overflow-wrap: anywhere; }
+  svg { max-width: 100%; height: auto; }
+}
 ";
 
 /// What is between the look and the name above both sides.
@@ -46,11 +67,19 @@ pub const BEFORE_NAME: &str = "</style>
 <body>
 <h1>";
 
-/// What is between the name and the lines of the source.
-pub const BEFORE_SOURCE: &str = "</h1>
-<p>A line of the source and the instructions that come from it have one colour. The number of a line leads to the other side.</p>
+/// What is between the name and the code on paper.
+pub const BEFORE_PAPER: &str = "</h1>
+<p class=\"screen\">A line of the source and the instructions that come from it have one colour. The number of a line leads to the other side.</p>
 <main>
-<section aria-label=\"Source\">
+<section class=\"paper\">
+<h2>Each line of the source, and its code</h2>
+<pre>
+";
+
+/// What is between that and the lines of the source.
+pub const BEFORE_SOURCE: &str = "</pre>
+</section>
+<section class=\"screen\" aria-label=\"Source\">
 <h2>Source</h2>
 <div class=\"rows\">
 ";
@@ -58,12 +87,20 @@ pub const BEFORE_SOURCE: &str = "</h1>
 /// What is between both sides.
 pub const BEFORE_CODE: &str = "</div>
 </section>
-<section aria-label=\"Code\">
+<section class=\"screen\" aria-label=\"Code\">
 <h2>Code: line, address, instruction, name</h2>
 <div class=\"rows\">
 ";
 
-/// What is between the code and what is known before a match.
+/// What is between the code and the control flow.
+pub const BEFORE_FLOW: &str = "</div>
+</section>
+<section class=\"wide\" aria-label=\"Control flow\">
+<h2>Control flow: a jump is at the side, with a 0 if it is one of two ways; nothing leads to a block with a broken edge</h2>
+<div class=\"flow\">
+";
+
+/// What is between the control flow and what is known before a match.
 pub const BEFORE_FACTS: &str = "</div>
 </section>
 <section class=\"wide\" aria-label=\"Before a match\">

@@ -1,44 +1,56 @@
-//! Shows what the compiler does with a robot, stage by stage: its tokens, its tree, its code below or beside its lines,
-//! what is known of it before it fights, and the cycles of its machine.
+//! Shows what the compiler does with a robot, stage by stage: its tokens, its derivation, its tree, its code below or
+//! beside its lines, its operations, its control flow, what is known of it before it fights, and the cycles of its
+//! machine.
 #![tactic(auto)]
 
+mod charts;
 mod code_rows;
 mod compiled;
+mod derivation_rows;
 mod drawings;
 mod execution;
+mod flow;
+mod flow_rows;
 mod forms;
 mod labels;
 mod looks;
+mod markup;
 mod nodes;
+mod operation_rows;
 mod origins;
 mod pages;
+mod replies;
 mod spelling;
 mod texts;
 mod token_rows;
 
 use crate::code_rows::listing;
 use crate::compiled::{CompileFault, compiled, grown, known};
+use crate::derivation_rows::derivation_rows;
 use crate::drawings::{graph, indented};
 use crate::execution::execution;
+use crate::flow_rows::flow_rows;
 use crate::forms::{Form, OPTIONS, Request};
 use crate::nodes::TreeNodes;
+use crate::operation_rows::operation_rows;
 use crate::origins::Origins;
 use crate::pages::page;
 use crate::token_rows::token_rows;
 use facts::add_rows;
+use grammar::Diagnostic;
 use std::alloc::Global;
 use std::process::ExitCode;
 use tools::{
-    Draft, Fault, Options, PROFILE_OPTIONS, ProgramFrame, Work, name_of, source_of,
-    tell_diagnostic, write_text,
+    Compiled, Draft, Fault, OUTPUT_OPTIONS, Options, PROFILE_OPTIONS, ProgramFrame, Work, name_of,
+    source_of, tell_diagnostic, write_to,
 };
 
 /// The program's name, its line of wrong usage, and its options.
 const FRAME: ProgramFrame = ProgramFrame {
     name: "crobots-stages",
     about: "Shows what the compiler makes of a robot, stage by stage.",
-    usage: "(--tokens | --tree | --dot | --code | --bounds | --html | --run CYCLES [--replies LIST]) [-pPROFILE] FILE",
-    known: &[&OPTIONS, &PROFILE_OPTIONS],
+    usage: "(--tokens | --derivation | --tree | --dot | --code | --operations | --flow | --bounds | --html | --run CYCLES [--replies LIST..]) [-pPROFILE] [-o FILE] FILE",
+    known: &[&OPTIONS, &PROFILE_OPTIONS, &OUTPUT_OPTIONS],
 };
 
 /// Shows what the command line asks for, and returns the status.
@@ -52,12 +64,23 @@ struct Stages;
 impl Work for Stages {
     /// Reads the source, and writes the text that was asked for at once when it is whole.
     fn work(&self, rt: &HostRuntime, options: &Options<'_>) -> Result<(), Fault> {
-        let request = Request::read(rt.alloc(), options)?;
+        let mut request = Request::read(rt.alloc(), options)?;
         let source = source_of(rt, FRAME.name, request.file)?;
-        match shown(rt.alloc(), &request, source.as_slice()) {
-            Ok(text) => write_text(rt, text.as_str()),
-            Err(CompileFault::Source(diagnostic)) => {
-                tell_diagnostic(rt, request.file, &diagnostic);
+        let source = source.as_slice();
+        let text = match compiled(source, request.profile) {
+            Ok(made) => whole(rt.alloc(), &mut request, source, &made),
+            Err(CompileFault::Source(fault)) => {
+                if let Some(text) = before_fault(rt.alloc(), &request, source, fault)? {
+                    write_to(rt, options, text.as_str())?;
+                }
+                Err(CompileFault::Source(fault))
+            }
+            Err(CompileFault::Memory) => Err(CompileFault::Memory),
+        };
+        match text {
+            Ok(text) => write_to(rt, options, text.as_str()),
+            Err(CompileFault::Source(fault)) => {
+                tell_diagnostic(rt, request.file, &fault);
                 Err(Fault::Source)
             }
             Err(CompileFault::Memory) => Err(Fault::Memory),
@@ -65,47 +88,64 @@ impl Work for Stages {
     }
 }
 
-/// Returns the text of a source that is asked for. A source with a fault has none.
-fn shown(alloc: Global, request: &Request<'_>, source: &[u8]) -> Result<String, CompileFault> {
-    let made = compiled(source, request.profile)?;
+/// Returns the text that is asked for of a source that compiles.
+fn whole(
+    alloc: Global,
+    request: &mut Request<'_>,
+    source: &[u8],
+    made: &Compiled,
+) -> Result<String, CompileFault> {
+    let profile = request.profile;
     let text = match request.form {
-        Form::Tokens => token_rows(alloc, source)?,
+        Form::Tokens => token_rows(alloc, source, None)?,
+        Form::Derivation => derivation_rows(alloc, source, None)?,
         Form::Tree => indented(alloc, &tree(alloc, request, source)?)?,
         Form::Dot => graph(alloc, &tree(alloc, request, source)?)?,
-        Form::Code => listing(alloc, source, &made, &found(alloc, request, source)?)?,
+        Form::Code => listing(alloc, source, made, &Origins::find(alloc, source, profile)?)?,
+        Form::Operations => operation_rows(alloc, made)?,
+        Form::Flow => flow_rows(alloc, made, &Origins::find(alloc, source, profile)?)?,
         Form::Bounds => {
             let mut rows = Draft::new(alloc);
-            add_rows(
-                &mut rows,
-                request.file,
-                &known(alloc, source, request.profile)?,
-            );
+            add_rows(&mut rows, request.file, &known(alloc, source, profile)?);
             rows.finish()?
         }
         Form::Html => {
-            let facts = known(alloc, source, request.profile)?;
-            let origins = found(alloc, request, source)?;
-            page(
-                alloc,
-                name_of(request.file),
-                source,
-                &made,
-                &origins,
-                &facts,
-            )?
+            let facts = known(alloc, source, profile)?;
+            let origins = Origins::find(alloc, source, profile)?;
+            page(alloc, name_of(request.file), source, made, &origins, &facts)?
         }
-        Form::Run(cycles) => execution(alloc, &made, cycles, request.replies.as_slice())?,
+        Form::Run(cycles) => {
+            let origins = Origins::find(alloc, source, profile)?;
+            execution(alloc, made, &origins, cycles, &mut request.replies)?
+        }
     };
     Ok(text)
+}
+
+/// Returns what can be shown of a source with a fault: its tokens, and the steps of its derivation, up to the first
+/// that doesn't fit.
+fn before_fault(
+    alloc: Global,
+    request: &Request<'_>,
+    source: &[u8],
+    fault: Diagnostic,
+) -> Result<Option<String>, Fault> {
+    match request.form {
+        Form::Tokens => Ok(Some(token_rows(alloc, source, Some(fault))?)),
+        Form::Derivation => Ok(Some(derivation_rows(alloc, source, Some(fault))?)),
+        Form::Tree
+        | Form::Dot
+        | Form::Code
+        | Form::Operations
+        | Form::Flow
+        | Form::Bounds
+        | Form::Html
+        | Form::Run(_) => Ok(None),
+    }
 }
 
 /// Returns the nodes of a source's tree.
 fn tree(alloc: Global, request: &Request<'_>, source: &[u8]) -> Result<TreeNodes, CompileFault> {
     let grown = grown(alloc, source, request.profile)?;
     Ok(TreeNodes::of(alloc, &grown)?)
-}
-
-/// Returns the lines of a source's instructions.
-fn found(alloc: Global, request: &Request<'_>, source: &[u8]) -> Result<Origins, CompileFault> {
-    Ok(Origins::find(alloc, source, request.profile)?)
 }

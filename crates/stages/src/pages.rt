@@ -1,19 +1,20 @@
 //! A page that shows a source and its code side by side, in the colours of their lines, and below what is known of it.
 
-ghost use Rattle.std.specs.Prelude.{◌<◌};
-
+use crate::charts::add_chart;
+use crate::code_rows::listing;
+use crate::flow::{Block, blocks_of};
+use crate::flow_rows::name_of_begin;
 use crate::looks::{
-    BEFORE_CODE, BEFORE_FACTS, BEFORE_NAME, BEFORE_SOURCE, BEFORE_TITLE, LOOK, TAIL,
+    BEFORE_CODE, BEFORE_FACTS, BEFORE_FLOW, BEFORE_NAME, BEFORE_PAPER, BEFORE_SOURCE, BEFORE_TITLE,
+    LOOK, TAIL,
 };
+use crate::markup::{COLOURS, add_escaped, add_line, add_number, hue};
 use crate::origins::Origins;
 use crate::spelling::{beginning_at, instruction_at, name_at};
 use crate::texts::{ascii, lines_of, shown, text_of};
 use facts::{Facts, Part, add_call, add_room, add_turn};
 use std::alloc::{AllocError, Global};
 use tools::{Compiled, Draft, Text};
-
-/// How many colours there are.
-const COLOURS: usize = 12;
 
 /// Returns the page of a source, whose file has this name.
 pub fn page(
@@ -32,6 +33,8 @@ pub fn page(
     add_colours(&mut text, origins);
     text.add(BEFORE_NAME);
     add_escaped(&mut text, name.as_str());
+    text.add(BEFORE_PAPER);
+    add_escaped(&mut text, listing(alloc, source, made, origins)?.as_str());
     text.add(BEFORE_SOURCE);
     add_source(&mut text, alloc, source, origins)?;
     text.add(BEFORE_CODE);
@@ -39,22 +42,12 @@ pub fn page(
         add_begin(&mut text, made, address);
         add_instruction(&mut text, alloc, made, origins, address)?;
     }
+    text.add(BEFORE_FLOW);
+    add_charts(&mut text, alloc, made, origins)?;
     text.add(BEFORE_FACTS);
     add_facts(&mut text, alloc, facts)?;
     text.add(TAIL);
     text.finish()
-}
-
-/// Adds words, and a number.
-fn add_number(text: &mut Draft, words: &str, number: usize) {
-    text.add(words);
-    text.number(number as u64);
-}
-
-/// Adds words, and the number of a line.
-fn add_line(text: &mut Draft, words: &str, line: u32) {
-    text.add(words);
-    text.number(u64::from(line));
 }
 
 /// Adds the colours, by their hue, and for each line that its rows are marked together.
@@ -69,13 +62,6 @@ fn add_colours(text: &mut Draft, origins: &Origins) {
         add_line(text, ":hover) .l", *line);
         text.add(" { background: hsl(var(--h) 60% var(--strong)); }\n");
     }
-}
-
-/// Returns the hue of a colour, in degrees: the next colour is five twelfths of the circle away.
-fn hue(colour: usize) -> usize
-    ensures { result < 360 }
-{
-    colour % COLOURS * 150 % 360
 }
 
 /// Adds the lines of the source.
@@ -156,6 +142,37 @@ fn add_instruction(
     Ok(())
 }
 
+/// Adds the control flow graph of each function.
+fn add_charts(
+    text: &mut Draft,
+    alloc: Global,
+    made: &Compiled,
+    origins: &Origins,
+) -> Result<(), AllocError> {
+    let blocks = blocks_of(alloc, &made.program)?;
+    let blocks = blocks.as_slice();
+    for (first, block) in blocks.iter().enumerate() {
+        if let Some(name) = name_of_begin(made, block.begin) {
+            text.add("<h3>");
+            text.add(name);
+            text.add("</h3>\n");
+            let own = blocks.get(first..end_of(made, blocks, first));
+            add_chart(text, alloc, made, origins, name, own.unwrap_or(&[]))?;
+        }
+    }
+    Ok(())
+}
+
+/// Returns the number of the block behind the function whose first block has this number.
+fn end_of(made: &Compiled, blocks: &[Block], first: usize) -> usize {
+    for (number, block) in blocks.iter().enumerate() {
+        if number > first && name_of_begin(made, block.begin).is_some() {
+            return number;
+        }
+    }
+    blocks.len()
+}
+
 /// Adds what is known before a match: the lines on room, and the row of each function and of each loop.
 fn add_facts(text: &mut Draft, alloc: Global, facts: &Facts) -> Result<(), AllocError> {
     let mut room = Draft::new(alloc);
@@ -184,16 +201,4 @@ fn add_begin_of_part(text: &mut Draft, part: &Part) {
     add_line(text, "<div><a href=\"#s", part.line);
     add_line(text, "\">", part.line);
     text.add("</a>");
-}
-
-/// Adds a text, with the characters that mean something in HTML replaced.
-fn add_escaped(text: &mut Draft, plain: &str) {
-    for character in plain.chars() {
-        match character {
-            '&' => text.add("&amp;"),
-            '<' => text.add("&lt;"),
-            '>' => text.add("&gt;"),
-            _ => text.push(character),
-        }
-    }
 }

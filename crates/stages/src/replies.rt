@@ -1,0 +1,120 @@
+//! What intrinsic functions reply in a run.
+
+use grammar::Intrinsic;
+use settings::value_number;
+use std::alloc::Global;
+use tools::Fault;
+
+/// A reply of a function, or of all that have no replies of their own.
+#[derive(Clone, Copy)]
+struct Reply {
+    of: Option<Intrinsic>,
+    value: i32,
+}
+
+/// The replies of intrinsic functions, in order: those of one, and those of all others together.
+#[derive(Drop)]
+pub struct Replies {
+    listed: Vec<Reply>,
+    // by the number of the function, how often its own replies were asked for; the last is for all others
+    asked: [usize; Intrinsic::ALL.len() + 1],
+}
+
+impl Replies {
+    /// Makes replies of which none is listed.
+    pub fn new(alloc: Global) -> Replies {
+        Replies {
+            listed: Vec::new(alloc),
+            asked: [0; Intrinsic::ALL.len() + 1],
+        }
+    }
+
+    /// Lists the replies of a word, with commas or blanks between them: after `NAME=` those of the function of this
+    /// name, before it those of all others.
+    pub fn add(&mut self, word: &str) -> Result<(), Fault> {
+        let mut of = None;
+        for part in word.split(|c| c == ',' || c == ' ') {
+            let mut number = part;
+            if let Some((name, behind)) = part.split_once('=') {
+                of = named(name);
+                if of.is_none() {
+                    return Err(Fault::Usage);
+                }
+                number = behind;
+            }
+            let Some(value) = value_of(number) else {
+                return Err(Fault::Usage);
+            };
+            if self.listed.push(Reply { of, value }).is_err() {
+                return Err(Fault::Memory);
+            }
+        }
+        Ok(())
+    }
+
+    /// Takes the next reply of a function: 0 after the last one.
+    pub fn next(&mut self, intrinsic: Intrinsic) -> i32 {
+        let (of, place) = if self.lists(intrinsic) {
+            (Some(intrinsic), intrinsic as usize)
+        } else {
+            (None, Intrinsic::ALL.len())
+        };
+        let Some(asked) = self.asked.get_mut(place) else {
+            return 0;
+        };
+        let number = *asked;
+        *asked = number.saturating_add(1);
+        self.value(of, number)
+    }
+
+    /// Reports whether a function has replies of its own.
+    fn lists(&self, intrinsic: Intrinsic) -> bool {
+        for reply in &self.listed {
+            if reply.of == Some(intrinsic) {
+                return true;
+            }
+        }
+        false
+    }
+
+    /// Returns the reply of this number, from 0, of a function or of all others.
+    fn value(&self, of: Option<Intrinsic>, number: usize) -> i32 {
+        let mut left = number;
+        for reply in &self.listed {
+            if reply.of == of {
+                if left == 0 {
+                    return reply.value;
+                }
+                left = left.saturating_sub(1);
+            }
+        }
+        0
+    }
+}
+
+/// Reports whether a word begins as the replies of an intrinsic function do.
+pub fn begins_replies(word: &str) -> bool {
+    match word.split_once('=') {
+        Some((name, _)) => named(name).is_some(),
+        None => false,
+    }
+}
+
+/// Returns the intrinsic function of a name.
+fn named(name: &str) -> Option<Intrinsic> {
+    for intrinsic in Intrinsic::ALL {
+        if intrinsic.name() == name {
+            return Some(intrinsic);
+        }
+    }
+    None
+}
+
+/// Reads a reply: one or more digits, maybe with a `-` before them.
+fn value_of(word: &str) -> Option<i32> {
+    let value = match word.strip_prefix('-') {
+        Some(digits) => -i64::try_from(value_number(digits, 0, 2_147_483_648)?).ok()?,
+        None => i64::try_from(value_number(word, 0, 2_147_483_647)?).ok()?,
+    };
+    i32::try_from(value).ok()
+}
