@@ -78,7 +78,8 @@ class Vector(Battle):
         options, names = getopt.gnu_getopt(kept("args").decode().split("\n")[:-1], "cm:l:s:p:f:")
         values = {"matches": "-m", "limit": "-l", "seed": "-s", "profile": "-p", "first": "-f"}
         given = {name: int(value) for option, value in options for name, letter in values.items() if letter == option}
-        robots = [(name, kept("in", name)) for name in names]
+        # a report has a file's name without its folder
+        robots = [(os.path.basename(name), kept("in", name)) for name in names]
         return Vector(robots, Settings(**given), "list" if ("-c", "") in options else "run", answer=(int(kept("status")), kept("stdout"), kept("stderr")))
 
     def told(self, crobots: str) -> tuple[int, bytes, bytes]:
