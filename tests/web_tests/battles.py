@@ -88,7 +88,7 @@ class Vector(Battle):
 
 @dataclass
 class Mistake:
-    """A source of docs/mistakes.md, its profile, and what the page has of crobots-why on it, without the file's name."""
+    """A source of docs/mistakes.md, its profile, and what the page has of crobots-why on it: not the file's name, nor the warning on want of room."""
 
     source: bytes
     profile: int
@@ -109,7 +109,7 @@ def mistakes() -> list[Mistake]:
         if made := re.fullmatch(r"printf '(.*)' > (\S+)", command):
             sources[made[2]] = made[1].replace("\\n", "\n").encode("ascii")
         elif (asked := re.fullmatch(r"crobots-why ((?:-\S+ )*)(\S+)", command)) and output:
-            told = re.sub(rf"^{re.escape(asked[2])}:", "", output, flags=re.MULTILINE)
+            told = re.sub(rf"^(?:.* for want of room\n|{re.escape(asked[2])}:)", "", output, flags=re.MULTILINE)
             found.append(Mistake(sources[asked[2]], 2 if "-p2" in asked[1] else 1, told.encode("ascii")))
     return found
 
