@@ -88,7 +88,8 @@ class Vector(Battle):
 
 @dataclass
 class Mistake:
-    """A source of docs/mistakes.md, its profile, and what the page has of crobots-why on it: not the file's name, nor the warning on want of room."""
+    """A source of docs/mistakes.md, its profile, and what the page has of crobots-why on it: not the file's name, nor the warning
+    on want of room."""
 
     source: bytes
     profile: int
