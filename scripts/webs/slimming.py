@@ -1,5 +1,5 @@
-"""Makes a script short: without its comments, and without the blanks that nothing needs. Names, line ends and all else stay, so
-that it does the same, and a fault is still found in it."""
+"""Makes a script short: without its comments, and without the blanks and line ends that nothing needs. Names and all else stay,
+so that it does the same, and a fault is still found in it."""
 
 from __future__ import annotations
 
@@ -13,6 +13,8 @@ EXPRESSION = re.compile(r"/(?:\\.|\[(?:\\.|[^\]\\\n])*\]|[^/\\\[\n])+/\w*")
 # After these words, and after signs but these, a slash begins a regular expression.
 BEFORE_EXPRESSION = frozenset("return typeof case in of delete void throw new else do instanceof yield await".split())
 AFTER_VALUE = frozenset((")", "]", "}", "++", "--"))
+# After these signs, and before those, a line end ends no statement.
+OPENING, CLOSING = frozenset("{;,(["), frozenset("})]")
 
 
 class Unclear(Exception):
@@ -83,11 +85,12 @@ def short(script: str) -> str:
     for piece in pieces(script):
         if piece[0] == "blank":
             is_parted = True
-        elif piece[0] != "end" or made[-1][0] != "end":
-            if is_parted and "end" not in (made[-1][0], piece[0]) and is_needed(made[-1], piece):
-                made.append(("blank", " "))
+            continue
+        if piece[1] in CLOSING and made[-1][0] == "end":
+            made.pop()
+        if is_parted and "end" not in (made[-1][0], piece[0]) and is_needed(made[-1], piece):
+            made.append(("blank", " "))
+        if piece[0] != "end" or made[-1][0] != "end" and made[-1][1] not in OPENING:
             made.append(piece)
-            is_parted = False
-        else:
-            is_parted = False
+        is_parted = False
     return "".join(text for _, text in made[1:])

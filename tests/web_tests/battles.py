@@ -78,7 +78,8 @@ class Vector(Battle):
         options, names = getopt.gnu_getopt(kept("args").decode().split("\n")[:-1], "cm:l:s:p:f:")
         values = {"matches": "-m", "limit": "-l", "seed": "-s", "profile": "-p", "first": "-f"}
         given = {name: int(value) for option, value in options for name, letter in values.items() if letter == option}
-        robots = [(name, kept("in", name)) for name in names]
+        # a report has a file's name without its folder
+        robots = [(os.path.basename(name), kept("in", name)) for name in names]
         return Vector(robots, Settings(**given), "list" if ("-c", "") in options else "run", answer=(int(kept("status")), kept("stdout"), kept("stderr")))
 
     def told(self, crobots: str) -> tuple[int, bytes, bytes]:
@@ -87,7 +88,8 @@ class Vector(Battle):
 
 @dataclass
 class Mistake:
-    """A source of docs/mistakes.md, its profile, and what the page has of crobots-why on it, without the file's name."""
+    """A source of docs/mistakes.md, its profile, and what the page has of crobots-why on it: not the file's name, nor the warning
+    on want of room."""
 
     source: bytes
     profile: int
@@ -108,7 +110,7 @@ def mistakes() -> list[Mistake]:
         if made := re.fullmatch(r"printf '(.*)' > (\S+)", command):
             sources[made[2]] = made[1].replace("\\n", "\n").encode("ascii")
         elif (asked := re.fullmatch(r"crobots-why ((?:-\S+ )*)(\S+)", command)) and output:
-            told = re.sub(rf"^{re.escape(asked[2])}:", "", output, flags=re.MULTILINE)
+            told = re.sub(rf"^(?:.* for want of room\n|{re.escape(asked[2])}:)", "", output, flags=re.MULTILINE)
             found.append(Mistake(sources[asked[2]], 2 if "-p2" in asked[1] else 1, told.encode("ascii")))
     return found
 

@@ -337,15 +337,13 @@ def any_blocks(folder: str) -> list[str]:
 
 
 def explanations(folder: str) -> list[str]:
-    """What is said of the sources of docs/mistakes.md is what the page has of them, without the names of their files, and but for
-    the warning on want of room, which the page doesn't have."""
+    """What is said of the sources of docs/mistakes.md is what the page has of them."""
     wrong = []
     cases = mistakes()
     battles = [Battle([("a.r", it.source)], Settings(profile=it.profile), call="explain") for it in cases]
     for it, (ending, text, _) in zip(cases, answers(folder, battles), strict=True):
-        told = b"".join(line for line in it.told.splitlines(keepends=True) if b"for want of room" not in line)
-        if (ending, text) != (1 if it.is_faulty else 0, told):
-            wrong.append(f"{it.source!r}: {ending} {text.decode()}, not {told.decode()}")
+        if (ending, text) != (1 if it.is_faulty else 0, it.told):
+            wrong.append(f"{it.source!r}: {ending} {text.decode()}, not {it.told.decode()}")
     return wrong + ([] if len(cases) > 25 else [f"{len(cases)} cases"])
 
 

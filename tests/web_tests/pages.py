@@ -65,6 +65,8 @@ def chromium() -> Iterator[Any]:
     options.set_capability("goog:loggingPrefs", {"browser": "ALL"})
     service: Any = importlib.import_module("selenium.webdriver.chrome.service")
     driver = webdriver.Chrome(service=service.Service(shutil.which("chromedriver")), options=options)
+    # a source of a megabyte takes long on a machine that has much else to do
+    driver.set_script_timeout(5 * SECONDS)
     try:
         yield driver
     finally:

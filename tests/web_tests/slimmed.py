@@ -10,10 +10,12 @@ sys.path.insert(0, os.path.join(os.path.dirname(os.path.abspath(__file__)), ".."
 from webs.slimming import Unclear, short  # noqa: E402
 
 CASES = {
-    "blanks": ("let a  =  b + 1 ;\n", "let a=b+1;\n"),
+    "blanks": ("let a  =  b + 1 ;\n", "let a=b+1;"),
     "words": ("return a in b ;", "return a in b;"),
     "lines": ("a\n\n  b\n", "a\nb\n"),
-    "comments": ("a; // one\nb; /* two */ c;\n/* three\n */ d\n// four", "a;\nb;c;\nd\n"),
+    "lines that end nothing": ("f(\n  a,\n  b\n) {\n  c;\n  [\n1\n]\n}\n", "f(a,b){c;[1]}\n"),
+    "lines that end something": ("a\n(b)\n+c\n++\nd\n{}", "a\n(b)\n+c\n++\nd\n{}"),
+    "comments": ("a; // one\nb; /* two */ c;\n/* three\n */ d\n// four", "a;b;c;d\n"),
     "a comment between words": ("typeof/* x */a; b /* x\n*/ c", "typeof a;b\nc"),
     "texts": ("f( 'a  // b' , \"c /* d\" );", "f('a  // b',\"c /* d\");"),
     "quotes in texts": (r"f( 'it\'s  a' , '\\' ); // x", r"f('it\'s  a','\\');"),
