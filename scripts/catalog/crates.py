@@ -3,6 +3,7 @@
 from __future__ import annotations
 
 from pathlib import Path
+from typing import Collection
 
 TOP = Path(__file__).resolve().parent.parent.parent
 
@@ -12,6 +13,11 @@ def rows(top: Path = TOP) -> dict[str, str]:
     lines = (top / "crates.txt").read_text(encoding="utf-8").splitlines(keepends=True)
     return {words[0]: line for line in lines
             if (words := line.partition("#")[0].partition(":")[0].split()) and ":" in line.partition("#")[0]}
+
+
+def text(names: Collection[str], top: Path = TOP) -> str:
+    """What crates.txt has of some crates."""
+    return "".join(line for name, line in rows(top).items() if name in names)
 
 
 def libraries(name: str, top: Path = TOP) -> list[str]:

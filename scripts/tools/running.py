@@ -2,6 +2,7 @@
 
 from __future__ import annotations
 
+import importlib
 import os
 import signal
 from typing import Callable
@@ -11,8 +12,21 @@ from .output import open_standard_files, say, tell
 from .signals import Stopped, heeded, stop
 
 
-def run(name: str, does: Callable[[], None], usage: str = "", stopped: str = "", writes: bool = False) -> int:
-    """Does what a script is asked for; answers its status.
+def start(module: str, function: str, command: list[str], stopped: str) -> int:
+    """Runs a script with its command line, the script's own path first; answers its status.
+
+    What it does is a function of a module, which is read here, so that signals are heeded meanwhile."""
+    name = os.path.basename(command[0])
+
+    def do() -> None:
+        does: Callable[[str, list[str]], None] = getattr(importlib.import_module(module), function)
+        does(name, command[1:])
+
+    return run(name, do, stopped=stopped, writes=True)
+
+
+def run(name: str, does: Callable[[], int | None], usage: str = "", stopped: str = "", writes: bool = False) -> int:
+    """Does what a script is asked for; answers its status, which may be what that answers.
 
     If these are given, its usage follows wrong words, and it says that it was stopped. One that writes isn't begun if
     standard output is closed."""
@@ -24,7 +38,7 @@ def run(name: str, does: Callable[[], None], usage: str = "", stopped: str = "",
     try:
         if writes and not is_open:
             raise Fault("cannot write: standard output is closed", FILE)
-        does()
+        return does() or 0
     except (Fault, Stopped, MemoryError) as why:
         return told(name, why, usage, stopped)
     except BrokenPipeError:

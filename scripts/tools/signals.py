@@ -1,4 +1,4 @@
-"""The signals that ask for the end of a tournament: HUP, INT and TERM, but for those that are ignored."""
+"""The signals that ask a script to end: HUP, INT and TERM, but for those that are ignored."""
 
 from __future__ import annotations
 
@@ -11,7 +11,7 @@ ENDING = (signal.SIGHUP, signal.SIGINT, signal.SIGTERM)
 
 
 class Stopped(Exception):
-    """A signal asked the tournament to end."""
+    """A signal asked the script to end."""
 
     def __init__(self, number: int, said: str = "") -> None:
         super().__init__(said)

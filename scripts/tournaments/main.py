@@ -3,13 +3,10 @@
 from __future__ import annotations
 
 import argparse
-import os
 from decimal import Decimal
-from typing import Callable
 
 from tools.faults import Fault
 from tools.output import say, show
-from tools.running import run as begin
 from tools.signals import stopping
 
 from . import plans, programs, robots, words
@@ -21,8 +18,6 @@ from .results import Results, check_files
 from .seats import keys, rounded
 from .sessions import session
 from .settings import SIZE_NAMES, Settings
-
-NOTHING = "stopped while no series was played"
 
 
 def sizes(given: argparse.Namespace) -> tuple[int, ...]:
@@ -127,9 +122,3 @@ def tournament(name: str, arguments: list[str]) -> None:
         results.keep_sources(plan.robots, folder)
     with stopping(f"stopped while the table was made: {done}"):
         results.write(plan.settings, plan.robots)
-
-
-def run(does: Callable[[str, list[str]], None], command: list[str]) -> int:
-    """Runs a script with its command line, the script's own path first; answers its status."""
-    name = os.path.basename(command[0])
-    return begin(name, lambda: does(name, command[1:]), stopped=NOTHING, writes=True)

@@ -13,7 +13,7 @@ from tournaments import robots
 from tournaments.records import Record, Series
 from tournaments.settings import Settings
 
-from .base import FILES, FORMS, PATIENCE, TABLE, Base, read, seed_of, sha256, write
+from .base import FILES, FORMS, PATIENCE, SHOOTER, TABLE, Base, read, seed_of, sha256, write
 
 CSV = """\
 rank,robot,played,won,tied,lost,points
@@ -34,6 +34,17 @@ MATRIX = """\
 class Forms(Base):
     def table(self) -> list[str]:
         return self._unrated(self._run("-m10", "-l100", "a.r", "b.r", "c.r"), TABLE)
+
+    def control_characters_of_names(self) -> list[str]:
+        """Who reads a table sees question marks; what programs read has the names as they are."""
+        name = "\x1b[2Ja.r"
+        write(self._at(name), SHOOTER)
+        words = ("-m2", "-l100", name, "b.r")
+        shown = [self._run(*words, *form).stdout for form in ([], ["--matrix"])]
+        shown.append(self._run("-m2", "-l100", "--all", "--old", name, "b.r", "c.r", script="challenge").stdout)
+        wrong = [text for text in shown if "\x1b" in text or "?[2Ja.r" not in text]
+        kept = self._run(*words, "--csv").stdout
+        return wrong + ([] if f",{name}," in kept else [kept])
 
     def comma_separated(self) -> list[str]:
         return self._unrated(self._run("-m10", "-l100", "--csv", "a.r", "b.r", "c.r"), CSV)

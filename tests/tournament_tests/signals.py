@@ -98,6 +98,7 @@ class Signals(Base):
 
     def a_signal_while_the_modules_are_read(self) -> list[str]:
         """Here they are one that sends the signal."""
+        shutil.copytree(os.path.join(SCRIPTS, "tools"), self._at("early/tools"))
         write(self._at("early/tournaments/main.py"), "import os, signal, time\nos.kill(os.getpid(), signal.SIGINT)\ntime.sleep(9)\n")
         shutil.copy(os.path.join(SCRIPTS, "tournament"), self._at("early/tournament"))
         ran = subprocess.run([self._at("early/tournament")], capture_output=True, text=True, check=False, timeout=20)
