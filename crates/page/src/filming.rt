@@ -1,6 +1,6 @@
 //! Films of the matches of robots in memory, and where their instructions come from.
 
-ghost use Rattle.std.specs.Prelude.{◌≡◌, ◌≢◌, ℕ, ◌<◌, ◌≤◌, All, IfErr, IfOk, IfSome, IsSome, List, None, Some, false, length, map, slice_get};
+ghost use Rattle.std.specs.Prelude.{◌≡◌, ◌≢◌, ℕ, ◌<◌, ◌≤◌, All, IfErr, IfOk, IfSome, IsSome, List, None, Some, false, length, map};
 ghost use Rattle.grammar.specs.Tree.{File};
 ghost use Rattle.code.specs.Codes.{AreProgramsOf};
 ghost use Rattle.battles.specs.Battle.{battle};
@@ -16,6 +16,7 @@ ghost use Rattle.page.specs.Sheets.{contents_of};
 
 use crate::films::{Film, Functions, Shown};
 use crate::orders::Order;
+use crate::pilots::pilots_of;
 use crate::places::{places_of, tell_places};
 use crate::robots::RobotFile;
 use crate::running::{feeds_of, words_of};
@@ -28,7 +29,7 @@ use derivations::SourcePositions;
 use grammar::Profile;
 use grammar::laws::resolved_files;
 use parser::parse;
-use playing::{Pilot, PlayEnd, UPDATE_CYCLES, play};
+use playing::{PlayEnd, UPDATE_CYCLES, play};
 use series::{MOST_FILES, Mode, Programs, RunFault, Settings, compile_files};
 
 /// Plays the first match that the order asks for of one to four robots, and writes on a sheet the film of a stretch of
@@ -179,32 +180,13 @@ fn shown_by(stretch: Option<Stretch>, ending: PlayEnd) -> Option<Shown>
 }
 
 /// Plays the first match of these programs before a film: one plays against itself. Returns where that ended.
+#[tactic(auto, using(crate::proofs::FilmedRobots::two_paired))]
 fn play_programs(settings: &Settings<'_>, programs: &Programs, film: &mut Film<'_>) -> PlayEnd
     requires { 0 < length programs.now }
     ensures { (files : List File) → AreProgramsOf programs.now settings.now.profile files
         → IsPlayed (robots_of settings.now.profile files) settings.now.seed settings.now.first settings.now.limit result }
 {
     let (seed, number, limit) = (settings.seed(), settings.first(), settings.limit());
-    let first = pilot(programs, 0);
-    match programs.len() {
-        1 => play(&mut [first, pilot(programs, 0)], film, seed, number, limit),
-        2 => play(&mut [first, pilot(programs, 1)], film, seed, number, limit),
-        3 => {
-            let mut pilots = [first, pilot(programs, 1), pilot(programs, 2)];
-            play(&mut pilots, film, seed, number, limit)
-        }
-        _ => {
-            let (second, third) = (pilot(programs, 1), pilot(programs, 2));
-            let mut pilots = [first, second, third, pilot(programs, 3)];
-            play(&mut pilots, film, seed, number, limit)
-        }
-    }
-}
-
-/// Returns the pilot of a program.
-fn pilot(programs: &Programs, file: usize) -> Pilot<'_>
-    requires { file < length programs.now }
-    ensures { slice_get programs.now file ≡ Some result.code }
-{
-    Pilot::new(programs.program(file))
+    let mut pilots = pilots_of(programs);
+    play(&mut pilots[..programs.robots()], film, seed, number, limit)
 }

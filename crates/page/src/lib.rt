@@ -7,6 +7,7 @@ mod filming;
 mod films;
 mod missiles;
 mod orders;
+mod pilots;
 mod places;
 mod robots;
 mod rows;
