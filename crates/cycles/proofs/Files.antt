@@ -4,19 +4,19 @@ use Rattle.std.specs.Prelude.{if◌then◌else◌, ◌==◌}
 use Rattle.std.proofs.Common.{refl, ap, sym, ◌∙◌, subst, arith, inl, inr}
 use Rattle.std.proofs.lemmas.Bool.{cases_lt, ltb-false}
 use Rattle.std.proofs.lemmas.Bool.Decides.{Decides-eqb}
-use Rattle.std.proofs.lemmas.List.{get_or_past, length-map}
-use Rattle.std.proofs.lemmas.Option.{slice_get-get_or}
+use Rattle.std.proofs.lemmas.List.{get_or_past}
 use Rattle.grammar.specs.Profile.{Profile}
 use Rattle.grammar.specs.Resolved.{IsAmong, IsResolved}
 use Rattle.grammar.specs.Tree.{Body, Done, File}
 use Rattle.grammar.specs.Tree as tree
 use Rattle.grammar.specs.Pools.{Pools}
-use Rattle.code.specs.Functions.{function_at, no_function}
+use Rattle.code.specs.Functions.{no_function}
 use Rattle.parser.specs.ParsedFiles.{ParsesToFile}
 use Rattle.trees.specs.TreeMakers.{TreeMaker, TreeMakerRepresents}
 use Rattle.room.proofs.BoundLaws.{trees_are}
-use Rattle.trees.specs.Laws.{UnnamedFunction, without_names, told_functions, told_numbered, told_trees}
-use Rattle.trees.specs.Trees.{body_tree, function_tree}
+use Rattle.room.proofs.TableLaws.{as_many, told_are, told_at}
+use Rattle.trees.specs.Laws.{UnnamedFunction, told_functions, told_trees}
+use Rattle.trees.specs.Trees.{body_tree}
 use Rattle.trees.specs.declared.tree.Function.{Function}
 use Rattle.cycles.specs.declared.counted.Counted.{Counted}
 use Rattle.cycles.specs.declared.counted.Counted.TheVariants.{Cycles}
@@ -30,18 +30,6 @@ use Rattle.cycles.specs.Runs.{body_at, run_span, run_within}
 use Rattle.cycles.specs.Tables.{HasRuns, body_numbered, first_numbered, row_in, rows_in}
 use Rattle.cycles.specs.Told.{told_end}
 use Rattle.cycles.specs.Turns.{turn_of}
-
--- what is told of functions that there are
-abbrev told_at : File → ℕ → UnnamedFunction
-told_at file k = without_names k (function_at file k)
-
-told_there : (file : File) (ks : List ℕ) → ((k : ℕ) → IsAmong k ks → k < length file.functions) →
-    told_functions file.functions ks ≡ map (told_at file) ks
-told_there file [] there = refl
-told_there file (k ∷ ks) there =
-    ap (λ (f : Option tree.Function). told_numbered k f ++ told_functions file.functions ks)
-    (slice_get-get_or file.functions k no_function (there k (inl refl)))
-    ∙ ap (λ later. told_at file k ∷ later) (told_there file ks (λ j among. there j (inr among)))
 
 -- The statements of functions by number.
 
@@ -82,12 +70,10 @@ module _ (file : File) where
 
 module _ (file : File) (resolved : IsResolved file) (made : List Function)
     (same : told_functions file.functions file.order ≡ told_trees made) where
-  told_are : told_trees made ≡ map (told_at file) file.order
-  told_are = sym same ∙ told_there file file.order resolved.only
-
   made_body : (k : ℕ) → first_numbered made k ≡ body_at file k
   made_body k =
-      first_told made k ∙ ap (λ (ts : List UnnamedFunction). told_body ts k) told_are ∙
+      first_told made k ∙ ap (λ (ts : List UnnamedFunction). told_body ts k)
+      (told_are file resolved made same) ∙
       by (cases_lt k (length file.functions))
     where
       by : (k < length file.functions) ⊎ (length file.functions ≤ k) →
@@ -106,18 +92,13 @@ module _ (file : File) (resolved : IsResolved file) (made : List Function)
           let past : 256 ≤ k = ltb-false k 256 is in
           no_body file k (omega (arith, past, resolved.functions))
 
-  as_many : length made ≡ length file.order
-  as_many =
-      let one = length-map made (λ (f : Function). without_names f.number (function_tree f)) in
-      let other = length-map file.order (told_at file) in
-      sym one ∙ ap (λ (ts : List UnnamedFunction). length ts) told_are ∙ other
-
   -- what is known of the trees' functions is known of the file's
   pub runs_are : (table : Runs) (u : Counted) (p : Profile) →
       HasRuns table (run_within u p (body_numbered made) (length made)) → HasRuns table (run_span u p file)
   runs_are table u p known =
       let bodies : body_numbered made ≡ body_at file = λ i k. bodies_are k i in
-      subst (λ (n : ℕ). HasRuns table (run_within u p (body_at file) n)) as_many
+      subst (λ (n : ℕ). HasRuns table (run_within u p (body_at file) n))
+      (as_many file resolved made same)
       (subst (λ (bodies : ℕ → Body). HasRuns table (run_within u p bodies (length made))) bodies known)
 
 -- Rows, by what is told of functions.
@@ -193,15 +174,14 @@ module _ (asked : Counted) (p : Profile) (file : File) (resolved : IsResolved fi
       has_rows spans first second = record { runs = first ∙ runs_rows; turns = second ∙ turns_rows }
 
 -- what is told of a source, by what is told of each file that its trees may be
-pub spans_are : (asked : Counted) (p : Profile) (without_names : Option (List ℕ)) (before after : TreeMaker)
-    (names : Pools)
-    (spans : SourceSpans) → TreeMakerRepresents before p [] →
+pub spans_are : (asked : Counted) (p : Profile) (told : Option (List ℕ)) (before after : TreeMaker)
+    (names : Pools) (spans : SourceSpans) → TreeMakerRepresents before p [] →
     ParsesToFile (λ p acts. TreeMakerRepresents before p acts) (λ p acts. TreeMakerRepresents after p acts)
-    without_names names →
+    told names →
     ((file : File) → IsResolved file → told_functions file.functions file.order ≡ told_trees after.functions →
     HasRows asked p file spans) →
-    AreSpansOf asked p without_names spans
-spans_are asked p without_names before after names spans new is rows =
+    AreSpansOf asked p told spans
+spans_are asked p told before after names spans new is rows =
     let file = is.file in
     record {
       file = file;

@@ -2,7 +2,7 @@
 use Rattle.std.specs.Prelude.{ℕ, zero, suc, ◌+◌, ◌≡◌, ◌<◌, ◌≤◌, ◌⊎◌, Bool, List, [], ◌∷◌, ◌++◌, length, map, Option, None}
 use Rattle.std.specs.Prelude.{drop, set, slice_index_or}
 use Rattle.std.proofs.Common.{refl, ap, sym, ◌∙◌, subst, arith, inl, inr}
-use Rattle.std.proofs.lemmas.List.{drop_all, drop_more, get_or-set_same, get_or-set_other, get_or-replicate, length-set, length-replicate}
+use Rattle.std.proofs.lemmas.List.{drop_all, drop_more, get_or-set_same, get_or-set_other, get_or-replicate, length-map, length-set, length-replicate}
 use Rattle.std.proofs.lemmas.Option.{slice_get-get_or}
 use Rattle.std.proofs.lemmas.Bool.{cases_eq}
 use Rattle.grammar.specs.Profile.{Profile}
@@ -21,7 +21,7 @@ use Rattle.room.specs.Tables.{needs_in, told_need, entered, blank, table_within}
 use Rattle.room.proofs.Counting.{counted_twice, counts_body, counts_function}
 
 -- what is told of functions that there are
-abbrev told_at : File → ℕ → UnnamedFunction
+abbrev pub told_at : File → ℕ → UnnamedFunction
 told_at file k = without_names k (function_at file k)
 
 told_there : (file : File) (ks : List ℕ) → ((k : ℕ) → IsAmong k ks → k < length file.functions) →
@@ -87,24 +87,28 @@ module _ (s : Bool) (file : File) (resolved : IsResolved file) where
       (counts_body s (length file.externals) (length f.variables) (length file.functions) (needs_in table)
       (function_need s file n) same f.body inside.body)
 
-length_map : {A B : Type 0} (f : A → B) (xs : List A) → length (map f xs) ≡ length xs
-length_map f [] = refl
-length_map f (x ∷ xs) = let more = length_map f xs in omega (arith, more)
+-- what was made is what is told of the file's functions, and as many
+module _ (file : File) (resolved : IsResolved file) (made : List Function)
+    (same : told_functions file.functions file.order ≡ told_trees made) where
+  pub told_are : told_trees made ≡ map (told_at file) file.order
+  told_are = sym same ∙ told_there file file.order resolved.only
+
+  pub as_many : length made ≡ length file.order
+  as_many =
+      let one = length-map made (λ (f : Function). without_names f.number (function_tree f)) in
+      let other = length-map file.order (told_at file) in
+      sym one ∙ ap (λ (ts : List UnnamedFunction). length ts) told_are ∙ other
 
 -- the last table says what main needs
 pub need_is : (p : Profile) (file : File) (made : List Function) → IsResolved file →
     told_functions file.functions file.order ≡ told_trees made →
     needs_in (table_within p.short_circuit (told_trees made) (length made)) file.main ≡ counted (need_of p file)
 need_is p file made resolved same =
-    let are : told_trees made ≡ map (told_at file) file.order =
-    sym same ∙ told_there file file.order resolved.only in
-    let one = length_map (λ (f : Function). without_names f.number (function_tree f)) made in
-    let other = length_map (told_at file) file.order in
-    let as_many : length made ≡ length file.order =
-    sym one ∙ ap (λ (ts : List UnnamedFunction). length ts) are ∙ other in
-    ap (λ (ts : List UnnamedFunction). needs_in (table_within p.short_circuit ts (length made)) file.main) are
+    ap (λ (ts : List UnnamedFunction). needs_in (table_within p.short_circuit ts (length made)) file.main)
+    (told_are file resolved made same)
     ∙
-    ap (λ (n : ℕ). needs_in (table_within p.short_circuit (map (told_at file) file.order) n) file.main) as_many
+    ap (λ (n : ℕ). needs_in (table_within p.short_circuit (map (told_at file) file.order) n) file.main)
+    (as_many file resolved made same)
     ∙ within_is p.short_circuit file resolved (length file.order) file.main resolved.main
 
 -- one function more is entered
