@@ -1,7 +1,7 @@
 //! What is known of a robot, as an object of JSON on a line.
 
 use cycles::Span;
-use facts::{Facts, Link, Part};
+use facts::{Facts, Link, Part, Stretch};
 use grammar::Intrinsic;
 use std::str;
 use tools::Text;
@@ -15,8 +15,13 @@ pub fn add_object(text: &mut impl Text, path: &str, facts: &Facts) {
     add_room(text, facts);
     add_links(text, ", \"most_by\": ", facts.chain.links());
     add_links(text, ", \"calls_itself\": ", facts.chain.circle());
-    add_parts(text, ", \"functions\": [", facts.functions.as_slice());
-    add_parts(text, ", \"loops\": [", facts.loops.as_slice());
+    add_parts(
+        text,
+        ", \"functions\": [",
+        facts.functions.as_slice(),
+        false,
+    );
+    add_parts(text, ", \"loops\": [", facts.loops.as_slice(), true);
     text.add("}\n");
 }
 
@@ -57,19 +62,23 @@ fn add_links(text: &mut impl Text, head: &str, links: &[Link]) {
     text.add("]");
 }
 
-/// Adds a list of functions or loops.
-fn add_parts(text: &mut impl Text, head: &str, parts: &[Part]) {
+/// Adds a list of functions, or of loops.
+fn add_parts(text: &mut impl Text, head: &str, parts: &[Part], are_loops: bool) {
     text.add(head);
     let mut is_first = true;
     for part in parts {
         text.add(if is_first { "" } else { ", " });
         add_part(text, part);
+        if are_loops {
+            add_stretches(text, part);
+        }
+        text.add("}");
         is_first = false;
     }
     text.add("]");
 }
 
-/// Adds a function or a loop.
+/// Adds a function or a loop, without the end of its object.
 fn add_part(text: &mut impl Text, part: &Part) {
     text.add("{\"name\": ");
     add_words(text, str::from_utf8(part.name.as_bytes()).unwrap_or("?"));
@@ -83,6 +92,27 @@ fn add_part(text: &mut impl Text, part: &Part) {
         text.add("\": ");
         add_span(text, *questions);
     }
+}
+
+/// Adds what lies between the questions of a loop's turn.
+fn add_stretches(text: &mut impl Text, part: &Part) {
+    text.add(", \"gap\": ");
+    match part.gap {
+        Some(gap) => add_gap(text, gap),
+        None => text.add("null"),
+    }
+    text.add(", \"shot\": ");
+    add_span(text, part.shot.map(|shot| shot.cycles));
+}
+
+/// Adds the most cycles from a question to the next one, and what is asked.
+fn add_gap(text: &mut impl Text, gap: Stretch) {
+    text.add("{\"most\": ");
+    add_number(text, gap.cycles.most);
+    text.add(", \"from\": ");
+    add_words(text, gap.from.map_or("", |asked| asked.name()));
+    text.add(", \"to\": ");
+    add_words(text, gap.to.map_or("", |asked| asked.name()));
     text.add("}");
 }
 

@@ -2,6 +2,8 @@
 
 use crate::chains::{Chain, Link};
 use crate::places::Places;
+use crate::turns::stretches;
+use crate::ways::{Pair, Stretch};
 use cycles::{Counted, Run, SourceSpans, Span, Turn, source_spans};
 use grammar::{Intrinsic, Name, ParseFault, Pools, Profile};
 use parser::parse;
@@ -43,6 +45,10 @@ pub struct Part {
     pub questions: [Option<Span>; KINDS],
     /// Which of these functions the robot's source names.
     pub named: [bool; KINDS],
+    /// Of a loop's turn: the most cycles from a question to the next one.
+    pub gap: Option<Stretch>,
+    /// Of a loop's turn: the cycles from a scan to each shot before the next scan.
+    pub shot: Option<Stretch>,
 }
 
 /// How many intrinsic functions there are.
@@ -96,6 +102,7 @@ impl Finder<'_> {
         let told = self.told(Counted::Questions)?;
         let mut functions = kept(self.functions(told.runs.as_slice()))?;
         let mut loops = kept(self.loops(told.turns.as_slice()))?;
+        kept(self.note_stretches(&mut loops))?;
         for (kind, intrinsic) in Intrinsic::ALL.iter().enumerate() {
             let told = self.told(Counted::QuestionsOf(*intrinsic))?;
             for (part, run) in functions.iter_mut().zip(told.runs.as_slice()) {
@@ -132,6 +139,23 @@ impl Finder<'_> {
         Ok(parts)
     }
 
+    /// Notes what lies between the questions of the loops' turns.
+    fn note_stretches(&self, loops: &mut Vec<Part>) -> Result<(), AllocError> {
+        let gaps = self.stretches(Pair::Neighbours)?;
+        let shots = self.stretches(Pair::Shots)?;
+        let found = gaps.as_slice().iter().zip(shots.as_slice());
+        for (part, (gap, shot)) in loops.iter_mut().zip(found) {
+            part.gap = *gap;
+            part.shot = *shot;
+        }
+        Ok(())
+    }
+
+    /// Lists what lies between such questions of the loops' turns.
+    fn stretches(&self, pair: Pair) -> Result<Vec<Option<Stretch>>, AllocError> {
+        stretches(self.alloc, self.maker.functions(), self.profile, pair)
+    }
+
     /// Makes a part of the function of this number, which has asked nothing so far.
     fn part(&self, function: u8, place: (u32, u32), cycles: Option<Span>) -> Part {
         let (line, column) = place;
@@ -143,6 +167,8 @@ impl Finder<'_> {
             cycles,
             questions: [None; KINDS],
             named: self.places.named(),
+            gap: None,
+            shot: None,
         }
     }
 

@@ -6,7 +6,10 @@ mod chains;
 mod facts;
 mod places;
 mod rows;
+mod turns;
+mod ways;
 
 pub use chains::{Chain, Link};
 pub use facts::{Facts, Part};
-pub use rows::{add_call, add_room, add_rows, add_span, add_turn};
+pub use rows::{add_call, add_gaps, add_room, add_rows, add_span, add_turn};
+pub use ways::Stretch;

@@ -2,6 +2,7 @@
 
 use crate::chains::Link;
 use crate::facts::{Facts, Part};
+use crate::ways::Stretch;
 use cycles::Span;
 use grammar::Intrinsic;
 use room::Room;
@@ -25,6 +26,49 @@ pub fn add_rows(text: &mut impl Text, path: &str, facts: &Facts) {
         add_line(text, part);
         add_turn(text, part);
         text.add("\n");
+    }
+}
+
+/// Adds lines on what lies between the questions of each loop's turn, if it asks so much.
+pub fn add_gaps(text: &mut impl Text, facts: &Facts) {
+    for part in &facts.loops {
+        if let Some(gap) = part.gap {
+            add_line(text, part);
+            add_name(text, part);
+            add_gap(text, gap);
+        }
+        if let Some(shot) = part.shot {
+            add_line(text, part);
+            add_name(text, part);
+            text.add("  a shot  ");
+            add_span(text, shot.cycles);
+            text.add(" cycles after the last scan\n");
+        }
+    }
+}
+
+/// Adds the most cycles from a question to the next one.
+fn add_gap(text: &mut impl Text, gap: Stretch) {
+    text.add("  a gap   ");
+    match gap.cycles.most {
+        Some(most) => {
+            text.add("at most ");
+            text.number(u64::from(most));
+        }
+        None => text.add("any number of"),
+    }
+    text.add(" cycles: ");
+    text.add(asked_name(gap.from));
+    text.add(" to ");
+    text.add(asked_name(gap.to));
+    text.add("\n");
+}
+
+/// Returns the name of the function that is asked.
+fn asked_name(asked: Option<Intrinsic>) -> &'static str {
+    match asked {
+        Some(asked) => asked.name(),
+        None => "",
     }
 }
 
@@ -128,11 +172,7 @@ pub fn add_turn(text: &mut impl Text, part: &Part) {
 
 /// Adds the name of a function, or of that in which a loop stands, and what a call or a turn takes.
 fn add_part(text: &mut impl Text, part: &Part, what: &str, never: &str) {
-    add_left(
-        text,
-        str::from_utf8(part.name.as_bytes()).unwrap_or("?"),
-        NAMES,
-    );
+    add_name(text, part);
     text.add("  a ");
     text.add(what);
     text.add("  ");
@@ -144,6 +184,15 @@ fn add_part(text: &mut impl Text, part: &Part, what: &str, never: &str) {
         }
         None => text.add(never),
     }
+}
+
+/// Adds the name of a function, or of that in which a loop stands, in a column.
+fn add_name(text: &mut impl Text, part: &Part) {
+    add_left(
+        text,
+        str::from_utf8(part.name.as_bytes()).unwrap_or("?"),
+        NAMES,
+    );
 }
 
 /// Adds how much there is at least and at most.

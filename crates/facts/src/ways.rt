@@ -1,0 +1,195 @@
+//! What lies between questions, on all ways through a piece of a program.
+
+use cycles::Span;
+use grammar::Intrinsic;
+
+/// Between which questions cycles are counted.
+#[derive(Clone, Copy)]
+pub enum Pair {
+    /// From each question to the next one.
+    Neighbours,
+    /// From a scan to each shot before the next scan.
+    Shots,
+}
+
+impl Pair {
+    /// Reports whether cycles are counted from this question on.
+    fn begins(self, asked: Intrinsic) -> bool {
+        match self {
+            Pair::Neighbours => true,
+            Pair::Shots => asked == Intrinsic::Scan,
+        }
+    }
+
+    /// Reports whether they are counted up to this question.
+    fn ends(self, asked: Intrinsic) -> bool {
+        match self {
+            Pair::Neighbours => true,
+            Pair::Shots => asked == Intrinsic::Cannon,
+        }
+    }
+}
+
+/// The cycles from one question to another.
+///
+/// Of several such stretches it has the fewest cycles and the most, and the questions of the one with the most.
+#[derive(Clone, Copy)]
+pub struct Stretch {
+    /// The cycles after the first question, up to the other one.
+    pub cycles: Span,
+    /// The first question; none if the stretch begins where the piece of the program does.
+    pub from: Option<Intrinsic>,
+    /// The other question; none if the stretch ends where the piece does.
+    pub to: Option<Intrinsic>,
+}
+
+impl Stretch {
+    /// Makes a stretch of cycles without a question at its ends.
+    fn of(cycles: Span) -> Stretch {
+        Stretch {
+            cycles,
+            from: None,
+            to: None,
+        }
+    }
+}
+
+/// The ways through a piece of a program, by the stretches on them. A kind of stretch that no way has is none.
+#[derive(Clone, Copy)]
+pub struct Ways {
+    /// The whole of a way on which no stretch begins.
+    quiet: Option<Stretch>,
+    /// From the beginning to a question, if no stretch has begun before it.
+    first: Option<Stretch>,
+    /// From the last question at which a stretch begins to the end.
+    last: Option<Stretch>,
+    /// From one question to another.
+    inner: Option<Stretch>,
+    /// Whether all functions that are called are known.
+    is_known: bool,
+}
+
+impl Ways {
+    /// Makes the way of so many cycles that ask nothing.
+    pub fn cycles(number: u32) -> Ways {
+        Ways {
+            quiet: Some(Stretch::of(Span::exactly(number))),
+            first: None,
+            last: None,
+            inner: None,
+            is_known: true,
+        }
+    }
+
+    /// Makes the way of a cycle that asks this function.
+    pub fn asking(pair: Pair, asked: Intrinsic) -> Ways {
+        let mut ways = Ways::cycles(1);
+        if pair.ends(asked) {
+            let mut first = Stretch::of(Span::exactly(1));
+            first.to = Some(asked);
+            ways.first = Some(first);
+        }
+        if pair.begins(asked) {
+            let mut last = Stretch::of(Span::exactly(0));
+            last.from = Some(asked);
+            ways.last = Some(last);
+            ways.quiet = None;
+        }
+        ways
+    }
+
+    /// Makes the ways through a function of which nothing is known.
+    pub fn unknown() -> Ways {
+        let mut ways = Ways::cycles(0);
+        ways.is_known = false;
+        ways
+    }
+
+    /// Returns these ways, and after each of them one of the next ways.
+    pub fn then(self, next: Ways) -> Ways {
+        Ways {
+            quiet: joined(self.quiet, next.quiet),
+            first: longer(self.first, joined(self.quiet, next.first)),
+            last: longer(next.last, joined(self.last, next.quiet)),
+            inner: longer(
+                longer(self.inner, next.inner),
+                joined(self.last, next.first),
+            ),
+            is_known: self.is_known && next.is_known,
+        }
+    }
+
+    /// Returns these ways and the others.
+    pub fn or(self, other: Ways) -> Ways {
+        Ways {
+            quiet: longer(self.quiet, other.quiet),
+            first: longer(self.first, other.first),
+            last: longer(self.last, other.last),
+            inner: longer(self.inner, other.inner),
+            is_known: self.is_known && other.is_known,
+        }
+    }
+
+    /// Returns any number of these ways, one after the other.
+    pub fn any_number(self) -> Ways {
+        let cycles = match self.quiet {
+            Some(quiet) => quiet.cycles.any_number(),
+            None => Span::exactly(0),
+        };
+        let quiet = Some(Stretch::of(cycles));
+        let last = joined(self.last, quiet);
+        Ways {
+            quiet,
+            first: joined(quiet, self.first),
+            last,
+            inner: longer(self.inner, joined(last, self.first)),
+            is_known: self.is_known,
+        }
+    }
+
+    /// Returns the stretches from one question to another, if there are any and all functions are known.
+    pub fn between(self) -> Option<Stretch> {
+        if self.is_known { self.inner } else { None }
+    }
+}
+
+/// Returns one stretch with the next one behind it, if there are both.
+fn joined(one: Option<Stretch>, next: Option<Stretch>) -> Option<Stretch> {
+    match (one, next) {
+        (Some(one), Some(next)) => Some(Stretch {
+            cycles: one.cycles.plus(next.cycles),
+            from: one.from,
+            to: next.to,
+        }),
+        _ => None,
+    }
+}
+
+/// Returns the cycles of both stretches, and the questions of the one with more of them.
+fn longer(one: Option<Stretch>, other: Option<Stretch>) -> Option<Stretch> {
+    match (one, other) {
+        (Some(one), Some(other)) => {
+            let most = if is_less(one.cycles, other.cycles) {
+                other
+            } else {
+                one
+            };
+            Some(Stretch {
+                cycles: one.cycles.or(other.cycles),
+                from: most.from,
+                to: most.to,
+            })
+        }
+        (Some(one), None) => Some(one),
+        (None, other) => other,
+    }
+}
+
+/// Reports whether one span has a lesser most than another.
+fn is_less(one: Span, other: Span) -> bool {
+    match (one.most, other.most) {
+        (Some(one), Some(other)) => one < other,
+        (Some(_), None) => true,
+        (None, _) => false,
+    }
+}
