@@ -4,7 +4,7 @@ use cycles::Span;
 use grammar::Intrinsic;
 
 /// Between which questions cycles are counted.
-#[derive(Clone, Copy, Debug, PartialEq, Eq)]
+#[derive(Clone, Copy)]
 pub enum Pair {
     /// From each question to the next one.
     Neighbours,
@@ -33,7 +33,7 @@ impl Pair {
 /// The cycles from one question to another.
 ///
 /// Of several such stretches it has the fewest cycles and the most, and the questions of the one with the most.
-#[derive(Clone, Copy, Debug, PartialEq, Eq)]
+#[derive(Clone, Copy)]
 pub struct Stretch {
     /// The cycles after the first question, up to the other one.
     pub cycles: Span,
@@ -55,7 +55,7 @@ impl Stretch {
 }
 
 /// The ways through a piece of a program, by the stretches on them. A kind of stretch that no way has is none.
-#[derive(Clone, Copy, Debug, PartialEq, Eq)]
+#[derive(Clone, Copy)]
 pub struct Ways {
     /// The whole of a way on which no stretch begins.
     quiet: Option<Stretch>,
