@@ -20,7 +20,7 @@ from replays.pages import framed_script, put_together
 
 from .helping import functions, panel, steps, text_of, whole
 from .manuals import Page
-from .slimming import Unclear, short
+from .slimming import Unclear, short, short_style
 from .texts import pages
 
 TOP = os.path.normpath(os.path.join(os.path.dirname(os.path.abspath(__file__)), "..", ".."))
@@ -115,7 +115,7 @@ def lay_editor(folder: str) -> None:
     """Puts the editor's files into a folder, if it is installed."""
     os.makedirs(folder)
     for name in EDITOR_FILES if os.path.isdir(EDITOR) else ():
-        put(folder, os.path.basename(name), slim(text_of(EDITOR, name)) if name.endswith(".js") else text_of(EDITOR, name))
+        put(folder, os.path.basename(name), (slim if name.endswith(".js") else short_style)(text_of(EDITOR, name)))
 
 
 def lay(folder: str, module: str) -> None:
@@ -130,7 +130,7 @@ def lay(folder: str, module: str) -> None:
     for name, text in pages(TOP, WEB).items():
         put(os.path.join(folder, "pages"), name, text)
     for name in ("page.css", "text.css"):
-        shutil.copy(os.path.join(WEB, name), folder)
+        put(folder, name, short_style(text_of(WEB, name)))
     if licence():
         shutil.copy(os.path.join(TOP, licence()), os.path.join(folder, f"{licence()}.txt"))
     put(folder, "page.js", short(script_of(os.path.join(WEB, "page.js"))))

@@ -1,5 +1,5 @@
-"""Makes a script short: without its comments, and without the blanks and line ends that nothing needs. Names and all else stay,
-so that it does the same, and a fault is still found in it."""
+"""Makes scripts and styles short: without comments, and without the blanks and line ends that nothing needs. Names and all else
+stay, so that a script does the same, and a fault is still found in it."""
 
 from __future__ import annotations
 
@@ -94,3 +94,12 @@ def short(script: str) -> str:
             made.append(piece)
         is_parted = False
     return "".join(text for _, text in made[1:])
+
+
+# In a style: a comment, or a text, or blanks, also around signs that need none.
+STYLE_PIECE = re.compile(r"""/\*(?:.|\n)*?\*/|("(?:\\.|[^"\\])*"|'(?:\\.|[^'\\])*')|\s*([{};])\s*|\s+""")
+
+
+def short_style(style: str) -> str:
+    """The style without comments and needless blanks."""
+    return STYLE_PIECE.sub(lambda it: it[1] or it[2] or (" " if it[0].isspace() else ""), style)

@@ -7,7 +7,7 @@ import sys
 
 sys.path.insert(0, os.path.join(os.path.dirname(os.path.abspath(__file__)), "..", "..", "scripts"))
 
-from webs.slimming import Unclear, short  # noqa: E402
+from webs.slimming import Unclear, short, short_style  # noqa: E402
 
 CASES = {
     "blanks": ("let a  =  b + 1 ;\n", "let a=b+1;"),
@@ -29,6 +29,11 @@ CASES = {
     "a template's escapes": ("f( `\\`  ${ '}' }  \\${ ` );", "f(`\\`  ${ '}' }  \\${ `);"),
     "letters": ("let größe = 1 ; $a = this . #b", "let größe=1;$a=this.#b"),
 }
+STYLES = {
+    "blanks": ("a  b ,\n c {\n  d: e  f;\n}\n\n@media (x: y) {\n  g { h: i }\n}\n", "a b , c{d: e f;}@media (x: y){g{h: i}}"),
+    "comments": ("/* a; */ b { c: d; /* e\n */ f: g }", " b{c: d; f: g}"),
+    "texts": ("a::after { content: \" ;  } /* b */\"; c: ' { ' }", "a::after{content: \" ;  } /* b */\";c: ' { '}"),
+}
 UNCLEAR = {"a template": "`a", "an expression": "x = /a", "a text": "'a"}
 
 
@@ -44,4 +49,5 @@ def refuses(script: str) -> bool:
 def wrong() -> list[str]:
     """What is wrong with scripts that are made short."""
     differing = [f"{name}: {short(before)!r}, not {after!r}" for name, (before, after) in CASES.items() if short(before) != after]
+    differing += [f"{name}: {short_style(before)!r}, not {after!r}" for name, (before, after) in STYLES.items() if short_style(before) != after]
     return differing + [f"{name} is made short" for name, script in UNCLEAR.items() if not refuses(script)]
