@@ -56,7 +56,7 @@ SCRIPTS = (
     Script("crobots-compare", "compare", ("tools", "comparisons", "tournaments", "sites", "replays")),
     Script("crobots-league", "league", ("tools", "leagues", "tournaments", "sites", "replays")),
     Script("crobots-replay", "replay", ("tools", "replays")),
-    Script("crobots-step", "step", ("tools", "stepping", "replays")),
+    Script("crobots-step", "step", ("tools", "stepping")),
 )
 COMMANDS: tuple[Command, ...] = (*PROGRAMS, *SCRIPTS)
 # The game by itself, which is installed before the others.

@@ -4,11 +4,8 @@ from __future__ import annotations
 
 from dataclasses import dataclass
 
-from tools.faults import plain
-from tools.words import given, number, parted
+from tools.words import given, number
 
-# stepping takes these two from here, until it takes them from `tools`
-__all__ = ["HELP", "NAME", "USAGE_LINE", "Asked", "parted", "plain", "read"]
 NAME = "crobots-replay"
 USAGE_LINE = f"usage: {NAME} [-kMATCH] [-lCYCLES] [-sSEED] [-pPROFILE] [--from CYCLE] [--to CYCLE] [-o FILE] FILE.."
 HELP = f"""{USAGE_LINE}

@@ -149,7 +149,7 @@ def info(session: Session, text: str) -> list[str]:
 
 def trace(session: Session, _: str) -> list[str]:
     """The command line that reports this moment."""
-    words = [*session.asked.match, *session.asked.robot, "--at", str(session.moment.cycle), *session.asked.named_files()]
+    words = session.asked.robot("--at", str(session.moment.cycle))
     return [shlex.join(["crobots-trace", *words])]
 
 
@@ -157,7 +157,7 @@ def replay(session: Session, _: str) -> list[str]:
     """The command line that makes a page of this moment, and where it is on the page."""
     cycle = session.moment.cycle
     span = ["--from", str(max(0, cycle - PAGE)), "--to", str(cycle + PAGE), "-o", "match.html"]
-    line = shlex.join(["crobots-replay", *session.asked.match, *span, *session.asked.named_files()])
+    line = shlex.join(["crobots-replay", *session.asked.match(*span)])
     return [line, f"then open match.html#{cycle}"]
 
 

@@ -2,44 +2,31 @@
 
 from __future__ import annotations
 
-import io
-import os
-import signal
 import sys
-from typing import Iterable, NoReturn
+from typing import Iterable
 
-from replays.faults import MEMORY, UNWRITTEN, Fault, Misuse
-from replays.words import plain
+from tools.faults import UNWRITTEN, Fault, plain
+from tools.output import OUTPUT, write_all
+from tools.programs import found, number
+from tools.running import run as begin
 
 from . import telling
 from .commands import Quit, answer
-from .pipes import Debugger, Ended, program
+from .pipes import PROGRAM, Debugger
 from .screens import PROMPT
 from .sessions import Session
 from .terminals import can_paint, show
 from .words import HELP, NAME, USAGE_LINE, Asked, read
 
 UNREAD = 3
-# The version's number, in the repository and where this is installed.
-VERSION = os.path.normpath(os.path.join(os.path.dirname(os.path.realpath(__file__)), "..", "..", "VERSION"))
 
 
 def write(text: str) -> None:
     """Writes a text on standard output at once."""
     try:
-        if not sys.stdout:
-            raise OSError
-        sys.stdout.buffer.write(text.encode(errors="replace"))
-        sys.stdout.buffer.flush()
+        write_all(OUTPUT, text.encode(errors="replace"))
     except OSError as why:
-        os.dup2(os.open(os.devnull, os.O_WRONLY), 1)
         raise Fault("cannot write", UNWRITTEN) from why
-
-
-def version() -> str:
-    """The line of the version."""
-    with open(VERSION, encoding="utf-8") as file:
-        return f"{NAME} {file.readline().strip()}\n"
 
 
 def script(asked: Asked) -> Iterable[bytes]:
@@ -50,7 +37,7 @@ def script(asked: Asked) -> Iterable[bytes]:
         with open(asked.script, "rb") as file:
             return file.read().splitlines()
     except OSError as why:
-        raise Fault(f"cannot open {plain(asked.script)}", UNREAD) from why
+        raise Fault(f"cannot open {asked.script}", UNREAD) from why
 
 
 def talk(session: Session, lines: Iterable[bytes]) -> None:
@@ -72,7 +59,7 @@ def texts(lines: list[str]) -> str:
 def step(asked: Asked) -> None:
     """Steps through a robot as the words ask for."""
     lines = script(asked)
-    with Debugger(program(), asked.debug()) as debugger:
+    with Debugger(found(PROGRAM), asked.robot()) as debugger:
         session = Session(debugger, asked)
         if asked.script is None and can_paint():
             show(session)
@@ -82,38 +69,14 @@ def step(asked: Asked) -> None:
 
 def do(asked: Asked) -> None:
     """Does what is asked for."""
-    if asked.flags & {"-h", "--help"}:
+    if asked.given.flags & {"-h", "--help"}:
         write(HELP)
-    elif asked.flags:
-        write(version())
+    elif asked.given.flags:
+        write(f"{NAME} {number()}\n")
     else:
         step(asked)
 
 
-def stop(number: int, _: object) -> NoReturn:
-    """Ends by a signal, but not before the terminal is as it was."""
-    sys.exit(128 + number)
-
-
 def run(words: list[str]) -> int:
     """Does what the words ask for; answers the status."""
-    for number in (signal.SIGTERM, signal.SIGHUP):
-        if signal.getsignal(number) != signal.SIG_IGN:
-            signal.signal(number, stop)
-    if isinstance(sys.stderr, io.TextIOWrapper):
-        sys.stderr.reconfigure(errors="surrogateescape")
-    try:
-        do(read(words))
-    except Ended as why:
-        print(*why.lines, sep="", end="", file=sys.stderr)
-        return why.status
-    except Fault as why:
-        lines = [f"{NAME}: {why}"] if str(why) else []
-        print(*lines, *([USAGE_LINE] if isinstance(why, Misuse) else []), sep="\n", file=sys.stderr)
-        return why.status
-    except MemoryError:
-        print(f"{NAME}: out of memory", file=sys.stderr)
-        return MEMORY
-    except KeyboardInterrupt:
-        return 128 + signal.SIGINT
-    return 0
+    return begin(NAME, lambda: do(read(words)), USAGE_LINE)

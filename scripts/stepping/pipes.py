@@ -2,42 +2,22 @@
 
 from __future__ import annotations
 
-import os
-import shutil
 import signal
 import subprocess
 import tempfile
 from types import TracebackType
 
-from replays.faults import USAGE, Fault, Misuse
+from tools.faults import Ended, Fault
+from tools.signals import Stopped
 
 from .moments import Moment, Row, moment_of
 from .words import NAME
 
 PROGRAM = "crobots-debug"
-HERE = os.path.dirname(os.path.realpath(__file__))
 
 
 class Refused(Exception):
     """A question has a wrong word, which the text names."""
-
-
-class Ended(Fault):
-    """`crobots-debug` ended before its time: the lines that it said, and its status."""
-
-    def __init__(self, lines: list[str], status: int) -> None:
-        super().__init__("".join(lines), status)
-        self.lines = lines
-
-
-def program() -> str:
-    """Finds `crobots-debug`: the one on the path, or the one built or installed with this script."""
-    built = os.path.normpath(os.path.join(HERE, "..", "..", "crates", "debug", "out", "debug"))
-    installed = os.path.normpath(os.path.join(HERE, "..", "..", "..", "..", "bin", PROGRAM))
-    found = next((path for place in (PROGRAM, built, installed) if (path := shutil.which(place))), None)
-    if not found:
-        raise Fault(f"{PROGRAM} is not there, or is no program; README.md says how it is built", USAGE)
-    return found
 
 
 class Debugger:
@@ -95,14 +75,12 @@ class Debugger:
         status = self._child.wait()
         if status == -signal.SIGINT:
             # a terminal sends it to both
-            raise KeyboardInterrupt
+            raise Stopped(signal.SIGINT)
         self._said.seek(0)
         lines = [said(line) for line in self._said.read().decode(errors="surrogateescape").splitlines(keepends=True)]
         told = [line for line in lines if not line.startswith("usage: ")]
-        if status == USAGE:
-            return Misuse("".join(told).removeprefix(f"{NAME}: ").rstrip("\n"))
-        return Ended(told or [f"{NAME}: {PROGRAM} ended{f' by signal {-status}' if status < 0 else ''}\n"],
-                     status if status > 0 else 128 - status)
+        ended = f"{NAME}: {PROGRAM} ended{f' by signal {-status}' if status < 0 else ''}\n"
+        return Ended(told or [ended], status)
 
 
 def said(line: str) -> str:

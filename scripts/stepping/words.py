@@ -2,10 +2,9 @@
 
 from __future__ import annotations
 
-from dataclasses import dataclass, field
+from dataclasses import dataclass
 
-from replays.faults import Misuse
-from replays.words import parted, plain
+from tools.words import Given, given, number
 
 NAME = "crobots-step"
 USAGE_LINE = f"usage: {NAME} [-kMATCH] [-lCYCLES] [-sSEED] [-pPROFILE] [--robot N] [-x SCRIPT] FILE.."
@@ -25,76 +24,35 @@ options:
 
 Commands: the command help lists them. More: man {NAME}
 """
-# The options that choose a match, and all that have a value.
-MATCH = ("-k", "-f", "-l", "-s", "-p")
-VALUED = (*MATCH, "--robot", "-x")
-FLAGS = ("-h", "--help", "--version")
+OPTIONS = ("-k", "-f", "-l", "-s", "-p", "--robot", "-x")
 
 
-@dataclass
+@dataclass(frozen=True)
 class Asked:
-    """What the words ask for: the words of the match, those of the robot, the files, a script, and flags."""
+    """What the words ask for: a match and a robot in it, a script, and flags."""
 
-    match: list[str] = field(default_factory=list)
-    robot: list[str] = field(default_factory=list)
-    files: list[str] = field(default_factory=list)
-    script: str | None = None
-    flags: set[str] = field(default_factory=set)
+    given: Given
+    script: str | None
 
     def number(self) -> int:
         """The robot's number, from 1."""
-        value = self.robot[-1].removeprefix("--robot=") if self.robot else "1"
-        return int(value[:9]) if value.isascii() and value.isdigit() else 1
+        return number(self.given.last("--robot"))
 
     def file(self) -> str:
         """The robot's file: a single one fights a copy of itself."""
-        return self.files[0] if len(self.files) == 1 else self.files[self.number() - 1]
+        files = self.given.files
+        return files[0] if len(files) == 1 else files[self.number() - 1]
 
-    def named_files(self) -> list[str]:
-        """The files as words, which none can take for options."""
-        return [*(["--"] if any(file.startswith("-") for file in self.files) else []), *self.files]
+    def match(self, *more: str) -> list[str]:
+        """The words of the match, and more."""
+        return self.given.handed_on(("-x", "--robot"), more)
 
-    def debug(self) -> list[str]:
-        """The words for `crobots-debug`."""
-        return [*self.match, *self.robot, *self.named_files()]
+    def robot(self, *more: str) -> list[str]:
+        """The words of the match and the robot, and more."""
+        return self.given.handed_on(("-x",), more)
 
 
 def read(words: list[str]) -> Asked:
     """Reads the words. What is wrong with values and files `crobots-debug` says."""
-    asked, rest = Asked(), [*words]
-    while rest:
-        word = rest.pop(0)
-        if word == "--":
-            asked.files += rest
-            return asked
-        if word.startswith("-"):
-            take_option(asked, word, rest)
-        else:
-            asked.files.append(word)
-    return asked
-
-
-def take_option(asked: Asked, word: str, rest: list[str]) -> None:
-    """Takes the word of an option, and the next one if that is its value."""
-    name, value = parted(word)
-    if name in FLAGS and value is None:
-        asked.flags.add(name)
-    elif name not in VALUED:
-        raise Misuse(f"unknown option {plain(word)}{' (the match is -k)' if name == '-m' else ''}")
-    elif value is None and not rest:
-        raise Misuse(f"{name} lacks its value")
-    else:
-        given = [word] if value is not None else [word, rest.pop(0)]
-        keep(asked, name, given, given[-1] if value is None else value)
-
-
-def keep(asked: Asked, name: str, given: list[str], value: str) -> None:
-    """Keeps an option with its value, and the words that gave it."""
-    if name == "-x":
-        if asked.script is not None:
-            raise Misuse("-x is given twice")
-        asked.script = value
-    elif name == "--robot":
-        asked.robot += given
-    else:
-        asked.match += given
+    it = given(words, OPTIONS)
+    return Asked(it, it.once("-x"))

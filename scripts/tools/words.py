@@ -27,10 +27,10 @@ class Given:
     flags: set[str] = field(default_factory=set)
     files: list[str] = field(default_factory=list)
 
-    def handed_on(self, but: Collection[str] = ()) -> list[str]:
-        """The words of all options but some, and the files, which none can take for options."""
+    def handed_on(self, but: Collection[str] = (), more: Collection[str] = ()) -> list[str]:
+        """The words of all options but some, more words, and the files, which none can take for options."""
         dashes = ["--"] if any(file.startswith("-") for file in self.files) else []
-        return [*(word for it in self.options if it.name not in but for word in it.words), *dashes, *self.files]
+        return [*(word for it in self.options if it.name not in but for word in it.words), *more, *dashes, *self.files]
 
     def last(self, *names: str) -> str | None:
         """The value that one of these options has last."""

@@ -89,7 +89,7 @@ class Refusals(Base):
         """Neither on the path nor beside the script, which is copied for that."""
         copy = os.path.join(self._folder, "copy", "scripts")
         os.makedirs(copy, exist_ok=True)
-        ran = subprocess.run(f"cp -r '{SCRIPT}' '{SCRIPT.parent}/stepping' '{SCRIPT.parent}/replays' '{SCRIPT.parent}/tools' '{copy}' && '{copy}/step' looker.r",
+        ran = subprocess.run(f"cp -r '{SCRIPT}' '{SCRIPT.parent}/stepping' '{SCRIPT.parent}/tools' '{copy}' && '{copy}/step' looker.r",
                              shell=True, cwd=self._folder, env=os.environ | {"PATH": os.defpath}, capture_output=True, timeout=100, check=False)
         return differ((ran.stdout, ran.stderr, ran.returncode), (b"", SAID + b"crobots-debug is not there, or is no program; README.md says how it is built\n", 2))
 
