@@ -27,6 +27,8 @@ const ROBOT_BYTES = 8 + Limits.nameBytes + Limits.sourceBytes;
 const FRAME_BYTES = 256;
 const FRAMES = 32768;
 const SHEET_BYTES = 16 + FRAMES * FRAME_BYTES;
+const MARKS = 4000;
+const TARGET_BYTES = 16 + MARKS;
 const MOST_ROWS = 1000000;
 
 const encoder = new TextEncoder();
@@ -72,7 +74,8 @@ export class Engine {
         const start = this.memory.buffer.byteLength;
         this.order = start;
         this.robots = this.order + ORDER_BYTES;
-        this.text = this.robots + Limits.robots * ROBOT_BYTES;
+        this.target = this.robots + Limits.robots * ROBOT_BYTES;
+        this.text = this.target + TARGET_BYTES;
         this.faults = this.text + SHEET_BYTES;
         const end = this.faults + SHEET_BYTES;
         this.memory.grow(Math.ceil((end - start) / PAGE_BYTES));
@@ -80,8 +83,8 @@ export class Engine {
 
     /** Throws if the module's blocks are not laid out as this file has them. */
     checkSizes() {
-        const sizes = [this.exports.order_bytes(), this.exports.robot_bytes(), this.exports.sheet_bytes()];
-        if (sizes.map(Number).join() !== [ORDER_BYTES, ROBOT_BYTES, SHEET_BYTES].join()) {
+        const sizes = ["order", "robot", "target", "sheet"].map(name => this.exports[`${name}_bytes`]());
+        if (sizes.map(Number).join() !== [ORDER_BYTES, ROBOT_BYTES, TARGET_BYTES, SHEET_BYTES].join()) {
             throw new Error(`the module and the page differ: ${sizes}`);
         }
     }
@@ -145,10 +148,36 @@ export class Engine {
         }
     }
 
-    runIn(mode, settings, robots, call = this.exports.run) {
+    /**
+     * Plays the first match of the settings, and tells where their `robot`, counted from 0, is after their `cycle`. Returns
+     * {ending, text, faults}; the text has rows, as a film has.
+     */
+    moment(settings, robots) {
+        this.putTarget(settings);
+        return this.runIn(1, settings, robots, this.exports.moment, [this.target]);
+    }
+
+    /**
+     * Plays the first match of the settings, and tells the first cycle after their `cycle`, or the last one before it if it is to go
+     * `backwards`, after which their `robot` is at one of the addresses of their `marks`, with so many `frames` at most. Returns
+     * {ending, text, faults}; the text has a row `found` if there is one.
+     */
+    find(settings, robots) {
+        this.putTarget(settings);
+        return this.runIn(1, settings, robots, this.exports.find, [this.target]);
+    }
+
+    putTarget({robot = 0, cycle = 0, frames = 2 ** 32 - 1, backwards = false, marks = []}) {
+        const view = new DataView(this.memory.buffer, this.target, 16);
+        [robot, cycle, frames, Number(backwards)].forEach((n, i) => view.setUint32(4 * i, n, true));
+        const bytes = new Uint8Array(this.memory.buffer, this.target + 16, MARKS).fill(0);
+        marks.forEach(address => { bytes[address] = 1; });
+    }
+
+    runIn(mode, settings, robots, call = this.exports.run, targets = []) {
         this.putOrder(mode, settings);
         this.putRobots(robots);
-        const blocks = [this.order, this.robots, robots.length, this.text, this.faults].map(BigInt);
+        const blocks = [this.order, this.robots, robots.length, ...targets, this.text, this.faults].map(BigInt);
         const ending = call(...blocks);
         return {ending, text: this.textOf(this.text), faults: this.textOf(this.faults)};
     }

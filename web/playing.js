@@ -1,6 +1,7 @@
 // The settings, the run of a battle with its report, and the match that is watched.
 import {copyOf, isSeed} from "./battles.js";
 import {Ending, Limits} from "./engine.js";
+import {Inside} from "./insides.js";
 import {Screen} from "./replays.js";
 import {Report} from "./reports.js";
 import {Series, ended} from "./series.js";
@@ -38,6 +39,7 @@ export class Playing {
         Object.assign(this, {runner, changed});
         this.screen = new Screen(byId("film"), byId("controls"));
         this.watcher = new Watcher(runner, this.screen, (text, isFault) => tell("told", text, isFault));
+        this.inside = new Inside(this.screen, runner, this);
         this.report = new Report(byId("report"), number => this.watch(new Wish(this.reported, number, 0)));
         byId("settings").addEventListener("input", event => this.takeSettings(event.target.id));
         onSubmit("settings", () => this.run());
@@ -148,8 +150,10 @@ export class Playing {
         this.busy(true);
         byId("watched").value = wish.number;
         tell("told", "The match is being played.");
+        this.inside.watch();
         const isShown = await this.watcher.watch(wish);
         this.busy(false);
+        this.inside.watch(isShown ? wish : this.filmed);
         if (isShown) {
             this.filmed = wish;
             this.judgeAges();

@@ -32,6 +32,7 @@ export class Screen {
             this.frame.hidden = false;
         });
         this.frame.contentWindow.showFilm(film, `Match ${number}: ${listed(film.robots.map(({name}) => name))}`, place);
+        this.onShow?.();
         this.fit();
         new this.frame.contentWindow.ResizeObserver(() => this.resize()).observe(this.inside.body);
     }

@@ -11,7 +11,7 @@ const engine = await Engine.load(bytes);
 const ROBOT_BYTES = (engine.text - engine.robots) / 4;
 const SOURCE = new TextEncoder().encode("main(){ while (1) { cannon(rand(360), 99); drive(rand(360), 50); } }\x1a");
 // each call with how many words it takes
-const CALLS = {run: 5, film: 5, film_windows: 5, explain: 4};
+const CALLS = {run: 5, film: 5, film_windows: 5, moment: 6, find: 6, explain: 4};
 const MOST = 2 ** 32 - 1;
 const SIZES = [0, 1, 68, 69, 255, 256, 1048576, 1048577, 1048578, MOST];
 const NUMBERS = [0, 1, 2, 26, 27, 2 ** 31, MOST];
@@ -60,12 +60,14 @@ function putRobot(number) {
 function call(codes) {
     putOrder();
     [0, 1, 2, 3].forEach(putRobot);
+    spoil(engine.target, 16 + 4000);
     for (const sheet of [engine.text, engine.faults]) {
         spoil(sheet, 16 + 512);
     }
     const robots = below(6) ? 1 + below(4) : 0;
-    const addresses = [engine.order, engine.robots, robots, engine.text, engine.faults].map(BigInt);
     const name = oneOf(Object.keys(CALLS));
+    const targets = CALLS[name] > 5 ? [engine.target] : [];
+    const addresses = [engine.order, engine.robots, robots, ...targets, engine.text, engine.faults].map(BigInt);
     const code = engine.exports[name](...addresses.slice(0, CALLS[name]));
     codes[code] = (codes[code] ?? 0) + 1;
 }
@@ -76,7 +78,7 @@ const compiled = await WebAssembly.compile(bytes);
 function outside(call, at, word) {
     const {exports} = new WebAssembly.Instance(compiled);
     // there all is 0, which isn't within the limits
-    const words = [0n, 0n, 1n, 0n, 0n].slice(0, CALLS[call]);
+    const words = [0n, 0n, 1n, 0n, 0n, 0n].slice(0, CALLS[call]);
     words[at] = word;
     try {
         return exports[call](...words);

@@ -9,7 +9,7 @@ import shutil
 import sys
 from typing import Any, Callable, ContextManager, Iterator
 
-from . import everyone, helping, keeping, paths, robust, seeing
+from . import everyone, helping, inside, keeping, paths, robust, seeing
 from .battles import Battle, Mistake, Settings, mistakes, outcome, random_battles, sample_battles, samples, script, vectors
 from .pages import Page, chromium, console, served, without
 
@@ -404,6 +404,7 @@ def results(crobots: str, _stages: str, folder: str) -> Iterator[tuple[str, list
         yield "the page as a file", story(page, crobots, folder, chromium)
         yield from keeping.results(page)
         yield from seeing.results(page, crobots)
+        yield from inside.results(page)
         yield from helping.results(page, crobots, folder)
         yield from robust.results(page, folder)
         yield from everyone.results(page)

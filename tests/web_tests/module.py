@@ -23,7 +23,8 @@ MOST_SEED = 2**64 - 1
 SECONDS = 120
 MOST_BYTES = 400_000
 CALLS = 1000
-EXPORTS = ["__heap_base", "explain", "film", "film_windows", "memory", "order_bytes", "robot_bytes", "run", "sheet_bytes"]
+EXPORTS = ["__heap_base", "explain", "film", "film_windows", "find", "memory", "moment", "order_bytes", "robot_bytes", "run", "sheet_bytes",
+           "target_bytes"]
 TOKEN = re.compile(rb"[A-Za-z_]\w*|\d+|<<=|>>=|\+\+|--|&&|\|\||[-+*/%&|^<>=!]=|<<|>>|[^\s\x1a]")
 # a status, a text and faults
 Answer = tuple[int, bytes, bytes]
@@ -331,9 +332,10 @@ def any_blocks(folder: str) -> list[str]:
     wrong = [f"imports: {told['imports']}"] if told["imports"] else []
     wrong += [] if sorted(told["exports"]) == EXPORTS else [f"exports: {told['exports']}"]
     wrong += [] if set(told["codes"]) >= {"0", "1", "2"} and set(told["codes"]) <= {"0", "1", "2", "4", "6"} else [f"codes: {told['codes']}"]
-    wrong += [] if told["inside"] == [2] * 4 else [f"inside of the memory: {told['inside']}"]
-    # each of three calls with five words, and one with four, with each word so: the memory's end, and five numbers beyond it
-    return wrong + ([] if told["ends"] == ["ended"] * 114 else [f"outside of the memory: {told['ends']}"])
+    wrong += [] if told["inside"] == [2] * 6 else [f"inside of the memory: {told['inside']}"]
+    # each of three calls with five words, two with six, and one with four, with each word so: the memory's end, and five numbers
+    # beyond it
+    return wrong + ([] if told["ends"] == ["ended"] * 186 else [f"outside of the memory: {told['ends']}"])
 
 
 def explanations(folder: str) -> list[str]:

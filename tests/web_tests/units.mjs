@@ -14,6 +14,7 @@ const {placesOf} = await load("finding");
 const {completions, openCall, wordAt} = await load("helping");
 const {Series, ended} = await load("series");
 const {adviceOf} = await load("advice");
+const {Code, callsOf, foundIn, momentOf, valuesOf} = await load("moments");
 
 function check(name, got, wanted) {
     const [shown, right] = [JSON.stringify(got), JSON.stringify(wanted)];
@@ -73,6 +74,47 @@ check("a series in pieces", [long.series.text, long.end.ending, long.calls[0]], 
 check("pieces that are too long", [tight.series.text, tight.end.ending], [whole(reports(1)), 0]);
 const died = new Series({matches: 99, first: 1}, () => { throw new Error("stopped"); }, () => {});
 check("a series that is stopped", ended(died, await died.play(), 0), "Stopped. No match was played to its end.");
+
+// int seen; | main() { | while (1) { f(2); } } | f(n) { seen += n; return n; }
+const LISTING = `File robot
+Externals 1
+  0 seen
+Function 0 main vars 0 at 0
+Function 1 f vars 1 at 10
+  0 n
+Code 18
+    0 CONST 1
+    1 BRANCH 8
+    2 FRAME
+    3 CONST 2
+    4 FCALL 1
+    5 CHOP
+    6 CONST 0
+    7 BRANCH 0
+    8 CONST 0
+    9 RETSUB
+   10 FETCH L0
+   11 STORE E0 +=
+   12 CHOP
+   13 FETCH L0
+   14 RETSUB
+   15 CONST 0
+   16 RETSUB
+   17 NOP
+`;
+const PLACES = `address\trobot\tkind\tline\tcolumn\n${[3, 3, 3, 3, 3, 3, 3, 3, 3, 3, 4, 4, 4, 4, 4, 4, 4, 4].map((line, at) => `${at}\t1\tcode\t${line}\t1\n`).join("")}`;
+const code = new Code(LISTING, PLACES);
+check("names in instructions", [0, 4, 10, 11].map(at => code.nameIn(at)), ["", "f", "n", "seen"]);
+check("where lines begin", [[3], [4], [3, 4], [2]].map(lines => code.entriesOf(new Set(lines))), [[0], [10], [0, 10], []]);
+const ROWS = "cycle\trobot\tkind\ta\tb\tc\td\te\n";
+const inside = momentOf(`${ROWS}6\t1\tmoment\t11\t0\t1\t0\n6\t1\tasks\tscan\t2\t30\t-5\n2\t1\tasked\tdamage\t0\t7\t8\t-9
+6\t1\tframe\t0\t0\n6\t1\tframe\t0\t5\n6\t1\tframe\t1\t0\n6\t1\tword\t2\n6\t1\tword\t3\n6\t1\texternal\t4\n`);
+check("a moment", [inside.cycle, inside.address, inside.isAlive, inside.isOver, inside.asks, inside.asked, inside.words, inside.externals],
+    [6, 11, true, false, "scan(30, -5)", {cycle: 2, call: "damage()", reply: -9}, [2, 3], [4]]);
+// the frame that was opened last is of a call whose arguments are being worked out
+check("open calls of a robot", callsOf(code, inside), [{line: 4, name: "f", variables: [{name: "n", value: 2}]}, {line: 3, name: "main", variables: []}]);
+check("externals", valuesOf(code.externals, inside.externals), [{name: "seen", value: 4}]);
+check("no moment, and what was found", [momentOf(ROWS), foundIn(ROWS), foundIn(`${ROWS}8\t1\tfound\n`)], [null, null, 8]);
 
 check("no advice", adviceOf("nonsense"), "");
 console.log(JSON.stringify(wrong));

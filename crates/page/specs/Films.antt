@@ -18,6 +18,8 @@ use Rattle.page.specs.declared.orders.Order.{Order}
 use Rattle.page.specs.declared.robots.RobotFile.{RobotFile}
 use Rattle.page.specs.declared.sheets.Sheet.{Sheet}
 use Rattle.page.specs.declared.stretches.Stretch.{Stretch}
+use Rattle.page.specs.declared.subjects.Subject.{Subject}
+use Rattle.page.specs.declared.subjects.Subject.TheVariants.{Film, Moment, Run}
 use Rattle.page.specs.Orders.{mode_by, stretch_of}
 use Rattle.page.specs.Robots.{source_of}
 use Rattle.page.specs.Running.{IsFull, IsOfRun, bytes_on, fault_code, output_of}
@@ -48,6 +50,12 @@ status_shown Faulty = status.Faulty
 abbrev pub diagnostics : Order → List RobotFile → List ℕ
 diagnostics order robots = bytes_on Faults (compiling (mode_by order.mode) (profile_numbered order.profile)
     (map source_of robots))
+
+-- the stretch of a subject: what is told of a robot has none
+abbrev pub stretch_in : Subject → Option Stretch
+stretch_in (Film stretch skipped) = stretch
+stretch_in (Moment target) = None
+stretch_in (Run target) = None
 
 -- the last cycle of a stretch
 abbrev pub last_of : Stretch → ℕ

@@ -6,12 +6,14 @@ ghost use Rattle.page.specs.Films.{IsFilm, IsOfFilm, IsOfShown, IsOfStretch, IsO
 ghost use Rattle.page.specs.Running.{IsAccepted, IsFull, IsOfRun, IsOutput, code_of};
 
 use crate::explaining::{Explained, explain_robot};
-use crate::filming::film_robots;
+use crate::filming::tell_robots;
 use crate::films::Shown;
 use crate::orders::Order;
 use crate::robots::RobotFile;
 use crate::running::run_robots;
 use crate::sheets::Sheet;
+use crate::subjects::Subject;
+use crate::targets::Target;
 use series::{RunFault, Status};
 
 /// The answer of a film after which the match goes on.
@@ -25,6 +27,9 @@ const ROBOT_BYTES: usize = size_of::<RobotFile>();
 
 /// The bytes of a sheet.
 const SHEET_BYTES: usize = size_of::<Sheet>();
+
+/// The bytes of a target.
+const TARGET_BYTES: usize = size_of::<Target>();
 
 /// Runs what the order asks for over one to four robots, and writes on the two sheets, as the program crobots does: the
 /// text that it writes on standard output, and the lines about faulty sources.
@@ -60,7 +65,8 @@ pub extern "C" fn film(
     ensures accepted { IsAccepted order.now robots.now → IsOfRun result }
     ensures refused { result ≢ 2 → IsAccepted order.now robots.now }
 {
-    film_code(film_robots(order, robots, None, text, faults))
+    let subject = Subject::Film(None, order.skipped);
+    film_code(tell_robots(order, robots, &subject, text, faults))
 }
 
 /// Plays the first match that the order asks for of one to four robots up to a number of updates, and films a number of
@@ -83,7 +89,47 @@ pub extern "C" fn film_windows(
     ensures accepted { IsAccepted order.now robots.now → IsOfShown result }
     ensures refused { result ≢ 2 → IsAccepted order.now robots.now }
 {
-    film_code(film_robots(order, robots, Some(order.stretch()), text, faults))
+    let subject = Subject::Film(Some(order.stretch()), order.skipped);
+    film_code(tell_robots(order, robots, &subject, text, faults))
+}
+
+/// Plays the first match that the order asks for of one to four robots up to a cycle, and writes where a robot is then,
+/// or the diagnostics of faulty sources. Answers as `run` does.
+#[unsafe(no_mangle)]
+pub extern "C" fn moment(
+    order: &Order,
+    robots: &[RobotFile],
+    target: &Target,
+    text: &mut Sheet,
+    faults: &mut Sheet,
+) -> u32
+    ensures film { IsFilm order.now robots.now result text.new faults.new }
+    ensures codes { IsOfFilm result }
+    ensures accepted { IsAccepted order.now robots.now → IsOfRun result }
+    ensures refused { result ≢ 2 → IsAccepted order.now robots.now }
+{
+    let subject = Subject::Moment(target);
+    film_code(tell_robots(order, robots, &subject, text, faults))
+}
+
+/// Plays the first match that the order asks for of one to four robots, and writes the first cycle after a cycle, or
+/// the last one before it, after which a robot is at one of some instructions; or the diagnostics of faulty sources.
+/// Answers as `run` does.
+#[unsafe(no_mangle)]
+pub extern "C" fn find(
+    order: &Order,
+    robots: &[RobotFile],
+    target: &Target,
+    text: &mut Sheet,
+    faults: &mut Sheet,
+) -> u32
+    ensures film { IsFilm order.now robots.now result text.new faults.new }
+    ensures codes { IsOfFilm result }
+    ensures accepted { IsAccepted order.now robots.now → IsOfRun result }
+    ensures refused { result ≢ 2 → IsAccepted order.now robots.now }
+{
+    let subject = Subject::Run(target);
+    film_code(tell_robots(order, robots, &subject, text, faults))
 }
 
 /// Explains the source of the first robot in the language profile that the order asks for, as the program crobots-why
@@ -164,4 +210,12 @@ pub extern "C" fn sheet_bytes() -> usize
     ensures { result ≡ 8388624 }
 {
     SHEET_BYTES
+}
+
+/// Returns how many bytes a target has.
+#[unsafe(no_mangle)]
+pub extern "C" fn target_bytes() -> usize
+    ensures { result ≡ 4016 }
+{
+    TARGET_BYTES
 }

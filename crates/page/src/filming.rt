@@ -1,6 +1,6 @@
-//! Films of the matches of robots in memory, and where their instructions come from.
+//! What is told of the matches of robots in memory: films and moments, and where instructions come from.
 
-ghost use Rattle.std.specs.Prelude.{◌≡◌, ◌≢◌, ℕ, ◌<◌, ◌≤◌, All, IfErr, IfOk, IfSome, IsSome, List, None, Some, false, length, map};
+ghost use Rattle.std.specs.Prelude.{◌≡◌, ◌≢◌, ℕ, ◌<◌, All, IfErr, IfOk, IfSome, IsSome, List, None, Some, false, length, map};
 ghost use Rattle.grammar.specs.Tree.{File};
 ghost use Rattle.code.specs.Codes.{AreProgramsOf};
 ghost use Rattle.battles.specs.Battle.{battle};
@@ -10,11 +10,12 @@ ghost use Rattle.series.specs.Compiling.{SourceFile};
 ghost use Rattle.series.specs.Pieces.{on_both};
 ghost use Rattle.series.specs.CompiledFiles.{Compiles};
 ghost use Rattle.series.specs.SourceContents.{AreSources};
-ghost use Rattle.page.specs.Films.{FilmsRobots, Shows};
+ghost use Rattle.page.specs.Films.{FilmsRobots, Shows, stretch_in};
 ghost use Rattle.page.specs.Running.{AreFresh, IsAccepted, IsFull};
 ghost use Rattle.page.specs.Sheets.{contents_of};
 
 use crate::films::{Film, Functions, Shown};
+use crate::insides::{tell_moment, tell_run};
 use crate::orders::Order;
 use crate::pilots::pilots_of;
 use crate::places::{places_of, tell_places};
@@ -23,29 +24,29 @@ use crate::running::{feeds_of, words_of};
 use crate::sheets::Sheet;
 use crate::sources::SourceFeed;
 use crate::stretches::Stretch;
+use crate::subjects::Subject;
 use arrayvec::ArrayVec;
 use code::Maker;
-use derivations::SourcePositions;
 use grammar::Profile;
 use grammar::laws::resolved_files;
 use parser::parse;
 use playing::{PlayEnd, UPDATE_CYCLES, play};
 use series::{MOST_FILES, Mode, Programs, RunFault, Settings, compile_files};
 
-/// Plays the first match that the order asks for of one to four robots, and writes on a sheet the film of a stretch of
-/// it, or of all of it; if it asks for listings, writes where their instructions come from. The other sheet takes the
-/// diagnostics of faulty sources. Both are blank before.
+/// Plays the first match that the order asks for of one to four robots, and writes on a sheet what the subject tells of
+/// it; if it asks for listings, writes where their instructions come from. The other sheet takes the diagnostics of
+/// faulty sources. Both are blank before.
 ///
 /// `None` if a number of the order is not within its limits, a name is no text, or there is no robot or over four.
-pub fn film_robots(
+pub fn tell_robots(
     order: &Order,
     robots: &[RobotFile],
-    stretch: Option<Stretch>,
+    subject: &Subject<'_>,
     film: &mut Sheet,
     faults: &mut Sheet,
 ) -> Option<Result<Shown, RunFault>>
-    ensures films { IfSome result (λ ran. FilmsRobots order.now robots.now stretch ran film.new faults.new) }
-    ensures whole { stretch ≡ None → IfSome result (λ ran. IfOk ran (λ shown. shown ≢ Shown.GoesOn)) }
+    ensures films { IfSome result (λ ran. FilmsRobots order.now robots.now (stretch_in subject.now) ran film.new faults.new) }
+    ensures whole { stretch_in subject.now ≡ None → IfSome result (λ ran. IfOk ran (λ shown. shown ≢ Shown.GoesOn)) }
     ensures accepted { IsAccepted order.now robots.now → IsSome result }
     ensures refused { IsSome result → IsAccepted order.now robots.now }
 {
@@ -54,22 +55,18 @@ pub fn film_robots(
     let words = words_of(robots)?;
     let settings = order.settings(words.as_slice())?;
     let mut feeds = feeds_of(robots)?;
-    let functions = functions_of(settings.profile(), robots)?;
     let programs = match compile_feeds(&settings, feeds.as_mut_slice(), film, faults) {
         Ok(Some(programs)) => programs,
         Ok(None) => return Some(Ok(Shown::Faulty)),
         Err(fault) => return Some(Err(fault)),
     };
-    let places = places_of(&programs, robots);
     film.clear();
-    let (functions, places) = (functions.as_slice(), places.as_slice());
     let shown = match settings.mode() {
-        Mode::Listing => Some(list_places(places, film)),
+        Mode::Listing => Some(list_places(&programs, robots, film)),
         Mode::Matches => {
             // For the proof alone: a file that compiles is resolved.
             resolved_files();
-            let film = Film::new(film, functions, places, stretch, order.skipped);
-            film_match(&settings, &programs, film, stretch)
+            tell_match(&settings, &programs, robots, subject, film)
         }
     };
     Some(taken(shown, film))
@@ -109,22 +106,20 @@ fn compile_feeds(
 }
 
 /// Writes the places of the instructions of each file on a blank sheet.
-fn list_places(files: &[Option<SourcePositions>], sheet: &mut Sheet) -> Shown
+fn list_places(programs: &Programs, robots: &[RobotFile], sheet: &mut Sheet) -> Shown
     ensures { result ≡ Shown.Over }
 {
-    tell_places(files, sheet);
+    tell_places(places_of(programs, robots).as_slice(), sheet);
     Shown::Over
 }
 
 /// Returns the names of the functions of at most four robots.
-fn functions_of(profile: Profile, robots: &[RobotFile]) -> Option<ArrayVec<Functions, MOST_FILES>>
-    ensures { length robots.now ≤ MOST_FILES → IsSome result }
-{
+fn functions_of(profile: Profile, robots: &[RobotFile]) -> ArrayVec<Functions, MOST_FILES> {
     let mut files = ArrayVec::new();
     for robot in robots {
-        files.try_push(functions_in(profile, robot.source())).ok()?;
+        let _ = files.try_push(functions_in(profile, robot.source()));
     }
-    Some(files)
+    files
 }
 
 /// Returns the names of the functions of a good source. A program has no names, so the source is parsed once more.
@@ -137,6 +132,41 @@ fn functions_in(profile: Profile, source: &[u8]) -> Functions {
         }
     }
     functions
+}
+
+/// Plays the first match of these programs, and writes on a blank sheet what the subject tells of it. `None` if it was
+/// cut off, since the sheet is full.
+fn tell_match(
+    settings: &Settings<'_>,
+    programs: &Programs,
+    robots: &[RobotFile],
+    subject: &Subject<'_>,
+    sheet: &mut Sheet,
+) -> Option<Shown>
+    requires { 0 < length programs.now }
+    ensures made { IfSome result (λ shown. shown ≢ Shown.Faulty) }
+    ensures whole { stretch_in subject.now ≡ None → IfSome result (λ shown. shown ≢ Shown.GoesOn) }
+    ensures shows { (files : List File) → AreProgramsOf programs.now settings.now.profile files
+        → IfSome result (Shows (stretch_in subject.now) (battle (robots_of settings.now.profile files) settings.now.seed
+        settings.now.first settings.now.limit).cycles) }
+{
+    match *subject {
+        Subject::Film(stretch, skipped) => {
+            let functions = functions_of(settings.profile(), robots);
+            let places = places_of(programs, robots);
+            let (functions, places) = (functions.as_slice(), places.as_slice());
+            let film = Film::new(sheet, functions, places, stretch, skipped);
+            film_match(settings, programs, film, stretch)
+        }
+        Subject::Moment(target) => {
+            tell_moment(settings, programs, target, sheet);
+            Some(Shown::Over)
+        }
+        Subject::Run(target) => {
+            tell_run(settings, programs, target, sheet);
+            Some(Shown::Over)
+        }
+    }
 }
 
 /// Plays the first match of these programs, and writes its film: of a stretch, or of all of it. `None` if it was cut

@@ -5,6 +5,7 @@ mod explaining;
 mod exports;
 mod filming;
 mod films;
+mod insides;
 mod missiles;
 mod orders;
 mod pilots;
@@ -15,13 +16,20 @@ mod running;
 mod sheets;
 mod sources;
 mod stretches;
+mod subjects;
+mod targets;
 
 pub use explaining::{Explained, explain_robot};
-pub use exports::{explain, film, film_windows, order_bytes, robot_bytes, run, sheet_bytes};
-pub use filming::film_robots;
+pub use exports::{
+    explain, film, film_windows, find, moment, order_bytes, robot_bytes, run, sheet_bytes,
+    target_bytes,
+};
+pub use filming::tell_robots;
 pub use films::Shown;
 pub use orders::Order;
 pub use robots::{NAME_MAX, RobotFile, SOURCE_MAX};
 pub use running::run_robots;
 pub use sheets::{FRAME_BYTES, FRAMES, Sheet, SheetBlock};
 pub use stretches::Stretch;
+pub use subjects::Subject;
+pub use targets::{MARKS, Target};

@@ -5,13 +5,13 @@ use Rattle.page.proofs.exports.film.Goals as goal
 pub returns-clause-codes : goal.returns-clause-codes
 returns-clause-codes c =
     rw c.film_code.ensures
-    (of_film c.args.order.now c.args.robots.now None c.film_robots.result
-    c.film_robots.new.film c.film_robots.new.faults c.film_robots.ensures.films
-    (c.film_robots.ensures.whole refl))
+    (of_film c.args.order.now c.args.robots.now None c.tell_robots.result
+    c.tell_robots.new.film c.tell_robots.new.faults c.tell_robots.ensures.films
+    (c.tell_robots.ensures.whole refl))
 
 pub returns-clause-accepted : goal.returns-clause-accepted
 returns-clause-accepted c accepted =
     rw c.film_code.ensures
-    (of_run c.args.order.now c.args.robots.now None c.film_robots.result
-    c.film_robots.new.film c.film_robots.new.faults (c.film_robots.ensures.accepted accepted)
-    c.film_robots.ensures.films (c.film_robots.ensures.whole refl))
+    (of_run c.args.order.now c.args.robots.now None c.tell_robots.result
+    c.tell_robots.new.film c.tell_robots.new.faults (c.tell_robots.ensures.accepted accepted)
+    c.tell_robots.ensures.films (c.tell_robots.ensures.whole refl))

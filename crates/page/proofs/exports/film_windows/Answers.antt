@@ -4,5 +4,5 @@ use Rattle.page.proofs.exports.film_windows.Goals as goal
 pub returns-clause-shows : goal.returns-clause-shows
 returns-clause-shows c =
     rw c.film_code.ensures
-    (of_stretch c.args.order.now c.args.robots.now c.film_robots.result c.film_robots.new.film c.film_robots.new.faults
-    (rw c.stretch.ensures at c.film_robots.ensures.films))
+    (of_stretch c.args.order.now c.args.robots.now c.tell_robots.result c.tell_robots.new.film c.tell_robots.new.faults
+    (rw c.stretch.ensures at c.tell_robots.ensures.films))

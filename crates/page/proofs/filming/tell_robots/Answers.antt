@@ -4,15 +4,17 @@ use Rattle.series.specs.Pieces.{Taken, on_both}
 use Rattle.series.specs.CompiledFiles.{Compiles}
 use Rattle.settings.specs.Settings.{Settings}
 use Rattle.page.specs.declared.films.Shown.TheVariants.{Faulty}
+use Rattle.page.specs.Films.{stretch_in}
 use Rattle.page.specs.Sheets.{contents_of}
 use Rattle.page.proofs.FilmLemmas.{CompilesRobots, codes_good, films_faulty, films_good, films_taken}
 use Rattle.page.proofs.RunningLemmas.{by_robots}
-use Rattle.page.proofs.filming.film_robots.Goals as goal
-use Rattle.page.proofs.filming.film_robots.Goals.{in-Listing, in-Matches}
+use Rattle.page.proofs.filming.tell_robots.Goals as goal
+use Rattle.page.proofs.filming.tell_robots.Goals.{in-Listing, in-Matches}
 
 pub returns-in-Ok-None-clause-films : goal.returns-in-Ok-None-clause-films
 returns-in-Ok-None-clause-films c =
-    films_faulty c.args.order.now c.args.robots.now c.args.stretch c.compile_feeds.result c.compile_feeds.new.text
+    films_faulty c.args.order.now c.args.robots.now (stretch_in c.args.subject.now) c.compile_feeds.result
+    c.compile_feeds.new.text
     c.compile_feeds.new.faults
     (search rules)
     (by_robots
@@ -43,24 +45,26 @@ returns-clause-films c =
     c.in_ok-settings.ensures.value (rw c.as_slice.ensures.value c.in_ok-words.ensures.names)
     (rw c.as_mut_slice.ensures.value c.in_ok-feeds.ensures.bytes)
     c.clear.ensures.text c.clear-2.ensures.text c.compile_feeds.ensures.output in
-    films_taken order robots c.args.stretch c.taken.result c.match-mode.shown c.taken.new.sheet faults
+    films_taken order robots (stretch_in c.args.subject.now) c.taken.result c.match-mode.shown c.taken.new.sheet faults
     c.taken.ensures.shown c.taken.ensures.full
     (λ whole same room. elim c.match-mode.branch [
       | in-Listing w ↦
           let some : whole ≢ Faulty = λ is. absurd (cc (w.shown-is, w.list_places.ensures, same, is)) in
           let mode = ap (λ (s : Settings). s.mode) c.in_ok-settings.ensures.value in
-          films_good order robots c.args.stretch c.compile_feeds.result programs text c.taken.new.sheet faults whole
+          films_good order robots (stretch_in c.args.subject.now) c.compile_feeds.result programs text c.taken.new.sheet
+          faults whole
           some
           good compiled room (λ matches files found. absurd (cc (w.in-Listing.is, c.mode.ensures.value, mode, matches)))
       | in-Matches w ↦
           let is = sym w.shown-is ∙ same in
-          films_good order robots c.args.stretch c.compile_feeds.result programs text c.taken.new.sheet faults whole
-          (rw is at w.film_match-shown.ensures.made) good compiled room
+          films_good order robots (stretch_in c.args.subject.now) c.compile_feeds.result programs text c.taken.new.sheet
+          faults whole
+          (rw is at w.tell_match-shown.ensures.made) good compiled room
           (λ matches files found.
           let are =
           codes_good w.resolved_files.ensures order robots c.compile_feeds.result programs text faults files good
           compiled
           found in
           rw (is, c.in_ok-settings.ensures.value) at
-          (w.film_match-shown.ensures.shows files (rw c.in_ok-settings.ensures.value are)))
+          (w.tell_match-shown.ensures.shows files (rw c.in_ok-settings.ensures.value are)))
     ])

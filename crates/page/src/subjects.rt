@@ -1,0 +1,15 @@
+//! Subjects: what is told of a match.
+
+use crate::stretches::Stretch;
+use crate::targets::Target;
+
+/// What is told of the first match that an order asks for.
+#[derive(Clone, Copy)]
+pub enum Subject<'a> {
+    /// Its film, of a stretch or of all of it, without the given number of its first rows.
+    Film(Option<Stretch>, u32),
+    /// Where a robot is after a cycle.
+    Moment(&'a Target),
+    /// The first or the last cycle after which a robot is at one of some instructions.
+    Run(&'a Target),
+}

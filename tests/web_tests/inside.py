@@ -1,0 +1,88 @@
+"""Tests of the panel on a robot from inside: what it shows at the film's cycle, its keys and its marks. Worked out by hand."""
+
+from __future__ import annotations
+
+from typing import Iterator
+
+from .battles import Battle, Settings
+from .pages import Page
+
+# CONST 1 and BRANCH of line 4; FRAME, CONST 0, CONST 5, FCALL scan, STORE a, CHOP of line 5; FETCH, CONST 1, BINOP +, STORE seen, CHOP of
+# line 6; CONST 0 and BRANCH back: a turn is 15 cycles
+LOOKER = ("looker.r", b"int seen;\nmain() {\n  int a;\n  while (1) {\n    a = scan(0, 5);\n    seen = seen + 1;\n  }\n}\n")
+# calls a function in its cycle 3, which goes on
+CALLER = ("caller.r", b"main() {\n  down(7);\n}\ndown(n) {\n  int m;\n  while (1)\n    m = m + n;\n}\n")
+
+
+def opened(page: Page, limit: int = 100) -> None:
+    """Watches a match of the two robots with the panel open."""
+    page.fresh()
+    page.show(Battle([LOOKER, CALLER], Settings(limit=limit)))
+    page.watch(1)
+    page.js("document.getElementById('inside').open = true")
+    page.wait("return document.getElementById('inside-at').textContent.startsWith('Cycle 0 ')")
+    page.js("document.getElementById('inside-source').focus()")
+
+
+def arrived(page: Page, cycle: int) -> list[str]:
+    """Waits until the panel and the film are at a cycle; returns the panel's lines and its table."""
+    page.wait("return document.getElementById('inside-at').textContent.startsWith(`Cycle ${arguments[0]} `)", cycle)
+    film = page.js("return document.getElementById('film').contentWindow.player.cycle")
+    assert film == cycle, f"the film is at {film}, the panel at {cycle}"
+    rows = page.js("return [...document.querySelectorAll('#inside-calls tr')].map(it => [...it.children].map(one => one.textContent).join(' '))")
+    return [page.text("inside-at"), page.text("inside-next"), page.text("inside-asked"), ", ".join(rows), page.text("inside-stack"),
+            page.js("return document.querySelector('#inside-source .current code').textContent.trim()")]
+
+
+def differ(got: object, wanted: object) -> list[str]:
+    """What is wrong, if they differ."""
+    return [] if got == wanted else [f"{got}, not {wanted}"]
+
+
+def moments(page: Page) -> list[str]:
+    """A question before and after it is asked, and a value before and after it changes."""
+    opened(page)
+    wrong = differ(arrived(page, 0), ["Cycle 0 · line 4, main", "Next: 0 CONST 1", "It has asked nothing yet.", "main, line 4, a 0, externals, seen 0", "0",
+                                      "while (1) {"])
+    page.press(*".....")
+    wrong += differ(arrived(page, 5), ["Cycle 5 · line 5, main", "Next: 5 FCALL scan · it asks scan(0, 5)", "It has asked nothing yet.",
+                                       "main, line 5, a 0, externals, seen 0", "0 0 5", "a = scan(0, 5);"])
+    page.press(".")
+    asked = "Last question: scan(0, 5) gave 0 in cycle 6"
+    wrong += differ(arrived(page, 6)[1:3], ["Next: 6 STORE L0 = (a)", asked])
+    page.press(*"......")
+    wrong += differ(arrived(page, 12)[1:4], ["Next: 12 CHOP", asked, "main, line 6, a 0, externals, seen 1"])
+    page.press(",")
+    return wrong + differ(arrived(page, 11)[1:4], ["Next: 11 STORE E0 = (seen)", asked, "main, line 6, a 0, externals, seen 0"])
+
+
+def lines(page: Page) -> list[str]:
+    """A line begins again 15 cycles later; a mark leads to another one; before the first turn there is none."""
+    opened(page)
+    page.press(*"...]")
+    wrong = differ(arrived(page, 17)[5], "a = scan(0, 5);")
+    page.press("[")
+    wrong += differ(arrived(page, 2)[5], "a = scan(0, 5);")
+    page.press("[")
+    page.wait("return document.getElementById('inside-said').textContent")
+    wrong += differ(page.text("inside-said"), "Nothing: before this cycle it doesn't come to line 5.")
+    page.js("document.querySelectorAll('#inside-source button')[5].click(); document.getElementById('line-after').click()")
+    return wrong + differ(arrived(page, 8)[5], "seen = seen + 1;")
+
+
+def calls(page: Page) -> list[str]:
+    """Another robot, inside a call, and after the end: FRAME, CONST 7 and FCALL lead to line 6 of `down`, which goes on."""
+    opened(page, 30)
+    page.js("const it = document.getElementById('inside-robot'); it.selectedIndex = 1; it.dispatchEvent(new Event('change'))")
+    page.press(*"...")
+    page.wait("return document.getElementById('inside-at').textContent === 'Cycle 3 · line 6, down'")
+    wrong = differ(arrived(page, 3)[3:], ["down, line 6, n 7, m 0, main, line 2", "7 0", "while (1)"])
+    page.inside("it.defaultView.player.seek(30)")
+    return wrong + differ(arrived(page, 30)[0].endswith(" · the match is over"), True)
+
+
+def results(page: Page) -> Iterator[tuple[str, list[str]]]:
+    """The tests' names, and what is wrong."""
+    yield "moments inside", moments(page)
+    yield "lines inside", lines(page)
+    yield "calls inside", calls(page)
