@@ -179,7 +179,8 @@ impl Inside<'_> {
     /// Writes the next instruction's address, where the variables of its function begin, whether the robot lives, and
     /// whether the match is over.
     fn tell_place(&mut self, moment: &Moment, machine: &Machine) {
-        let (address, home) = (machine.address() as i32, i32::from(machine.home()));
+        let address = i32::try_from(machine.address()).unwrap_or(i32::MAX);
+        let home = i32::from(machine.home());
         let (alive, over) = (moment.is_alive, moment.game.ending().is_over);
         let numbers = [address, home, i32::from(alive), i32::from(over)];
         self.put(&Event::of_numbers("moment", &numbers));
