@@ -1,6 +1,7 @@
 //! Aims: at whom shots were aimed, and by how much their bursts missed.
 
 ghost use Rattle.std.specs.Prelude.{◌<◌, ◌≤◌, length, unsigned_abs};
+ghost use Rattle.arena.specs.declared.rules.TheConstants.{LAST_METRE};
 
 use arena::{Arena, Burst, LAST_METRE, MOST_BURSTS, MOST_RANGE, MOST_ROBOTS, flight};
 use arith::{bears_within, cosine_at, norm_degree, root, sine_at};
@@ -222,7 +223,7 @@ fn length(east: i64, north: i64) -> u32 {
         .saturating_mul(east)
         .saturating_add(north.saturating_mul(north));
     // a square of the field has fewer than 31 bits
-    root(square as i32).unsigned_abs()
+    root(i32::try_from(square).unwrap_or(i32::MAX)).unsigned_abs()
 }
 
 /// Returns how far a way reaches in a direction, rounded to 0.
@@ -230,7 +231,7 @@ fn projection(east: i64, cosine: i64, north: i64, sine: i64) -> i32 {
     let scaled = east
         .saturating_mul(cosine)
         .saturating_add(north.saturating_mul(sine));
-    (scaled / SCALE) as i32
+    i32::try_from(scaled / SCALE).unwrap_or(i32::MAX)
 }
 
 /// Returns the range of a shot in metres that is asked for.

@@ -227,7 +227,8 @@ impl Teller for Events<'_> {
 /// Makes the event that a burst missed: its target, how far, how much too far and to the left, and the age of the scan.
 fn event_of(miss: &Miss) -> Event<'static> {
     let target = (miss.target.min(MOST_ROBOTS) as i32).saturating_add(1);
-    let numbers = [target, miss.distance as i32, miss.far, miss.left];
+    let distance = i32::try_from(miss.distance).unwrap_or(i32::MAX);
+    let numbers = [target, distance, miss.far, miss.left];
     let mut event = Event::of_numbers("miss", &numbers);
     if let Some(age) = miss.age {
         let _ = event.fields.try_push(Field::Number(i64::from(age)));

@@ -45,14 +45,16 @@ pub fn add_step(
 
 /// Adds the names of externals whose values changed, each with its new value.
 fn add_changes(text: &mut Draft, names: &[Name], before: &[i32], after: &[i32]) {
-    let mut gap = "";
+    let mut is_first = true;
     for ((name, old), new) in names.iter().zip(before).zip(after) {
         if new != old {
-            text.add(gap);
+            if !is_first {
+                text.add(" ");
+            }
+            is_first = false;
             text.add(str::from_utf8(name.as_bytes()).unwrap_or("?"));
             text.add("=");
             add_signed(text, i64::from(*new));
-            gap = " ";
         }
     }
 }
