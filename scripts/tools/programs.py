@@ -10,6 +10,7 @@ import tempfile
 from typing import IO, Callable, Iterable, Iterator
 
 from .faults import Fault, unreadable
+from .signals import watch
 
 HERE = os.path.dirname(os.path.realpath(__file__))
 # The version's number, in the repository and where this is installed.
@@ -48,12 +49,16 @@ def lines(path: str, words: Iterable[str], judge: Judge, errors: str = "surrogat
     """The lines that a program writes with these words; after the last one its end is judged.
 
     It ends when they are needed no more."""
-    with tempfile.TemporaryFile() as said, subprocess.Popen(
-            [path, *words], stdin=subprocess.DEVNULL, stdout=subprocess.PIPE, stderr=said) as child:
-        try:
-            yield written(child, said, judge, errors)
-        finally:
-            child.kill()
+    with tempfile.TemporaryFile() as said:
+        # a signal that comes while it is started ends it, too
+        with watch() as heard:
+            child = subprocess.Popen([path, *words], stdin=subprocess.DEVNULL, stdout=subprocess.PIPE, stderr=said)
+        with child:
+            try:
+                heard.check()
+                yield written(child, said, judge, errors)
+            finally:
+                child.kill()
 
 
 def written(child: subprocess.Popen[bytes], said: IO[bytes], judge: Judge, errors: str) -> Iterator[str]:
