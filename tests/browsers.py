@@ -17,6 +17,10 @@ def chromium() -> str | None:
     return shutil.which("chromium") or shutil.which("chromium-browser")
 
 
+# What Chromium says where a test, and not the page, reads a canvas.
+READ_BACK = "Canvas2D: Multiple readback operations"
+
+
 class Browser:
     """One window of a browser. What pages say on the console is kept, with all that goes wrong in them."""
 
@@ -87,7 +91,7 @@ class Browser:
         elif method == "Runtime.exceptionThrown":
             details = said["exceptionDetails"]
             self.messages.append(details.get("exception", {}).get("description", details["text"]))
-        elif method == "Log.entryAdded":
+        elif method == "Log.entryAdded" and not said["entry"]["text"].startswith(READ_BACK):
             self.messages.append(said["entry"]["text"])
         elif method == "Page.loadEventFired":
             self._loaded = True
