@@ -72,9 +72,10 @@ class Signals(Base):
         return wrong
 
     def a_signal_while_children_rate(self) -> list[str]:
-        """Three children, each of which says that it is there and waits; the signal comes to them too, or to their parent alone."""
+        """Three children, each of which says that it is there and waits; the signal comes to them too, or to their parent alone.
+        (If it comes just before the parent reads an answer, Python heeds it at the answer. So they don't wait for long.)"""
         slow = ("import os, time\nprocessors, WORTH = lambda: 3, 1\n"
-                "Round.begin = lambda _: (os.write(1, b'child'), time.sleep(600))\n")
+                "Round.begin = lambda _: (os.write(1, b'child'), time.sleep(30))\n")
         for package in ("tools", "tournaments", "sites", "replays"):
             shutil.copytree(os.path.join(SCRIPTS, package), self._at(f"rating/{package}"))
         shutil.copy(os.path.join(SCRIPTS, "tournament"), self._at("rating/tournament"))
