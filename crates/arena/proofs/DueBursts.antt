@@ -121,7 +121,7 @@ harm_like_shots updates update n shots e owned x y =
     ap sum (map-map (burst_damage x y) burst_of (due_at update (in_air updates k shots))))
     ∙ shares updates update x y n shots e owned
 
--- a list of the same bursts does the same
+-- two lists of the same bursts hurt alike
 pub same_harm : (update : ℕ) (shots : List Shot) (now due : List Burst) → now ≡ due → HarmLikeShots update shots due →
     HarmLikeShots update shots now
 same_harm update shots now due e h x y = ap (λ bs. sum (map (burst_damage x y) bs)) e ∙ h x y

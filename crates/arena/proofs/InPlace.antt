@@ -17,7 +17,7 @@ use Rattle.arena.proofs.RobotUpdates.{ahead_is}
 abbrev pub none : Robot
 none = robot_of no_robot
 
--- what holds of those so far holds of one more
+-- from what is true of the robots so far to one more
 pub one_more : (P : ℕ → Robot → Type 0) (now : List Robot) (i : ℕ) (b : Robot) → i < length now →
     ((k : ℕ) → k < i → P k (get_or now k none)) → P i b →
     (k : ℕ) → k < i + 1 → P k (get_or (set now i b) k none)

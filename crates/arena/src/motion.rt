@@ -17,9 +17,9 @@ use crate::rules::{ACCELERATION, LAST_METRE, MOST_SPEED, TURNING_SPEED};
 use arith::{cosine_at, sine_at};
 use std::marker::Model;
 
-/// A robot's motion: where its leg leads on each axis, as a sum; how much these sums grow in an update; heading, speed,
-/// and what the robot wants. The way is never worked out anew from the leg's origin, and the place only if it is asked.
-/// A robot is steady if it wants the heading and the speed that it has.
+/// A robot's motion: for each axis a sum, which has its place, and how much the sum grows in an update; heading, speed,
+/// and what the robot wants. So an update adds to the sums, and never works the way out anew from the leg's origin; the
+/// place is worked out only if it is asked for. A robot is steady if it wants the heading and the speed that it has.
 #[derive(Clone, Copy, Drop)]
 pub struct Motion {
     east: i32,
@@ -141,7 +141,7 @@ impl Motion {
         self.steady = is_steady(self.heading, degree, self.speed, speed);
     }
 
-    /// Works out whether the robot is steady.
+    /// Returns the motion with its mark of steadiness worked out anew.
     fn with_steadiness(self) -> Motion
         ensures { result ≡ record self {
           steady = is_steady self.heading self.wanted_heading self.speed self.wanted_speed;
@@ -211,7 +211,7 @@ impl Motion {
         }
     }
 
-    /// Changes the speed towards the wanted one.
+    /// Changes the speed towards the wanted one, by as much as an update may.
     fn sped(self) -> Motion
         ensures leg { (leg : Leg) → self ≡ motion_of leg → result ≡ motion_of (sped leg) }
         ensures place { IsAtPlace self result }
@@ -236,7 +236,7 @@ impl Motion {
     }
 
     /// Turns and changes the speed, as far as the robot can in an update. A robot that only turns is steady then. This
-    /// is rare, so it stays out of the way of driving on.
+    /// is rare, so it isn't inlined into driving on, which each update does.
     #[inline(never)]
     fn adjust(&mut self)
         ensures leg { (leg : Leg) → self.old ≡ motion_of leg → self.new ≡ motion_of (sped (steered leg)) }
@@ -268,7 +268,8 @@ impl Motion {
         still.on_new_leg(place)
     }
 
-    /// Stops at the place of the field that is nearest to where these sums lead. This is rare, as adjusting is.
+    /// Stops at a wall: at the place of the field that is nearest to where these sums lead. This is rare, so it isn't
+    /// inlined either.
     #[inline(never)]
     fn stop_near(&mut self, east: i32, north: i32)
         ensures leg { (leg : Leg) → self.old ≡ motion_of leg → self.new ≡ motion_of (record leg {
@@ -316,7 +317,7 @@ impl Motion {
         self.drive_straight()
     }
 
-    /// Stops at the place where it was before the update.
+    /// Returns the motion after a collision: the robot stops where it was before the update.
     #[tactic(auto, unfolding(crate::specs::Moved::put_back))]
     pub fn put_back(self, place: Point) -> Motion
         ensures { (old leg : Leg) → place.x ≡ place_x old → place.y ≡ place_y old → self ≡ motion_of leg

@@ -291,6 +291,7 @@ trace_same (Ask intrinsic a) (Ask asked b) i j f trace others is distinct = (
 trace_same (Ask intrinsic a) _ i j f trace others is distinct = (refl, refl)
 trace_same _ other i j f trace others is distinct = (refl, refl)
 
+-- a turn leaves the other robots as they are
 granted_stays : (want : Want) (i j : ℕ) (f : Field) (trace : List ℤ) → i ≢ j
     → robot_at (after_want want j f trace).0 i ≡ robot_at f i
 unfolding after_want
@@ -305,7 +306,7 @@ step_stays robot i j f trace distinct = elim (cases_Bool (is_live_at f j)) [
   | inr dead ↦ rw dead refl
 ]
 
-live_same : (robot : Behaviour) (i j : ℕ) (f : Field) (trace : List ℤ) → i ≢ j
+pub live_same : (robot : Behaviour) (i j : ℕ) (f : Field) (trace : List ℤ) → i ≢ j
     → is_live_at (robot_turn robot j f trace).0 i ≡ is_live_at f i
 unfolding is_live_at
 live_same robot i j f trace distinct = ap is_alive (step_stays robot i j f trace distinct)

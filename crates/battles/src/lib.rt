@@ -1,7 +1,7 @@
 //! Battles: the programs of one to four files fight on the field, cycle by cycle. From a battle down to a reply:
 //!
 //!     battles    a battle, from the start of a match to its outcome
-//!     scheduler  its cycles: intervals, and the update behind each (the arena's `update`)
+//!     scheduler  its cycles: intervals, and the update after each (the arena's `update`)
 //!     intervals  a robot's cycles between two updates: alone, or in turn with others
 //!     turns      a robot's cycle in which it asks: the reply (the arena's `ask`, `scan`, `cannon`, `drive`, `draw`)
 //!     passing    intervals in which no machine has to run, with their updates

@@ -14,7 +14,8 @@ use crate::running_ahead::{advance_if_ahead, skip_intervals};
 use arena::Arena;
 use settings::MOST_CYCLES;
 
-/// Plays a period: the cycles up to the next update, and the update. Reports whether that decided the battle.
+/// Plays a period: an interval of 15 cycles, and the update after it. Reports whether the battle is decided then.
+/// A machine may run ahead by at most `farthest` cycles.
 fn play_period(
     runners: &mut [Runner],
     executables: &Executables,
@@ -37,7 +38,8 @@ fn play_period(
     !arena.has_two_live()
 }
 
-/// Plays cycles until the battle is decided, or the limit is reached. Returns how many they were.
+/// Plays a battle from its start: periods until it is decided, or the limit is reached, and the cycles after the last
+/// update. Returns how many cycles were played.
 pub(crate) fn play_cycles(
     runners: &mut [Runner],
     executables: &Executables,

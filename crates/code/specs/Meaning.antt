@@ -152,7 +152,7 @@ abbrev pub returned : Vars → ℤ → Vars → List ℤ → EvaluationResult �
 returned caller x vars rest = Gives x (record { externals = vars.externals; locals = caller.locals }) rest
 
 module _ (p : Profile) (file : File) (again : BodyMeaning) where
-  -- A call after its arguments, at the depth below them. The function's own depth is behind all of its variables, of
+  -- A call after its arguments, at the depth below them. The function's own depth is after all of its variables, of
   -- which the arguments are the first.
   abbrev pub called : Callee → List ℤ → Vars → ℕ → ℕ → List ℤ → EvaluationResult ℤ
   called (callee.Intrinsic i) arguments vars depth frames trace =

@@ -1,4 +1,4 @@
--- Which actions a maker was told.
+-- Which actions were reported to a maker.
 use Rattle.std.specs.Prelude.{ℕ, ◌+◌, ◌≡◌, ◌<◌, ◌≤◌, List, [], ◌∷◌, Bool, true, length}
 use Rattle.grammar.specs.declared.actions.Action.{Action}
 use Rattle.grammar.specs.Actions.{code_length, ends_function}

@@ -63,7 +63,7 @@ module _ {F : Type 0} (device : F → Device) (fails : List ℕ → Type 0) wher
   told_more tells holds words files i d file within same one =
       rw (map_more (λ (w : Bor (List ℕ)). holds w.now) words i d within, map_push tells files file, same, one) refl
 
--- and what holds of the words so far holds of one more
+-- and from what is true of the words so far to one more
 pub all_more : (P : List ℕ → Type 0) (words : List (Bor (List ℕ))) (i : ℕ) (d : Bor (List ℕ)) → i < length words
     → All P (map (λ (w : Bor (List ℕ)). w.now) (take i words)) → P (get_or words i d).now
     → All P (map (λ (w : Bor (List ℕ)). w.now) (take (i + 1) words))

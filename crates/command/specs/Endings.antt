@@ -34,7 +34,7 @@ ending_line (CannotRead word) = codes "crobots: cannot read " ++ word.now ++ 10 
 ending_line CannotWrite = codes "crobots: cannot write" ++ 10 ∷ []
 ending_line OutOfMemory = codes "crobots: out of memory" ++ 10 ∷ []
 
--- a line was put: the sink took it, or it failed once and took a front of it
+-- a line was put: the sink took it, or it failed once and took a prefix of it
 abbrev pub PutsLine : SinkState → SinkState → List ℕ → Type 0
 PutsLine before after line =
     (Takes before.portions after.portions line × (after.failures ≡ before.failures))

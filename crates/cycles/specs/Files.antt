@@ -1,4 +1,4 @@
--- What is told of a source: a row for each function of its file, and one for each loop.
+-- What is reported of a source: a row for each function of its file, and one for each loop.
 use Rattle.std.specs.Prelude.{◌≡◌, ℕ, List, [], ◌∷◌, ◌++◌, map, Option, Some, Ok}
 use Rattle.grammar.specs.Compiled.{compiled}
 use Rattle.grammar.specs.Profile.{Profile}

@@ -23,7 +23,7 @@ loops_of (IfElseStatement c s t next) = loops_of s ++ (loops_of t ++ loops_of ne
 loops_of (While c s next) = record { test = c; statements = s } ∷ (loops_of s ++ loops_of next)
 loops_of (Return e next) = loops_of next
 
--- what is told of a loop of this function, by its cycles and its questions, with the run of each function by number
+-- the row of a loop of this function: its cycles and its questions, with the run of each function by number
 abbrev pub row_of : Runs → Runs → (cycles questions : ℕ → Span) → ℕ → Loop → Turn
 row_of c q cycles questions function l = record {
   function = function;

@@ -1,4 +1,4 @@
--- What is at least so much, and at most so much if anything bounds it.
+-- Spans: a least number, and a most if anything bounds it.
 use Rattle.std.specs.Prelude.{ℕ, zero, ◌+◌, ◌≤◌, min, max, Option, Some, None, IfSome}
 use Rattle.cycles.specs.declared.spans.Span.{Span}
 
@@ -12,7 +12,7 @@ abbrev pub MayTake : Option Span → ℕ → Type 0
 MayTake None n = ⊥
 MayTake (Some s) n = IsWithin s n
 
--- so much
+-- exactly this number
 abbrev pub exactly : ℕ → Span
 exactly n = record { least = n; most = Some n }
 

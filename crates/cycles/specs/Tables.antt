@@ -12,7 +12,7 @@ use Rattle.cycles.specs.Told.{told}
 abbrev pub run_in : Runs → ℕ → Span
 run_in table k = slice_index_or table.spans k table.other
 
--- the table has what is told of these runs
+-- the table has these runs as they are reported
 pub record HasRuns (table : Runs) (runs : ℕ → Span) : Type 0 where
   pub each : (k : ℕ) → run_in table k ≡ told (runs k)
 

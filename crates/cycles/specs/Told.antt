@@ -1,10 +1,10 @@
--- What is told of a span: numbers up to 4,294,967,295. A greater least is told as this number, and a greater most is
--- not told.
+-- A span as it is reported: in numbers up to 4,294,967,295. A greater least is reported as this number, and a greater
+-- most as no bound.
 use Rattle.std.specs.Prelude.{ℕ, min, nat_le, Option, Some, None, if◌then◌else◌}
 use Rattle.cycles.specs.declared.spans.Span.{Span}
 use Rattle.cycles.specs.declared.spans.Ends.{Ends}
 
--- the greatest number that is told
+-- the greatest number that is reported
 abbrev pub most_told : ℕ
 most_told = 4294967295
 

@@ -3,7 +3,7 @@
 use grammar::Intrinsic;
 
 /// What is counted along a way through a program.
-#[derive(Clone, Copy, Debug, PartialEq, Eq)]
+#[derive(Clone, Copy, PartialEq, Eq)]
 pub enum Counted {
     /// Its cycles.
     Cycles,

@@ -13,7 +13,7 @@ use std::alloc::{AllocError, Global};
 use trees::{Statement, TreeMaker};
 
 /// A loop of a function, and what its turn takes, from the test to where the loop begins again.
-#[derive(Clone, Copy, Debug, PartialEq, Eq, Drop)]
+#[derive(Clone, Copy, PartialEq, Eq, Drop)]
 pub struct Turn {
     /// The function's number.
     pub function: u8,

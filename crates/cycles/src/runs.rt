@@ -21,7 +21,7 @@ use trees::{Function, Statement, TreeMaker};
 const NUMBERS: usize = 256;
 
 /// A function, and what its run takes, from the call after its arguments to its value.
-#[derive(Clone, Copy, Debug, PartialEq, Eq, Drop)]
+#[derive(Clone, Copy, PartialEq, Eq, Drop)]
 pub struct Run {
     /// The function's number.
     pub function: u8,
@@ -56,7 +56,7 @@ pub fn all_runs(
 }
 
 /// What each function's run takes, from the call after its arguments to its value, as far as that is known.
-#[derive(Clone, Copy, Debug)]
+#[derive(Clone, Copy)]
 pub struct Runs {
     /// What is counted.
     pub(crate) counted: Counted,
@@ -84,7 +84,7 @@ impl Runs {
         runs
     }
 
-    /// Makes the table of runs of which nothing is known.
+    /// Makes the table of runs that aren't known yet.
     fn unknown(profile: Profile, counted: Counted) -> Runs
         ensures counted { result.counted ≡ counted }
         ensures profile { result.profile ≡ profile }

@@ -1,4 +1,4 @@
-//! How much there is at least and at most.
+//! Spans: how many cycles or questions something takes at least and at most.
 
 ghost use Rattle.std.specs.Prelude.{◌≡◌, ℕ, Option, Some};
 ghost use Rattle.cycles.specs.Spans.{◌⊕◌, anything, either, exactly, most_of_any, most_of_both, most_of_either};
@@ -6,10 +6,10 @@ ghost use Rattle.cycles.specs.Ends.{repeated};
 ghost use Rattle.cycles.specs.Told.{told, told_most};
 ghost use Rattle.cycles.specs.declared.spans.Span as span;
 
-/// How much of what is counted there is: at least so much, and at most so much, if anything bounds it.
+/// The least and the most of what is counted, such as cycles.
 ///
-/// Numbers are told up to `u32::MAX`: a greater least is told as this, and a greater most isn't told.
-#[derive(Clone, Copy, Debug, PartialEq, Eq)]
+/// A number above `u32::MAX` isn't kept: a greater least counts as `u32::MAX`, and a greater most as no bound.
+#[derive(Clone, Copy, PartialEq, Eq)]
 pub struct Span {
     /// The least.
     pub least: u32,
@@ -17,8 +17,8 @@ pub struct Span {
     pub most: Option<u32>,
 }
 
-/// How much there is up to each end of some statements. An end that is never reached has no span.
-#[derive(Clone, Copy, Debug, PartialEq, Eq)]
+/// The spans of some statements, up to each of their ends. An end that is never reached has no span.
+#[derive(Clone, Copy, PartialEq, Eq)]
 pub struct Ends {
     /// Up to where the statements are passed through.
     pub through: Option<Span>,
@@ -27,7 +27,7 @@ pub struct Ends {
 }
 
 impl Span {
-    /// Makes the span of so much.
+    /// Makes the span of exactly this number.
     pub fn exactly(number: u32) -> Span
         ensures { result ≡ exactly number }
     {
@@ -37,7 +37,7 @@ impl Span {
         }
     }
 
-    /// Makes the span of which nothing is known.
+    /// Makes the span from 0 without a bound, of what isn't known.
     pub fn anything() -> Span
         ensures { result ≡ anything }
     {
@@ -47,7 +47,7 @@ impl Span {
         }
     }
 
-    /// Returns this span and then the next one.
+    /// Returns the span of one thing after the other.
     pub fn plus(self, next: Span) -> Span
         ensures { (s t : span.Span) → self ≡ told s → next ≡ told t → result ≡ told (s ⊕ t) }
     {
@@ -57,7 +57,7 @@ impl Span {
         }
     }
 
-    /// Returns this span or the other one.
+    /// Returns the span of one thing or the other: the lesser least, the greater most.
     pub fn or(self, other: Span) -> Span
         ensures { (s t : span.Span) → self ≡ told s → other ≡ told t → result ≡ told (either s t) }
     {
@@ -67,7 +67,7 @@ impl Span {
         }
     }
 
-    /// Returns this span any number of times.
+    /// Returns the span of a thing that is done any number of times, perhaps never.
     pub fn any_number(self) -> Span
         ensures { (s : span.Span) → self ≡ told s → result ≡ told (repeated (Some s)) }
     {
@@ -78,7 +78,7 @@ impl Span {
     }
 }
 
-/// Returns the most of one thing after the other, if that is told.
+/// Returns the most of one thing after the other, if it is bounded and at most `u32::MAX`.
 fn most_of_both(first: Option<u32>, second: Option<u32>) -> Option<u32>
     ensures { (a b : Option ℕ) → first ≡ told_most a → second ≡ told_most b
         → result ≡ told_most (most_of_both a b) }

@@ -13,7 +13,7 @@ pub enum Command {
     Nothing,
     /// Where the robot is after a cycle.
     At(u32),
-    /// The first cycle behind one in which something happens.
+    /// The first cycle after one in which something happens.
     Next(u32, Aim),
     /// The last cycle before one in which something happens.
     Last(u32, Aim),
@@ -44,7 +44,7 @@ impl Command {
     }
 }
 
-/// Reads the words behind the first one.
+/// Reads the words after the first one.
 fn read_by<'a>(
     alloc: Global,
     session: &Session<'_>,
@@ -75,7 +75,7 @@ fn only_cycle<'a>(words: &[&'a str]) -> Result<u32, Refusal<'a>> {
     }
 }
 
-/// Reads a cycle, and what is sought before or behind it.
+/// Reads a cycle, and what is sought before or after it.
 fn cycle_and_aim<'a>(
     alloc: Global,
     session: &Session<'_>,

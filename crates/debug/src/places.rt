@@ -65,7 +65,7 @@ fn begins_function(program: &Program, address: usize) -> bool {
     false
 }
 
-/// Reports whether a jump leads to an address from another line, or from behind it.
+/// Reports whether a jump leads to an address from another line, or from a later address.
 fn is_jumped_to(program: &Program, note: &Note, address: usize) -> bool {
     for (from, instr) in program.instructions().iter().enumerate() {
         if let Instr::Branch(to) = instr

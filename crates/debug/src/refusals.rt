@@ -5,7 +5,7 @@ use std::fmt;
 use tools::Plain;
 
 /// Why a command isn't answered.
-#[derive(Clone, Copy, Debug)]
+#[derive(Clone, Copy)]
 pub enum Refusal<'a> {
     /// The line is no text of UTF-8.
     NoText,

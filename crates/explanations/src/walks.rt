@@ -94,7 +94,7 @@ impl<'a> Walk<'a> {
         self.tokens.len().saturating_sub(1)
     }
 
-    /// Reports whether the next token doesn't fit, so that the walk stays where it is.
+    /// Reports whether the next token doesn't fit: then the walk stays where it is.
     pub fn is_stuck(&self) -> bool {
         self.is_stuck
     }
@@ -193,7 +193,7 @@ impl<'a> Walk<'a> {
         }
     }
 
-    /// Ends a function, whose code may be what exceeds the limit.
+    /// Ends a function. Its code may be what passes the profile's limit, which is a fault at this token.
     fn define(&mut self, chosen_at: usize, token: usize) -> Event {
         self.scope.end_definition();
         if self.code.saturating_add(2) > usize::from(self.profile.instructions()) {

@@ -27,7 +27,7 @@ impl Chain {
         Chain { links, again }
     }
 
-    /// Returns the functions, each once: each needs so much by the call of the next one.
+    /// Returns the functions, each once: the call of the next one decides what each needs.
     pub fn links(&self) -> &[Link] {
         self.links.as_slice()
     }

@@ -1,4 +1,4 @@
-//! What is known of a robot before it fights, and how that is told: the room that it needs, and what its functions and
+//! What is known of a robot before it fights, and how it is written: the room that it needs, and what its functions and
 //! the turns of its loops take.
 #![tactic(auto)]
 

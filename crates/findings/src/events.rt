@@ -66,8 +66,8 @@ impl<'a> Event<'a> {
         Event::of_numbers("burst", &[i32::from(burst.x()), i32::from(burst.y())])
     }
 
-    /// Makes the event that an update takes damage from a robot: how much, by which robot, and where that one's shot
-    /// bursts.
+    /// Makes the event that an update takes damage from a robot: how much, which robot caused it, and where that one's
+    /// shot bursts.
     pub fn loss(loss: &Loss) -> Event<'a> {
         let percent = i32::from(loss.percent);
         match loss.source {

@@ -66,7 +66,7 @@ struct Collector {
 }
 
 impl Collector {
-    /// Makes no losses of a robot that has so much left.
+    /// Makes an empty list of losses of a robot that can still lose this much.
     fn new(left: u8) -> Collector {
         Collector {
             left,

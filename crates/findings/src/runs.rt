@@ -1,4 +1,4 @@
-//! Runs: straight, even pieces of a robot's way. A film has the ends of each alone.
+//! Runs: pieces of a robot's way that are straight, at constant speed. Of each run a film has its two ends alone.
 
 ghost use Rattle.std.specs.Prelude.{◌≡◌, ◌<◌, Some, None, true, false, length};
 ghost use Rattle.arena.specs.Field.{Field, robot_at};
@@ -86,7 +86,7 @@ pub struct Run {
     is_told: bool,
 }
 
-/// What a film has to tell of a robot after an update: where the run before ended, and where the robot is.
+/// The places that a film shows of a robot after an update: where the run before ended, and where the robot is.
 #[derive(Clone, Copy, Default, Drop)]
 pub struct News {
     /// The end of the run before, an update earlier.
@@ -107,8 +107,8 @@ impl Run {
         }
     }
 
-    /// Goes on to where the robot is after the next update. Returns what has to be told: nothing while the robot goes
-    /// on straight and evenly, and neither its speed nor its damage changes.
+    /// Goes on to where the robot is after the next update. Returns what the film shows of it: nothing while the robot
+    /// goes on straight at constant speed, and its damage doesn't change.
     pub fn go_on(&mut self, stance: Stance) -> News
         ensures last { self.new.last ≡ Some stance }
         ensures first { self.old.last ≡ None → result.begin ≡ Some stance }
@@ -165,7 +165,7 @@ impl Run {
         }
     }
 
-    /// Returns where the run ends so far, if that wasn't told.
+    /// Returns where the run ends so far, if the film doesn't have it yet.
     pub fn end(&self) -> Option<Stance>
         ensures told { self.now.is_told ≡ true → result ≡ None }
         ensures untold { self.now.is_told ≡ false → result ≡ self.now.last }

@@ -9,7 +9,7 @@ use code::MOST_INSTRUCTIONS;
 const MOST_FOLDS: usize = MOST_INSTRUCTIONS / 3;
 
 /// A stretch of code that pushes the same value each time, and does nothing else.
-#[derive(Clone, Copy, Debug, Default, PartialEq, Eq)]
+#[derive(Clone, Copy, Default, PartialEq, Eq)]
 pub struct Fold {
     /// The address of its first instruction.
     pub begin: u32,

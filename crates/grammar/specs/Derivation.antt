@@ -125,7 +125,7 @@ abbrev pub constant_value : Token → Option ℕ
 constant_value (token.Constant value) = Some value
 constant_value next = None
 
--- the state behind the next token
+-- the state after the next token
 abbrev pub past_token : State → State
 past_token s = record s { rest = drop 1 s.rest }
 
@@ -163,7 +163,7 @@ acted action s = record s {
   functions = s.functions ++ functions_defined action s.values s.scope;
 }
 
--- One step with this item in front: none if the token doesn't fit. The state has the items behind it.
+-- One step with this item first: none if the token doesn't fit. The state has the items after it.
 abbrev pub item_step : Item → State → Option State
 item_step (Exactly m) s = matched (is_punctuator m (next_token s.rest)) s
 item_step (AKeyword w) s = matched (is_keyword w (next_token s.rest)) s

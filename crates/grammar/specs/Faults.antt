@@ -60,7 +60,7 @@ unexpected_token_code (token.Fault f) = lexical_error_code f
 unexpected_token_code (token.Keyword keyword.Refused) = code.ReservedWord
 unexpected_token_code next = code.SyntaxError
 
--- how many levels are open: each stays open until its production is done
+-- how many nested productions are open: each stays open until it is done
 abbrev pub nested_count : List Item → ℕ
 nested_count [] = 0
 nested_count (Close ∷ stack) = nested_count stack + 1
@@ -69,7 +69,7 @@ nested_count (item ∷ stack) = nested_count stack
 abbrev pub only_if : Bool → List Fault → List Fault
 only_if b faults = if b then faults else []
 
--- a symbol enters a level beyond the last one
+-- a symbol nests deeper than is allowed
 abbrev pub nesting_faults : Symbol → State → List Fault
 nesting_faults symbol s =
     only_if (enters symbol (next_token s.rest) (token_after_next s.rest))
@@ -126,7 +126,7 @@ length_faults profile s =
     only_if (is_too_long profile (s.functions ++ definition_of s.scope (last_body s.values) ∷ []))
     (fault s.rest code.TooMuchCode ∷ [])
 
--- the faults at the item in front; the state has the items behind it
+-- the faults at the first item; the state has the items after it
 abbrev pub item_faults : Profile → Item → State → List Fault
 item_faults profile (Part symbol) s = nesting_faults symbol s
 item_faults profile (AName role) s = name_faults role (name_of_token (next_token s.rest)) s.scope s.rest

@@ -47,7 +47,7 @@ pub fn intrinsic_named(name: &Name) -> Option<Intrinsic>
     }
 }
 
-/// Returns this intrinsic function if the name is its.
+/// Returns this intrinsic function if it has this name.
 #[inline(always)]
 fn if_named(intrinsic: Intrinsic, name: &Name) -> Option<Intrinsic>
     ensures { result ≡ (if bytes_eq name.now (intrinsic_name intrinsic) then Some intrinsic else None) }
@@ -223,7 +223,7 @@ impl Scope {
         Ok(number)
     }
 
-    /// Ends the definition that began last: its function's parameters and variables are known.
+    /// Ends the definition that began last: the names of the file then have its function's parameters and variables.
     pub fn end_definition(&mut self)
         ensures { self.new ≡ end_definition self.old }
     {
@@ -240,7 +240,7 @@ impl Scope {
         self.current.parameter_count()
     }
 
-    /// Returns how many variables it has so far, its parameters among them.
+    /// Returns how many variables that function has so far, its parameters among them.
     pub fn variable_count(&self) -> u8
         ensures count { result ≡ length self.now.current.variables }
         ensures first { self.now.current.parameters ≤ result }
@@ -341,7 +341,7 @@ impl Scope {
         number
     }
 
-    /// Reports whether a definition of the function began before, which is known by this number or new.
+    /// Reports whether a definition of this function began before. A function that wasn't mentioned has no number.
     fn has_begun(&self, known: Option<usize>) -> bool
         ensures { result ≡ list_any (λ k. k == unwrap_or known (length self.now.functions)) self.now.begun }
     {
@@ -461,7 +461,7 @@ fn line_of_undefined(lines: &[u32], begun: &[u8]) -> Option<u32>
     None
 }
 
-/// Reports whether a number is one of these.
+/// Reports whether a number is in a list.
 fn is_among(numbers: &[u8], number: usize) -> bool
     ensures { result ≡ list_any (λ k. k == number) numbers.now }
 {

@@ -1,4 +1,4 @@
--- The translation scheme: what each step of a derivation emits, for a builder to be told.
+-- The translation scheme: the actions that each step of a derivation emits, to be reported to a builder.
 use Rattle.std.specs.Prelude.{ℕ, zero, suc, pos, negsuc, List, [], ◌∷◌, ◌++◌, Option, Some, None, length, if◌then◌else◌}
 use Rattle.tokens.specs.declared.located_tokens.Punctuator.TheVariants as punctuator
 use Rattle.tokens.specs.declared.located_tokens.Token.{Token}

@@ -1,53 +1,16 @@
 -- What a cycle makes of the replies of one robot.
-use Rattle.std.proofs.Common.{◌≡◌, ◌≢◌, ℕ, ◌+◌, ◌<◌, ◌≤◌, zero, suc, true, ℤ, List, [], ◌∷◌, ◌++◌, length, get_or, inl, inr, refl, sym, ap, ◌∙◌, arith}
-use Rattle.std.specs.Prelude.{nat_lt}
+use Rattle.std.proofs.Common.{◌≡◌, ℕ, ◌+◌, ◌<◌, ◌≤◌, zero, suc, true, ℤ, List, [], ◌∷◌, ◌++◌, length, get_or, inl, inr, refl, sym, ap, ◌∙◌, arith}
 use Rattle.std.proofs.lemmas.Bool.{cases_Bool, cases_eq}
 use Rattle.std.proofs.lemmas.List.{get_or-set_same, get_or-set_other, length-set}
-use Rattle.arena.specs.Answer.{answer, field_with_wanted, fired}
-use Rattle.arena.specs.Field.{Field, is_alive, is_live_at, no_robot, robot_at}
-use Rattle.arena.specs.Shots.{in_air}
+use Rattle.arena.specs.Answer.{answer}
+use Rattle.arena.specs.Field.{Field, is_live_at}
 use Rattle.grammar.specs.declared.resolved_names.Intrinsic.{Intrinsic}
-use Rattle.grammar.specs.declared.resolved_names.Intrinsic.TheVariants.{Cannon, Drive}
-use Rattle.code.specs.declared.want.Want.{Want}
 use Rattle.code.specs.declared.want.Want.TheVariants.{Ask}
-use Rattle.battles.specs.Battle.{Behaviour, BattleState, cycle, after_want, is_due, behaviour_at, state_after, robot_turn, turn, turns, updated}
+use Rattle.battles.specs.Battle.{Behaviour, BattleState, cycle, is_due, behaviour_at, state_after, robot_turn, turn, turns, updated}
 use Rattle.battles.proofs.Asking.{step_asks}
+use Rattle.battles.proofs.Commuting.{live_same}
 use Rattle.battles.proofs.Cycles.{stage_more}
 use Rattle.moments.specs.Moments.{replies_of}
-
--- No turn hurts a robot: what one robot asks leaves the others as they are.
-fired_robots : (f : Field) (j degree range : ℕ) → (fired f j degree range).1.robots ≡ f.robots
-unfolding fired
-fired_robots f j degree range = elim (cases_Bool (nat_lt (length (in_air f.updates j f.shots)) 2)) [
-  | inl may ↦ rw may refl
-  | inr not ↦ rw not refl
-]
-
-others_stay : (f : Field) (i j : ℕ) (intrinsic : Intrinsic) (a : List ℤ) → i ≢ j
-    → robot_at (answer f j intrinsic a).1 i ≡ robot_at f i
-unfolding answer robot_at field_with_wanted
-others_stay f i j Cannon a distinct = ap (λ l. get_or l i no_robot) (fired_robots f j _ _)
-others_stay f i j Drive a distinct = get_or-set_other f.robots j i _ no_robot distinct
-others_stay f i j _ a distinct = refl
-
-granted_stays : (want : Want) (i j : ℕ) (f : Field) (trace : List ℤ) → i ≢ j
-    → robot_at (after_want want j f trace).0 i ≡ robot_at f i
-unfolding after_want
-granted_stays (Ask intrinsic a) i j f trace distinct = others_stay f i j intrinsic a distinct
-granted_stays _ i j f trace distinct = refl
-
-step_stays : (robot : Behaviour) (i j : ℕ) (f : Field) (trace : List ℤ) → i ≢ j
-    → robot_at (robot_turn robot j f trace).0 i ≡ robot_at f i
-unfolding robot_turn
-step_stays robot i j f trace distinct = elim (cases_Bool (is_live_at f j)) [
-  | inl live ↦ rw live (granted_stays (robot trace) i j f trace distinct)
-  | inr dead ↦ rw dead refl
-]
-
-live_stays : (robot : Behaviour) (i j : ℕ) (f : Field) (trace : List ℤ) → i ≢ j
-    → is_live_at (robot_turn robot j f trace).0 i ≡ is_live_at f i
-unfolding is_live_at
-live_stays robot i j f trace distinct = ap is_alive (step_stays robot i j f trace distinct)
 
 -- before a robot's own turn it lives as at the cycle's begin, and has the same replies
 lives_before : (robots : List Behaviour) (i k : ℕ) (s : BattleState) → k ≤ i
@@ -55,7 +18,7 @@ lives_before : (robots : List Behaviour) (i k : ℕ) (s : BattleState) → k ≤
 unfolding turns turn
 lives_before robots i zero s within = refl
 lives_before robots i (suc k) s within =
-    live_stays (behaviour_at robots k) i k (turns robots k s).field (get_or (turns robots k s).traces k [])
+    live_same (behaviour_at robots k) i k (turns robots k s).field (get_or (turns robots k s).traces k [])
     (omega arith)
     ∙ lives_before robots i k s (omega arith)
 

@@ -85,7 +85,7 @@ pub(crate) fn happens(
     seems(sought, &before, &after)
 }
 
-/// Looks at a robot, and at the variable that is sought.
+/// Returns what is seen of a robot between two cycles, with the variable that is sought.
 fn look(game: &Game, pilot: &Pilot<'_>, robot: usize, sought: &Sought<'_>) -> Glance
     requires { robot < length game.now.arena.robots }
     ensures { IsGlanced game.now pilot.now robot sought.now result }
@@ -124,7 +124,7 @@ fn seems(sought: &Sought<'_>, before: &Glance, after: &Glance) -> bool
     before.is_alive && shows(sought, before, after)
 }
 
-/// Reports whether it shows.
+/// Reports whether what is sought shows in two glances of a robot that lives at the first one.
 fn shows(sought: &Sought<'_>, before: &Glance, after: &Glance) -> bool
     ensures yes { result ≡ true → Seems sought.now before.now after.now }
     ensures no { Seems sought.now before.now after.now → result ≡ true }

@@ -6,7 +6,7 @@ use code::{Frame, Machine};
 use findings::function_at;
 use tools::{Draft, Text};
 
-/// Adds a row for each open call, the innermost first, and behind it the rows of its variables. A row has the number of
+/// Adds a row for each open call, the innermost first, and after it the rows of its variables. A row has the number of
 /// frames that were open as the call began, the line on which the robot is in it, and the function. Frames of calls
 /// whose arguments are being worked out have none.
 pub(crate) fn add_calls(text: &mut Draft, noted: &NotedProgram<'_>, machine: &Machine) {

@@ -1,5 +1,5 @@
 //! Files as programs that watch matches need them: their programs, and beside each its name, its text, its names and
-//! the line of each instruction. And how instructions, calls and moments are told.
+//! the line of each instruction. And how instructions, calls and moments are written.
 #![tactic(auto)]
 
 mod call_rows;

@@ -1,4 +1,4 @@
-//! How instructions, words of a stack, and calls are told.
+//! How instructions, words of a stack, and calls are written.
 
 use code::Program;
 use grammar::Intrinsic;

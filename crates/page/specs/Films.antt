@@ -81,7 +81,7 @@ OfMatch order robots P = mode_by order.mode ≡ Matches → (files : List File)
     → files_of (profile_numbered order.profile) (map source_of robots) ≡ Some files → P (cycles_of order files)
 
 -- A film of an order's robots: nothing is shown exactly if a run of them finds a faulty source, and the sheet of faults
--- has the diagnostics that a run writes. Else its sheet took all of it. Whether the match goes on is told of the match
+-- has the diagnostics that a run writes. Else its sheet took all of it. Whether the match goes on is said of the match
 -- that a run plays. Only a full sheet stops it.
 abbrev pub FilmsRobots : Order → List RobotFile → Option Stretch → Result Shown RunFault → Sheet → Sheet → Type 0
 FilmsRobots order robots stretch (Ok shown) film faults = (status_shown shown ≡ (output_of order robots).status)

@@ -17,7 +17,7 @@ use grammar::{ParseFault, Profile};
 use parser::parse;
 
 /// What was explained.
-#[derive(Clone, Copy, Debug, PartialEq, Eq)]
+#[derive(Clone, Copy, PartialEq, Eq)]
 pub enum Explained {
     /// A source without a fault: the sheet has the warnings about it.
     Good,

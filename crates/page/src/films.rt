@@ -24,7 +24,7 @@ pub(crate) const COLUMNS: &[u8] = b"cycle\trobot\tkind\ta\tb\tc\td\te\n";
 pub(crate) type Functions = ArrayVec<Name, MOST_NAMES>;
 
 /// What a film shows.
-#[derive(Clone, Copy, Debug, PartialEq, Eq, Drop)]
+#[derive(Clone, Copy, PartialEq, Eq, Drop)]
 pub enum Shown {
     /// The match up to its end.
     Over,
@@ -88,7 +88,7 @@ impl<'a> Film<'a> {
         }
     }
 
-    /// Reports whether what happens now is told.
+    /// Reports whether the film shows what happens now.
     fn is_told(&self) -> bool {
         match &self.stretch {
             None => true,
@@ -161,7 +161,7 @@ impl<'a> Film<'a> {
         }
     }
 
-    /// Looks at the robots after an update, or at the begin.
+    /// Writes what the film shows of the robots after an update, or at the begin.
     fn look(&mut self, cycle: u32, arena: &Arena) {
         for robot in 0..self.robots.min(arena.robot_count()) {
             let stance = Stance::of(cycle, robot, arena);
@@ -169,7 +169,7 @@ impl<'a> Film<'a> {
         }
     }
 
-    /// Writes what has to be told of a robot after an update.
+    /// Writes what the film shows of a robot after an update: its death, and where its runs end and begin.
     fn follow(&mut self, robot: usize, stance: Stance, is_alive: bool) {
         let Some(seen) = self.seen.get_mut(robot) else {
             return;
@@ -189,7 +189,7 @@ impl<'a> Film<'a> {
 }
 
 impl Listener for Film<'_> {
-    /// Writes a row if what happens now is told.
+    /// Writes a row of an event, if the film shows what happens now.
     fn tell(&mut self, cycle: u32, robot: usize, event: &Event<'_>) {
         if self.is_told() {
             self.put(cycle, robot, event);

@@ -6,7 +6,7 @@ use playing::UPDATE_CYCLES;
 use series::MOST_CYCLES;
 use trails::{Place, Shot};
 
-/// A missile: who fired it, in which cycle, by which degree and range, where, and the update in which it bursts.
+/// A missile: who fired it, in which cycle, with which degree and range, where, and the update in which it bursts.
 #[derive(Clone, Copy, Default, Drop)]
 pub(crate) struct FiredMissile {
     /// The robot's number, from 0.

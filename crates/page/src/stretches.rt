@@ -6,7 +6,7 @@ use playing::UPDATE_CYCLES;
 
 /// Some windows of a match, each the 15 cycles between two updates. Any numbers make a stretch: one that begins after
 /// the match's end has nothing of it.
-#[derive(Clone, Copy, Debug, PartialEq, Eq)]
+#[derive(Clone, Copy, PartialEq, Eq)]
 pub struct Stretch {
     /// How many updates are before it.
     pub from: u32,

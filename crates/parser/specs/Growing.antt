@@ -1,4 +1,4 @@
--- What a builder was told by the time a part of a file was refused.
+-- What was reported to a builder by the time a part of a file was refused.
 use Rattle.std.specs.Prelude.{ℕ, ◌≡◌, List}
 use Rattle.grammar.specs.declared.diagnostics.ParseFault.{ParseFault}
 use Rattle.grammar.specs.declared.diagnostics.ParseFault.TheVariants as parse_fault

@@ -252,7 +252,7 @@ impl<'s, 'a, F: Feed> ScopedCursor<'s, 'a, F> {
         self.scope.parameter_count()
     }
 
-    /// Returns how many variables it has so far, its parameters among them.
+    /// Returns how many variables that function has so far, its parameters among them.
     pub fn variable_count(&self) -> u8
         ensures count { result ≡ length (scope_of self.now).current.variables }
         ensures first { (scope_of self.now).current.parameters ≤ result }

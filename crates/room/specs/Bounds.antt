@@ -30,8 +30,8 @@ pub record AreBoundsOf (profile : Profile) (told : Option (List ℕ)) (bound : B
   pub never : bound.has_room ≡ true → NeverLacks profile file
   pub is : (bytes : List ℕ) → told ≡ Some bytes → compiled profile bytes ≡ Ok file
 
--- The functions by which a resolved file's main needs what it needs. If the device's contents are known, they are that
--- file.
+-- The chain of calls that decides what main of a resolved file needs. If the device's contents are known, they compile
+-- to that file.
 pub record IsChainOf (profile : Profile) (told : Option (List ℕ)) (chain : List ℕ) : Type 0 where
   pub file : File
   pub resolved : IsResolved file

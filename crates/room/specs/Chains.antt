@@ -1,4 +1,4 @@
--- The chain of calls by which main needs what it needs.
+-- The chain of calls that needs most room: from main on, the callee that decides what its caller needs.
 use Rattle.std.specs.Prelude.{◌≡◌, ◌&&◌, ℕ, List, [], ◌∷◌, length, Option, Some, None, nat_le, nat_lt, replicate, set}
 use Rattle.std.specs.Prelude.{if◌then◌else◌}
 use Rattle.grammar.specs.Profile.{Profile}
@@ -17,7 +17,7 @@ measured measure None = None
 measured Words (Some r) = Some r.words
 measured Frames (Some r) = Some r.frames
 
--- what there is too much of: frames, if only they are too many, and else words
+-- what the profile doesn't give: frames, if only they are too many, and else words
 abbrev pub scarce : Profile → Option Room → Measure
 scarce p None = Words
 scarce p (Some r) = if nat_le r.words p.words && nat_lt p.frames r.frames then Frames else Words
@@ -26,14 +26,14 @@ scarce p (Some r) = if nat_le r.words p.words && nat_lt p.frames r.frames then F
 abbrev pub only : ℕ → List (Option Room) → List (Option Room)
 only k needs = set (replicate 256 (words 0)) k (needs_in needs k)
 
--- A function needs as much as it would if only this one of those that it calls needed anything: so much is by that
--- call.
+-- This callee decides what a function needs: with it alone, and nothing for its other callees, the function needs as
+-- much.
 abbrev pub NeedsBy : Measure → Calls → UnnamedFunction → ℕ → Type 0
 NeedsBy measure calls f k =
     measured measure (told_need calls.short (needs_in (only k calls.needs)) f) ≡
     measured measure (told_need calls.short (needs_in calls.needs) f)
 
--- one of these functions, that of a number, needs so much by the call of the other
+-- the call of the other one decides what the function of a number needs, which is one of these
 pub record IsLink (measure : Measure) (calls : Calls) (fs : List UnnamedFunction) (number other : ℕ) : Type 0 where
   pub caller : UnnamedFunction
   pub among : IsAmong caller fs
@@ -50,7 +50,7 @@ abbrev pub Begins : ℕ → List ℕ → Type 0
 Begins main [] = ⊥
 Begins main (k ∷ ks) = k ≡ main
 
--- what functions need, if no more of them call one another than there are
+-- what each function needs, through at most as many calls within one another as there are functions
 abbrev pub all_needed : Profile → List UnnamedFunction → Calls
 all_needed p fs = record { short = p.short_circuit; needs = table_within p.short_circuit fs (length fs) }
 

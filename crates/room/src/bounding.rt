@@ -20,7 +20,7 @@ use tokens::Feed;
 use trees::TreeMaker;
 
 /// What is known of a robot before it fights.
-#[derive(Clone, Copy, Debug, PartialEq, Eq)]
+#[derive(Clone, Copy, PartialEq, Eq)]
 pub struct Bound {
     /// The room that it needs, or none if no room is enough: a function can come back to itself.
     pub need: Option<Room>,
@@ -51,7 +51,7 @@ pub fn bounds<F: Feed>(alloc: Global, feed: &mut F, profile: Profile) -> Result<
 /// Reads a source as `bounds` does, and returns the numbers of the functions that call one another where its robot
 /// needs most, from `main` on: most frames, if only of these its profile gives too few, and else most words.
 ///
-/// Each needs so much by its call of the next one. If a function can come back to itself, it stands twice, the second
+/// The call of the next one decides what each needs. If a function can come back to itself, it stands twice, the second
 /// time as the last one.
 ///
 /// # Errors

@@ -1,4 +1,4 @@
-//! The calls by which a robot needs what it needs.
+//! The chain of calls that needs most room: from `main` on, the callee that decides what its caller needs.
 
 ghost use Rattle.std.specs.Prelude.{◌≡◌, ◌++◌, ◌∷◌, [], IfOk, IfSome, OnOk};
 ghost use Rattle.trees.specs.Laws.{without_names, told_trees};

@@ -5,7 +5,7 @@ ghost use Rattle.room.specs.Counting.{counted};
 ghost use Rattle.room.specs.Rooms.{above as above_room, both as both_rooms, words as word_room};
 
 /// Words of the stack, and frames open at once.
-#[derive(Clone, Copy, Debug, Default, PartialEq, Eq)]
+#[derive(Clone, Copy, Default, PartialEq, Eq)]
 pub struct Room {
     /// The words.
     pub words: u16,

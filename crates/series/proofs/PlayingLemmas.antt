@@ -15,7 +15,7 @@ one_written : (now after faults : Portions) (text : List ℕ) → Takes now afte
     Writes (on_both now faults) (on_both after faults) (text_piece text ∷ [])
 one_written now after faults text takes = (on_both after faults, (takes, refl), refl)
 
--- a front of a text
+-- a prefix of a text
 one_begun : (now after faults : Portions) (text : List ℕ) → TakesPrefix now after text →
     Begins (on_both now faults) (on_both after faults) (text_piece text ∷ [])
 one_begun now after faults text front = inl (front, refl)

@@ -29,7 +29,7 @@ word_here sources words told file are within =
     rw (sym are.named) (get_or-map (λ (s : SourceFile). s.word) sources file no_source [] in_sources)
 
 module _ {X : Type 0} where
-  -- what holds of one holds of all
+  -- what is true of one is true of all
   pub all_of_one : (P : X → Type 0) (x : X) → P x → All P (x ∷ [])
   all_of_one P x one = All-push P [] x (λ k d below. absurd (omega (arith, below))) one
 

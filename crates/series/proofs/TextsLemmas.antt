@@ -105,7 +105,7 @@ paired_at (x ∷ []) (suc (suc n)) file d within one several = absurd (omega ari
 paired_at (x ∷ y ∷ xs) robot file d within one several =
     let same : file ≡ robot = several (λ e. omega (arith, e)) in rw same refl
 
--- as many robots, whatever they are told by
+-- two lists of one length have one length when a single robot of each is paired
 pub length_paired : {A B : Type 0} (xs : List A) (ys : List B) → length xs ≡ length ys →
     length (paired xs) ≡ length (paired ys)
 length_paired [] [] same = refl

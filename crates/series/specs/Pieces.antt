@@ -30,7 +30,7 @@ abbrev pub TakesOn : Channel → Taken → Taken → List ℕ → Type 0
 TakesOn Text before after bytes = Takes before.text after.text bytes × (after.faults ≡ before.faults)
 TakesOn Faults before after bytes = Takes before.faults after.faults bytes × (after.text ≡ before.text)
 
--- the channel's sink took a front of these bytes, and the other one nothing
+-- the channel's sink took a prefix of these bytes, and the other one nothing
 abbrev pub TakesPrefixOn : Channel → Taken → Taken → List ℕ → Type 0
 TakesPrefixOn Text before after bytes = TakesPrefix before.text after.text bytes × (after.faults ≡ before.faults)
 TakesPrefixOn Faults before after bytes = TakesPrefix before.faults after.faults bytes × (after.text ≡ before.text)
@@ -41,7 +41,7 @@ Writes before after [] = after ≡ before
 Writes before after (piece ∷ pieces) = (between : Taken) × TakesOn piece.channel before between piece.bytes
     × Writes between after pieces
 
--- the sinks took a beginning of these pieces: some first ones whole, and perhaps a front of the next
+-- the sinks took some of these pieces whole, from the first on, and perhaps a prefix of the next
 abbrev pub Begins : Taken → Taken → List Piece → Type 0
 Begins before after [] = after ≡ before
 Begins before after (piece ∷ pieces) =

@@ -76,7 +76,7 @@ impl<'a> Series<'a> {
     ///
     /// # Errors
     ///
-    /// `Write` if the sink fails, which leaves a beginning of the report: the match doesn't count as played. From then
+    /// `Write` if the sink fails, which then has a prefix of the report: the match doesn't count as played. From then
     /// on each call answers `Write` and writes nothing.
     pub fn next<S: Sink>(&mut self, out: &mut S) -> Result<Step, SeriesFault>
         requires { CanFail (S.written out.old) }
@@ -116,7 +116,7 @@ impl<'a> Series<'a> {
     ///
     /// # Errors
     ///
-    /// `Write` if the sink fails, which leaves a beginning of the totals, or if it failed before.
+    /// `Write` if the sink fails, which then has a prefix of the totals, or if it failed before.
     pub fn finish<S: Sink>(&mut self, out: &mut S) -> Result<(), SeriesFault>
         requires over { self.old.played ≡ self.old.settings.matches }
         requires countable { CanFail (S.written out.old) }

@@ -100,6 +100,7 @@ fn block_of(code: &[Instr], begin: usize, last: usize, reached: &[bool]) -> Bloc
             None => (true, Some(usize::from(to))),
         },
         Some(Instr::Retsub) => (false, None),
+        // every other instruction goes on to the next one
         _ => (true, None),
     };
     Block {
@@ -118,6 +119,7 @@ fn constant_before(code: &[Instr], begin: usize, last: usize) -> Option<i32> {
     }
     match code.get(last - 1).copied() {
         Some(Instr::Const(value)) => Some(value),
+        // what others push isn't known before they run
         _ => None,
     }
 }

@@ -120,7 +120,7 @@ pub record TakesBytes (before now : ℕ) (to_come to_come' : Option (List ℕ)) 
 
 -- What each call on a window needs and keeps. Every contract of the lexer cites these facts.
 
--- what holds of every window: the bytes taken are at most a window after its offset, and at most as many as may be
+-- what is true of every window: the bytes taken are at most a window after its offset, and at most as many as may be
 -- taken, and its offset is in the source
 pub record IsBounded (window : Window) : Type 0 where
   pub near : window.taken ≤ window.offset + window_bytes

@@ -28,7 +28,7 @@ pub struct Lexer {
 // it starts before the token, `FindsToken` if it starts inside of it. One that relies on a byte that was seen requires
 // it. What is not inlined is kept out of the functions that read most tokens, so that these need no stack frame.
 impl Lexer {
-    /// Makes a lexer of a source of which nothing was read.
+    /// Makes a lexer at the start of a source.
     pub fn new() -> Self
         ensures { result.window ≡ untouched }
     {
@@ -37,7 +37,7 @@ impl Lexer {
         }
     }
 
-    /// Puts the next token here. After an `Err` the old one is still here.
+    /// Reads the next token into `here`. After an `Err` the token before is still there.
     #[inline(never)]
     pub fn read_token<F: Feed>(
         &mut self,
@@ -55,7 +55,8 @@ impl Lexer {
         }
     }
 
-    /// Does the same at a blank, at a `/`, or if no byte is at hand. Most blanks stand alone, before a token.
+    /// Reads the next token if the next byte is a blank or a `/`, or isn't in the window. Most blanks stand alone: then
+    /// one byte is skipped, and no loop is entered.
     #[inline(never)]
     fn read_from_blank_or_slash<F: Feed>(
         &mut self,
@@ -79,7 +80,7 @@ impl Lexer {
         }
     }
 
-    /// Does the same after blanks and comments.
+    /// Skips blanks and comments, as many as there are, and reads the token after them.
     #[inline(never)]
     fn read_after_blanks<F: Feed>(
         &mut self,
@@ -129,7 +130,7 @@ impl Lexer {
         }
     }
 
-    /// At a `/`: skips a comment, or puts the token here that begins with it. Answers whether there was a token.
+    /// At a `/`: skips a comment, or reads the token that begins with it. Answers whether there was a token.
     fn read_slash_or_comment<F: Feed>(
         &mut self,
         here: &mut LocatedToken,
@@ -187,7 +188,7 @@ impl Lexer {
         }
     }
 
-    /// Puts the token here that begins with this byte, which is the next one, no blank and no `/`.
+    /// Reads the token that begins with this byte, which is the next one, no blank and no `/`.
     #[inline(always)]
     fn read_begun_token<F: Feed>(
         &mut self,
@@ -221,7 +222,7 @@ impl Lexer {
         }
     }
 
-    /// Puts the name here of which the first byte was passed. Many names are a single letter.
+    /// Reads the name whose first byte was passed. Many names are a single letter.
     #[inline(always)]
     fn read_name<F: Feed>(
         &mut self,
@@ -243,7 +244,7 @@ impl Lexer {
         }
     }
 
-    /// Does the same for a name of more than a byte, or one that is not all at hand.
+    /// Reads the name whose first byte was passed, if it has more bytes or may go on past the window.
     #[inline(never)]
     fn read_longer_name<F: Feed>(
         &mut self,
@@ -265,7 +266,8 @@ impl Lexer {
         self.read_name_bytewise(here, feed, first)
     }
 
-    /// Does the same for a name that is not all at hand, or has `MOST_NAME_BYTES` bytes or more.
+    /// Reads the name whose first byte was passed, byte by byte: it may go on past the window, or has
+    /// `MOST_NAME_BYTES` bytes or more.
     #[inline(never)]
     fn read_name_bytewise<F: Feed>(
         &mut self,
@@ -299,7 +301,7 @@ impl Lexer {
         }
     }
 
-    /// Puts the constant here of which the first digit was passed.
+    /// Reads the constant whose first digit was passed.
     #[inline(never)]
     fn read_constant<F: Feed>(
         &mut self,
@@ -321,7 +323,8 @@ impl Lexer {
         self.read_constant_bytewise(here, feed, first)
     }
 
-    /// Does the same for a constant that is not all at hand, or has more than nine digits, leading zeros aside.
+    /// Reads the constant whose first digit was passed, byte by byte: it may go on past the window, or has more than
+    /// nine digits, leading zeros aside.
     #[inline(never)]
     fn read_constant_bytewise<F: Feed>(
         &mut self,
@@ -350,7 +353,7 @@ impl Lexer {
         }
     }
 
-    /// Puts the longest punctuator here that begins with this one, which was passed.
+    /// Reads the longest punctuator that begins with this one, which was passed.
     #[inline(never)]
     fn read_punctuator<F: Feed>(
         &mut self,

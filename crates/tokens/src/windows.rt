@@ -49,7 +49,7 @@ impl Model for Window {
 }
 
 impl Window {
-    /// Makes a window of a source of which nothing was read.
+    /// Makes a window at the start of a source, before anything is read.
     pub fn new() -> Self
         ensures { result ≡ untouched }
     {

@@ -3,6 +3,7 @@
 use crate::faults::Wrong;
 use crate::options::{Misread, Options};
 use crate::shown::{Dashed, Plain};
+use settings::MOST_FILES;
 use std::fmt;
 
 impl<'a> fmt::Display for Misread<'a> {
@@ -59,11 +60,13 @@ pub fn tell_unwritten(rt: &HostRuntime, program: &str, file: Option<&str>) {
     };
 }
 
-/// Returns how many robots fight, two to four, as a word.
+/// How many robots there are, as words: none, or up to as many as may fight.
+const COUNTS: [&str; MOST_FILES + 1] = ["no", "one", "two", "three", "four"];
+
+/// Returns how many robots fight as a word.
 fn spelled(robots: usize) -> &'static str {
-    match robots {
-        2 => "two",
-        3 => "three",
-        _ => "four",
+    match COUNTS.get(robots) {
+        Some(word) => word,
+        None => "many",
     }
 }

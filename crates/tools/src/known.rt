@@ -1,7 +1,7 @@
 //! The options that a program knows.
 
 /// An option that a program knows: `-k` if its name is one letter, else `--name`.
-#[derive(Clone, Copy, Debug)]
+#[derive(Clone, Copy)]
 pub enum Known {
     /// An option without a value: its name, and what it does.
     Flag(&'static str, &'static str),

@@ -75,7 +75,7 @@ impl<'a> Options<'a> {
 }
 
 /// Why words give no options and files.
-#[derive(Clone, Copy, Debug, PartialEq, Eq)]
+#[derive(Clone, Copy, PartialEq, Eq)]
 pub enum Misread<'a> {
     /// This word is no option that the program knows.
     Unknown(&'a str),

@@ -3,7 +3,7 @@
 use std::fmt;
 
 /// A word on a line: each control character of it is shown as a question mark.
-#[derive(Clone, Copy, Debug)]
+#[derive(Clone, Copy)]
 pub struct Plain<'a>(pub &'a str);
 
 impl<'a> fmt::Display for Plain<'a> {
@@ -24,7 +24,7 @@ pub fn visible(c: char) -> char {
 }
 
 /// An option's name on a line: `-k` if it is one letter, else `--name`.
-#[derive(Clone, Copy, Debug)]
+#[derive(Clone, Copy)]
 pub struct Dashed(pub &'static str);
 
 impl Dashed {

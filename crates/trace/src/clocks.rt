@@ -136,8 +136,7 @@ impl Clock {
         }
     }
 
-    /// Ends the innermost call, and the turns in it. One that began before the first cycle that is looked at isn't
-    /// known.
+    /// Ends the innermost call, and the turns in it. One that began before the span's first cycle isn't known.
     fn end_call(&mut self, cycle: u32) {
         for _ in 0..self.running.len() {
             if let Some(Running::Call(number, begun)) = self.running.pop() {
@@ -147,8 +146,8 @@ impl Clock {
         }
     }
 
-    /// Ends the turn of a loop, and those in it: their loops were left. One that began before the first cycle that is
-    /// looked at isn't known.
+    /// Ends the turn of a loop, and those in it: their loops were left. One that began before the span's first cycle
+    /// isn't known.
     fn end_turn(&mut self, ended: usize, cycle: u32) {
         for _ in 0..self.running.len() {
             if let Some(Running::Turn(number, begun)) = self.running.pop()

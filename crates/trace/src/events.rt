@@ -40,7 +40,7 @@ impl<'a> Events<'a> {
         }
     }
 
-    /// Writes the names of the robots that are looked at.
+    /// Writes the names of the robots in the span.
     fn name_robots(&mut self) {
         let notes = self.notes;
         for robot in 0..self.robots {
@@ -53,7 +53,7 @@ impl<'a> Events<'a> {
         }
     }
 
-    /// Looks at the robots after an update, or at the begin, up to the last cycle that is looked at.
+    /// Writes what happened to the robots in an update, or where they are at the begin, up to the span's last cycle.
     fn look(&mut self, cycle: u32, arena: &Arena) {
         if cycle <= self.rows.span.to {
             for robot in 0..self.robots.min(arena.robot_count()) {
@@ -63,7 +63,7 @@ impl<'a> Events<'a> {
         self.rows.pass();
     }
 
-    /// Looks at a robot after an update, or at the begin.
+    /// Writes what happened to a robot in an update, or where it is at the begin.
     fn look_at(&mut self, cycle: u32, robot: usize, arena: &Arena)
         requires { robot < length arena.now.robots }
     {
@@ -78,7 +78,7 @@ impl<'a> Events<'a> {
         }
     }
 
-    /// Writes what has to be told of where a robot is.
+    /// Writes where a robot is, if a run ends or begins there.
     fn follow(&mut self, robot: usize, stance: Stance) {
         let Some(seen) = self.seen.get_mut(robot) else {
             return;
@@ -131,7 +131,7 @@ impl<'a> Events<'a> {
 }
 
 impl Listener for Events<'_> {
-    /// Writes an event, if its cycle and its robot are looked at.
+    /// Writes an event, if its cycle and its robot are in the span.
     fn tell(&mut self, cycle: u32, robot: usize, event: &Event<'_>) {
         if self.rows.span.has(cycle, robot) {
             self.rows.event(cycle, robot, event);

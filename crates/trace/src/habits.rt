@@ -8,13 +8,13 @@ use findings::{DIRECTION_DEGREES, DIRECTIONS, Streak, largest};
 use std::alloc::AllocError;
 use tools::{Draft, Text, add_left, add_right, add_signed};
 
-/// A streak is told if it took this part of a robot's cycles.
+/// The report has a streak if it took at least one in this number of a robot's cycles.
 const TOLD_PART: u64 = 10;
 
-/// The least count that is told in thousands.
+/// The least count that is written in thousands.
 const LEAST_THOUSANDS: u64 = 10_000_000;
 
-/// What is told by directions, with the words for it.
+/// What the report sorts by directions, with the words for it.
 const DEEDS: [(Deed, &str); 3] = [
     (Deed::Sees, "saw"),
     (Deed::Shoots, "shot"),

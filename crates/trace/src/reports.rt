@@ -15,13 +15,13 @@ use playing::Pilot;
 use std::alloc::{AllocError, Global};
 use tools::{Draft, Text, add_right};
 
-/// How many lines of a source are told.
+/// The most lines of a source that the report has.
 const MOST_TOLD: usize = 10;
 
 /// How many characters stand before the text of a line of a source.
 const TEXT_COLUMN: usize = 26;
 
-/// Adds the report: the match and how each robot ended, as crobots has it, and then each robot that is looked at.
+/// Adds the report: the match and how each robot ended, as crobots has it, and then each robot in the span.
 pub fn add_report(
     text: &mut Draft,
     request: &Request<'_>,
@@ -79,7 +79,7 @@ fn add_end(text: &mut Draft, robot: usize, tally: &RobotCounts, name: &str) {
     text.add("\n");
 }
 
-/// Adds what is told of a robot.
+/// Adds the part of the report on a robot.
 fn add_robot(text: &mut Draft, robot: usize, subject: &Subject<'_>) -> Result<(), AllocError> {
     let tally = subject.tally;
     add_name(text, robot, subject);

@@ -23,7 +23,7 @@ pub const FORM_OPTIONS: [Known; 8] = [
     ),
 ];
 
-/// In which form a match is told.
+/// In which form a match is reported.
 #[derive(Clone, Copy, PartialEq, Eq)]
 pub enum Form {
     /// Sums of each robot.
@@ -65,9 +65,9 @@ pub struct Request<'a> {
     pub wish: Settings<'a>,
     /// The form.
     pub form: Form,
-    /// What is looked at.
+    /// Which robot and which cycles are reported.
     pub span: Span,
-    /// The cycle after which the robots are looked at, if that is the form.
+    /// The cycle after which the robots are shown, if that is the form.
     pub at: u32,
     /// The names of the variables that are watched, with commas between them, if that is the form.
     pub names: &'a str,

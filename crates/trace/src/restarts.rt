@@ -8,7 +8,7 @@ use notes::Note;
 use std::alloc::{AllocError, Global};
 use tools::{Draft, Text};
 
-/// How many places of restarts are told.
+/// The most places of restarts that the report has.
 const MOST_TOLD: usize = 10;
 
 /// Open calls from one place of a program.

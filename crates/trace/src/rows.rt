@@ -5,12 +5,12 @@ use playing::Turn;
 use std::alloc::AllocError;
 use tools::{Draft, Fault, Output, Span, Text, add_signed};
 
-/// Rows of what is looked at, which are written on standard output. After a fault nothing more is written, and `finish`
+/// Rows on a span of a match, which are written on standard output. After a fault nothing more is written, and `finish`
 /// answers it.
 #[derive(Drop)]
 pub struct Rows<'a> {
     rt: &'a HostRuntime,
-    /// What is looked at.
+    /// Which robot and which cycles have rows.
     pub span: Span,
     output: Output,
     pending: Draft,

@@ -5,7 +5,7 @@ use code::Program;
 use findings::function_at;
 use notes::Note;
 
-/// A robot that is reported: what was counted of it, and what that is told by.
+/// A robot of the report: what was counted of it, and what gives these counts their lines and names.
 #[derive(Clone, Copy)]
 pub struct Subject<'a> {
     /// What was counted.

@@ -48,7 +48,7 @@ impl<'a> Sums<'a> {
         })
     }
 
-    /// Returns the counts of a robot, if it is looked at in a cycle.
+    /// Returns the counts of a robot, if it and a cycle are in the span.
     fn tally(&mut self, cycle: u32, robot: usize) -> Option<&mut RobotCounts> {
         if self.span.has(cycle, robot) {
             self.tallies.get_mut(robot)

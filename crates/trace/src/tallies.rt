@@ -126,7 +126,7 @@ pub struct RobotCounts {
 }
 
 impl RobotCounts {
-    /// Makes the counts of a robot that runs a program, of which nothing is counted so far.
+    /// Makes the counts of a robot that runs a program: all are 0.
     pub fn new(alloc: Global, program: &Program) -> Result<RobotCounts, AllocError> {
         let mut spots = Vec::new(alloc);
         for _ in program.instructions() {

@@ -1,4 +1,4 @@
-//! What tells a match, and the match that is played before it.
+//! What reports a match, and the match that it watches.
 
 ghost use Rattle.std.specs.Prelude.{◌≤◌, length};
 
@@ -7,14 +7,14 @@ use arena::MOST_ROBOTS;
 use playing::{Pilot, Watcher, play};
 use tools::Fault;
 
-/// What tells a match as it is played.
+/// A watcher that reports a match as it is played.
 pub trait Teller: Watcher {
-    /// Tells what is left after the last cycle of the match that was asked for, and writes all that isn't written yet.
+    /// Reports what comes after the last cycle of the match that was asked for, and writes all that isn't written yet.
     /// These pilots played it.
     fn finish(self, request: &Request<'_>, cycles: u32, pilots: &[Pilot<'_>]) -> Result<(), Fault>;
 }
 
-/// Plays the match that is asked for, and writes what is told of it.
+/// Plays the match that is asked for, and writes the report of it.
 pub fn tell<T: Teller>(
     mut teller: T,
     request: &Request<'_>,

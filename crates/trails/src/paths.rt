@@ -11,11 +11,11 @@ use std::marker::Model;
 /// The most places of a path, an even number.
 pub const MOST_PLACES: usize = 2000;
 
-/// The greatest stride: a path that is full with it takes no more places.
+/// The greatest stride. A path that is full with it takes no more places; no match is long enough for that.
 pub const MOST_STRIDE: u32 = 1 << 20;
 
-/// The places of a robot over time. Each is kept until there are 2,000; then each second one is dropped, and of those
-/// to come only each second one is kept; and so on.
+/// The places of a robot over time, one an update. Each is kept until there are `MOST_PLACES`. Then each second one is
+/// dropped, and the stride doubles: of the places to come only each second one is kept. So it goes on.
 #[derive(Drop)]
 pub struct Path {
     places: ArrayVec<Place, MOST_PLACES>,
@@ -93,7 +93,7 @@ impl Path {
         self.places.as_slice()
     }
 
-    /// Returns after how many updates the robot was at the place of this number.
+    /// Returns the number of updates after which the robot was at the place of this index.
     pub fn update_of(&self, place: usize) -> u32
         requires { place < length self.now.places }
         ensures { result ≡ place * self.now.stride }
@@ -102,7 +102,7 @@ impl Path {
         stride * place as u32
     }
 
-    /// Returns of how many places one is kept.
+    /// Returns the stride: one place is kept out of this number.
     pub fn stride(&self) -> u32
         ensures value { result ≡ self.now.stride }
         ensures least { 1 ≤ result }
