@@ -32,7 +32,7 @@ def loaded(name: str) -> ModuleType:
 
 
 def refused(usage: str, words: list[str], count: int, numbers: int = 0) -> bool:
-    """Says in a line if the words aren't as many programs as this, and at most so many numbers; a usage is a test's name, and what
+    """Says in a line if the words aren't `count` programs, and at most `numbers` numbers; a usage is a test's name, and what
     its words are called."""
     programs, rest = words[:count], words[count:]
     is_usage = len(programs) == count and len(rest) <= numbers and all(word.isascii() and word.isdigit() for word in rest)

@@ -30,7 +30,7 @@ class Names:
 
 @dataclass(frozen=True)
 class State:
-    """Where a robot's machine is after a cycle: the calls that have begun are told by their frames, the innermost first, each
+    """Where a robot's machine is after a cycle: the calls that have begun are known by their frames, the innermost first, each
     with how many frames were open with it, the address at which the robot is in it, and where its variables begin."""
 
     at: int
@@ -55,7 +55,7 @@ class Asked:
 
 @dataclass(frozen=True)
 class Match:
-    """A match, and the robot in it that is looked at."""
+    """A match, and one robot in it."""
 
     words: list[str]
     files: list[Path]
@@ -164,7 +164,7 @@ def parameters_of(source: str, names: Names) -> dict[str, int]:
 
 
 def history_of(match: Match, crobots: str, trace: str, stages: str) -> History:
-    """Runs the robot's machine by the replies that `trace` tells."""
+    """Runs the robot's machine by the replies that `trace` shows."""
     text = told(crobots, "-c", f"-p{match.profile}", str(match.file))
     listing, names = read(text), Names.of(text)
     asked = [Asked(int(cycle), call, int(reply)) for cycle, _, _, _, call, reply in rows(trace, "--asks", match)]

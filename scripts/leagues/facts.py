@@ -26,7 +26,7 @@ Lost = dict[str, list[tuple[str, Battle]]]
 
 @dataclass(frozen=True)
 class Words:
-    """What the site is told beside the league: its title and day, the archive, how it is checked, and robots' sums."""
+    """What the site shows beside the league: its title and day, the archive, how it is checked, and robots' sums."""
 
     title: str
     day: str

@@ -161,7 +161,7 @@ def escaped(path: str) -> str:
 
 @contextlib.contextmanager
 def told(path: str) -> Iterator[None]:
-    """Tells the user what is wrong with a database."""
+    """Says what is wrong with a database."""
     try:
         yield
     except sqlite3.Error as why:

@@ -153,7 +153,7 @@ def versions(store: Store) -> dict[str, str]:
 
 
 def named(known: str, sha256: str) -> str:
-    """A program as it is told: its version, if that is known, and the beginning of its hash."""
+    """A program as it is named: its version, if that is known, and the beginning of its hash."""
     return archives.shown(f"{known or 'a program'} with the hash {sha256[:16]}")
 
 

@@ -1,6 +1,6 @@
 """A film of a match, as `crobots-trace --film` writes it: whether it is one, whom it shows, and its text, packed for a page.
 
-What its rows tell the page reads itself (web/player/films.js)."""
+The page reads its rows itself (web/player/films.js)."""
 
 from __future__ import annotations
 

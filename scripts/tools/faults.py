@@ -10,7 +10,7 @@ UNWRITTEN = 4
 
 
 class Fault(Exception):
-    """Something that the user is told in one line."""
+    """What is wrong, in one line for the user."""
 
     def __init__(self, why: str, status: int = USAGE) -> None:
         super().__init__(why)
@@ -22,7 +22,7 @@ class Fault(Exception):
 
 
 class Misuse(Fault):
-    """Wrong words: the user is told which, if that is known, and the usage."""
+    """Wrong words: the line says which, if that is known, and the usage."""
 
     def told(self, name: str, usage: str) -> str:
         return (super().told(name, usage) if str(self) else "") + f"{usage}\n"

@@ -82,5 +82,5 @@ def parted(word: str) -> tuple[str, str | None]:
 
 
 def number(text: str | None) -> int:
-    """A number of at most nine digits; 1 if it is none, which is told by whom it is handed on to."""
+    """A number of at most nine digits; 1 if it is none, which the program that gets it will refuse."""
     return int(text[:9]) if text and text.isascii() and text.isdigit() else 1

@@ -113,7 +113,7 @@ class Player:
         return done
 
     def _failure(self, child: Child, status: int) -> str:
-        """What the user is told of a series that failed."""
+        """The line on a series that failed."""
         words = line(self._program, child.record, [robot.path for robot in child.record.robots])
         said = os.fsdecode(bytes(child.output[-2000:])).strip().splitlines()
         end = f"ended with status {status}: {said[-1] if said else 'it said nothing'}"

@@ -33,7 +33,7 @@ SHORTER, STEPS = 0.7, 20
 SAFE, FASTEST = 3.0, 0.1
 # SCOUTS rounds are fitted to the end, and SAFER times what was left there at most may be left of others.
 SCOUTS, SAFER = 8, 2.0
-# Of few robots, or of strengths that are known less well than with this deviation, what is left can't be told from the first
+# Of few robots, or of strengths that are known less well than with this deviation, what is left can't be known from the first
 # steps: a way on which steps hardly get shorter shows itself when the others are at their end.
 MANY, SHARP, FINE = 20, 0.2, 1e-6
 # How often the factors of all matches are applied to find the way on which strengths are known worst.
@@ -59,7 +59,7 @@ class Whole:
         self._as_one = [as_one(*it) for it in zip(rows, chances, self._bends.rows, self._ties)]
 
     def is_firm(self) -> bool:
-        """Reports whether the first steps of a round tell what is left: there are many robots, whose strengths are known well."""
+        """Reports whether the first steps of a round determine what is left: there are many robots, whose strengths are known well."""
         return len(self.strengths) >= MANY and all(self.opponents.met) and self._most_variance() <= SHARP**2
 
     def _most_variance(self) -> float:

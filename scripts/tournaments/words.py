@@ -75,7 +75,7 @@ class Version(argparse.Action):
 
 
 class Parser(argparse.ArgumentParser):
-    """A parser whose faults are told in one line, and whose help is written as other output is."""
+    """A parser whose faults are one line, and whose help is written as other output is."""
 
     def add_version(self) -> None:
         """Takes `--version`, too."""

@@ -14,7 +14,7 @@ from typing import Any
 HERE = os.path.dirname(os.path.abspath(__file__))
 LEAGUE = os.path.join(HERE, "..", "..", "scripts", "league")
 # A robot that shoots itself at once, so it is dead in cycle 90; one that stands still; and one that shoots itself in
-# so many of 100 matches.
+# the given number of 100 matches.
 SHOOTER = "main(){while(1)cannon(0,0);}"
 IDLE = "main(){while(1);}"
 RISKY = "main(){if(rand(100)<%d)while(1)cannon(0,0);while(1);}"

@@ -76,7 +76,7 @@ class Crashes(Base):
         return wrong
 
     def output_that_fails(self) -> list[str]:
-        """What is only told ends nothing; a table that can't be written has a status."""
+        """A message that can't be written ends nothing; a table that can't be written has a status."""
         it = League(self, "output", "-m2", robots=("a.r", "b.r"))
         wrong = []
         with open("/dev/full", "w", encoding="utf-8") as full:

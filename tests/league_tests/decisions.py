@@ -11,7 +11,7 @@ from leagues.sequential import EVEN, FIRST, SECOND, Count
 
 from .base import Base
 
-# A made pair plays so many matches at most, as a league does by default.
+# The most matches of a made pair, as a league's default.
 MOST = 100
 PAIRS = 3000
 

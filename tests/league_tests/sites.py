@@ -76,7 +76,7 @@ class Sites(Base):
                               stdout=subprocess.PIPE, text=True, check=False).stdout
 
     def _tampered(self, archive: str) -> list[str]:
-        """Each change of an archive is told."""
+        """Each change of an archive is reported."""
         wrong = []
         changes: list[tuple[str, Callable[[str], str], str]] = [
             ("battle.csv", lambda text: text.replace(",90,", ",105,", 1), "played again it is 90:"),
@@ -102,7 +102,7 @@ class Sites(Base):
         return wrong
 
     def hostile_archives(self) -> list[str]:
-        """Whatever a cell of an archive is, what is wrong is told, and nothing of it reaches the terminal as it is."""
+        """Whatever a cell of an archive is, what is wrong is said, and nothing of it reaches the terminal as it is."""
         it = League(self, "hostile", "-m2", robots=("a.r", "b.r"))
         it.run("play", "-j1")
         it.run("publish", "hostile-site", "--day=2026-03-02", "--replays=0", "--sums=0")

@@ -137,7 +137,7 @@ class Films:
         return [] if right else [f"{seen} {flies}, not {wanted}"]
 
     def names_that_are_given(self) -> list[str]:
-        """They stand for those that the film tells."""
+        """They stand for those of the film."""
         names = [[robot["name"] for robot in self._film(FILM, names=given)["robots"]] for given in (["x", "y"], [])]
         return [] if names == [["x", "y"], ["a.r", "<b>.r"]] else [f"{names}"]
 

@@ -16,7 +16,7 @@ from . import made
 from .reading import dangling, files, links, read
 
 Results = Iterator[tuple[str, bool]]
-# Writes down its words, and tells the film of a short match between robots with the names of its last two words.
+# Writes down its words, and writes the film of a short match between robots with the names of its last two words.
 STAND_IN = r"""#!/bin/sh
 printf '%s\0' "$@" END >> '{told}'
 while [ $# -gt 2 ]; do shift; done

@@ -24,7 +24,7 @@ from .reading import dangling, files
 Results = Iterator[tuple[str, bool]]
 HERE = os.path.dirname(os.path.abspath(__file__))
 CUTS, KILLS = 8, 2
-# Publishes the site of a league of so many robots into a folder.
+# Publishes the site of a league, whose number of robots is the first word, into a folder.
 WRITER = """
 import sys
 sys.dont_write_bytecode = True
@@ -127,7 +127,7 @@ class Cut(BaseException):
 
 @contextlib.contextmanager
 def ending_after(files_written: int) -> Iterator[list[int]]:
-    """Ends a writer when it has written so many files; counts them."""
+    """Ends a writer when it has written this number of files; counts them."""
     count, real = [0], os.replace
 
     def replaced(one: str, other: str) -> None:

@@ -1,4 +1,4 @@
-"""Where moves lead, worked out again: each cycle of a history is looked at by itself, and the texts are put together anew."""
+"""Where moves lead, worked out again: each cycle of a history is searched by itself, and the texts are put together anew."""
 
 from __future__ import annotations
 
@@ -12,7 +12,7 @@ Happens = Callable[[int], bool]
 
 @dataclass
 class Model:
-    """A robot of a history, looked at after a cycle, and what is stopped at: a text, and whether it happens in a cycle."""
+    """A robot of a history after a cycle, and what is stopped at: a text, and whether it happens in a cycle."""
 
     history: History
     source: list[str]

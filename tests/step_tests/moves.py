@@ -104,7 +104,7 @@ def short(name: str, draw: random.Random) -> str:
 
 
 def random_mark(history: History, draw: random.Random) -> tuple[str, str, Happens]:
-    """A breakpoint of any kind: its command, how it is told with N for its number, and whether it happens in a cycle."""
+    """A breakpoint of any kind: its command, how it is listed with N for its number, and whether it happens in a cycle."""
     return draw.choice([line_mark, reply_mark, reply_mark, hit_mark, restart_mark])(history, draw)
 
 

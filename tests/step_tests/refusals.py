@@ -56,7 +56,7 @@ class Refusals(Base):
         return wrong + differ(self._run("", "--version").stdout.split()[0], b"crobots-step")
 
     def faults_of_files(self) -> list[str]:
-        """Those of robots are told as crobots-debug tells them."""
+        """Those of robots have the words of crobots-debug."""
         wrong = []
         for words, status, said in [(["looker.r", "bad.r"], 1, b"bad.r:2: reserved word\n"), (["gone.r"], 3, SAID + b"cannot open gone.r\n"),
                                     (["-x", "gone", "looker.r"], 3, SAID + b"cannot open gone\n"), (["-x", ".", "looker.r"], 3, SAID + b"cannot open .\n")]:

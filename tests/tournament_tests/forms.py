@@ -180,7 +180,7 @@ class Forms(Base):
         return wrong + [form for form, text in zip(forms, alone) if read(self._at(f"{form}.form")) != text or not text]
 
     def a_file_for_a_form_that_cannot_be_written(self) -> list[str]:
-        """It is told at once if it can be; a disk that is full then ends with status 3, after all others are written."""
+        """A line says so at once if possible; a disk that is full then ends with status 3, after all others are written."""
         words = ("-m2", "-l100", "a.r", "b.r")
         table = self._run(*words).stdout
         early = self._run("--write", "csv=gone/x", *words)

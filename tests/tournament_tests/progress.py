@@ -1,4 +1,4 @@
-"""What is only told: how far it is; and that a table is written whatever standard error and standard output are."""
+"""Messages on progress; and that a table is written whatever standard error and standard output are."""
 
 from __future__ import annotations
 
@@ -99,7 +99,7 @@ class Told(Base):
         return [] if unrated(ran.stdout) == TABLE and fine and len(self._lines("closed")) > 5 else [f"{ran} {self._lines('closed')}"]
 
     def standard_output_that_cannot_be_written(self) -> list[str]:
-        """Closed, it is refused before anything is played; full, it is told; a pipe that is closed ends it as others."""
+        """Closed, it is refused before anything is played; full, a line says so; a pipe that is closed ends it as others."""
         play = shlex.join([*self._words(*WORDS)])
         full = "tournament: cannot write: No space left on device\n"
         wrong = []

@@ -95,7 +95,7 @@ class Seats(Base):
     # Samples.
 
     def samples(self) -> list[str]:
-        """Of 3 to 9 robots: so many different groups; one robot more leaves the others' numbers as they were."""
+        """Of 3 to 9 robots as many different groups as were asked for; one robot more leaves the others' numbers as they were."""
         wrong = []
         for count, size in itertools.product(range(4, 10), (2, 3, 4)):
             every = math.comb(count, size)
