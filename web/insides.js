@@ -1,5 +1,5 @@
 // The panel on a robot from inside: its source with the line that it is at, its calls and variables, at the film's cycle.
-import {Ending} from "./engine.js";
+import {Ending} from "./limits.js";
 import {STOPPED} from "./calling.js";
 import {Code, callsOf, foundIn, momentOf, valuesOf} from "./moments.js";
 
