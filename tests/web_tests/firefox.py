@@ -21,6 +21,7 @@ def results(crobots: str, _stages: str, folder: str) -> Iterator[tuple[str, list
     """The tests' names, and what is wrong."""
     with served(folder) as address, firefox() as driver:
         page = Page(driver, address)
+        yield "first draw", browser.drawn_soon(page)
         page.open()
         yield "samples", browser.reports(page, crobots, sample_battles()[::3])
         yield "random robots", browser.reports(page, crobots, random_battles(10, 8))
