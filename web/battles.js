@@ -1,5 +1,5 @@
 // Battles: one to four robots and settings. What comes from a link, a file or the browser's storage is made one here.
-import {Limits} from "./engine.js";
+import {Limits} from "./limits.js";
 import {cleanName} from "./names.js";
 
 const USUAL = {matches: 1, limit: 500000, seed: "1", first: 1, profile: 1};

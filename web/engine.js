@@ -2,24 +2,7 @@
 //
 // The module's calls take the addresses of blocks that this file laid out once, behind the module's own memory, and
 // never anything else. The blocks hold numbers and bytes alone, and every value of them is allowed.
-
-/**
- * How a run ended, as the program's exit status says it; 2 means that the engine refused the order, and 6 that a match goes
- * on after the windows that were filmed.
- */
-export const Ending = Object.freeze({DONE: 0, FAULTY: 1, REFUSED: 2, UNREAD: 3, FULL: 4, GOES_ON: 6});
-
-/** The limits of a run. */
-export const Limits = Object.freeze({
-    robots: 4,
-    nameBytes: 255,
-    // one more than a source may have: of a longer one this much is enough to be refused
-    sourceBytes: 1048577,
-    matches: 1000000,
-    cycles: 1000000000,
-    first: 1000000,
-    seed: (1n << 64n) - 1n,
-});
+import {Ending, Limits} from "./limits.js";
 
 const PAGE_BYTES = 65536;
 const ORDER_BYTES = 40;
@@ -33,22 +16,6 @@ const MOST_ROWS = 1000000;
 
 const encoder = new TextEncoder();
 const decoder = new TextDecoder();
-
-/** A wish that the engine can't be asked. */
-export class WishError extends Error {}
-
-/** Returns whether this browser takes the module, by a small one: it copies memory, and extends the sign of a BigInt. */
-export function takesModule() {
-    // one function from i64 to i64: i32.const 0, three times, memory.copy; local.get 0, i64.extend8_s
-    const bytes = new Uint8Array([0, 97, 115, 109, 1, 0, 0, 0, 1, 6, 1, 96, 1, 126, 1, 126, 3, 2, 1, 0, 5, 3, 1, 0, 0,
-        7, 5, 1, 1, 102, 0, 0, 10, 17, 1, 15, 0, 65, 0, 65, 0, 65, 0, 252, 10, 0, 0, 32, 0, 194, 11]);
-    try {
-        const {exports} = new WebAssembly.Instance(new WebAssembly.Module(bytes));
-        return exports.f(BigInt(129)) === BigInt(-127);
-    } catch {
-        return false;
-    }
-}
 
 /** Counts a letter in a text. */
 function countOf(letter, text) {
@@ -191,7 +158,7 @@ export class Engine {
 
     putRobots(robots) {
         if (robots.length > Limits.robots) {
-            throw new WishError("There are more than four robots.");
+            throw new RangeError("There are more than four robots.");
         }
         robots.forEach((robot, i) => this.putRobot(this.robots + i * ROBOT_BYTES, robot));
     }
@@ -200,7 +167,7 @@ export class Engine {
         const nameBytes = encoder.encode(name);
         const sourceBytes = (typeof source === "string" ? encoder.encode(source) : source).subarray(0, Limits.sourceBytes);
         if (nameBytes.length > Limits.nameBytes) {
-            throw new WishError("A robot's name has more than 255 bytes.");
+            throw new RangeError("A robot's name has more than 255 bytes.");
         }
         const view = new DataView(this.memory.buffer, at, 8);
         view.setUint32(0, nameBytes.length, true);

@@ -1,6 +1,6 @@
 // What the engine says of a source: why it has a fault, or what compiles and is hardly meant.
 import {buttonOf} from "./asking.js";
-import {Ending} from "./engine.js";
+import {Ending} from "./limits.js";
 
 const WARNING = /^(\d+):\d+: warning: (.*)$/;
 const MOST_SHOWN = 20;

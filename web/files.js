@@ -1,5 +1,5 @@
 // Robots from files and to files of one's own computer.
-import {Limits} from "./engine.js";
+import {Limits} from "./limits.js";
 import {cleanName} from "./names.js";
 
 /** Returns a file's text: of UTF-8, or else of a byte a letter, as the language has it. */

@@ -1,5 +1,5 @@
 // The panel on a robot from inside: its source with the line that it is at, its calls and variables, at the film's cycle.
-import {Ending} from "./engine.js";
+import {Ending} from "./limits.js";
 import {STOPPED} from "./calling.js";
 import {Code, callsOf, foundIn, momentOf, valuesOf} from "./moments.js";
 
@@ -27,6 +27,19 @@ function rowOf({name, value, heading}) {
     return row;
 }
 
+// What is looked for from a moment on: {marks, frames} each, of which the one that is met first counts, and its name in a
+// sentence. These are the steps of crobots-step. The `frames` of a call are those that are open with it.
+
+/** The next line that is entered. */
+const into = code => ({aims: [{marks: code.entriesOf()}], what: "another line"});
+
+/** Where the call of this function has ended. */
+const out = (code, {frames}) =>
+    ({aims: frames > 1 ? [{marks: [...code.instructions.keys()], frames: frames - 1}] : [], what: "the end of this call"});
+
+/** The next line that is entered, but not in a call from here; or where the call of this function has ended, if it ends before. */
+const over = (code, call) => ({...into(code), aims: [{marks: code.entriesOf(), frames: call.frames}, ...out(code, call).aims]});
+
 /** The panel. */
 export class Inside {
     /** `screen` shows the film, `runner` calls the engine, and `playing` has the button by which a search is stopped. */
@@ -38,7 +51,8 @@ export class Inside {
         byId("inside-source").addEventListener("click", event => this.mark(event.target.closest("button")));
         this.actions = {
             "cycle-before": () => this.step(-1), "cycle-after": () => this.step(1),
-            "line-before": () => this.search(true), "line-after": () => this.search(false),
+            "line-before": () => this.search(() => this.toLine(), true), "line-after": () => this.search(() => this.toLine()),
+            "step-into": () => this.search(into), "step-over": () => this.search(over), "step-out": () => this.search(out),
         };
         Object.entries(this.actions).forEach(([id, act]) => byId(id).addEventListener("click", act));
         this.panel.addEventListener("keydown", event => this.press(event));
@@ -216,19 +230,33 @@ export class Inside {
         return player.cycle === cycle;
     }
 
-    /** Goes to the next cycle, or back to the last one, after which a marked line begins, or the present line if none is marked. */
-    async search(backwards) {
+    /** What is looked for by lines: a marked one, or the present one if none is marked. */
+    toLine() {
+        const lines = this.marks.size ? this.marks : new Set([this.code.lines[this.shown.moment.address]]);
+        return {aims: [{marks: this.code.entriesOf(lines)}], what: this.marks.size ? "a marked line" : `line ${[...lines][0]}`};
+    }
+
+    /** Goes to the next cycle, or back to the last one, after which the robot is where it is to be, as `aimsOf` says it. */
+    async search(aimsOf, backwards = false) {
         if (!this.isOpen || !this.code || this.playing.isRunning) {
             return;
         }
-        const {code, robot} = this;
+        const {code} = this;
         const here = await this.look();
         if (!here) {
             return;
         }
-        const {cycle, address} = here;
-        const lines = this.marks.size ? this.marks : new Set([code.lines[address]]);
         this.say("");
+        const {aims, what} = aimsOf(code, callsOf(code, here)[0]);
+        const told = await this.patiently(aims.map(aim => this.ask("find", {robot: this.robot, cycle: here.cycle, backwards, ...aim})));
+        if (told.every(it => it) && code === this.code) {
+            const cycles = told.map(({text}) => foundIn(text)).filter(it => it !== null);
+            this.tellFound(cycles.length ? (backwards ? Math.max : Math.min)(...cycles) : null, backwards, what);
+        }
+    }
+
+    /** Waits for answers, which may be stopped by the page's button if they take long. */
+    async patiently(asked) {
         let isSlow = false;
         const timer = setTimeout(() => {
             isSlow = !this.playing.isRunning;
@@ -236,14 +264,12 @@ export class Inside {
                 this.playing.busy(true);
             }
         }, STOP_AFTER);
-        const told = await this.ask("find", {robot, cycle, backwards, marks: code.entriesOf(lines)});
+        const told = await Promise.all(asked);
         clearTimeout(timer);
         if (isSlow) {
             this.playing.busy(false);
         }
-        if (told && code === this.code) {
-            this.tellFound(foundIn(told.text), backwards, this.marks.size ? "a marked line" : `line ${[...lines][0]}`);
-        }
+        return told;
     }
 
     tellFound(cycle, backwards, what) {
@@ -255,7 +281,10 @@ export class Inside {
     }
 
     press(event) {
-        const id = {",": "cycle-before", ".": "cycle-after", "[": "line-before", "]": "line-after"}[event.key];
+        const id = {
+            ",": "cycle-before", ".": "cycle-after", "[": "line-before", "]": "line-after", F10: "step-over",
+            F11: event.shiftKey ? "step-out" : "step-into",
+        }[event.key];
         // some keyboards have brackets behind AltGr
         const isPlain = !event.ctrlKey && !event.metaKey && !event.altKey || event.getModifierState("AltGraph");
         if (id && isPlain && this.isOpen && event.target.tagName !== "SELECT") {

@@ -45,10 +45,10 @@ export class Code {
     }
 
     /**
-     * Returns the addresses at which one of some lines begins to run: the first instruction of a line, and where a call or a jump
-     * leads into it from another line, or back within it.
+     * Returns the addresses at which one of some lines, or of all, begins to run: the first instruction of a line, and where a call
+     * or a jump leads into it from another line, or back within it.
      */
-    entriesOf(lines) {
+    entriesOf(lines = new Set(this.lines)) {
         const {lines: lineOf} = this;
         const jumps = this.instructions.map(it => /^BRANCH (\d+)$/.exec(it)?.[1]);
         const begins = new Set(this.functions.map(({begin}) => begin));
@@ -87,8 +87,8 @@ function callIn([name, count, ...values]) {
 }
 
 /**
- * Returns the open calls of a robot, the innermost first, each {line, name, variables}. A frame of a call whose arguments are
- * being worked out is none yet: it has no address to return to.
+ * Returns the open calls of a robot, the innermost first, each {line, name, variables, frames}: the last says how many frames are
+ * open with it. A frame of a call whose arguments are being worked out is none yet: it has no address to return to.
  */
 export function callsOf(code, {address, frames, words}) {
     const calls = [];
@@ -96,7 +96,7 @@ export function callsOf(code, {address, frames, words}) {
     for (const [depth, {base, back}] of [...frames.entries()].reverse()) {
         if (depth === 0 || back > 0) {
             const {name, variables} = code.functionOf(at);
-            calls.push({line: code.lines[at], name, variables: valuesOf(variables, words.slice(base))});
+            calls.push({line: code.lines[at], name, variables: valuesOf(variables, words.slice(base)), frames: depth + 1});
             at = back - 1;
         }
     }

@@ -3,7 +3,6 @@ import {ask, buttonOf} from "./asking.js";
 import {checked} from "./battles.js";
 import {Caller} from "./calling.js";
 import {makeEditor} from "./editor.js";
-import {takesModule} from "./engine.js";
 import {onDrop, robotsOf, save} from "./files.js";
 import {Finder} from "./finding.js";
 import {helpWriting} from "./helping.js";
@@ -128,6 +127,19 @@ function lack(text) {
     byId("main").hidden = true;
     byId("lacking").textContent = text;
     byId("lacking").hidden = false;
+}
+
+/** Returns whether this browser takes the module, by a small one: it copies memory, and extends the sign of a BigInt. */
+function takesModule() {
+    // one function from i64 to i64: i32.const 0, three times, memory.copy; local.get 0, i64.extend8_s
+    const bytes = new Uint8Array([0, 97, 115, 109, 1, 0, 0, 0, 1, 6, 1, 96, 1, 126, 1, 126, 3, 2, 1, 0, 5, 3, 1, 0, 0,
+        7, 5, 1, 1, 102, 0, 0, 10, 17, 1, 15, 0, 65, 0, 65, 0, 65, 0, 252, 10, 0, 0, 32, 0, 194, 11]);
+    try {
+        const {exports} = new WebAssembly.Instance(new WebAssembly.Module(bytes));
+        return exports.f(BigInt(129)) === BigInt(-127);
+    } catch {
+        return false;
+    }
 }
 
 /** Returns whether the browser has all that the page needs; the page says what that is until a script hides it. */

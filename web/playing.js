@@ -1,6 +1,6 @@
 // The settings, the run of a battle with its report, and the match that is watched.
 import {copyOf, isSeed} from "./battles.js";
-import {Ending, Limits} from "./engine.js";
+import {Ending, Limits} from "./limits.js";
 import {Inside} from "./insides.js";
 import {Screen} from "./replays.js";
 import {Report} from "./reports.js";

@@ -2,7 +2,7 @@
 //
 // The report of a match is the same in each series that has it. So the reports of pieces, one after another, are those of
 // the whole series, and its totals are the sums of theirs.
-import {Ending} from "./engine.js";
+import {Ending} from "./limits.js";
 import {STOPPED} from "./calling.js";
 
 // a series of at most this number of matches is one piece, and its report is the engine's as it stands

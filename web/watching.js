@@ -1,5 +1,5 @@
 // Watches a match: has it filmed, and shows the film.
-import {Ending} from "./engine.js";
+import {Ending} from "./limits.js";
 import {STOPPED} from "./calling.js";
 import {UPDATE_CYCLES} from "./player/terms.js";
 

@@ -1,6 +1,6 @@
 // The robots of the battle: a tab for each, its name, its source, its listing and its first fault.
 import {adviceOf} from "./advice.js";
-import {Limits, Ending} from "./engine.js";
+import {Limits, Ending} from "./limits.js";
 import {showExplanation, warningsOf} from "./explaining.js";
 import {Listing, linesOf} from "./listings.js";
 import {cleanName, freeName, nameInWork} from "./names.js";

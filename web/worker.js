@@ -1,5 +1,6 @@
 // Runs the engine beside the page, so that the page stays alive while matches are played and their films are read.
-import {Ending, Engine} from "./engine.js";
+import {Engine} from "./engine.js";
+import {Ending} from "./limits.js";
 import {cyclesOf, filmOf, isFilm} from "./player/films.js";
 
 const FILMS = ["film", "windows"];

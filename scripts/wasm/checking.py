@@ -7,7 +7,8 @@ sections and by instructions. The lowered one may differ from the wide one in th
 - the place of a piece of data is a constant of 32 bits, and the same number
 - sections for tools are gone
 - each function has three more locals after its own, which nothing but the accesses uses
-- each access to the memory is the same, with its address wrapped, and its count if it is a copy or a fill
+- each access to the memory is the same, with its address wrapped, and its count if it is a copy or a fill; if the instruction
+  before a store only puts its value on the stack, the wrap stands before that one, where the address is on top as well
 - an exported function begins with a test of each 64-bit argument: one that isn't below the memory's size ends the call
 - numbers in code may be written shorter
 
@@ -27,6 +28,7 @@ TYPES, FUNCTIONS, MEMORIES, EXPORTS, CODE, DATA = 1, 3, 5, 7, 10, 11
 
 Instruction = tuple[int, ...]
 UNREACHABLE, IF, END, GET, SET, TEE, SIZE, CONST_32, CONST_64 = 0x00, 0x04, 0x0B, 0x20, 0x21, 0x22, 0x3F, 0x41, 0x42
+GLOBAL = 0x23
 NOT_BELOW, SHIFT_LEFT, WRAP, EXTEND, BULK, COPY, FILL = 0x5A, 0x86, 0xA7, 0xAD, 0xFC, 10, 11
 NO_RESULT = -64
 BLOCKS = (0x02, 0x03, IF)
@@ -39,6 +41,8 @@ PLAIN = {UNREACHABLE, 0x01, 0x05, END, 0x0F, 0x1A, 0x1B, WRAP, 0xAC, EXTEND}
 PLAIN.update(range(0x45, 0x5B), range(0x67, 0x8B), range(0xC0, 0xC5))
 LOADS = {0x28, 0x29, 0x2C, 0x2D, 0x2E, 0x2F, 0x30, 0x31, 0x32, 0x33, 0x34, 0x35}
 STORES_32, STORES_64 = {0x36, 0x3A, 0x3B}, {0x37, 0x3C, 0x3D, 0x3E}
+# these put one value on the stack, and take none
+VALUES = (GET, GLOBAL, CONST_32, CONST_64)
 
 
 class Refused(Exception):
@@ -58,6 +62,10 @@ class Walk:
     @property
     def is_over(self) -> bool:
         return self.at == self.end
+
+    @property
+    def is_before_store(self) -> bool:
+        return not self.is_over and self.data[self.at] in STORES_32 | STORES_64
 
     @property
     def rest(self) -> bytes:
@@ -186,7 +194,8 @@ def check_function(wide: Walk, low: Walk, parameters: bytes, is_exported: bool) 
     while not wide.is_over:
         it = instruction(wide, True)
         require(it[0] not in LOCALS or it[1] < count, "a local that isn't the function's own")
-        expect(low, lowered(it, count, count + 1, count + 2))
+        is_value = it[0] in VALUES and wide.is_before_store
+        expect(low, [(WRAP,), it, instruction(wide, True)] if is_value else lowered(it, count, count + 1, count + 2))
     require(low.is_over, "code after the end")
 
 

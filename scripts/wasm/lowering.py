@@ -1,8 +1,8 @@
 """Lowers a WebAssembly module: its 64-bit memory becomes a 32-bit one, which every browser has.
 
 The code goes on computing addresses with 64 bits. Right before a load, a store, a copy or a fill its address is wrapped
-to 32 bits. What stands above the address on the stack waits in a local meanwhile, so each function gets three more. An
-exported function begins with tests: the call ends if an argument of 64 bits isn't below the memory's size, since as an
+to 32 bits. If one instruction puts the value of a store on the stack, the address is wrapped before that one. Else what
+stands above the address on the stack waits in a local meanwhile, so each function gets three more. An exported function begins with tests: the call ends if an argument of 64 bits isn't below the memory's size, since as an
 address it could wrap to one inside.
 
 The linker leaves room in many numbers. All are written anew, as short as they can be. Sections for tools alone, such as
@@ -17,7 +17,9 @@ CUSTOM, TYPE, FUNCTION, MEMORY, GLOBAL, EXPORT, CODE, DATA, DATA_COUNT = 0, 1, 3
 WIDE, HAS_MOST = 4, 1
 FUNCTION_TYPE, I32, I64 = 0x60, 0x7F, 0x7E
 
-END, LOCAL_GET, LOCAL_SET, I32_CONST, I64_CONST = 0x0B, 0x20, 0x21, 0x41, 0x42
+END, LOCAL_GET, LOCAL_SET, GLOBAL_GET, I32_CONST, I64_CONST = 0x0B, 0x20, 0x21, 0x23, 0x41, 0x42
+# what puts a value on the stack and takes none from it
+VALUES = (LOCAL_GET, GLOBAL_GET, I32_CONST, I64_CONST)
 WRAP = b"\xa7"
 # memory.size, i64.extend_i32_u, i64.const 16, i64.shl, i64.ge_u, if, unreachable, end
 END_IF_OUTSIDE = b"\x3f\0\xad\x42\x10\x86\x5a\x04\x40\0\x0b"
@@ -26,7 +28,8 @@ END_IF_OUTSIDE = b"\x3f\0\xad\x42\x10\x86\x5a\x04\x40\0\x0b"
 PREFIX, COPY, FILL = 0xFC, 0xFC0A, 0xFC0B
 LOADS = (0x28, 0x29, *range(0x2C, 0x36))
 STORES_OF_I32, STORES_OF_I64 = (0x36, 0x3A, 0x3B), (0x37, 0x3C, 0x3D, 0x3E)
-ACCESSES = (*LOADS, *STORES_OF_I32, *STORES_OF_I64, COPY, FILL)
+STORES = (*STORES_OF_I32, *STORES_OF_I64)
+ACCESSES = (*LOADS, *STORES, COPY, FILL)
 # what follows an opcode: an unsigned number (u), a signed one (s), a count with as many numbers (v)
 IMMEDIATES = {
     # unreachable, nop, else, end, return, drop, select; comparisons, arithmetic and conversions of integers
@@ -38,7 +41,7 @@ IMMEDIATES = {
     **dict.fromkeys((0x0C, 0x0D, 0x10, *range(0x20, 0x25)), "u"),
     # br_table
     0x0E: "vu",
-    **dict.fromkeys((*LOADS, *STORES_OF_I32, *STORES_OF_I64, COPY), "uu"),
+    **dict.fromkeys((*LOADS, *STORES, COPY), "uu"),
     FILL: "u",
 }
 
@@ -163,6 +166,17 @@ def lowered_instruction(it: Instruction, spare: Spare) -> bytes:
     return b"".join([*away, WRAP, *back, it.written()])
 
 
+def lowered_instructions(reader: Reader, spare: Spare) -> Iterator[bytes]:
+    """A function's instructions, with addresses wrapped."""
+    it, is_wrapped = Instruction.read(reader), False
+    while not reader.is_at_end():
+        after = Instruction.read(reader)
+        is_value = it.opcode in VALUES and after.opcode in STORES
+        yield WRAP + it.written() if is_value else it.written() if is_wrapped else lowered_instruction(it, spare)
+        it, is_wrapped = after, is_value
+    yield it.written()
+
+
 def lowered_function(body: bytes, parameters: bytes, is_exported: bool) -> bytes:
     """A function's locals and code."""
     reader = Reader(body)
@@ -170,10 +184,9 @@ def lowered_function(body: bytes, parameters: bytes, is_exported: bool) -> bytes
     count = len(parameters) + sum(number for number, _ in groups)
     spare = Spare(count, count + 1, count + 2)
     arguments = [number for number, kind in enumerate(parameters) if kind == I64] if is_exported else []
-    code = [local(LOCAL_GET, number) + END_IF_OUTSIDE for number in arguments]
-    while not reader.is_at_end():
-        code.append(lowered_instruction(Instruction.read(reader), spare))
-    return vector([unsigned(number) + bytes([kind]) for number, kind in [*groups, (2, I32), (1, I64)]]) + b"".join(code)
+    tests = [local(LOCAL_GET, number) + END_IF_OUTSIDE for number in arguments]
+    locals_ = vector([unsigned(number) + bytes([kind]) for number, kind in [*groups, (2, I32), (1, I64)]])
+    return b"".join([locals_, *tests, *lowered_instructions(reader, spare)])
 
 
 def parameters_of(parts: dict[int, bytes]) -> list[bytes]:

@@ -30,4 +30,5 @@ async function answer({packed, text, names, moments = [], steps = []}) {
     }
 }
 
-console.log(JSON.stringify(await Promise.all(JSON.parse(fs.readFileSync(0, "utf8")).map(answer))));
+const plain = (_, value) => ArrayBuffer.isView(value) ? [...value] : value;
+console.log(JSON.stringify(await Promise.all(JSON.parse(fs.readFileSync(0, "utf8")).map(answer)), plain));

@@ -21,11 +21,11 @@ SECONDS = 100
 READ = {
     "first": 0, "cycles": 300, "goesOn": False,
     "robots": [
-        {"name": "a.r", "death": None,
+        {"name": "a.r", "death": None, "restarts": [],
          "path": {"cycle": [0, 45, 180], "x": [1000, 1000, 1000], "y": [5000, 5000, 5000], "heading": [0, 0, 0], "speed": [0, 0, 0]},
          "damage": {"cycle": [0, 180], "percent": [0, 2]},
          "scans": {"cycle": [6], "degree": [0], "resolution": [10], "reply": [500]}},
-        {"name": "<b>.r", "death": None,
+        {"name": "<b>.r", "death": None, "restarts": [160],
          "path": {"cycle": [0, 45, 150, 165, 180], "x": [6000, 6000, 6350, 6400, 6400], "y": [5000] * 5,
                   "heading": [0, 0, 0, 90, 90], "speed": [0, 50, 50, 0, 0]},
          "damage": {"cycle": [0, 150, 165, 180], "percent": [0, 5, 7, 9]},

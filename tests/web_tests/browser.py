@@ -370,22 +370,28 @@ def first_draw(page: Page) -> float:
     return least
 
 
-def speed(page: Page) -> list[str]:
-    """The first draw comes within 0.3 seconds, and a match of 100,000 cycles within one."""
+def drawn_soon(page: Page) -> list[str]:
+    """The first draw comes within 0.3 seconds."""
     drawn = first_draw(page)
+    print(f"the page is drawn in {page.driver.name} after {drawn:.0f} ms")
+    return [f"first draw after {drawn:.0f} ms"] if drawn > MOST_TO_DRAW else []
+
+
+def speed(page: Page) -> list[str]:
+    """A match of 100,000 cycles takes a second at most."""
     scanner = b"main(){int d;while(1){scan(d,10);d+=10;}}"
     page.show(Battle([("a.r", scanner), ("b.r", scanner)], Settings(limit=100_000)))
     report = page.run()
     took = float(page.text("said").split()[2])
-    print(f"the page is drawn after {drawn:.0f} ms; 100,000 cycles take {took} s")
-    played = report.startswith("Match 1: cycles = 100000\n")
-    return ([f"first draw after {drawn:.0f} ms"] if drawn > MOST_TO_DRAW else []) + ([] if took <= 1 and played else [f"100,000 cycles in {took} s: {report}"])
+    print(f"100,000 cycles take {took} s")
+    return [] if took <= 1 and report.startswith("Match 1: cycles = 100000\n") else [f"100,000 cycles in {took} s: {report}"]
 
 
 def results(crobots: str, _stages: str, folder: str) -> Iterator[tuple[str, list[str]]]:
     """The tests' names, and what is wrong."""
     with served(folder) as address, chromium() as driver:
         page = Page(driver, address)
+        yield "first draw", drawn_soon(page)
         yield "speed", speed(page)
         yield "samples", reports(page, crobots, sample_battles())
         yield "vectors", reports(page, crobots, [it for it in vectors("battles", "profiles") if it.call == "run"])

@@ -12,12 +12,25 @@ from .pages import Page
 LOOKER = ("looker.r", b"int seen;\nmain() {\n  int a;\n  while (1) {\n    a = scan(0, 5);\n    seen = seen + 1;\n  }\n}\n")
 # calls a function in its cycle 3, which goes on
 CALLER = ("caller.r", b"main() {\n  down(7);\n}\ndown(n) {\n  int m;\n  while (1)\n    m = m + n;\n}\n")
+# Calls a function in each turn of 20 cycles. CONST 1 and BRANCH of line 2; FRAME, CONST 3, FCALL twice of line 3; FETCH, FETCH, BINOP +,
+# STORE n, CHOP of line 8; FETCH and RETSUB of line 9; CHOP of line 3; FRAME, CONST 0, CONST 0, FCALL drive, CHOP of line 4; and back by
+# CONST 0 and BRANCH of line 2
+STEPPER = ("stepper.r", b"main() {\n  while (1) {\n    twice(3);\n    drive(0, 0);\n  }\n}\ntwice(n) {\n  n = n + n;\n  return n;\n}\n")
+SHIFT, F10, F11 = "\ue008", "\ue03a", "\ue03b"
+KEYS = {F10: "F10", F11: "F11", SHIFT + F11: "F11"}
+# keys, or a button, and the cycle and the place to which they lead, with a mark at line 3
+STEPS = [
+    (F11, 2, "line 3, main"), (F11, 5, "line 8, twice"), (F10, 10, "line 9, twice"), (F10, 12, "line 3, main"), (F10, 13, "line 4, main"),
+    (F11, 18, "line 2, main"), (F11, 20, "line 2, main"), (F11, 22, "line 3, main"), (F10, 33, "line 4, main"), ("[", 22, "line 3, main"),
+    ("step-into", 25, "line 8, twice"), (SHIFT + F11, 32, "line 3, main"), ("[", 22, "line 3, main"), ("step-over", 33, "line 4, main"),
+    ("line-before", 22, "line 3, main"), (F11, 25, "line 8, twice"), ("step-out", 32, "line 3, main"),
+]
 
 
-def opened(page: Page, limit: int = 100) -> None:
-    """Watches a match of the two robots with the panel open."""
+def opened(page: Page, limit: int = 100, first: tuple[str, bytes] = LOOKER) -> None:
+    """Watches a match of two robots with the panel open."""
     page.fresh()
-    page.show(Battle([LOOKER, CALLER], Settings(limit=limit)))
+    page.show(Battle([first, CALLER], Settings(limit=limit)))
     page.watch(1)
     page.js("document.getElementById('inside').open = true")
     page.wait("return document.getElementById('inside-at').textContent.startsWith('Cycle 0 ')")
@@ -81,8 +94,28 @@ def calls(page: Page) -> list[str]:
     return wrong + differ(arrived(page, 30)[0].endswith(" · the match is over"), True)
 
 
+def steps(page: Page) -> list[str]:
+    """Into a call, over it, and out of it, by keys of which the browser gets none, and by buttons; from main there is no way out."""
+    opened(page, first=STEPPER)
+    page.js("window.keys = []; addEventListener('keydown', event => window.keys.push([event.key, event.defaultPrevented]));"
+            "document.querySelectorAll('#inside-source button')[2].click(); document.getElementById('inside-source').focus()")
+    wrong = []
+    for step, cycle, place in STEPS:
+        if step.startswith(("step-", "line-")):
+            page.click(step)
+        else:
+            page.driver.switch_to.active_element.send_keys(step)
+        wrong += differ(arrived(page, cycle)[0], f"Cycle {cycle} · {place}")
+    page.driver.switch_to.active_element.send_keys(SHIFT + F11)
+    page.wait("return document.getElementById('inside-said').textContent")
+    wrong += differ(page.text("inside-said"), "Nothing: after this cycle it doesn't come to the end of this call.")
+    pressed = [[KEYS[step], True] for step, _, _ in [*STEPS, (SHIFT + F11, 0, "")] if step in KEYS]
+    return wrong + differ(page.js("return window.keys.filter(([key]) => key.startsWith('F'))"), pressed)
+
+
 def results(page: Page) -> Iterator[tuple[str, list[str]]]:
     """The tests' names, and what is wrong."""
     yield "moments inside", moments(page)
     yield "lines inside", lines(page)
     yield "calls inside", calls(page)
+    yield "steps inside", steps(page)

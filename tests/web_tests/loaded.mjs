@@ -4,9 +4,11 @@ import os from "node:os";
 import path from "node:path";
 import {pathToFileURL} from "node:url";
 
-// an older Node takes a file whose name ends in .js for no module, so a copy is loaded
+// Node takes a file whose name ends in .js for a module if one beside it says so; web/ has none, so a copy is loaded
 const folder = fs.mkdtempSync(path.join(os.tmpdir(), "engine-"));
-const copy = path.join(folder, "engine.mjs");
-fs.copyFileSync(new URL("../../web/engine.js", import.meta.url), copy);
-export const {Engine} = await import(pathToFileURL(copy));
+fs.writeFileSync(path.join(folder, "package.json"), '{"type": "module"}');
+for (const name of ["engine.js", "limits.js"]) {
+    fs.copyFileSync(new URL(`../../web/${name}`, import.meta.url), path.join(folder, name));
+}
+export const {Engine} = await import(pathToFileURL(path.join(folder, "engine.js")));
 fs.rmSync(folder, {recursive: true});

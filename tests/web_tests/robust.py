@@ -18,7 +18,7 @@ FIELD = "document.querySelector('#writing textarea:not([style*=none])')"
 BOMB = 60_000_000
 DISGUISED = "live.r\n  1) won 9 tied 0 lost 0 \u202egnp.evil\u2066\x07"
 # what a browser loads to play, and what else lies beside it to be read
-MOST_BYTES, MOST_PACKED = 800_000, 245_000
+MOST_BYTES, MOST_PACKED = 800_000, 240_000
 MOST_READ, MOST_READ_PACKED = 200_000, 70_000
 # pages to read that lie beside the page, and not in the folder of the others
 BESIDE = ("manual.html", "about.html")
@@ -153,14 +153,19 @@ def about(folder: str) -> list[str]:
     return wrong + [f"nothing of {it}" for it in told if it not in text]
 
 
+def hostile_links(page: Page) -> Iterator[tuple[str, list[str]]]:
+    """The tests of links that are no good."""
+    yield "robust: a link that is a bomb", bomb(page)
+    yield "robust: names in disguise", disguises(page)
+    yield "robust: strange settings", strange_settings(page)
+
+
 def results(page: Page, folder: str) -> Iterator[tuple[str, list[str]]]:
     """The tests' names, and what is wrong."""
     yield "robust: a missing part of the editor", plain(page, folder)
     yield "robust: missing data", no_data(page, folder)
     yield "robust: a worker that dies", dying(page)
-    yield "robust: a link that is a bomb", bomb(page)
-    yield "robust: names in disguise", disguises(page)
-    yield "robust: strange settings", strange_settings(page)
+    yield from hostile_links(page)
     yield "robust: the policy", policy(page, folder)
     yield "robust: size and zip", size(folder)
     yield "robust: about", about(folder)

@@ -11,6 +11,8 @@ from .pages import Page
 MIRROR = "document.querySelector('.CodeMirror').CodeMirror"
 # windows of a usual laptop, a large screen, a phone
 WINDOWS = ((1366, 651), (1920, 1000), (360, 640), (683, 651))
+# seconds of a processor
+MOST_FOR_ROWS = 0.75
 FAULTY = "main()\n{\n  while (1)\n    break;\n}\n"
 
 
@@ -186,16 +188,22 @@ def long_text(page: Page) -> list[str]:
     return [] if right and said.startswith("Done in") else [f"{said} {tail}"]
 
 
+def busy(page: Page) -> float:
+    """How many seconds of a processor the page's own thread has taken so far."""
+    page.driver.execute_cdp_cmd("Performance.enable", {"timeDomain": "threadTicks"})
+    metrics = page.driver.execute_cdp_cmd("Performance.getMetrics", {})["metrics"]
+    return float(next(it["value"] for it in metrics if it["name"] == "TaskDuration"))
+
+
 def rows(page: Page) -> list[str]:
-    """A film of 700,000 rows doesn't freeze the page: no moment of it takes a second and a half."""
+    """A film of 700,000 rows doesn't freeze the page: all that it does for it, of which no moment takes longer, is less than a second."""
     page.show(Battle([("idle.r", b"main(){while(1);}"), ("done.r", b"main()\n{\n}\n")], Settings(limit=1_390_000)))
-    page.js("window.longest = 0; let last = performance.now();"
-            "window.ticking = setInterval(() => { const now = performance.now(); window.longest = Math.max(window.longest, now - last); last = now; }, 5)")
+    before = busy(page)
     page.watch(1)
-    longest = page.js("clearInterval(window.ticking); return window.longest")
+    took = busy(page) - before
     count = page.js("return document.getElementById('film').contentWindow.player.match.restarts.cycle.length")
-    print(f"a film of {count:,} restarts keeps the page for {longest:.0f} ms")
-    return [] if count >= 690_000 and longest < 1500 else [f"{count} restarts, {longest:.0f} ms"]
+    print(f"a film of {count:,} restarts keeps the page's thread for {took:.2f} s of a processor in all")
+    return [] if count >= 690_000 and took < MOST_FOR_ROWS else [f"{count} restarts, {took:.2f} s"]
 
 
 def found(page: Page) -> list[str]:

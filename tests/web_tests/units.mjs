@@ -106,13 +106,14 @@ const PLACES = `address\trobot\tkind\tline\tcolumn\n${[3, 3, 3, 3, 3, 3, 3, 3, 3
 const code = new Code(LISTING, PLACES);
 check("names in instructions", [0, 4, 10, 11].map(at => code.nameIn(at)), ["", "f", "n", "seen"]);
 check("where lines begin", [[3], [4], [3, 4], [2]].map(lines => code.entriesOf(new Set(lines))), [[0], [10], [0, 10], []]);
+check("where any line begins", code.entriesOf(), [0, 10]);
 const ROWS = "cycle\trobot\tkind\ta\tb\tc\td\te\n";
 const inside = momentOf(`${ROWS}6\t1\tmoment\t11\t0\t1\t0\n6\t1\tasks\tscan\t2\t30\t-5\n2\t1\tasked\tdamage\t0\t7\t8\t-9
 6\t1\tframe\t0\t0\n6\t1\tframe\t0\t5\n6\t1\tframe\t1\t0\n6\t1\tword\t2\n6\t1\tword\t3\n6\t1\texternal\t4\n`);
 check("a moment", [inside.cycle, inside.address, inside.isAlive, inside.isOver, inside.asks, inside.asked, inside.words, inside.externals],
     [6, 11, true, false, "scan(30, -5)", {cycle: 2, call: "damage()", reply: -9}, [2, 3], [4]]);
 // the frame that was opened last is of a call whose arguments are being worked out
-check("open calls of a robot", callsOf(code, inside), [{line: 4, name: "f", variables: [{name: "n", value: 2}]}, {line: 3, name: "main", variables: []}]);
+check("open calls of a robot", callsOf(code, inside), [{line: 4, name: "f", variables: [{name: "n", value: 2}], frames: 2}, {line: 3, name: "main", variables: [], frames: 1}]);
 check("externals", valuesOf(code.externals, inside.externals), [{name: "seen", value: 4}]);
 check("no moment, and what was found", [momentOf(ROWS), foundIn(ROWS), foundIn(`${ROWS}8\t1\tfound\n`)], [null, null, 8]);
 

@@ -11,7 +11,7 @@ import subprocess
 import tempfile
 from typing import Any, Iterator
 
-from . import browser, everyone, paths, robust
+from . import browser, everyone, inside, paths, robust
 from .battles import random_battles, sample_battles
 from .pages import Page, served
 
@@ -91,6 +91,7 @@ def results(crobots: str, _stages: str, folder: str) -> Iterator[tuple[str, list
     """The tests' names, and what is wrong."""
     with display(), style(), served(folder) as address, webkit() as driver:
         page = Page(driver, address)
+        yield "first draw", browser.drawn_soon(page)
         page.open()
         yield "samples", browser.reports(page, crobots, sample_battles())
         yield "random robots", browser.reports(page, crobots, random_battles(30, 7))
@@ -106,6 +107,9 @@ def results(crobots: str, _stages: str, folder: str) -> Iterator[tuple[str, list
         yield "a stopped series", browser.stopped(page, crobots)
         yield "widths", everyone.widths(page)
         yield "keys", browser.keys(page)
+        yield from inside.results(page)
         yield from paths.results(page, folder)
         yield "the page as a file", browser.story(page, crobots, folder, webkit)
         yield "a plain text field", robust.plain(page, folder)
+        yield "missing data", robust.no_data(page, folder)
+        yield from robust.hostile_links(page)

@@ -34,9 +34,9 @@ function farness(shot, cycle, x, y) {
 
 const placeOf = (...numbers) => numbers.join();
 
-/** Rows as a list for each of their columns. */
+/** Rows of whole numbers as a list for each of their columns. Such lists are handed from a worker to a page by their bytes, at once. */
 function columns(names, rows) {
-    return Object.fromEntries(names.split(" ").map((name, at) => [name, rows.map(row => row[at])]));
+    return Object.fromEntries(names.split(" ").map((name, at) => [name, Int32Array.from(rows.map(row => row[at]))]));
 }
 
 /** What the rows of a film have said so far. Each kind of row has a method. */
@@ -64,7 +64,7 @@ class Rows {
     }
 
     name(_cycle, robot, [name]) {
-        this.robots[robot - 1] ??= {name, places: [], damages: [], scans: [], death: null};
+        this.robots[robot - 1] ??= {name, places: [], damages: [], scans: [], restarts: [], death: null};
     }
 
     damaged(cycle, robot, percent) {
@@ -141,6 +141,7 @@ class Rows {
         const text = why.join("\t");
         this.whys.set(text, this.whys.get(text) ?? this.whys.size);
         this.restarts.push([cycle, robot, this.whys.get(text)]);
+        this.robots[robot - 1].restarts.push(cycle);
     }
 
     death(cycle, robot) {
@@ -164,9 +165,10 @@ class Rows {
     }
 }
 
-function robotOf({name, places, damages, scans, death}) {
+function robotOf({name, places, damages, scans, restarts, death}) {
     return {
         name, death,
+        restarts: Int32Array.from(restarts),
         path: columns("cycle x y heading speed", places),
         damage: columns("cycle percent", damages),
         scans: columns("cycle degree resolution reply", scans),
@@ -185,8 +187,8 @@ export function isFilm(text) {
 
 /**
  * Reads a film. Robots have these names, or else those that the film tells. Returns the film's `first` and last cycle, `cycles`;
- * whether the match `goesOn` after it; and what happened, as a list for each column: of each of the `robots` its `path`, `damage`
- * and `scans`; `shots`, `hurts` and `restarts`, and the `whys` of these.
+ * whether the match `goesOn` after it; and what happened, as a list for each column: of each of the `robots` its `path`, `damage`,
+ * `scans` and the cycles of its `restarts`; `shots`, `hurts` and `restarts`, and the `whys` of these.
  */
 export function filmOf(text, names = []) {
     const [header, ...lines] = text.trimEnd().split("\n");

@@ -8,7 +8,7 @@ import {Kind, UPDATE_CYCLES} from "./terms.js";
 const TRAIL = 40 * UPDATE_CYCLES;
 const CAUSES = {words: "its stack is full", frames: "too many calls are open", returned: "main returned"};
 
-/** The cycles of the events that happened to a robot of this number; the number 0 is any robot. */
+/** The cycles of the hits of a robot of this number; the number 0 is any robot. */
 function cyclesOf({cycle, robot}, number) {
     return number ? cycle.filter((_, at) => robot[at] === number) : cycle;
 }
@@ -22,8 +22,7 @@ export class Match {
     /** The match of a film, as `filmOf` reads it. */
     constructor(film) {
         Object.assign(this, film);
-        this.robots = film.robots.map((robot, at) => ({...robot, number: at + 1, restarts: []}));
-        this.restarts.cycle.forEach((cycle, at) => this.robots[this.restarts.robot[at] - 1].restarts.push(cycle));
+        this.robots = film.robots.map((robot, at) => ({...robot, number: at + 1}));
         const {cycle, burst} = this.shots;
         this.longestFlight = burst.reduce((most, end, at) => Math.max(most, end - cycle[at]), 0);
         this.events = this.#events();
@@ -54,7 +53,7 @@ export class Match {
 
     /** The next cycle after one in which a robot restarts; none at the end. */
     restartAfter(cycle, number = 0) {
-        const cycles = cyclesOf(this.restarts, number);
+        const cycles = number ? this.robots[number - 1].restarts : this.restarts.cycle;
         return cycles[countAtMost(cycles, cycle)];
     }
 

@@ -21,10 +21,13 @@ export function merged(lists) {
     const all = {cycle: new Int32Array(size), list: new Uint8Array(size), row: new Uint32Array(size)};
     const next = lists.map(() => 0);
     for (let at = 0; at < size; at++) {
-        let least = -1;
-        lists.forEach((list, number) => {
-            if (next[number] < list.length && (least < 0 || list[next[number]] < lists[least][next[least]])) least = number;
-        });
+        let least = 0;
+        for (let number = 0, first = Infinity; number < lists.length; number++) {
+            if (next[number] < lists[number].length && lists[number][next[number]] < first) {
+                first = lists[number][next[number]];
+                least = number;
+            }
+        }
         all.cycle[at] = lists[least][next[least]];
         all.list[at] = least;
         all.row[at] = next[least]++;

@@ -1,0 +1,19 @@
+// What the page and its engine in the worker agree on: the limits of a run, and how one ends.
+
+/**
+ * How a run ended, as the program's exit status says it; 2 means that the engine refused the order, and 6 that a match goes
+ * on after the windows that were filmed.
+ */
+export const Ending = Object.freeze({DONE: 0, FAULTY: 1, REFUSED: 2, UNREAD: 3, FULL: 4, GOES_ON: 6});
+
+/** The limits of a run. */
+export const Limits = Object.freeze({
+    robots: 4,
+    nameBytes: 255,
+    // one more than a source may have: of a longer one this much is enough to be refused
+    sourceBytes: 1048577,
+    matches: 1000000,
+    cycles: 1000000000,
+    first: 1000000,
+    seed: (1n << 64n) - 1n,
+});
