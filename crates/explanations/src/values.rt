@@ -26,10 +26,7 @@ pub fn warn_of_operator(out: &mut Warnings, subject: &Subject<'_>, index: usize,
         out.tell(node.token, words);
     }
     if is_masked(nodes, op, node, left, right) {
-        out.tell(
-            right.token,
-            "this is compared first: write `(a & b) == c`",
-        );
+        out.tell(right.token, "this is compared first: write `(a & b) == c`");
     }
     if op == Op::Multiply && !has_value(nodes, PARTS) {
         warn_of_parts(out, left);
