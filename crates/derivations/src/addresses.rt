@@ -2,8 +2,8 @@
 
 ghost use Rattle.std.specs.Prelude.{◌≡◌, ◌≤◌, ◌==◌, length, slice_get};
 
-use crate::locations::Finder;
-use crate::trackers::{Tracker, place_of};
+use crate::locations::{Finder, Located};
+use crate::steps::{Automaton, StepEnd, place_of};
 use arrayvec::ArrayVec;
 use grammar::Profile;
 use std::marker::Model;
@@ -68,6 +68,42 @@ impl SourcePositions {
     {
         self.places.as_slice()
     }
+
+    /// Does all steps of a derivation up to the one that passes the next token, and keeps the position of each
+    /// instruction that they make. Answers whether that token fits, and there is room.
+    fn pass(
+        &mut self,
+        automaton: &mut Automaton,
+        profile: Profile,
+        next: &Located,
+        after: &Located,
+    ) -> bool {
+        let place = automaton.place();
+        for _ in 0..u64::MAX {
+            let is_kept = self.keep(automaton, profile, next);
+            if !is_kept || automaton.step(next, after) != StepEnd::Stepped {
+                return false;
+            }
+            if automaton.place() > place {
+                return true;
+            }
+        }
+        false
+    }
+
+    /// Keeps the position of each instruction that the next step makes. Answers whether there was room.
+    fn keep(&mut self, automaton: &Automaton, profile: Profile, next: &Located) -> bool {
+        let emission = automaton.emission(&next.token);
+        let place = automaton.origin(emission.origin(), next);
+        for action in emission.actions() {
+            for _ in 0..action.instructions(profile) {
+                if self.places.try_push(place).is_err() {
+                    return false;
+                }
+            }
+        }
+        true
+    }
 }
 
 /// Finds the position of each instruction of a source's program in a profile, for a source that compiles. `None` if a
@@ -78,7 +114,10 @@ pub fn lines(source: &[u8], profile: Profile) -> Option<SourcePositions> {
     let mut feed = MemoryFeed::new(source, WINDOW_BYTES);
     let mut cursor = Cursor::open(&mut feed).ok()?;
     let mut finder = Finder::new(source);
-    let mut tracker = Tracker::start(profile);
+    let mut automaton = Automaton::start();
+    let mut found = SourcePositions {
+        places: ArrayVec::new(),
+    };
     let mut next = finder.place(cursor.peek());
     for _ in 0..MOST_SOURCE_BYTES + 2 {
         let is_last = cursor.peek().token.is_last();
@@ -87,21 +126,16 @@ pub fn lines(source: &[u8], profile: Profile) -> Option<SourcePositions> {
         } else {
             finder.place(cursor.after())
         };
-        if !tracker.pass(&next, &after) {
+        if !found.pass(&mut automaton, profile, &next, &after) {
             return None;
         }
         if is_last {
-            return ended(tracker, place_of(&next));
+            // the final NOP comes from the end
+            found.places.try_push(place_of(&next)).ok()?;
+            return Some(found);
         }
         cursor.advance(&mut feed).ok()?;
         next = after;
     }
     None
-}
-
-/// Returns all positions: the last instruction's is the end of the source.
-fn ended(tracker: Tracker, end: SourcePosition) -> Option<SourcePositions> {
-    let mut places = tracker.into_places();
-    places.try_push(end).ok()?;
-    Some(SourcePositions { places })
 }

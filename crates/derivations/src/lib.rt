@@ -10,7 +10,6 @@ mod locations;
 mod scheme;
 mod steps;
 mod symbols;
-mod trackers;
 
 pub use addresses::{MOST_PLACES, SourcePosition, SourcePositions, lines};
 pub use candidates::{Fitting, MOST_FITTING, fitting, spelled};

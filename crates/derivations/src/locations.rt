@@ -27,6 +27,11 @@ pub struct Located {
 }
 
 impl Default for Located {
+    ghost use Rattle.std.specs.Prelude.{◌≡◌};
+    ghost use Rattle.tokens.specs.declared.located_tokens.Token.TheVariants.{End};
+
+    ghost is_default = { λ located. located.token ≡ End };
+
     fn default() -> Located {
         Located {
             token: Token::End,

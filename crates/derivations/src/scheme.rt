@@ -73,6 +73,7 @@ fn on_body(behind: [Option<Item>; 2]) -> &'static [Action] {
         Item::Part(Symbol::ElsePart) => &[Action::IfTest],
         Item::Make(SemanticAction::DecideElse) => &[Action::ElsePart],
         Item::Make(SemanticAction::Repeat) => &[Action::WhileTest],
+        // the body of a function begins without an action
         _ => &[],
     }
 }
@@ -89,6 +90,7 @@ fn on_choice(symbol: Symbol, next: &Token) -> &'static [Action] {
             // the right side of any other operator is always evaluated
             _ => &[],
         },
+        // no other choice emits an action
         _ => &[],
     }
 }

@@ -4,6 +4,7 @@ ghost use Rattle.std.specs.Prelude.{◌≡◌, ◌≢◌, ◌+◌};
 ghost use Rattle.derivations.specs.Steps.{decided_of, end_of, front_of, is_wanted, outcome_of, token_at};
 ghost use Rattle.derivations.specs.Table.{item_of};
 
+use crate::addresses::SourcePosition;
 use crate::choices::{choice, enters};
 use crate::emissions::{Emission, Origin};
 use crate::locations::Located;
@@ -14,7 +15,7 @@ use tokens::Token;
 
 /// The most items that are pending. A source has fewer up to its first fault: each of its levels,
 /// `grammar::MOST_NESTED` at most, has at most 30, three for each level of operators.
-pub(crate) const MOST_PENDING: usize = 2048;
+const MOST_PENDING: usize = 2048;
 
 /// How a step ended.
 #[derive(Clone, Copy, PartialEq, Eq)]
@@ -37,121 +38,78 @@ pub struct Pending {
     pub item: Item,
     /// The index of the token that was next as the production was chosen.
     pub chosen_at: usize,
+    // the positions of that token, and of the one after it
+    chosen: SourcePosition,
+    after_chosen: SourcePosition,
 }
 
-/// A derivation: how far it has come in the tokens of a source, what is still to match, and how many levels are open.
+/// The pushdown automaton of a derivation, which is shown two tokens at each step: what is still to match, how many
+/// tokens it has passed, and how many levels are open.
 #[derive(Drop)]
-pub struct Derivation<'a> {
-    tokens: &'a [Located],
-    place: usize,
+pub(crate) struct Automaton {
     stack: ArrayVec<Pending, MOST_PENDING>,
+    place: usize,
+    passed: SourcePosition,
     levels: usize,
 }
 
-impl<'a> Derivation<'a> {
-    /// Starts the derivation of these tokens, of which the last is the end or a lexical error.
-    pub fn start(tokens: &'a [Located]) -> Derivation<'a> {
-        let source = Pending {
+impl Automaton {
+    /// Starts before the first token of a file.
+    pub(crate) fn start() -> Automaton {
+        Automaton::over(&[Pending {
             item: Item::Part(Symbol::Source),
             chosen_at: 0,
-        };
-        Derivation::over(tokens, &[source])
+            chosen: SourcePosition::default(),
+            after_chosen: SourcePosition::default(),
+        }])
     }
 
     /// Starts at a point at which these items are still to match, the next last.
-    fn over(tokens: &'a [Located], items: &[Pending]) -> Derivation<'a> {
+    fn over(items: &[Pending]) -> Automaton {
         let mut stack = ArrayVec::new();
         let _ = stack.try_extend_from_slice(items);
-        Derivation {
-            tokens,
-            place: 0,
+        Automaton {
             stack,
+            place: 0,
+            passed: SourcePosition::default(),
             levels: 0,
         }
     }
 
-    /// Derives tokens until the one of an index is next for the first time, or one doesn't fit, or the derivation is
-    /// done.
-    pub(crate) fn reached(tokens: &'a [Located], index: usize) -> Derivation<'a> {
-        let mut derivation = Derivation::start(tokens);
-        derivation.run_to(index);
-        derivation
-    }
-
-    /// Steps on until the token of an index is next, or one doesn't fit, or the derivation is done.
-    fn run_to(&mut self, index: usize) {
-        for _ in 0..u64::MAX {
-            if self.place >= index || self.step() != StepEnd::Stepped {
-                return;
-            }
-        }
-    }
-
-    /// Reports whether all of these tokens would fit here instead of those that are left.
-    pub(crate) fn matches_all(&self, tokens: &[Located]) -> bool {
-        let mut derivation = Derivation::over(tokens, self.stack());
-        derivation.run_to(tokens.len());
-        derivation.place >= tokens.len()
-    }
-
-    /// Returns the index of the next token.
-    pub fn place(&self) -> usize {
+    /// Returns how many tokens it has passed.
+    pub(crate) fn place(&self) -> usize {
         self.place
     }
 
-    /// Returns the next token: after the last one, the end.
-    pub fn next(&self) -> Token
-        ensures { result ≡ token_at self.now.tokens.now self.now.place }
-    {
-        token_at(self.tokens, self.place)
-    }
-
-    /// Returns the token after the next one.
-    pub fn after(&self) -> Token
-        ensures { result ≡ token_at self.now.tokens.now (self.now.place + 1) }
-    {
-        token_at(self.tokens, self.place.saturating_add(1))
-    }
-
-    /// Returns the item in front, and the token at which its production was chosen.
-    pub fn front(&self) -> Option<Pending>
+    /// Returns the item in front, with the token at which its production was chosen.
+    fn front(&self) -> Option<Pending>
         ensures { result ≡ front_of self.now.stack.items }
     {
         self.stack.as_slice().last().copied()
     }
 
-    /// Returns what is still to match or to do, the next last.
-    pub fn stack(&self) -> &[Pending] {
-        self.stack.as_slice()
-    }
-
-    /// Returns how many levels are open.
-    pub fn levels(&self) -> usize {
-        self.levels
-    }
-
-    /// Returns the production of the symbol in front, if there is one.
-    pub fn production(&self) -> Option<Production> {
-        match self.front()?.item {
-            Item::Part(symbol) => choice(symbol, &self.next(), &self.after()),
-            _ => None,
-        }
-    }
-
-    /// Does one step.
-    pub fn step(&mut self) -> StepEnd
-        ensures { result ≢ StepEnd.Full → result ≡ outcome_of (front_of self.old.stack.items)
-            (token_at self.old.tokens.now self.old.place) (token_at self.old.tokens.now (self.old.place + 1)) }
+    /// Does one step, by the next token and the one after it.
+    pub(crate) fn step(&mut self, next: &Located, after: &Located) -> StepEnd
+        ensures { result ≢ StepEnd.Full → result ≡ outcome_of (front_of self.old.stack.items) next.now.token after.now.token }
     {
         let Some(pending) = self.front() else {
             return StepEnd::Done;
         };
-        match decided(pending.item, &self.next(), &self.after()) {
+        match decided(pending.item, &next.token, &after.token) {
             Move::Misfit => StepEnd::Misfit,
-            Move::Replace(production) => self.replace(pending.item, &production),
+            Move::Replace(production) => {
+                if let Item::Part(symbol) = pending.item {
+                    let opens = enters(symbol, &next.token, &after.token);
+                    self.levels = self.levels.saturating_add(usize::from(opens));
+                }
+                self.replace(&production, place_of(next), place_of(after))
+            }
             Move::Pass(tokens) => {
                 if pending.item == Item::Close {
                     self.levels = self.levels.saturating_sub(1);
+                }
+                if tokens > 0 {
+                    self.passed = place_of(next);
                 }
                 self.pass(tokens)
             }
@@ -167,19 +125,22 @@ impl<'a> Derivation<'a> {
         StepEnd::Stepped
     }
 
-    /// Replaces the item in front by its production.
-    fn replace(&mut self, item: Item, production: &Production) -> StepEnd
+    /// Replaces the item in front by its production, which is chosen by the tokens at these positions.
+    fn replace(
+        &mut self,
+        production: &Production,
+        chosen: SourcePosition,
+        after_chosen: SourcePosition,
+    ) -> StepEnd
         ensures { result ≢ StepEnd.Full → result ≡ StepEnd.Stepped }
     {
-        if let Item::Part(symbol) = item {
-            let opens = enters(symbol, &self.next(), &self.after());
-            self.levels = self.levels.saturating_add(usize::from(opens));
-        }
         let _ = self.stack.pop();
         for item in production.items().iter().rev() {
             let pending = Pending {
                 item: *item,
                 chosen_at: self.place,
+                chosen,
+                after_chosen,
             };
             if self.stack.try_push(pending).is_err() {
                 return StepEnd::Full;
@@ -189,34 +150,152 @@ impl<'a> Derivation<'a> {
     }
 
     /// Returns what the next step emits, by the translation scheme.
-    pub fn emission(&self) -> Emission {
+    pub(crate) fn emission(&self, next: &Token) -> Emission {
         match self.front() {
-            Some(pending) => emitted(pending.item, &self.next(), self.behind()),
+            Some(pending) => emitted(pending.item, next, self.behind()),
             None => Emission::of(&[], Origin::Next),
         }
     }
 
     /// Returns the two items after the one in front.
     fn behind(&self) -> [Option<Item>; 2] {
-        let pending = self.stack().iter().rev().skip(1);
-        let mut items = pending.map(|pending| pending.item);
-        let first = items.next();
-        [first, items.next()]
+        match self.stack.as_slice() {
+            [.., second, first, _] => [Some(first.item), Some(second.item)],
+            [first, _] => [Some(first.item), None],
+            _ => [None, None],
+        }
+    }
+
+    /// Returns the position of the token that what the next step emits comes from.
+    pub(crate) fn origin(&self, origin: Origin, next: &Located) -> SourcePosition {
+        let front = self.front().unwrap_or_default();
+        match origin {
+            Origin::Chosen => front.chosen,
+            Origin::AfterChosen => front.after_chosen,
+            Origin::Passed => self.passed,
+            Origin::Next => place_of(next),
+        }
     }
 }
 
-/// Returns the token of an index: after the last one, the end.
-fn token_at(tokens: &[Located], index: usize) -> Token
-    ensures { result ≡ token_at tokens.now index }
+/// Returns the position at which a token begins.
+pub(crate) fn place_of(token: &Located) -> SourcePosition {
+    SourcePosition {
+        line: token.line,
+        column: token.column,
+    }
+}
+
+/// A derivation: how far it has come in the tokens of a source, what is still to match, and how many levels are open.
+#[derive(Drop)]
+pub struct Derivation<'a> {
+    tokens: &'a [Located],
+    automaton: Automaton,
+}
+
+impl<'a> Derivation<'a> {
+    /// Starts the derivation of these tokens, of which the last is the end or a lexical error.
+    pub fn start(tokens: &'a [Located]) -> Derivation<'a> {
+        Derivation {
+            tokens,
+            automaton: Automaton::start(),
+        }
+    }
+
+    /// Derives tokens until the one of an index is next for the first time, or one doesn't fit, or the derivation is
+    /// done.
+    pub(crate) fn reached(tokens: &'a [Located], index: usize) -> Derivation<'a> {
+        let mut derivation = Derivation::start(tokens);
+        derivation.run_to(index);
+        derivation
+    }
+
+    /// Steps on until the token of an index is next, or one doesn't fit, or the derivation is done.
+    fn run_to(&mut self, index: usize) {
+        for _ in 0..u64::MAX {
+            if self.place() >= index || self.step() != StepEnd::Stepped {
+                return;
+            }
+        }
+    }
+
+    /// Reports whether all of these tokens would fit here instead of those that are left.
+    pub(crate) fn matches_all(&self, tokens: &[Located]) -> bool {
+        let mut derivation = Derivation {
+            tokens,
+            automaton: Automaton::over(self.stack()),
+        };
+        derivation.run_to(tokens.len());
+        derivation.place() >= tokens.len()
+    }
+
+    /// Returns the index of the next token.
+    pub fn place(&self) -> usize {
+        self.automaton.place
+    }
+
+    /// Returns the next token: after the last one, the end.
+    pub fn next(&self) -> Token
+        ensures { result ≡ token_at self.now.tokens.now self.now.automaton.place }
+    {
+        located_at(self.tokens, self.automaton.place).token
+    }
+
+    /// Returns the item in front, and the token at which its production was chosen.
+    pub fn front(&self) -> Option<Pending>
+        ensures { result ≡ front_of self.now.automaton.stack.items }
+    {
+        self.automaton.front()
+    }
+
+    /// Returns what is still to match or to do, the next last.
+    pub fn stack(&self) -> &[Pending] {
+        self.automaton.stack.as_slice()
+    }
+
+    /// Returns how many levels are open.
+    pub fn levels(&self) -> usize {
+        self.automaton.levels
+    }
+
+    /// Returns the production of the symbol in front, if there is one.
+    pub fn production(&self) -> Option<Production> {
+        let after = located_at(self.tokens, self.place().saturating_add(1));
+        match self.front()?.item {
+            Item::Part(symbol) => choice(symbol, &self.next(), &after.token),
+            _ => None,
+        }
+    }
+
+    /// Does one step.
+    pub fn step(&mut self) -> StepEnd
+        ensures { result ≢ StepEnd.Full → result ≡ outcome_of (front_of self.old.automaton.stack.items)
+            (token_at self.old.tokens.now self.old.automaton.place)
+            (token_at self.old.tokens.now (self.old.automaton.place + 1)) }
+    {
+        let next = located_at(self.tokens, self.automaton.place);
+        let after = located_at(self.tokens, self.automaton.place.saturating_add(1));
+        self.automaton.step(&next, &after)
+    }
+
+    /// Returns what the next step emits, by the translation scheme.
+    pub fn emission(&self) -> Emission {
+        self.automaton.emission(&self.next())
+    }
+}
+
+/// Returns the token of an index, with its position: after the last one, the end.
+fn located_at(tokens: &[Located], index: usize) -> Located
+    ensures { result.token ≡ token_at tokens.now index }
 {
     match tokens.get(index) {
-        Some(located) => located.token,
-        None => Token::End,
+        Some(located) => *located,
+        None => Located::default(),
     }
 }
 
 /// Reports whether a token is the one that an item wants.
-pub(crate) fn fits(item: Item, next: &Token) -> bool
+fn fits(item: Item, next: &Token) -> bool
     ensures { result ≡ is_wanted (item_of item) next.now }
 {
     match (item, *next) {
@@ -230,7 +309,7 @@ pub(crate) fn fits(item: Item, next: &Token) -> bool
 }
 
 /// What a step does with the item in front.
-pub(crate) enum Move {
+enum Move {
     /// It goes past the item, and this many tokens.
     Pass(usize),
     /// It replaces the item by this production.
@@ -240,7 +319,7 @@ pub(crate) enum Move {
 }
 
 /// Returns what a step does with an item, by the next token and the one after it.
-pub(crate) fn decided(item: Item, next: &Token, after: &Token) -> Move
+fn decided(item: Item, next: &Token, after: &Token) -> Move
     ensures { end_of result ≡ decided_of (item_of item) next.now after.now }
 {
     match item {

@@ -154,6 +154,7 @@ fn is_fixed(condition: &[Node], whole: &[Node]) -> bool {
             Kind::Fetch(var) if may_set(whole, var) => return false,
             Kind::Fetch(_) => is_read = true,
             Kind::Store(..) | Kind::Step(_) | Kind::Call(..) => return false,
+            // no other node reads or sets a variable
             _ => {}
         }
     }
@@ -175,6 +176,7 @@ fn sets(node: &Node, var: Var) -> bool {
     match node.kind {
         Kind::Store(other, _) | Kind::Step(other) => other == var,
         Kind::Call(Callee::Function(_), _) => matches!(var, Var::External(_)),
+        // no other node sets one
         _ => false,
     }
 }

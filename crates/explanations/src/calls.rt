@@ -102,71 +102,76 @@ fn on_right_side(nodes: &Nodes, index: usize) -> Option<&'static str> {
             Kind::Binary(Op::Or) if node.middle <= index => {
                 return Some(" is called whatever the left side of `||` is, in this profile");
             }
+            // the sides of every other operator are meant to be evaluated
             _ => {}
         }
     }
     None
 }
 
-/// Warns of the two arguments of the call of a node's index: in the wrong order, or a range that no shot has.
+/// Returns what is said of the order of the arguments of a function that takes two, its greatest second argument, and
+/// what is said of one that is greater.
+fn pair_of(intrinsic: Intrinsic) -> Option<(&'static str, i32, &'static str)> {
+    match intrinsic {
+        Intrinsic::Cannon => Some((
+            "the degree comes first: `cannon(degree, range)`",
+            MOST_RANGE,
+            "a shot flies at most 700 metres",
+        )),
+        Intrinsic::Drive => Some((
+            "the degree comes first: `drive(degree, speed)`",
+            MOST_SPEED,
+            "a speed is at most 100",
+        )),
+        Intrinsic::Scan => Some((
+            "the degree comes first: `scan(degree, resolution)`",
+            MOST_RESOLUTION,
+            "a resolution is at most 10 degrees",
+        )),
+        Intrinsic::Damage
+        | Intrinsic::Speed
+        | Intrinsic::LocX
+        | Intrinsic::LocY
+        | Intrinsic::Rand
+        | Intrinsic::Sqrt
+        | Intrinsic::Sin
+        | Intrinsic::Cos
+        | Intrinsic::Tan
+        | Intrinsic::Atan => None,
+    }
+}
+
+/// Warns of the two arguments of the call of a node's index: in the wrong order, or a second one that is too great.
 fn warn_of_pair(out: &mut Warnings, subject: &Subject<'_>, index: usize, intrinsic: Intrinsic) {
-    let second = index.saturating_sub(1);
     let nodes = subject.nodes;
-    let (Some(node), Some(right)) = (nodes.get(index), nodes.get(second)) else {
+    let (Some(node), Some(right), Some((order, most, beyond))) = (
+        nodes.get(index),
+        nodes.get(index.saturating_sub(1)),
+        pair_of(intrinsic),
+    ) else {
         return;
     };
     let Some(left) = nodes.get(right.first.saturating_sub(1)) else {
         return;
     };
-    let (tokens, values) = (subject.tokens, (left.value, right.value));
-    if may_be_swapped(intrinsic, values) || are_named_swapped(tokens, left, right) {
-        out.tell(node.token, order_of(intrinsic));
-    } else if let (Intrinsic::Cannon, Some(range)) = (intrinsic, right.value)
-        && range > MOST_RANGE
-    {
-        out.tell(node.token, "a shot flies at most 700 metres");
+    if are_named_swapped(subject.tokens, left, right) {
+        return out.tell(node.token, order);
+    }
+    match (left.value, right.value) {
+        (Some(first), Some(second)) if may_be_swapped(most, first, second) => {
+            out.tell(node.token, order);
+        }
+        (_, Some(second)) if second > most => out.tell(node.token, beyond),
+        _ => {}
     }
 }
 
-/// Reports whether two arguments, as far as they are known, fit better the other way round.
-fn may_be_swapped(intrinsic: Intrinsic, values: (Option<i32>, Option<i32>)) -> bool {
-    let (Some(first), Some(second)) = values else {
-        return false;
-    };
-    match intrinsic {
-        Intrinsic::Cannon => first >= CIRCLE && first <= MOST_RANGE && second < CIRCLE,
-        Intrinsic::Drive => first <= MOST_SPEED && second > MOST_SPEED,
-        Intrinsic::Scan => first <= MOST_RESOLUTION && second > MOST_RESOLUTION,
-        Intrinsic::Damage
-        | Intrinsic::Speed
-        | Intrinsic::LocX
-        | Intrinsic::LocY
-        | Intrinsic::Rand
-        | Intrinsic::Sqrt
-        | Intrinsic::Sin
-        | Intrinsic::Cos
-        | Intrinsic::Tan
-        | Intrinsic::Atan => false,
+/// Reports whether two arguments fit better the other way round, by the greatest second one.
+fn may_be_swapped(most: i32, first: i32, second: i32) -> bool {
+    if most >= CIRCLE {
+        return first >= CIRCLE && first <= most && second < CIRCLE;
     }
-}
-
-/// Returns the order of the arguments of a function that takes two; nothing of another one.
-fn order_of(intrinsic: Intrinsic) -> &'static str {
-    match intrinsic {
-        Intrinsic::Cannon => "the degree comes first: `cannon(degree, range)`",
-        Intrinsic::Drive => "the degree comes first: `drive(degree, speed)`",
-        Intrinsic::Scan => "the degree comes first: `scan(degree, resolution)`",
-        Intrinsic::Damage
-        | Intrinsic::Speed
-        | Intrinsic::LocX
-        | Intrinsic::LocY
-        | Intrinsic::Rand
-        | Intrinsic::Sqrt
-        | Intrinsic::Sin
-        | Intrinsic::Cos
-        | Intrinsic::Tan
-        | Intrinsic::Atan => "",
-    }
+    first <= most && second > most
 }
 
 /// Names that say a degree.

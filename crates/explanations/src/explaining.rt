@@ -8,6 +8,7 @@ use crate::notes::Note;
 use crate::reserved::{on_character, on_word};
 use crate::scenes::Scene;
 use crate::searches::Search;
+use crate::sizes::add_sizes;
 use crate::told::add_token;
 use crate::walks::Walk;
 use crate::wanted::add_wanted;
@@ -176,12 +177,7 @@ fn add_limit(note: &mut Note, found: &Found<'_>) {
             );
         }
         Code::TooManyFunctions => add_most(note, "a file has at most ", MOST_NAMES, " functions"),
-        Code::TooMuchCode => add_most(
-            note,
-            "the code has at most ",
-            usize::from(found.profile.instructions()),
-            " instructions in this profile: leave some out, or make a function of what is repeated",
-        ),
+        Code::TooMuchCode => add_sizes(note, found),
         // no limit is exceeded: `add_reason` asks others for these
         Code::SyntaxError
         | Code::ReservedWord

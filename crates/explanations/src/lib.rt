@@ -20,6 +20,7 @@ mod notes;
 mod reserved;
 mod scenes;
 mod searches;
+mod sizes;
 mod spelling;
 mod statements;
 mod told;

@@ -28,8 +28,8 @@ pub enum Kind {
     Store(Var, StoreOp),
     /// `++` or `--`.
     Step(Var),
-    /// A unary operator.
-    Sign,
+    /// A unary operator, by what makes its tree.
+    Sign(SemanticAction),
     /// A binary operator.
     Binary(Op),
     /// A call with this many arguments.
@@ -350,7 +350,7 @@ impl Nodes {
             // (it is called for the three unary operators alone: this is `~`)
             _ => operated(Op::BitXor, operand, Some(-1)),
         };
-        self.above(Kind::Sign, token, true);
+        self.above(Kind::Sign(action), token, true);
         self.know(value);
     }
 

@@ -71,6 +71,7 @@ impl<'a> Search<'a> {
                 }
                 let _ = self.defined.try_push(token);
             }
+            // no other meaning is a function's
             _ => {}
         }
     }

@@ -72,6 +72,7 @@ fn has_effect(node: &Node) -> bool {
     match node.kind {
         Kind::Store(..) | Kind::Step(_) | Kind::Call(Callee::Function(_), _) => true,
         Kind::Call(Callee::Intrinsic(intrinsic), _) => acts(intrinsic),
+        // every other node only answers
         _ => false,
     }
 }

@@ -3,7 +3,7 @@
 use crate::heads::token_at;
 use crate::nodes::{Kind, Node, Nodes};
 use crate::warnings::{Said, Subject, Warnings};
-use derivations::Located;
+use derivations::{Located, SemanticAction};
 use grammar::{Callee, Intrinsic, Op};
 use tokens::{Punctuator, Token};
 
@@ -25,6 +25,9 @@ pub fn warn_of_operator(out: &mut Warnings, subject: &Subject<'_>, index: usize,
     if let Some(words) = on_operator(op, left, right) {
         out.tell(node.token, words);
     }
+    if is_masked(nodes, op, node, left, right) {
+        out.tell(right.token, "this is compared first: write `(a & b) == c`");
+    }
     if op == Op::Multiply && !has_value(nodes, PARTS) {
         warn_of_parts(out, left);
         warn_of_parts(out, right);
@@ -40,6 +43,14 @@ fn on_operator(op: Op, left: &Node, right: &Node) -> Option<&'static str> {
                 "this compares the answer of the comparison before it, 0 or 1: write `a < b && b < c`",
             )
         }
+        (
+            Op::Less | Op::LessOrEqual | Op::Greater | Op::GreaterOrEqual,
+            Kind::Sign(SemanticAction::Not),
+            _,
+        ) => Some("this compares the answer of `!`, 0 or 1: write `!(a < b)`"),
+        (Op::Divide, _, _) if is_lost(left.value, right.value) => {
+            Some("both are whole numbers, and so is the quotient: it is 0")
+        }
         (Op::BitXor, _, Kind::Constant(2..=9)) => {
             Some("`^` is no power: it is the exclusive or of bits; multiply instead")
         }
@@ -49,8 +60,22 @@ fn on_operator(op: Op, left: &Node, right: &Node) -> Option<&'static str> {
         (Op::Add | Op::Subtract | Op::Multiply, _, _) if wraps(op, left.value, right.value) => {
             Some("this passes the greatest number, 2147483647, and goes on with the least")
         }
+        // no other operator is often meant in another way
         _ => None,
     }
+}
+
+/// Reports whether the right side of an operator on bits is a comparison for equality without brackets, and the left
+/// side none.
+fn is_masked(nodes: &Nodes, op: Op, node: &Node, left: &Node, right: &Node) -> bool {
+    let is_bare = match nodes.get(right.first) {
+        Some(first) => first.token == node.token.saturating_add(1),
+        None => false,
+    };
+    is_bare
+        && matches!(op, Op::BitAnd | Op::BitOr | Op::BitXor)
+        && matches!(right.kind, Kind::Binary(Op::Equal | Op::NotEqual))
+        && !matches!(left.kind, Kind::Binary(_) | Kind::Sign(_))
 }
 
 /// Reports whether an operator compares by order.
@@ -74,6 +99,14 @@ fn wraps(op: Op, left: Option<i32>, right: Option<i32>) -> bool {
         _ => left.saturating_mul(right),
     };
     i32::try_from(whole).is_err()
+}
+
+/// Reports whether known values that aren't 0 have the quotient 0.
+fn is_lost(left: Option<i32>, right: Option<i32>) -> bool {
+    match (left, right) {
+        (Some(left), Some(right)) => left != 0 && left.unsigned_abs() < right.unsigned_abs(),
+        _ => false,
+    }
 }
 
 /// Reports whether some node has this value.

@@ -171,6 +171,7 @@ fn note_use(uses: &mut Uses, index: usize, node: &Node) {
         Kind::Fetch(var) => (var, true, false),
         Kind::Store(var, StoreOp::Set) => (var, node.is_used, true),
         Kind::Store(var, _) | Kind::Step(var) => (var, node.is_used, true),
+        // no other node speaks of a variable
         _ => return,
     };
     let Var::Local(number) = var else {

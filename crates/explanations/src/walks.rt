@@ -67,7 +67,7 @@ pub struct Walk<'a> {
     derivation: Derivation<'a>,
     scope: Scope,
     profile: Profile,
-    code: usize,
+    instructions: usize,
     is_stuck: bool,
 }
 
@@ -79,7 +79,7 @@ impl<'a> Walk<'a> {
             derivation: Derivation::start(tokens),
             scope: Scope::new(),
             profile,
-            code: 1,
+            instructions: 1,
             is_stuck: false,
         }
     }
@@ -92,6 +92,11 @@ impl<'a> Walk<'a> {
     /// Returns the index of the source's last token.
     pub fn last(&self) -> usize {
         self.tokens.len().saturating_sub(1)
+    }
+
+    /// Returns how many instructions it has come upon, with the NOP that ends the code.
+    pub fn instructions(&self) -> usize {
+        self.instructions
     }
 
     /// Reports whether the next token doesn't fit: then the walk stays where it is.
@@ -196,7 +201,7 @@ impl<'a> Walk<'a> {
     /// Ends a function. Its code may be what passes the profile's limit, which is a fault at this token.
     fn define(&mut self, chosen_at: usize, token: usize) -> Event {
         self.scope.end_definition();
-        if self.code.saturating_add(2) > usize::from(self.profile.instructions()) {
+        if self.instructions.saturating_add(2) > usize::from(self.profile.instructions()) {
             return Event::Refused {
                 token,
                 code: Code::TooMuchCode,
@@ -214,7 +219,7 @@ impl<'a> Walk<'a> {
         let emission = self.derivation.emission();
         for action in emission.actions() {
             let instructions = action.instructions(self.profile);
-            self.code = self.code.saturating_add(usize::from(instructions));
+            self.instructions = self.instructions.saturating_add(usize::from(instructions));
         }
     }
 }

@@ -24,14 +24,15 @@ const WIDTH: usize = 380;
 /// What is between two lanes, in which jumps go up or down.
 const LANE: usize = 14;
 
-/// A jump: how many blocks it passes, and the numbers of the blocks that it leads from and to.
-type Jump = (usize, usize, usize);
+/// A jump: how many blocks it passes, the numbers of the blocks that it leads from and to, and whether it is one of two
+/// ways.
+type Jump = (usize, usize, usize, bool);
 
 /// How a function is drawn.
 #[derive(Drop)]
 struct Chart<'a> {
     blocks: &'a [Block],
-    // by block, its upper edge
+    // by block, its upper edge; the last is where a further block would begin
     tops: Vec<usize>,
     // the shortest first
     jumps: Vec<Jump>,
@@ -80,9 +81,10 @@ impl<'a> Chart<'a> {
             left: 0,
         };
         let mut top = 0usize;
+        chart.tops.push(top)?;
         for block in blocks {
-            chart.tops.push(top)?;
             top = top.saturating_add(height_of(block)).saturating_add(GAP);
+            chart.tops.push(top)?;
         }
         chart.lanes = lanes_of(alloc, chart.jumps.as_slice())?;
         chart.left = chart.room(true);
@@ -112,10 +114,7 @@ impl<'a> Chart<'a> {
 
     /// Returns the lower edge of a block.
     fn bottom(&self, number: usize) -> usize {
-        match self.blocks.get(number) {
-            Some(block) => self.top(number).saturating_add(height_of(block)),
-            None => 0,
-        }
+        self.top(number.saturating_add(1)).saturating_sub(GAP)
     }
 
     /// Adds the begin of the graph.
@@ -194,7 +193,7 @@ impl<'a> Chart<'a> {
 
     /// Adds the arrow of a jump: beside the blocks, in its lane.
     fn add_jump(&self, text: &mut Draft, number: usize, jump: Jump) {
-        let (_, from, to) = jump;
+        let (_, from, to, is_choice) = jump;
         let out = self.lane(number).saturating_add(2).saturating_mul(LANE);
         let is_back = leads_back(jump);
         let (x, lane) = if is_back {
@@ -213,18 +212,10 @@ impl<'a> Chart<'a> {
         add_place(text, "<path class=\"t\" d=\"M", x, end);
         text.add(if is_back { "l-8 -4v8z" } else { "l8 -4v8z" });
         text.add("\"></path>\n");
-        if self.may_go_on(from) {
+        if is_choice {
             add_number(text, "<text class=\"m\" x=\"", x.saturating_add(3));
             add_number(text, "\" y=\"", y.saturating_sub(4));
             text.add("\">0</text>\n");
-        }
-    }
-
-    /// Reports whether a block may go on to the next one.
-    fn may_go_on(&self, number: usize) -> bool {
-        match self.blocks.get(number) {
-            Some(block) => block.goes_on,
-            None => false,
         }
     }
 }
@@ -241,7 +232,8 @@ fn jumps_of(alloc: Global, blocks: &[Block]) -> Result<Vec<Jump>, AllocError> {
     for (from, block) in blocks.iter().enumerate() {
         if let Some(address) = block.jump {
             let to = number_at(blocks, address);
-            jumps.push((from.max(to).saturating_sub(from.min(to)), from, to))?;
+            let passed = from.max(to).saturating_sub(from.min(to));
+            jumps.push((passed, from, to, block.goes_on))?;
         }
     }
     jumps.sort()?;
@@ -260,7 +252,7 @@ fn number_at(blocks: &[Block], address: usize) -> usize {
 
 /// Reports whether a jump leads back, or to the block itself.
 fn leads_back(jump: Jump) -> bool {
-    let (_, from, to) = jump;
+    let (_, from, to, _) = jump;
     to <= from
 }
 
@@ -299,7 +291,7 @@ fn is_free(jumps: &[Jump], lanes: &[usize], lane: usize, jump: Jump) -> bool {
 
 /// Reports whether two jumps go beside each other on one side.
 fn are_beside(one: Jump, other: Jump) -> bool {
-    let ((_, from, to), (_, start, end)) = (one, other);
+    let ((_, from, to, _), (_, start, end, _)) = (one, other);
     leads_back(one) == leads_back(other)
         && from.min(to) <= start.max(end)
         && start.min(end) <= from.max(to)

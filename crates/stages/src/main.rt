@@ -5,7 +5,7 @@
 
 mod charts;
 mod code_rows;
-mod compiled;
+mod cuts;
 mod derivation_rows;
 mod drawings;
 mod execution;
@@ -15,7 +15,6 @@ mod forms;
 mod labels;
 mod looks;
 mod markup;
-mod nodes;
 mod operation_rows;
 mod origins;
 mod pages;
@@ -25,25 +24,27 @@ mod texts;
 mod token_rows;
 
 use crate::code_rows::listing;
-use crate::compiled::{CompileFault, compiled, grown, known};
+use crate::cuts::listing_to_limit;
 use crate::derivation_rows::derivation_rows;
-use crate::drawings::{graph, indented};
+use crate::drawings::drawing;
 use crate::execution::execution;
 use crate::flow_rows::flow_rows;
 use crate::forms::{Form, OPTIONS, Request};
-use crate::nodes::TreeNodes;
 use crate::operation_rows::operation_rows;
 use crate::origins::Origins;
 use crate::pages::page;
 use crate::token_rows::token_rows;
-use facts::add_rows;
-use grammar::Diagnostic;
+use facts::{Facts, add_rows};
+use grammar::{Code, Diagnostic, Profile};
+use parser::parse;
 use std::alloc::Global;
 use std::process::ExitCode;
+use tokens::{DeviceFault, MemoryFeed, WINDOW_BYTES};
 use tools::{
-    Compiled, Draft, Fault, OUTPUT_OPTIONS, Options, PROFILE_OPTIONS, ProgramFrame, Work, name_of,
-    source_of, tell_diagnostic, write_to,
+    Compiled, Draft, Fault, OUTPUT_OPTIONS, Options, PROFILE_OPTIONS, ProgramFrame, Work, compile,
+    name_of, source_of, tell_diagnostic, write_to,
 };
+use trees::TreeMaker;
 
 /// The program's name, its line of wrong usage, and its options.
 const FRAME: ProgramFrame = ProgramFrame {
@@ -67,40 +68,38 @@ impl Work for Stages {
         let mut request = Request::read(rt.alloc(), options)?;
         let source = source_of(rt, FRAME.name, request.file)?;
         let source = source.as_slice();
-        let text = match compiled(source, request.profile) {
-            Ok(made) => whole(rt.alloc(), &mut request, source, &made),
-            Err(CompileFault::Source(fault)) => {
+        let mut feed = MemoryFeed::new(source, WINDOW_BYTES);
+        match compile(request.profile, &mut feed) {
+            Ok(Ok(made)) => {
+                let text = whole(rt.alloc(), &mut request, source, &made)?;
+                write_to(rt, options, text.as_str())
+            }
+            Ok(Err(fault)) => {
                 if let Some(text) = before_fault(rt.alloc(), &request, source, fault)? {
                     write_to(rt, options, text.as_str())?;
                 }
-                Err(CompileFault::Source(fault))
-            }
-            Err(CompileFault::Memory) => Err(CompileFault::Memory),
-        };
-        match text {
-            Ok(text) => write_to(rt, options, text.as_str()),
-            Err(CompileFault::Source(fault)) => {
                 tell_diagnostic(rt, request.file, &fault);
                 Err(Fault::Source)
             }
-            Err(CompileFault::Memory) => Err(Fault::Memory),
+            // (a source in memory never fails to be read)
+            Err(DeviceFault) => Err(Fault::Read),
         }
     }
 }
 
-/// Returns the text that is asked for of a source that compiles.
+/// Returns the text that is asked for of a source that compiles. The only fault is that memory is refused.
 fn whole(
     alloc: Global,
     request: &mut Request<'_>,
     source: &[u8],
     made: &Compiled,
-) -> Result<String, CompileFault> {
+) -> Result<String, Fault> {
     let profile = request.profile;
     let text = match request.form {
         Form::Tokens => token_rows(alloc, source, None)?,
         Form::Derivation => derivation_rows(alloc, source, None)?,
-        Form::Tree => indented(alloc, &tree(alloc, request, source)?)?,
-        Form::Dot => graph(alloc, &tree(alloc, request, source)?)?,
+        Form::Tree => tree(alloc, source, profile, false)?,
+        Form::Dot => tree(alloc, source, profile, true)?,
         Form::Code => listing(alloc, source, made, &Origins::find(alloc, source, profile)?)?,
         Form::Operations => operation_rows(alloc, made)?,
         Form::Flow => flow_rows(alloc, made, &Origins::find(alloc, source, profile)?)?,
@@ -122,8 +121,25 @@ fn whole(
     Ok(text)
 }
 
+/// Returns the tree of a source that compiles: indented, or as a graph.
+fn tree(alloc: Global, source: &[u8], profile: Profile, is_graph: bool) -> Result<String, Fault> {
+    let mut maker = TreeMaker::new(alloc, profile);
+    match parse(&mut MemoryFeed::new(source, WINDOW_BYTES), &mut maker) {
+        Ok(names) => Ok(drawing(alloc, maker.functions(), &names, is_graph)?),
+        Err(_) => Err(Fault::Memory),
+    }
+}
+
+/// Returns what is known before a match of the robot of a source that compiles.
+fn known(alloc: Global, source: &[u8], profile: Profile) -> Result<Facts, Fault> {
+    match Facts::of(alloc, source, profile) {
+        Ok(facts) => Ok(facts),
+        Err(_) => Err(Fault::Memory),
+    }
+}
+
 /// Returns what can be shown of a source with a fault: its tokens, and the steps of its derivation, up to the first
-/// that doesn't fit.
+/// that doesn't fit; of one with too much code the code up to the limit.
 fn before_fault(
     alloc: Global,
     request: &Request<'_>,
@@ -133,19 +149,16 @@ fn before_fault(
     match request.form {
         Form::Tokens => Ok(Some(token_rows(alloc, source, Some(fault))?)),
         Form::Derivation => Ok(Some(derivation_rows(alloc, source, Some(fault))?)),
-        Form::Tree
+        Form::Code if fault.code == Code::TooMuchCode => {
+            Ok(listing_to_limit(alloc, source, request.profile)?)
+        }
+        Form::Code
+        | Form::Tree
         | Form::Dot
-        | Form::Code
         | Form::Operations
         | Form::Flow
         | Form::Bounds
         | Form::Html
         | Form::Run(_) => Ok(None),
     }
-}
-
-/// Returns the nodes of a source's tree.
-fn tree(alloc: Global, request: &Request<'_>, source: &[u8]) -> Result<TreeNodes, CompileFault> {
-    let grown = grown(alloc, source, request.profile)?;
-    Ok(TreeNodes::of(alloc, &grown)?)
 }

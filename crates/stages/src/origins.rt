@@ -15,13 +15,24 @@ pub struct Origins {
 impl Origins {
     /// Finds the line of each instruction of a source that compiles by this profile.
     pub fn find(alloc: Global, source: &[u8], profile: Profile) -> Result<Origins, AllocError> {
+        Origins::up_to(alloc, source, profile, usize::MAX)
+    }
+
+    /// Finds the line of each of the first instructions, at most this many, of a source that compiles by this profile.
+    pub fn up_to(
+        alloc: Global,
+        source: &[u8],
+        profile: Profile,
+        most: usize,
+    ) -> Result<Origins, AllocError> {
         let mut origins = Origins {
             lines: Vec::new(alloc),
             by_line: Vec::new(alloc),
             distinct: Vec::new(alloc),
         };
-        if let Some(places) = lines(source, profile) {
-            origins.add(places.places())?;
+        if let Some(found) = lines(source, profile) {
+            let places = found.places();
+            origins.add(places.get(..most).unwrap_or(places))?;
         }
         Ok(origins)
     }

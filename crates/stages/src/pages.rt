@@ -10,8 +10,8 @@ use crate::looks::{
 };
 use crate::markup::{COLOURS, add_escaped, add_line, add_number, hue};
 use crate::origins::Origins;
-use crate::spelling::{beginning_at, instruction_at, name_at};
-use crate::texts::{ascii, lines_of, shown, text_of};
+use crate::spelling::{instruction_at, name_at};
+use crate::texts::{ascii, lines_of, shown};
 use facts::{Facts, Part, add_call, add_room, add_turn};
 use std::alloc::{AllocError, Global};
 use tools::{Compiled, Draft, Text};
@@ -107,12 +107,9 @@ fn add_colour(text: &mut Draft, origins: &Origins, line: u32) {
 
 /// Adds the name of the function that begins at an address, if one does.
 fn add_begin(text: &mut Draft, made: &Compiled, address: usize) {
-    let Some(number) = beginning_at(made.program.addresses(), address) else {
-        return;
-    };
-    if let Some(function) = made.names.functions().get(number) {
+    if let Some(name) = name_of_begin(made, address) {
         text.add("<div class=\"f\">");
-        text.add(text_of(function.name()));
+        text.add(name);
         text.add("</div>\n");
     }
 }

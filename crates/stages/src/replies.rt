@@ -10,14 +10,13 @@ use tools::Fault;
 struct Reply {
     of: Option<Intrinsic>,
     value: i32,
+    is_taken: bool,
 }
 
 /// The replies of intrinsic functions, in order: those of one, and those of all others together.
 #[derive(Drop)]
 pub struct Replies {
     listed: Vec<Reply>,
-    // by the number of the function, how often its own replies were asked for; the last is for all others
-    asked: [usize; Intrinsic::ALL.len() + 1],
 }
 
 impl Replies {
@@ -25,7 +24,6 @@ impl Replies {
     pub fn new(alloc: Global) -> Replies {
         Replies {
             listed: Vec::new(alloc),
-            asked: [0; Intrinsic::ALL.len() + 1],
         }
     }
 
@@ -45,7 +43,12 @@ impl Replies {
             let Some(value) = value_of(number) else {
                 return Err(Fault::Usage);
             };
-            if self.listed.push(Reply { of, value }).is_err() {
+            let reply = Reply {
+                of,
+                value,
+                is_taken: false,
+            };
+            if self.listed.push(reply).is_err() {
                 return Err(Fault::Memory);
             }
         }
@@ -54,17 +57,14 @@ impl Replies {
 
     /// Takes the next reply of a function: 0 after the last one.
     pub fn next(&mut self, intrinsic: Intrinsic) -> i32 {
-        let (of, place) = if self.lists(intrinsic) {
-            (Some(intrinsic), intrinsic as usize)
-        } else {
-            (None, Intrinsic::ALL.len())
-        };
-        let Some(asked) = self.asked.get_mut(place) else {
-            return 0;
-        };
-        let number = *asked;
-        *asked = number.saturating_add(1);
-        self.value(of, number)
+        let of = self.lists(intrinsic).then_some(intrinsic);
+        for reply in &mut self.listed {
+            if reply.of == of && !reply.is_taken {
+                reply.is_taken = true;
+                return reply.value;
+            }
+        }
+        0
     }
 
     /// Reports whether a function has replies of its own.
@@ -75,20 +75,6 @@ impl Replies {
             }
         }
         false
-    }
-
-    /// Returns the reply of this number, from 0, of a function or of all others.
-    fn value(&self, of: Option<Intrinsic>, number: usize) -> i32 {
-        let mut left = number;
-        for reply in &self.listed {
-            if reply.of == of {
-                if left == 0 {
-                    return reply.value;
-                }
-                left = left.saturating_sub(1);
-            }
-        }
-        0
     }
 }
 

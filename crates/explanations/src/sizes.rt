@@ -1,0 +1,76 @@
+//! How much code a source has, and how much of it each function.
+
+use crate::explaining::Found;
+use crate::misnamed::name_at;
+use crate::notes::Note;
+use crate::told::text_of;
+use crate::walks::{Event, Meaning, Walk};
+use arrayvec::ArrayVec;
+use grammar::MOST_NAMES;
+
+/// The most functions that are named.
+const MOST_NAMED: usize = 5;
+
+/// A function: the index of its name's token, and how many instructions it has.
+#[derive(Clone, Copy, Default)]
+struct Size {
+    token: usize,
+    instructions: usize,
+}
+
+/// Adds how many instructions a source has, by how many these pass the profile's limit, and those of its largest
+/// functions, the largest first. Behind a further fault nothing is counted.
+pub fn add_sizes(note: &mut Note, found: &Found<'_>) {
+    let mut sizes: ArrayVec<Size, MOST_NAMES> = ArrayVec::new();
+    let mut walk = Walk::start(found.tokens, found.profile);
+    let mut before = 0;
+    for _ in 0..u64::MAX {
+        match walk.step() {
+            Event::Named {
+                token,
+                meaning: Meaning::Begins(_),
+            } => {
+                before = walk.instructions();
+                let _ = sizes.try_push(Size {
+                    token,
+                    instructions: 0,
+                });
+            }
+            Event::Done => break,
+            Event::Refused { .. } if walk.is_stuck() => break,
+            _ => {}
+        }
+        if let Some(size) = sizes.as_mut_slice().last_mut() {
+            size.instructions = walk.instructions().saturating_sub(before);
+        }
+    }
+    let most = usize::from(found.profile.instructions());
+    add_number(note, "the code has ", walk.instructions());
+    let more = walk.instructions().saturating_sub(most);
+    add_number(note, " instructions, ", more);
+    add_number(note, " more than the ", most);
+    note.add(" of this profile: ");
+    let sizes = sizes.as_mut_slice();
+    sizes.sort_unstable_by_key(|size| (usize::MAX - size.instructions, size.token));
+    add_largest(note, found, sizes);
+    note.add("; leave some out, or make a function of what is repeated");
+}
+
+/// Adds the instructions of the first of these functions.
+fn add_largest(note: &mut Note, found: &Found<'_>, sizes: &[Size]) {
+    let mut mark = "";
+    for size in sizes.get(..MOST_NAMED).unwrap_or(sizes) {
+        if let Some(name) = name_at(found.tokens, size.token) {
+            note.add(mark);
+            note.quote(text_of(&name));
+            add_number(note, " ", size.instructions);
+            mark = ", ";
+        }
+    }
+}
+
+/// Adds words, and a number.
+fn add_number(note: &mut Note, words: &str, number: usize) {
+    note.add(words);
+    note.number(number as u64);
+}
