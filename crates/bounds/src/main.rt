@@ -5,7 +5,7 @@
 mod json;
 
 use crate::json::add_object;
-use facts::{Facts, add_gaps, add_rows};
+use facts::{Facts, add_rows};
 use grammar::{ParseFault, Profile};
 use std::process::ExitCode;
 use tools::{
@@ -98,7 +98,6 @@ fn tell(rt: &HostRuntime, output: &mut Output, wish: &Wish, path: &str) -> Resul
                 add_object(&mut text, path, &facts);
             } else {
                 add_rows(&mut text, path, &facts);
-                add_gaps(&mut text, &facts);
             }
             text.move_behind(output.text())?;
             Ok(false)

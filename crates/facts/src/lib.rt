@@ -11,5 +11,5 @@ mod ways;
 
 pub use chains::{Chain, Link};
 pub use facts::{Facts, Part};
-pub use rows::{add_call, add_gaps, add_room, add_rows, add_span, add_turn};
+pub use rows::{add_call, add_gap, add_room, add_rows, add_shot, add_span, add_turn};
 pub use ways::Stretch;

@@ -12,7 +12,8 @@ use tools::{Text, add_left, add_right};
 /// The width of the longest name of a function that is laid out in a column.
 const NAMES: usize = 12;
 
-/// Adds a line on the room that a robot needs, and one for each of its functions and of its loops.
+/// Adds a line on the room that a robot needs, one for each of its functions and of its loops, and lines on what lies
+/// between the questions of each loop's turn, if it asks so much.
 pub fn add_rows(text: &mut impl Text, path: &str, facts: &Facts) {
     text.add(path);
     text.add(": ");
@@ -27,28 +28,28 @@ pub fn add_rows(text: &mut impl Text, path: &str, facts: &Facts) {
         add_turn(text, part);
         text.add("\n");
     }
-}
-
-/// Adds lines on what lies between the questions of each loop's turn, if it asks so much.
-pub fn add_gaps(text: &mut impl Text, facts: &Facts) {
     for part in &facts.loops {
-        if let Some(gap) = part.gap {
-            add_line(text, part);
-            add_name(text, part);
-            add_gap(text, gap);
-        }
-        if let Some(shot) = part.shot {
-            add_line(text, part);
-            add_name(text, part);
-            text.add("  a shot  ");
-            add_span(text, shot.cycles);
-            text.add(" cycles after the last scan\n");
-        }
+        add_stretches(text, part);
     }
 }
 
-/// Adds the most cycles from a question to the next one.
-fn add_gap(text: &mut impl Text, gap: Stretch) {
+/// Adds lines on what lies between the questions of a loop's turn.
+fn add_stretches(text: &mut impl Text, part: &Part) {
+    if let Some(gap) = part.gap {
+        add_line(text, part);
+        add_gap(text, part, gap);
+        text.add("\n");
+    }
+    if let Some(shot) = part.shot {
+        add_line(text, part);
+        add_shot(text, part, shot);
+        text.add("\n");
+    }
+}
+
+/// Adds the function of a loop and the most cycles from a question of its turn to the next one.
+pub fn add_gap(text: &mut impl Text, part: &Part, gap: Stretch) {
+    add_name(text, part);
     text.add("  a gap   ");
     match gap.cycles.most {
         Some(most) => {
@@ -61,7 +62,14 @@ fn add_gap(text: &mut impl Text, gap: Stretch) {
     text.add(asked_name(gap.from));
     text.add(" to ");
     text.add(asked_name(gap.to));
-    text.add("\n");
+}
+
+/// Adds the function of a loop and the cycles from a scan of its turn to a shot.
+pub fn add_shot(text: &mut impl Text, part: &Part, shot: Stretch) {
+    add_name(text, part);
+    text.add("  a shot  ");
+    add_span(text, shot.cycles);
+    text.add(" cycles after the last scan");
 }
 
 /// Returns the name of the function that is asked.

@@ -12,7 +12,7 @@ use crate::markup::{COLOURS, add_escaped, add_line, add_number, hue};
 use crate::origins::Origins;
 use crate::spelling::{instruction_at, name_at};
 use crate::texts::{ascii, lines_of, shown};
-use facts::{Facts, Part, add_call, add_room, add_turn};
+use facts::{Facts, Part, add_call, add_gap, add_room, add_shot, add_turn};
 use std::alloc::{AllocError, Global};
 use tools::{Compiled, Draft, Text};
 
@@ -170,7 +170,8 @@ fn end_of(made: &Compiled, blocks: &[Block], first: usize) -> usize {
     blocks.len()
 }
 
-/// Adds what is known before a match: the lines on room, and the row of each function and of each loop.
+/// Adds what is known before a match: the lines on room, the row of each function and of each loop, and the rows on what
+/// lies between questions.
 fn add_facts(text: &mut Draft, alloc: Global, facts: &Facts) -> Result<(), AllocError> {
     let mut room = Draft::new(alloc);
     add_room(&mut room, facts);
@@ -190,7 +191,24 @@ fn add_facts(text: &mut Draft, alloc: Global, facts: &Facts) -> Result<(), Alloc
         add_turn(text, part);
         text.add("</div>\n");
     }
+    for part in &facts.loops {
+        add_stretches(text, part);
+    }
     Ok(())
+}
+
+/// Adds the rows on what lies between the questions of a loop's turn.
+fn add_stretches(text: &mut Draft, part: &Part) {
+    if let Some(gap) = part.gap {
+        add_begin_of_part(text, part);
+        add_gap(text, part, gap);
+        text.add("</div>\n");
+    }
+    if let Some(shot) = part.shot {
+        add_begin_of_part(text, part);
+        add_shot(text, part, shot);
+        text.add("</div>\n");
+    }
 }
 
 /// Adds the begin of a row of a function or a loop: the number of its line, which leads there.
