@@ -78,11 +78,19 @@ export class Engine {
      * Explains the first robot's source: the ending is DONE if it compiles, and the text has the warnings, or FAULTY, and the
      * text explains its fault. It is FULL if there is no room. Returns {ending, text}.
      */
-    explain(settings, robots) {
+    explain(settings, robots, call = this.exports.explain) {
         this.putOrder(0, settings);
         this.putRobots(robots);
-        const ending = this.exports.explain(...[this.order, this.robots, robots.length, this.text].map(BigInt));
+        const ending = call(...[this.order, this.robots, robots.length, this.text].map(BigInt));
         return {ending, text: this.textOf(this.text)};
+    }
+
+    /**
+     * Tells what a turn of each loop of the first robot takes: a row for each, as a film has, with its line, the fewest cycles
+     * and the most, as far as there are. The ending is as that of `explain`. Returns {ending, text}.
+     */
+    turns(settings, robots) {
+        return this.explain(settings, robots, this.exports.turns);
     }
 
     /** Plays the first match of the settings. Returns {ending, text, faults}, whose text is its film. */

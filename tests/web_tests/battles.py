@@ -39,7 +39,7 @@ class Settings:
 
 @dataclass
 class Battle:
-    """Robots, by name and source, settings, and what is asked of the engine: run, list, places, explain, film or windows; of windows
+    """Robots, by name and source, settings, and what is asked of the engine: run, list, places, explain, turns, film or windows; of windows
     the update after which they begin, and how many there are."""
 
     robots: list[tuple[str, bytes]]

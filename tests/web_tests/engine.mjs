@@ -1,7 +1,7 @@
 // engine.mjs MODULE < JOBS > ANSWERS: runs jobs by the module alone, without a browser.
 //
-// JOBS is a list in JSON: each has `call` (run, list, places, explain, film or windows), `settings` and `robots`, whose sources are base64. An answer
-// has `ending`, `text` and `faults`, the last two in base64.
+// JOBS is a list in JSON: each has `call` (run, list, places, explain, turns, film or windows), `settings` and `robots`, whose sources are base64. An
+// answer has `ending`, `text` and `faults`, the last two in base64.
 import fs from "node:fs";
 import {Engine} from "./loaded.mjs";
 

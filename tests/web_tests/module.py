@@ -6,12 +6,15 @@ import base64
 import itertools
 import json
 import os
+import random
 import re
 import shutil
 import subprocess
 import tempfile
 from dataclasses import replace
 from typing import Any, Iterator
+
+from asking_robots import AskingRobots
 
 from . import slimmed
 from .battles import Battle, Settings, deepest, hostile_battles, mistakes, outcome, random_battles, sample_battles, samples, vectors
@@ -24,8 +27,19 @@ SECONDS = 120
 MOST_BYTES = 400_000
 CALLS = 1000
 EXPORTS = ["__heap_base", "explain", "film", "film_windows", "find", "memory", "moment", "order_bytes", "robot_bytes", "run", "sheet_bytes",
-           "target_bytes"]
+           "target_bytes", "turns"]
 TOKEN = re.compile(rb"[A-Za-z_]\w*|\d+|<<=|>>=|\+\+|--|&&|\|\||[-+*/%&|^<>=!]=|<<|>>|[^\s\x1a]")
+# a row of crobots-stages on a loop
+TURN = re.compile(r"^  line +(\d+)  \w+ +a turn  (?:(never begins again)|(at least )?(\d+)(?: to (\d+))? cycles)", re.MULTILINE)
+# Loops of each kind: one that never begins again, two on a line, one in another one's condition's function, in branches, behind a
+# return, in functions that call themselves, and sides that may be left out.
+LOOPS = (
+    "main() { while (1) return 5; }",
+    "main() { while (1) { while (damage()) ; if (rand(2)) while (2) drive(1, 2); else while (3) return; } }",
+    "main() { while (f(1)) { f(f(2)); } }\nf(n) { while (n--) if (n == 5) return n; }",
+    "f(n) { if (n) return f(n - 1); }\nmain() { while (1) f(-3); }\ng() { while (g()) h(); }\nh() { g(); }",
+    "main() { while (scan(1, 2) && damage() || !rand(2)) { ++a; b--; c = d += ~4; } return 1; while (0) ; }",
+)
 # a status, a text and faults
 Answer = tuple[int, bytes, bytes]
 # tokens that are no constants, but make some
@@ -332,10 +346,10 @@ def any_blocks(folder: str) -> list[str]:
     wrong = [f"imports: {told['imports']}"] if told["imports"] else []
     wrong += [] if sorted(told["exports"]) == EXPORTS else [f"exports: {told['exports']}"]
     wrong += [] if set(told["codes"]) >= {"0", "1", "2"} and set(told["codes"]) <= {"0", "1", "2", "4", "6"} else [f"codes: {told['codes']}"]
-    wrong += [] if told["inside"] == [2] * 6 else [f"inside of the memory: {told['inside']}"]
-    # each of three calls with five words, two with six, and one with four, with each word so: the memory's end, and five numbers
+    wrong += [] if told["inside"] == [2] * 7 else [f"inside of the memory: {told['inside']}"]
+    # each of three calls with five words, two with six, and two with four, with each word so: the memory's end, and five numbers
     # beyond it
-    return wrong + ([] if told["ends"] == ["ended"] * 186 else [f"outside of the memory: {told['ends']}"])
+    return wrong + ([] if told["ends"] == ["ended"] * 210 else [f"outside of the memory: {told['ends']}"])
 
 
 def explanations(folder: str) -> list[str]:
@@ -347,6 +361,36 @@ def explanations(folder: str) -> list[str]:
         if (ending, text) != (1 if it.is_faulty else 0, it.told):
             wrong.append(f"{it.source!r}: {ending} {text.decode()}, not {it.told.decode()}")
     return wrong + ([] if len(cases) > 25 else [f"{len(cases)} cases"])
+
+
+def known_turns(stages: str, source: bytes, profile: int) -> bytes | None:
+    """What is known of the turns of a robot's loops, in the rows of the module; nothing of one that doesn't compile."""
+    with tempfile.TemporaryDirectory() as place:
+        path = os.path.join(place, "a.r")
+        with open(path, "wb") as file:
+            file.write(source)
+        ran = subprocess.run([stages, "--bounds", f"-p{profile}", path], capture_output=True, text=True, check=False, timeout=SECONDS)
+    rows: list[str] = []
+    for line, never, at_least, least, most in TURN.findall(ran.stdout):
+        numbers = [] if never else [least] if at_least else [least, most or least]
+        rows.append("\t".join([line, "1", "turn", *numbers]) + "\n")
+    return None if ran.returncode else "".join(rows).encode("ascii")
+
+
+def turns(stages: str, folder: str) -> list[str]:
+    """What the module says of the turns of loops is what crobots-stages says of them, by the trees."""
+    draw = random.Random(56)
+    sources = [source for _, source in samples()] + [it.encode("ascii") for it in LOOPS]
+    sources += [AskingRobots(draw).source().encode("ascii") for _ in range(30)]
+    sources += [source for battle in random_battles(30) for _, source in battle.robots]
+    battles = [Battle([("a.r", source)], Settings(profile=profile), call="turns") for source in sources for profile in (1, 2)]
+    wrong, rows = [], 0
+    for battle, (ending, text, _) in zip(battles, answers(folder, battles), strict=True):
+        wanted = known_turns(stages, battle.robots[0][1], battle.settings.profile)
+        rows += wanted.count(b"\n") if wanted else 0
+        is_right = ending == 1 if wanted is None else (ending, text) == (0, wanted)
+        wrong += [] if is_right else [f"{battle.robots[0][1]!r}, profile {battle.settings.profile}: {ending} {text!r}, not {wanted!r}"]
+    return wrong + ([] if rows > 200 else [f"{rows} rows"])
 
 
 def most_tokens(folder: str) -> list[str]:
@@ -398,4 +442,5 @@ def results(crobots: str, stages: str, folder: str) -> Iterator[tuple[str, list[
     yield "lines of restarts", lines_of_restarts(folder)
     yield "places", places(crobots, stages, folder)
     yield "explanations", explanations(folder)
+    yield "turns of loops", turns(stages, folder)
     yield "the most tokens", most_tokens(folder)

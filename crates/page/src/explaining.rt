@@ -1,4 +1,4 @@
-//! Explanations of sources in memory: a fault's, or the warnings about a source without one.
+//! Explanations of sources in memory: a fault's; or of a source without one the warnings, or what its loops take.
 
 ghost use Rattle.std.specs.Prelude.{◌≡◌, IfErr, IfSome, IsSome, OnOk};
 ghost use Rattle.explanations.specs.Compiling.{Compiles, IsFirstFault};
@@ -6,20 +6,32 @@ ghost use Rattle.page.specs.Explaining.{ExplainsRobots, IsFaulty};
 ghost use Rattle.page.specs.Running.{IsAccepted};
 
 use crate::orders::Order;
+use crate::passes::{Loop, turns_of};
 use crate::robots::RobotFile;
+use crate::rows::Row;
 use crate::running::words_of;
 use crate::sheets::{FRAME_BYTES, Sheet};
 use crate::sources::SourceFeed;
 use code::Maker;
 use derivations::{Located, Tokens, locate_in};
 use explanations::{explain, warnings_of};
+use findings::{Event, Field};
 use grammar::{ParseFault, Profile};
 use parser::parse;
+
+/// What is told of a source without a fault.
+#[derive(Clone, Copy, PartialEq, Eq)]
+pub enum Topic {
+    /// The warnings about it.
+    Warnings,
+    /// What the turns of its loops take.
+    Turns,
+}
 
 /// What was explained.
 #[derive(Clone, Copy, PartialEq, Eq)]
 pub enum Explained {
-    /// A source without a fault: the sheet has the warnings about it.
+    /// A source without a fault: the sheet has what was to be told of it.
     Good,
     /// A source with a fault: the sheet has its explanation.
     Faulty,
@@ -28,10 +40,15 @@ pub enum Explained {
 }
 
 /// Explains the source of the first robot in the profile that an order asks for, on a sheet that is blank before: its
-/// first fault, or a line for each warning.
+/// first fault, or a line for each warning, or a row for each loop.
 ///
 /// `None` if a number of the order is not within its limits, a name is no text, or there is no robot or over four.
-pub fn explain_robot(order: &Order, robots: &[RobotFile], sheet: &mut Sheet) -> Option<Explained>
+pub fn explain_robot(
+    order: &Order,
+    robots: &[RobotFile],
+    topic: Topic,
+    sheet: &mut Sheet,
+) -> Option<Explained>
     ensures explains { IfSome result (λ explained. ExplainsRobots order.now robots.now explained) }
     ensures accepted { IsAccepted order.now robots.now → IsSome result }
     ensures refused { IsSome result → IsAccepted order.now robots.now }
@@ -40,13 +57,13 @@ pub fn explain_robot(order: &Order, robots: &[RobotFile], sheet: &mut Sheet) -> 
     let words = words_of(robots)?;
     let settings = order.settings(words.as_slice())?;
     match robots {
-        [robot, ..] => Some(explain_source(settings.profile(), robot.source(), sheet)),
+        [robot, ..] => Some(explain_source(settings.profile(), robot.source(), topic, sheet)),
         [] => None,
     }
 }
 
 /// Explains a source on a blank sheet.
-fn explain_source(profile: Profile, source: &[u8], sheet: &mut Sheet) -> Explained
+fn explain_source(profile: Profile, source: &[u8], topic: Topic, sheet: &mut Sheet) -> Explained
     ensures good { result ≡ Explained.Good → Compiles profile source.now }
     ensures faulty { result ≡ Explained.Faulty → IsFaulty profile source.now }
 {
@@ -57,7 +74,10 @@ fn explain_source(profile: Profile, source: &[u8], sheet: &mut Sheet) -> Explain
     let tokens = tokens.as_slice();
     match compile(source, profile) {
         Ok(()) => {
-            tell_warnings(tokens, profile, sheet);
+            match topic {
+                Topic::Warnings => tell_warnings(tokens, profile, sheet),
+                Topic::Turns => tell_turns(tokens, profile, sheet),
+            }
             told(Explained::Good, sheet)
         }
         Err(ParseFault::Source(diagnostic)) => {
@@ -100,6 +120,25 @@ fn tell_warnings(tokens: &[Located], profile: Profile, sheet: &mut Sheet) {
         let note = warning.note(tokens);
         tell(note.as_str(), sheet);
     }
+}
+
+/// Writes a row for each loop of a source: its line, and the fewest and the most cycles of a turn, as far as there are.
+fn tell_turns(tokens: &[Located], profile: Profile, sheet: &mut Sheet) {
+    for found in &turns_of(tokens, profile) {
+        sheet.add(Row::new(found.line, 0, &turn_event(found)).as_slice());
+    }
+}
+
+/// Returns the event that a loop takes so many cycles.
+fn turn_event(found: &Loop) -> Event<'static> {
+    let mut event = Event::new("turn", &[]);
+    if let Some(turn) = found.turn {
+        let _ = event.fields.try_push(Field::Number(i64::from(turn.least)));
+        if let Some(most) = turn.most {
+            let _ = event.fields.try_push(Field::Number(i64::from(most)));
+        }
+    }
+    event
 }
 
 /// Writes a text.

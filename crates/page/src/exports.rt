@@ -5,7 +5,7 @@ ghost use Rattle.page.specs.Explaining.{IsExplained, code_explained};
 ghost use Rattle.page.specs.Films.{IsFilm, IsOfFilm, IsOfShown, IsOfStretch, IsOfWindows, film_code};
 ghost use Rattle.page.specs.Running.{IsAccepted, IsFull, IsOfRun, IsOutput, code_of};
 
-use crate::explaining::{Explained, explain_robot};
+use crate::explaining::{Explained, Topic, explain_robot};
 use crate::filming::tell_robots;
 use crate::films::Shown;
 use crate::orders::Order;
@@ -144,7 +144,20 @@ pub extern "C" fn explain(order: &Order, robots: &[RobotFile], text: &mut Sheet)
     ensures accepted { IsAccepted order.now robots.now → result ≢ 2 }
     ensures refused { result ≢ 2 → IsAccepted order.now robots.now }
 {
-    explained_code(explain_robot(order, robots, text))
+    explained_code(explain_robot(order, robots, Topic::Warnings, text))
+}
+
+/// Tells what the turns of the loops of the first robot take, in the language profile that the order asks for: a row for
+/// each loop, in the order of the source, or the first fault. No clause says which rows: as tested, they are those of
+/// `crobots-bounds`. Answers as `explain` does.
+#[unsafe(no_mangle)]
+pub extern "C" fn turns(order: &Order, robots: &[RobotFile], text: &mut Sheet) -> u32
+    ensures explained { IsExplained order.now robots.now result }
+    ensures codes { (result ≤ 2) ⊎ (result ≡ 4) }
+    ensures accepted { IsAccepted order.now robots.now → result ≢ 2 }
+    ensures refused { result ≢ 2 → IsAccepted order.now robots.now }
+{
+    explained_code(explain_robot(order, robots, Topic::Turns, text))
 }
 
 /// Returns the number that stands for what was explained.

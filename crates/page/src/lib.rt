@@ -8,6 +8,7 @@ mod films;
 mod insides;
 mod missiles;
 mod orders;
+mod passes;
 mod pilots;
 mod places;
 mod robots;
@@ -19,10 +20,10 @@ mod stretches;
 mod subjects;
 mod targets;
 
-pub use explaining::{Explained, explain_robot};
+pub use explaining::{Explained, Topic, explain_robot};
 pub use exports::{
     explain, film, film_windows, find, moment, order_bytes, robot_bytes, run, sheet_bytes,
-    target_bytes,
+    target_bytes, turns,
 };
 pub use filming::tell_robots;
 pub use films::Shown;
