@@ -1,0 +1,19 @@
+-- Hits: what is looked for burst by burst, and robot by robot, is what the definition says.
+use Rattle.std.proofs.Common.{◌≡◌, ℕ, ◌+◌, ◌<◌, Bool, true, false, List, length, get_or, sym, ap, ◌∙◌, arith}
+use Rattle.std.specs.List.{list_any, range_with_len}
+use Rattle.std.proofs.lemmas.List.Folds.{list_any_at, list_any_none}
+use Rattle.std.proofs.lemmas.List.FromFn.{get_or-range_with_len, length-range_with_len}
+
+-- none of the numbers below n passes
+pub none_below : (p : ℕ → Bool) (n : ℕ) → ((k : ℕ) → k < n → p k ≡ false)
+    → list_any p (range_with_len 0 n) ≡ false
+none_below p n none =
+    list_any_none p (range_with_len 0 n) (λ k d inside.
+    let below : k < n = omega (arith, inside, length-range_with_len 0 n) in
+    ap p (get_or-range_with_len 0 n k d below) ∙ none k below)
+
+-- one of them passes
+pub one_below : (p : ℕ → Bool) (n k : ℕ) → k < n → p k ≡ true → list_any p (range_with_len 0 n) ≡ true
+one_below p n k below passes =
+    list_any_at p (range_with_len 0 n) k 0 (omega (arith, below, length-range_with_len 0 n))
+    (ap p (get_or-range_with_len 0 n k 0 below) ∙ passes)

@@ -1,0 +1,44 @@
+//! Hits: bursts of a robot's own missiles that hurt another robot.
+
+ghost use Rattle.std.specs.Prelude.{◌≡◌, ◌+◌, ◌&&◌, false};
+ghost use Rattle.arena.specs.Field.{Field};
+ghost use Rattle.arena.specs.Representing.{RepresentsField};
+ghost use Rattle.battles.specs.Battle.{is_due};
+ghost use Rattle.moments.specs.Hits.{hits, hurts_another};
+
+use arena::{Arena, Burst};
+use playing::Game;
+
+/// Reports whether a robot hits another one in the update of a cycle, if it has one. The robots have taken their turns.
+pub(crate) fn hits_after_turns(game: &Game, robot: usize) -> bool
+    requires { game.now.ending.is_over ≡ false }
+    ensures { (f : Field) → RepresentsField game.now.arena f
+        → result ≡ (is_due (game.now.ending.cycles + 1) && hits f robot) }
+{
+    game.is_update_due() && hits(game.arena(), robot)
+}
+
+/// Reports whether a missile of a robot bursts in the next update and hurts another robot.
+fn hits(arena: &Arena, robot: usize) -> bool
+    ensures { (f : Field) → RepresentsField arena.now f → result ≡ hits f robot }
+{
+    let due = arena.due();
+    for burst in due.as_slice() {
+        if burst.robot() == robot && hurts_another(arena, burst) {
+            return true;
+        }
+    }
+    false
+}
+
+/// Reports whether a burst of the next update hurts a robot that didn't fire it.
+fn hurts_another(arena: &Arena, burst: &Burst) -> bool
+    ensures { (f : Field) → RepresentsField arena.now f → result ≡ hurts_another f burst.now }
+{
+    for other in 0..arena.robot_count() {
+        if other != burst.robot() && arena.taken_by(other, burst) > 0 {
+            return true;
+        }
+    }
+    false
+}
