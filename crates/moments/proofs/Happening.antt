@@ -54,7 +54,8 @@ shows_so (Question k least most) robots program i cycle now later before after i
     let asked = sym see.want ∙ asks in
     let word = see.word k a asked in ((a, asked), rw word at low, rw word at high)
 shows_so Restart robots program i cycle now later before after is_hit see restarts = sym see.want ∙ restarts
-shows_so Hurt robots program i cycle now later before after is_hit see grows = omega (arith, see.damage, see.damage_then, grows)
+shows_so Hurt robots program i cycle now later before after is_hit see grows =
+    omega (arith, see.damage, see.damage_then, grows)
 shows_so Hit robots program i cycle now later before after is_hit see is = sym see.hit ∙ is
 shows_so (Change variable) robots program i cycle now later before after is_hit see differs =
     λ same. differs (see.value_then ∙ same ∙ sym see.value)
@@ -76,7 +77,8 @@ seems_so (Place marks most) robots program i cycle now later before after is_hit
 seems_so (Question k least most) robots program i cycle now later before after is_hit see ((a, asked), low, high) =
     let word = see.word k a asked in ((a, see.want ∙ asked), rw word low, rw word high)
 seems_so Restart robots program i cycle now later before after is_hit see restarts = see.want ∙ restarts
-seems_so Hurt robots program i cycle now later before after is_hit see grows = omega (arith, see.damage, see.damage_then, grows)
+seems_so Hurt robots program i cycle now later before after is_hit see grows =
+    omega (arith, see.damage, see.damage_then, grows)
 seems_so Hit robots program i cycle now later before after is_hit see is = see.hit ∙ is
 seems_so (Change variable) robots program i cycle now later before after is_hit see differs =
     λ same. differs (sym see.value_then ∙ same ∙ see.value)
@@ -99,7 +101,9 @@ pub glances_see : (codes : List Program) (robots : List Behaviour) (s : BattleSt
     → next.ending.cycles ≡ game.ending.cycles + 1 → (get_or seats i none).code ≡ program
     → IsGlanced game (get_or seats i none) i sought before → IsGlanced next (get_or others i new) i sought after
     → is_hit
-    ≡ (is_due (game.ending.cycles + 1) && hits (turns robots (length robots) (state_after robots s game.ending.cycles)).field i)
+    ≡
+    (is_due (game.ending.cycles + 1) &&
+    hits (turns robots (length robots) (state_after robots s game.ending.cycles)).field i)
     → See robots program i (game.ending.cycles + 1) sought (state_after robots s game.ending.cycles)
     (state_after robots s (game.ending.cycles + 1)) before after is_hit
 glances_see codes robots s seats others i none new game next program sought before after is_hit are same still inside

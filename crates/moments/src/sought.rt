@@ -117,7 +117,11 @@ fn value_of(machine: &Machine, sought: &Sought<'_>) -> i32
         Sought::LocalChange(_, number) | Sought::LocalValue(_, number, _) => {
             machine.variable(Var::Local(number))
         }
-        Sought::Place(_, _) | Sought::Question(_, _, _) | Sought::Restart | Sought::Hurt | Sought::Hit => 0,
+        Sought::Place(_, _)
+        | Sought::Question(_, _, _)
+        | Sought::Restart
+        | Sought::Hurt
+        | Sought::Hit => 0,
     }
 }
 

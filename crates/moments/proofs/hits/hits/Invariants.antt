@@ -11,4 +11,6 @@ use Rattle.moments.proofs.hits.hits.Given as goal
 -- no burst so far is one of the robot that hurts another one
 abbrev pub invariant-loop-burst : goal.invariant-loop-burst
 invariant-loop-burst l = (f : Field) → RepresentsField l.arena f
-    → All (λ (burst : Burst). ((burst.robot == l.robot) && hurts_another f burst) ≡ false) (take l.burst-index l.due.items)
+    →
+    All (λ (burst : Burst). ((burst.robot == l.robot) && hurts_another f burst) ≡ false)
+    (take l.burst-index l.due.items)
