@@ -1,8 +1,15 @@
 -- Hits: what is looked for burst by burst, and robot by robot, is what the definition says.
 use Rattle.std.proofs.Common.{◌≡◌, ℕ, ◌+◌, ◌<◌, Bool, true, false, List, length, get_or, sym, ap, ◌∙◌, arith}
 use Rattle.std.specs.List.{list_any, range_with_len}
+use Rattle.std.specs.Prelude.{◌==◌, ◌&&◌, nat_lt, not}
+use Rattle.arena.specs.Field.{Field}
+use Rattle.arena.specs.Outlook.{Burst, taken_by}
 use Rattle.std.proofs.lemmas.List.Folds.{list_any_at, list_any_none}
 use Rattle.std.proofs.lemmas.List.FromFn.{get_or-range_with_len, length-range_with_len}
+
+-- a burst hurts a robot that didn't fire it
+abbrev pub hurting : Field → Burst → ℕ → Bool
+hurting field burst other = not (other == burst.robot) && nat_lt 0 (taken_by field other burst)
 
 -- none of the numbers below n passes
 pub none_below : (p : ℕ → Bool) (n : ℕ) → ((k : ℕ) → k < n → p k ≡ false)

@@ -1,7 +1,8 @@
 //! Hits: bursts of a robot's own missiles that hurt another robot.
 
-ghost use Rattle.std.specs.Prelude.{◌≡◌, ◌+◌, ◌&&◌, false};
+ghost use Rattle.std.specs.Prelude.{◌≡◌, ◌<◌, ◌+◌, ◌&&◌, ◌==◌, false, not, nat_lt, length};
 ghost use Rattle.arena.specs.Field.{Field};
+ghost use Rattle.arena.specs.Outlook.{taken_by};
 ghost use Rattle.arena.specs.Representing.{RepresentsField};
 ghost use Rattle.battles.specs.Battle.{is_due};
 ghost use Rattle.moments.specs.Hits.{hits, hurts_another};
@@ -24,11 +25,19 @@ fn hits(arena: &Arena, robot: usize) -> bool
 {
     let due = arena.due();
     for burst in due.as_slice() {
-        if burst.robot() == robot && hurts_another(arena, burst) {
+        if is_hit(arena, robot, burst) {
             return true;
         }
     }
     false
+}
+
+/// Reports whether a burst of the next update is that of a robot, and hurts another one.
+fn is_hit(arena: &Arena, robot: usize, burst: &Burst) -> bool
+    ensures { (f : Field) → RepresentsField arena.now f
+        → result ≡ ((burst.now.robot == robot) && hurts_another f burst.now) }
+{
+    burst.robot() == robot && hurts_another(arena, burst)
 }
 
 /// Reports whether a burst of the next update hurts a robot that didn't fire it.
@@ -36,9 +45,18 @@ fn hurts_another(arena: &Arena, burst: &Burst) -> bool
     ensures { (f : Field) → RepresentsField arena.now f → result ≡ hurts_another f burst.now }
 {
     for other in 0..arena.robot_count() {
-        if other != burst.robot() && arena.taken_by(other, burst) > 0 {
+        if hurts(arena, burst, other) {
             return true;
         }
     }
     false
+}
+
+/// Reports whether a burst of the next update hurts a robot, which didn't fire it.
+fn hurts(arena: &Arena, burst: &Burst, other: usize) -> bool
+    requires { other < length arena.now.robots }
+    ensures { (f : Field) → RepresentsField arena.now f
+        → result ≡ (not (other == burst.now.robot) && nat_lt 0 (taken_by f other burst.now)) }
+{
+    other != burst.robot() && arena.taken_by(other, burst) > 0
 }
