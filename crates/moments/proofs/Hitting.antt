@@ -5,11 +5,16 @@ use Rattle.std.specs.Prelude.{◌==◌, ◌&&◌, nat_lt, not}
 use Rattle.arena.specs.Field.{Field}
 use Rattle.arena.specs.Outlook.{Burst, taken_by}
 use Rattle.std.proofs.lemmas.List.Folds.{list_any_at, list_any_none}
+use Rattle.moments.specs.Hits.{hurts_another}
 use Rattle.std.proofs.lemmas.List.FromFn.{get_or-range_with_len, length-range_with_len}
 
 -- a burst hurts a robot that didn't fire it
 abbrev pub hurting : Field → Burst → ℕ → Bool
 hurting field burst other = not (other == burst.robot) && nat_lt 0 (taken_by field other burst)
+
+-- it is one of a robot, and does so
+abbrev pub hitting : Field → ℕ → Burst → Bool
+hitting field i burst = (burst.robot == i) && hurts_another field burst
 
 -- none of the numbers below n passes
 pub none_below : (p : ℕ → Bool) (n : ℕ) → ((k : ℕ) → k < n → p k ≡ false)

@@ -1,4 +1,3 @@
-use Rattle.std.proofs.Common.{◌≡◌, List, length}
 use Rattle.battles.specs.Battle.{state_after}
 use Rattle.playing.specs.Games.{HasCome}
 use Rattle.playing.specs.Played.{codes_of}
