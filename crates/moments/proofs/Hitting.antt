@@ -3,7 +3,8 @@ use Rattle.std.proofs.Common.{◌≡◌, ℕ, ◌+◌, ◌<◌, Bool, true, fals
 use Rattle.std.specs.List.{list_any, range_with_len}
 use Rattle.std.specs.Prelude.{◌==◌, ◌&&◌, nat_lt, not}
 use Rattle.arena.specs.Field.{Field}
-use Rattle.arena.specs.Outlook.{Burst, taken_by}
+use Rattle.arena.specs.declared.bursts.Burst.{Burst}
+use Rattle.arena.specs.Outlook.{taken_by}
 use Rattle.std.proofs.lemmas.List.Folds.{list_any_at, list_any_none}
 use Rattle.moments.specs.Hits.{hurts_another}
 use Rattle.std.proofs.lemmas.List.FromFn.{get_or-range_with_len, length-range_with_len}

@@ -2,7 +2,8 @@
 use Rattle.std.specs.Prelude.{ℕ, Bool, not, ◌&&◌, ◌==◌, nat_lt, length}
 use Rattle.std.specs.List.{list_any, range_with_len}
 use Rattle.arena.specs.Field.{Field}
-use Rattle.arena.specs.Outlook.{Burst, due, taken_by}
+use Rattle.arena.specs.declared.bursts.Burst.{Burst}
+use Rattle.arena.specs.Outlook.{due, taken_by}
 
 -- In the next update a burst hurts a robot that didn't fire it. Of several that hurt a robot each does, even if one of
 -- them or a wall would have been enough to make it dead.

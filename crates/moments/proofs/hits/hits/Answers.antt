@@ -2,7 +2,7 @@ use Rattle.std.proofs.Common.{◌≡◌, ◌∙◌, ap, arith, false, List, subs
 use Rattle.std.specs.List.{All, list_any}
 use Rattle.std.proofs.lemmas.List.{take_all}
 use Rattle.std.proofs.lemmas.List.Folds.{list_any_at, list_any_none}
-use Rattle.arena.specs.Outlook.{Burst}
+use Rattle.arena.specs.declared.bursts.Burst.{Burst}
 use Rattle.moments.specs.Hits.{hits}
 use Rattle.moments.proofs.Hitting.{hitting}
 use Rattle.moments.proofs.hits.hits.Goals as goal

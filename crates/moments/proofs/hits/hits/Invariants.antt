@@ -2,7 +2,7 @@ use Rattle.std.proofs.Common.{◌≡◌, false, take}
 use Rattle.std.specs.List.{All}
 use Rattle.std.specs.Prelude.{◌&&◌, ◌==◌}
 use Rattle.arena.specs.Field.{Field}
-use Rattle.arena.specs.Outlook.{Burst}
+use Rattle.arena.specs.declared.bursts.Burst.{Burst}
 use Rattle.arena.specs.Representing.{RepresentsField}
 use Rattle.moments.specs.Hits.{hurts_another}
 use Rattle.moments.proofs.hits.hits.Given as goal
