@@ -18,15 +18,15 @@ abbrev pub hitting : Field → ℕ → Burst → Bool
 hitting field i burst = (burst.robot == i) && hurts_another field burst
 
 -- none of the numbers below n passes
-pub none_below : (p : ℕ → Bool) (n : ℕ) → ((k : ℕ) → k < n → p k ≡ false)
-    → list_any p (range_with_len 0 n) ≡ false
+pub none_below : (p : ℕ → Bool) (n : ℕ) → ((k : ℕ) → k < n → p k ≡ false) → list_any p (range_with_len 0 n) ≡ false
 none_below p n none =
     list_any_none p (range_with_len 0 n) (λ k d inside.
     let below : k < n = omega (arith, inside, length-range_with_len 0 n) in
-    ap p (get_or-range_with_len 0 n k d below) ∙ none k below)
+    let is : get_or (range_with_len 0 n) k d ≡ k = omega (arith, get_or-range_with_len 0 n k d below) in
+    ap p is ∙ none k below)
 
 -- one of them passes
 pub one_below : (p : ℕ → Bool) (n k : ℕ) → k < n → p k ≡ true → list_any p (range_with_len 0 n) ≡ true
 one_below p n k below passes =
-    list_any_at p (range_with_len 0 n) k 0 (omega (arith, below, length-range_with_len 0 n))
-    (ap p (get_or-range_with_len 0 n k 0 below) ∙ passes)
+    let is : get_or (range_with_len 0 n) k 0 ≡ k = omega (arith, get_or-range_with_len 0 n k 0 below) in
+    list_any_at p (range_with_len 0 n) k 0 (omega (arith, below, length-range_with_len 0 n)) (ap p is ∙ passes)
