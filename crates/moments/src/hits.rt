@@ -1,6 +1,7 @@
 //! Hits: bursts of a robot's own missiles that hurt another robot.
 
 ghost use Rattle.std.specs.Prelude.{◌≡◌, ◌<◌, ◌+◌, ◌&&◌, ◌==◌, false, not, nat_lt, length};
+ghost use Rattle.std.specs.List.{list_any};
 ghost use Rattle.arena.specs.Field.{Field};
 ghost use Rattle.arena.specs.Outlook.{taken_by};
 ghost use Rattle.arena.specs.Representing.{RepresentsField};
@@ -20,11 +21,19 @@ pub(crate) fn hits_after_turns(game: &Game, robot: usize) -> bool
 }
 
 /// Reports whether a missile of a robot bursts in the next update and hurts another robot.
+#[tactic(auto, unfolding(crate::specs::Hits::hits))]
 fn hits(arena: &Arena, robot: usize) -> bool
     ensures { (f : Field) → RepresentsField arena.now f → result ≡ hits f robot }
 {
-    let due = arena.due();
-    for burst in due.as_slice() {
+    any_is_hit(arena, robot, arena.due().as_slice())
+}
+
+/// Reports whether one of some bursts of the next update is that of a robot, and hurts another one.
+fn any_is_hit(arena: &Arena, robot: usize, bursts: &[Burst]) -> bool
+    ensures { (f : Field) → RepresentsField arena.now f
+        → result ≡ list_any (λ burst. (burst.robot == robot) && hurts_another f burst) bursts.now }
+{
+    for burst in bursts {
         if is_hit(arena, robot, burst) {
             return true;
         }
