@@ -15,7 +15,7 @@ pub returns-then-hurts : goal.returns-then-hurts
 unfolding hurts_another
 returns-then-hurts c = λ f stands.
     sym (one_below (hurting f c.args.burst.now) (length f.robots) c.loop-other.other
-    (omega (arith, c.loop-other-test.true, c.robot_count-end.ensures.stands f stands))
+    (omega (arith, c.loop-other-test.true, c.robot_count-other-end.ensures.stands f stands))
     (sym (c.hurts.ensures f stands) ∙ c.if-hurts.true))
 
 pub returns : goal.returns
@@ -23,4 +23,4 @@ unfolding hurts_another
 returns c = λ f stands.
     sym (none_below (hurting f c.args.burst.now) (length f.robots) (λ k below.
     c.loop-other.invariant f stands k
-    (omega (arith, below, c.loop-other-test.false, c.loop-other.auto, c.robot_count-end.ensures.stands f stands))))
+    (omega (arith, below, c.loop-other-test.false, c.loop-other.auto, c.robot_count-other-end.ensures.stands f stands))))
