@@ -23,4 +23,5 @@ unfolding hurts_another
 returns c = λ f stands.
     sym (none_below (hurting f c.args.burst.now) (length f.robots) (λ k below.
     c.loop-other.invariant f stands k
-    (omega (arith, below, c.loop-other-test.false, c.loop-other.auto, c.robot_count-other-end.ensures.stands f stands))))
+    (omega
+    (arith, below, c.loop-other-test.false, c.loop-other.auto, c.robot_count-other-end.ensures.stands f stands))))
