@@ -1,13 +1,15 @@
 """A film of a match, as `crobots-trace --film` writes it: whether it is one, whom it shows, and its text, packed for a page.
 
-The page reads its rows itself (web/player/films.js)."""
+The page reads its rows itself (web/player/films.js). Robots from inside have rows with their lines and last questions; then the
+lines of their sources are rows, too."""
 
 from __future__ import annotations
 
 import re
-from typing import Iterable
+from typing import Iterable, Sequence
 
 from tools.faults import UNWRITTEN, Fault
+from tools.sources import lines_of
 
 from .packing import Packer
 
@@ -17,6 +19,7 @@ KINDS = {
     "name": r"\t[^\t]+", "at": r"(\t-?\d+){5}", "scan": r"(\t-?\d+){3}", "shot": r"(\t-?\d+){4}", "refused": r"(\t-?\d+){2}",
     "burst": r"(\t-?\d+){2}", "hurt": r"(\t-?\d+){4}", "collision": r"(\t-?\d+){2}", "wall": r"\t-?\d+",
     "restart": r"\t[^\t]+\t[^\t]+\t\d+", "death": "", "end": r"\t-?\d+", "stop": r"\t-?\d+",
+    "line": r"\t\d+\t[^\t]+", "asked": r"\t[a-z_]+(\t(-?\d+)?){2}\t-?\d+\t\d+",
 }
 ROW = re.compile(r"\d+\t[1-9]\t(" + "|".join(kind + values for kind, values in KINDS.items()) + ")")
 
@@ -24,8 +27,9 @@ ROW = re.compile(r"\d+\t[1-9]\t(" + "|".join(kind + values for kind, values in K
 class Film:
     """A film: its robots' names, and its rows but those of refused shots, which no page shows."""
 
-    def __init__(self) -> None:
+    def __init__(self, sources: Sequence[str] = ()) -> None:
         self.names: list[str] = []
+        self._sources = sources
         self._placed: set[int] = set()
         self._ended: set[int] = set()
         self._packer = Packer()
@@ -57,7 +61,15 @@ class Film:
             self._ended.add(robot)
         if kind != "refused":
             self._packer.add(fields)
+        if kind == "name":
+            self._take_source(robot)
         return robot == len(self.names) if kind == "name" else robot <= len(self.names)
+
+    def _take_source(self, robot: int) -> None:
+        """Adds the lines of a robot's source, if sources are shown: a single one is that of both robots."""
+        for path in self._sources[-1:] if len(self._sources) == 1 else self._sources[robot - 1:robot]:
+            for line in lines_of(path):
+                self._packer.add(["0", str(robot), "source", line])
 
     def _judge(self) -> None:
         """Looks whether the film is whole."""

@@ -14,10 +14,10 @@ from .words import HELP, NAME, USAGE_LINE, Asked, read
 TRACE = "crobots-trace"
 
 
-def filmed(words: list[str]) -> Film:
-    """The film of the match that words ask for."""
-    film = Film()
-    with lines(found(TRACE), ["--film", *words], pass_on, "replace") as rows:
+def filmed(asked: Asked) -> Film:
+    """The film of the match that words ask for, with the robots' sources if they are shown."""
+    film = Film(asked.robots if asked.is_inside() else [])
+    with lines(found(TRACE), ["--inside" if asked.is_inside() else "--film", *asked.trace], pass_on, "replace") as rows:
         try:
             film.read(rows)
         except Fault:
@@ -52,10 +52,10 @@ def answer(asked: Asked) -> None:
     """Writes what is asked for."""
     if asked.flags & {"-h", "--help"}:
         write(HELP)
-    elif asked.flags:
+    elif "--version" in asked.flags:
         write(f"{NAME} {number()}\n")
     else:
-        write(page(filmed(asked.trace), asked.number), asked.file)
+        write(page(filmed(asked), asked.number), asked.file)
 
 
 def run(words: list[str]) -> int:

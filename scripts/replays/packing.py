@@ -9,7 +9,7 @@ import base64
 import zlib
 
 # Kinds whose values are no numbers alone: they are kept as they are.
-WORDED = ("name", "restart")
+WORDED = ("name", "restart", "source", "line", "asked")
 
 
 class Packer:

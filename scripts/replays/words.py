@@ -7,7 +7,7 @@ from dataclasses import dataclass
 from tools.words import given, number
 
 NAME = "crobots-replay"
-USAGE_LINE = f"usage: {NAME} [-kMATCH] [-lCYCLES] [-sSEED] [-pPROFILE] [--from CYCLE] [--to CYCLE] [-o FILE] FILE.."
+USAGE_LINE = f"usage: {NAME} [-kMATCH] [-lCYCLES] [-sSEED] [-pPROFILE] [--from CYCLE] [--to CYCLE] [--inside] [-o FILE] FILE.."
 HELP = f"""{USAGE_LINE}
 
 Plays one match, and makes a page that shows it in a browser.
@@ -19,6 +19,7 @@ options:
   -p PROFILE        language profile, 1 or 2 (default 1)
   --from CYCLE      the page begins with this cycle (default 0)
   --to CYCLE        the page ends with this cycle (default 1000000000)
+  --inside          show the sources too, and where the robots are in them
   -o FILE           write into this file, and not on standard output
   -h, --help        show this page
   --version         show the version
@@ -30,15 +31,20 @@ OPTIONS = ("-k", "-f", "-l", "-s", "-p", "--from", "--to", "-o")
 
 @dataclass(frozen=True)
 class Asked:
-    """What the words ask for: the words for `trace`, the number of the match, the file of the page, and flags."""
+    """What the words ask for: the words for `trace`, the number of the match, the robots' files, the file of the page, and flags."""
 
     trace: list[str]
     number: int
+    robots: list[str]
     file: str
     flags: set[str]
+
+    def is_inside(self) -> bool:
+        """Whether the page shows robots from inside."""
+        return "--inside" in self.flags
 
 
 def read(words: list[str]) -> Asked:
     """Reads the words. What is wrong with values and files `trace` says."""
-    it = given(words, OPTIONS)
-    return Asked(it.handed_on(but=("-o",)), number(it.last("-k", "-f")), it.once("-o") or "", it.flags)
+    it = given(words, OPTIONS, ("--inside",))
+    return Asked(it.handed_on(but=("-o",)), number(it.last("-k", "-f")), it.files, it.once("-o") or "", it.flags)

@@ -2,6 +2,8 @@
 
 from __future__ import annotations
 
+from tools.sources import lines_of
+
 AROUND = 5
 
 
@@ -9,12 +11,7 @@ class Source:
     """The lines of a robot's file, numbered from 1; none if it can't be read twice."""
 
     def __init__(self, path: str) -> None:
-        try:
-            with open(path, "rb") as file:
-                text = file.read().decode(errors="replace")
-        except OSError:
-            text = ""
-        self._lines = [shown(line) for line in text.removesuffix("\n").split("\n")]
+        self._lines = lines_of(path)
 
     def __len__(self) -> int:
         return len(self._lines)
@@ -32,8 +29,3 @@ class Source:
         first = max(1, middle - AROUND)
         last = min(len(self), first + 2 * AROUND)
         return [self.numbered(number, ">" if number == marked else " ") for number in range(first, last + 1)]
-
-
-def shown(line: str) -> str:
-    """A line of text as a screen shows it: tabs reach to columns of eight, other control characters are question marks."""
-    return "".join(letter if letter.isprintable() else "?" for letter in line.rstrip("\r").expandtabs(8))

@@ -43,8 +43,8 @@ class Given:
         return self.last(name)
 
 
-def given(words: list[str], valued: Collection[str]) -> Given:
-    """Reads the words; these options have values."""
+def given(words: list[str], valued: Collection[str], flags: Collection[str] = ()) -> Given:
+    """Reads the words; these options have values, and these don't."""
     it, rest = Given(), [*words]
     while rest:
         word = rest.pop(0)
@@ -52,16 +52,16 @@ def given(words: list[str], valued: Collection[str]) -> Given:
             it.files += rest
             return it
         if word.startswith("-"):
-            take_option(it, word, rest, valued)
+            take_option(it, word, rest, valued, (*FLAGS, *flags))
         else:
             it.files.append(word)
     return it
 
 
-def take_option(it: Given, word: str, rest: list[str], valued: Collection[str]) -> None:
+def take_option(it: Given, word: str, rest: list[str], valued: Collection[str], flags: Collection[str]) -> None:
     """Takes the word of an option, and the next one if that is its value."""
     name, value = parted(word)
-    if name in FLAGS and value is None:
+    if name in flags and value is None:
         it.flags.add(name)
     elif name not in valued:
         raise Misuse(f"unknown option {word}{' (the match is -k)' if name == '-m' else ''}")

@@ -13,7 +13,7 @@ from typing import Any
 
 from replays.films import Film
 
-from .made import BEGIN, END, FILM, tabbed
+from .made import BEGIN, END, FILM, INSIDE, tabbed
 
 HERE = os.path.dirname(os.path.abspath(__file__))
 PLAYER = os.path.join(HERE, "..", "..", "web", "player")
@@ -83,6 +83,17 @@ class Films:
         got = self._film(FILM)
         wrong = [f"{key}: {got.get(key)}, not {value}" for key, value in READ.items() if got.get(key) != value]
         return wrong + ([] if set(got) == set(READ) else [f"{set(got)}"])
+
+    def robots_from_inside(self) -> list[str]:
+        """Their sources, lines and questions; without the sources a film has nothing of it."""
+        sources = "0 1 source main() {\n0 2 source x;\n0 2 source \n"
+        got = self._film(INSIDE.replace("0 1 at", f"{sources.replace('main() {', 'main(){')}0 1 at", 1))["robots"]
+        wanted = [{"source": ["main(){"], "lines": {"cycle": [0, 15], "line": [2, 6], "name": ["main", "look"]},
+                   "asked": {"cycle": [15], "call": ["scan(0, 10)"], "reply": [500], "when": [6]}},
+                  {"source": ["x;", ""], "lines": {"cycle": [0, 45], "line": [1, 2], "name": ["main", "main"]},
+                   "asked": {"cycle": [45], "call": ["sqrt(2500)"], "reply": [50], "when": [31]}}]
+        wrong = [f"{one}, not {other}" for one, other in zip(got, wanted) if any(one.get(key) != value for key, value in other.items())]
+        return wrong + ([] if self._film(INSIDE) == READ else ["a film without sources has something of them"])
 
     def what_a_page_carries(self) -> list[str]:
         """It is unpacked to the film, but for refused shots, with its names as they are and all that goes down and up."""

@@ -27,6 +27,10 @@ cycle robot kind a b c d e
 300 1 end 2
 300 2 end 9
 """
+# The sources of both, and where they are in them: robot 2 has its first question in cycle 31, which uses one argument.
+SOURCES = {"a.r": "main() {\n\twhile (1)\n    look();\n}\n\nlook() { scan(0, 10); }\n", "<b>.r": "main() { /* </script><b> */\n  drive(0, sqrt(2500));\n}\n"}
+INSIDE = FILM.replace("0 2 at 6000 5000 0 0 0\n", "0 2 at 6000 5000 0 0 0\n0 1 line 2 main\n0 2 line 1 main\n").replace(
+    "45 1 at 1000", "15 1 line 6 look\n15 1 asked scan 0 10 500 6\n45 2 line 2 main\n45 2 asked sqrt 2500  50 31\n45 1 at 1000")
 BEGIN = "cycle robot kind a b c d e\n0 1 name a.r\n0 1 at 5000 5000 0 0 0\n"
 END = "900 1 end 0\n"
 

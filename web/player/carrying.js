@@ -4,11 +4,14 @@ import {filmOf} from "./films.js";
 import {Match} from "./matches.js";
 import {summed, unpacked} from "./packing.js";
 import {Player} from "./player.js";
+import {Sources} from "./sources.js";
 
-/** Shows the film that the page carries. */
+/** Shows the film that the page carries, and robots from inside if it tells of these. */
 async function show() {
     const bytes = await unpacked(element("film").textContent);
-    globalThis.player = new Player(new Match(filmOf(summed(new TextDecoder().decode(bytes)))));
+    const match = new Match(filmOf(summed(new TextDecoder().decode(bytes))));
+    const sources = match.robots.some(({source}) => source) ? new Sources(document.querySelector("main"), match) : null;
+    globalThis.player = new Player(match, {sources});
 }
 
 show().catch(fault => { element("lacking").textContent = `This browser can't show the match: ${fault.message}`; });

@@ -13,7 +13,9 @@ const DEADLY = 100;
 const TENTHS_OF_UPDATE = 500;
 
 /** The kinds of rows that are shown: one of a shot that was refused isn't. */
-const KINDS = new Set("name at stands scan shot flies burst hurt collision wall restart death end stop".split(" "));
+const KINDS = new Set("name at stands scan shot flies burst hurt collision wall restart death end stop source line asked".split(" "));
+/** Those whose values are no numbers alone. */
+const TEXTS = new Set(["name", "restart", "source", "line", "asked"]);
 
 const between = (least, number, most) => Math.max(least, Math.min(most, number));
 
@@ -57,14 +59,13 @@ class Rows {
     take(line) {
         const [cycle, robot, kind, ...values] = line.split("\t");
         this.cycles = Math.max(this.cycles, Number(cycle));
-        const isText = kind === "name" || kind === "restart";
         if (KINDS.has(kind)) {
-            this[kind](Number(cycle), Number(robot), isText ? values : values.map(Number));
+            this[kind](Number(cycle), Number(robot), TEXTS.has(kind) ? values : values.map(Number));
         }
     }
 
     name(_cycle, robot, [name]) {
-        this.robots[robot - 1] ??= {name, places: [], damages: [], scans: [], restarts: [], death: null};
+        this.robots[robot - 1] ??= {name, places: [], damages: [], scans: [], restarts: [], death: null, source: [], lines: [], asked: []};
     }
 
     damaged(cycle, robot, percent) {
@@ -157,6 +158,22 @@ class Rows {
         this.damaged(cycle, robot, damage);
     }
 
+    /** A line of a robot's source. */
+    source(_cycle, robot, [text]) {
+        this.robots[robot - 1].source.push(text);
+    }
+
+    /** Where a robot is in its source. */
+    line(cycle, robot, [line, name]) {
+        this.robots[robot - 1].lines.push([cycle, Number(line), name]);
+    }
+
+    /** What a robot asked last: the call in words, the reply, and the cycle of it. */
+    asked(cycle, robot, [name, first, second, reply, when]) {
+        const used = [first, second].filter(it => it !== "");
+        this.robots[robot - 1].asked.push([cycle, Number(reply), Number(when), `${name}(${used.join(", ")})`]);
+    }
+
     /** The shots, sorted by their cycles: one that was in the air at the begin of a window was fired before. */
     shotRows() {
         const harmOf = it => this.harms.get(placeOf(it.burst, it.robot, it.toX, it.toY)) ?? 0;
@@ -165,13 +182,19 @@ class Rows {
     }
 }
 
-function robotOf({name, places, damages, scans, restarts, death}) {
+function robotOf({name, places, damages, scans, restarts, death, source, lines, asked}) {
+    const inside = {
+        source,
+        lines: {...columns("cycle line", lines), name: lines.map(row => row[2])},
+        asked: {...columns("cycle reply when", asked), call: asked.map(row => row[3])},
+    };
     return {
         name, death,
         restarts: Int32Array.from(restarts),
         path: columns("cycle x y heading speed", places),
         damage: columns("cycle percent", damages),
         scans: columns("cycle degree resolution reply", scans),
+        ...source.length ? inside : {},
     };
 }
 
@@ -188,7 +211,8 @@ export function isFilm(text) {
 /**
  * Reads a film. Robots have these names, or else those that the film tells. Returns the film's `first` and last cycle, `cycles`;
  * whether the match `goesOn` after it; and what happened, as a list for each column: of each of the `robots` its `path`, `damage`,
- * `scans` and the cycles of its `restarts`; `shots`, `hurts` and `restarts`, and the `whys` of these.
+ * `scans` and the cycles of its `restarts`, and if it tells robots from inside its `source`, `lines` and questions `asked`; `shots`,
+ * `hurts` and `restarts`, and the `whys` of these.
  */
 export function filmOf(text, names = []) {
     const [header, ...lines] = text.trimEnd().split("\n");

@@ -1,6 +1,6 @@
 // Unpacks what a page carries: texts that were deflated and written in base 64, and films.
 
-const WORDED = new Set(["name", "restart"]);
+const WORDED = new Set(["name", "restart", "source", "line", "asked"]);
 
 /** Reads a stream's bytes, and no more than so many: a stream that has more is given up at once. */
 export async function bytesOf(stream, most = Infinity) {

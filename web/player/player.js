@@ -21,9 +21,9 @@ const MILLISECONDS_OF_AN_ADDRESS = 500;
 
 /** What plays a match on the page. */
 export class Player {
-    /** Shows a match from a cycle on, and plays it if it is to. */
-    constructor(match, {from = match.first, isPlaying = false} = {}) {
-        this.match = match;
+    /** Shows a match from a cycle on, and plays it if it is to; `sources` shows the robot that is chosen from inside, if it is there. */
+    constructor(match, {from = match.first, isPlaying = false, sources = null} = {}) {
+        Object.assign(this, {match, sources});
         this.cycle = this.#within(from);
         this.#follow(location.hash);
         this.chosen = 0;
@@ -69,6 +69,7 @@ export class Player {
         this.damage.draw(match, cycle);
         this.cards.show(moment);
         this.events.show(whole);
+        this.sources?.show(whole, this.chosen || 1);
         this.#clock(whole);
         if (whole !== this.addressed) this.#address();
         if (whole !== this.describedAt) element("described").textContent = "";
@@ -155,6 +156,7 @@ export class Player {
         if (!this.match.robots[number - 1]) return;
         this.chosen = this.chosen === number ? 0 : number;
         this.cards.mark(this.chosen);
+        this.show();
         const whose = this.chosen ? `robot ${number}, ${this.match.robots[number - 1].name}` : "all robots";
         this.#tell(`hits and restarts of ${whose}`);
     }

@@ -3,6 +3,7 @@
 ghost use Rattle.std.specs.Prelude.{◌<◌, length};
 
 use crate::aims::{Aims, Miss};
+use crate::insides::{Insides, follows_update};
 use crate::requests::Request;
 use crate::rows::Rows;
 use crate::tellers::Teller;
@@ -24,6 +25,8 @@ pub struct Events<'a> {
     is_film: bool,
     seen: [Seen; MOST_ROBOTS],
     aims: Aims,
+    /// What is known of the robots from inside, if that is told.
+    insides: Option<Insides<'a>>,
     robots: usize,
 }
 
@@ -36,6 +39,7 @@ impl<'a> Events<'a> {
             is_film: request.is_film(),
             seen: [Seen::default(); MOST_ROBOTS],
             aims: Aims::new(),
+            insides: request.is_inside().then(|| Insides::new(notes)),
             robots: 0,
         }
     }
@@ -94,6 +98,18 @@ impl<'a> Events<'a> {
         }
     }
 
+    /// Writes where a robot is in its source before a turn, after this cycle, and what it asked last.
+    fn tell_inside(&mut self, cycle: u32, turn: Turn, pilot: &Pilot<'_>) {
+        let Some(insides) = &mut self.insides else {
+            return;
+        };
+        let robot = turn.robot;
+        let news = [insides.line(turn, pilot), insides.question(robot)];
+        for event in news.iter().flatten() {
+            self.rows.event_before(cycle, robot, event);
+        }
+    }
+
     /// Writes by how much the bursts of an update missed.
     fn tell_misses(&mut self, cycle: u32, arena: &Arena) {
         for miss in &self.aims.misses(arena) {
@@ -148,8 +164,18 @@ impl Watcher for Events<'_> {
         self.look(0, arena);
     }
 
+    fn turn(&mut self, turn: Turn, pilot: &Pilot<'_>) {
+        let before = turn.cycle.saturating_sub(1);
+        if follows_update(turn.cycle) && self.rows.span.has(before, turn.robot) {
+            self.tell_inside(before, turn, pilot);
+        }
+    }
+
     fn asked(&mut self, turn: Turn, _: &Pilot<'_>, question: Exchange, arena: &Arena) {
         self.aims.hear(turn, &question, arena);
+        if let Some(insides) = &mut self.insides {
+            insides.hear(turn, question);
+        }
         match question.intrinsic {
             Intrinsic::Cannon => self.shot(turn, question, arena),
             Intrinsic::Scan => self.scanned(turn, question),

@@ -9,6 +9,7 @@ mod asks;
 mod clocks;
 mod events;
 mod habits;
+mod insides;
 mod items;
 mod measured;
 mod misses;
@@ -42,7 +43,7 @@ use tools::{Fault, MATCH_OPTIONS, Options, ProgramFrame, SPAN_OPTIONS, Work};
 const FRAME: ProgramFrame = ProgramFrame {
     name: "crobots-trace",
     about: "Plays one match, and reports what each robot did and suffered.",
-    usage: "[-kMATCH] [-lCYCLES] [-sSEED] [-pPROFILE] [--robot N] [--from CYCLE] [--to CYCLE] [--columns N] [--sum | --events | --asks | --steps | --film | --at CYCLE | --watch NAMES] FILE..",
+    usage: "[-kMATCH] [-lCYCLES] [-sSEED] [-pPROFILE] [--robot N] [--from CYCLE] [--to CYCLE] [--columns N] [--sum | --events | --asks | --steps | --film | --inside | --at CYCLE | --watch NAMES] FILE..",
     known: &[&MATCH_OPTIONS, &SPAN_OPTIONS, &FORM_OPTIONS],
 };
 
@@ -81,7 +82,9 @@ fn told(
 {
     match request.form {
         Form::Sum => tell(Sums::new(rt, request, notes, pilots)?, request, pilots),
-        Form::Events | Form::Film => tell(Events::new(rt, request, notes), request, pilots),
+        Form::Events | Form::Film | Form::Inside => {
+            tell(Events::new(rt, request, notes), request, pilots)
+        }
         Form::Asks | Form::Steps => tell(Turns::new(rt, request, notes), request, pilots),
         Form::At => tell_moments(rt, request, notes, pilots, request.at),
         Form::Watch => tell_changes(rt, request, notes, pilots),

@@ -4,12 +4,13 @@ use settings::{MOST_CYCLES, Settings};
 use tools::{Fault, Known, Options, Span, number_of, wish};
 
 /// The options that a form is asked for by.
-pub const FORM_OPTIONS: [Known; 8] = [
+pub const FORM_OPTIONS: [Known; 9] = [
     Known::Flag("sum", "sums of each robot, which is the default"),
     Known::Flag("events", "a row for each event"),
     Known::Flag("asks", "a row for each call of an intrinsic function"),
     Known::Flag("steps", "a row for each cycle of a robot"),
     Known::Flag("film", "the events, and where the robots were and looked"),
+    Known::Flag("inside", "a film, and the robots' lines and last questions"),
     Known::Valued("at", "CYCLE", "where each robot is after this cycle"),
     Known::Valued(
         "watch",
@@ -36,6 +37,8 @@ pub enum Form {
     Steps,
     /// The events, and where the robots were.
     Film,
+    /// A film, and where the robots were in their sources.
+    Inside,
     /// Where the robots are after a cycle.
     At,
     /// The changes of variables.
@@ -43,12 +46,13 @@ pub enum Form {
 }
 
 /// The forms by the names of their options.
-const FORMS: [(&str, Form); 7] = [
+const FORMS: [(&str, Form); 8] = [
     ("sum", Form::Sum),
     ("events", Form::Events),
     ("asks", Form::Asks),
     ("steps", Form::Steps),
     ("film", Form::Film),
+    ("inside", Form::Inside),
     ("at", Form::At),
     ("watch", Form::Watch),
 ];
@@ -101,6 +105,11 @@ impl<'a> Request<'a> {
 
     /// Reports whether the form is a film.
     pub fn is_film(&self) -> bool {
-        self.form == Form::Film
+        self.form == Form::Film || self.is_inside()
+    }
+
+    /// Reports whether the form is a film of robots from inside.
+    pub fn is_inside(&self) -> bool {
+        self.form == Form::Inside
     }
 }

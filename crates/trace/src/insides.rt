@@ -1,0 +1,107 @@
+//! Robots from inside, for films: in which line each is after an update, and what it asked last.
+
+use arena::MOST_ROBOTS;
+use code::Program;
+use findings::{Event, Field};
+use notes::{Note, place_of};
+use playing::{Exchange, Pilot, Turn, UPDATE_CYCLES};
+
+/// A question, and the cycle in which it was asked.
+#[derive(Clone, Copy)]
+struct Asked {
+    cycle: u32,
+    question: Exchange,
+}
+
+/// What is known of a robot: its last question, the cycle of the one that was told last, and the address that was.
+#[derive(Clone, Copy, Default)]
+struct Inside {
+    asked: Option<Asked>,
+    told: u32,
+    address: Option<usize>,
+}
+
+/// What is known of the robots from inside.
+#[derive(Drop)]
+pub struct Insides<'a> {
+    notes: &'a [Note],
+    robots: [Inside; MOST_ROBOTS],
+}
+
+impl<'a> Insides<'a> {
+    /// Makes what is known before a match.
+    pub fn new(notes: &'a [Note]) -> Insides<'a> {
+        Insides {
+            notes,
+            robots: [Inside::default(); MOST_ROBOTS],
+        }
+    }
+
+    /// Hears a question.
+    pub fn hear(&mut self, turn: Turn, question: Exchange) {
+        if let Some(inside) = self.robots.get_mut(turn.robot) {
+            inside.asked = Some(Asked {
+                cycle: turn.cycle,
+                question,
+            });
+        }
+    }
+
+    /// Returns where a robot is before a turn, if that is another instruction than the one that was told last.
+    pub fn line(&mut self, turn: Turn, pilot: &Pilot<'_>) -> Option<Event<'a>> {
+        let inside = self.robots.get_mut(turn.robot)?;
+        let address = pilot.machine().address();
+        if inside.address == Some(address) {
+            return None;
+        }
+        inside.address = Some(address);
+        Some(line_event(self.notes, turn.robot, pilot.program(), address))
+    }
+
+    /// Returns what a robot asked last, if that wasn't told.
+    pub fn question(&mut self, robot: usize) -> Option<Event<'static>> {
+        let inside = self.robots.get_mut(robot)?;
+        let asked = inside.asked?;
+        if inside.told == asked.cycle {
+            return None;
+        }
+        inside.told = asked.cycle;
+        Some(asked_event(&asked))
+    }
+}
+
+/// Reports whether where robots are before their turns of a cycle is where they are after an update, or at the start.
+pub fn follows_update(cycle: u32) -> bool {
+    cycle % UPDATE_CYCLES == 1
+}
+
+/// Makes the event that a robot is at an address: its line and its function.
+fn line_event<'a>(notes: &'a [Note], robot: usize, program: &Program, address: usize) -> Event<'a> {
+    let (line, function) = place_of(notes, robot, program, address);
+    let fields = [Field::Number(i64::from(line)), Field::Text(function)];
+    Event::new("line", &fields)
+}
+
+/// Makes the event of a question: its function, the arguments that this uses, the reply, and the cycle.
+fn asked_event(asked: &Asked) -> Event<'static> {
+    let question = asked.question;
+    let [first, second] = question.arguments;
+    let count = question.intrinsic.argument_count();
+    let fields = [
+        Field::Text(question.intrinsic.name()),
+        used(first, count >= 1),
+        used(second, count >= 2),
+        Field::Number(i64::from(question.reply)),
+        Field::Number(i64::from(asked.cycle)),
+    ];
+    Event::new("asked", &fields)
+}
+
+/// Returns an argument, empty if its function doesn't use it.
+fn used(argument: i32, is_used: bool) -> Field<'static> {
+    if is_used {
+        Field::Number(i64::from(argument))
+    } else {
+        Field::Text("")
+    }
+}
