@@ -358,6 +358,11 @@ def older(page: Page, folder: str) -> list[str]:
 MOST_TO_DRAW, OPENINGS = 300, 20
 
 
+def most_to_draw() -> float:
+    """The same on this machine: more if more than its processors can do at once is to be done."""
+    return MOST_TO_DRAW * max(1, os.getloadavg()[0] / (os.cpu_count() or 1))
+
+
 def first_draw(page: Page) -> float:
     """After how many milliseconds something is drawn, by the browser's own account; of some openings the fastest."""
     least = float("inf")
@@ -374,7 +379,7 @@ def drawn_soon(page: Page) -> list[str]:
     """The first draw comes within 0.3 seconds."""
     drawn = first_draw(page)
     print(f"the page is drawn in {page.driver.name} after {drawn:.0f} ms")
-    return [f"first draw after {drawn:.0f} ms"] if drawn > MOST_TO_DRAW else []
+    return [f"first draw after {drawn:.0f} ms"] if drawn > most_to_draw() else []
 
 
 def speed(page: Page) -> list[str]:
