@@ -14,6 +14,8 @@ from .battles import Battle, Mistake, Settings, mistakes, outcome, random_battle
 from .pages import Page, chromium, console, served, without
 
 DEBIAN = "/usr/lib/python3/dist-packages"
+# the key as the protocol of drivers has it
+BACKSPACE = "\ue003"
 # of a source
 MOST_BYTES = 1_048_576
 
@@ -305,7 +307,7 @@ def story(page: Page, crobots: str, folder: str, fresh: Callable[[], ContextMana
     typed(other, weak + "for", "Line 1: reserved word.")
     other.run()
     wrong = [] if other.text("said") == "No match was played: a robot has a fault." else [other.text("said")]
-    typed(other, "\b\b\b}", "No fault.")
+    typed(other, BACKSPACE * 3 + "}", "No fault.")
     wrong += fought(other, crobots, [("hunter.r", f"{weak}}}".encode()), ("sniper.r", robots["sniper.r"])], "won 0 tied 0 lost 1")
     other.js("document.getElementById('sample').value = 'centre.r'; document.getElementById('replace').click()")
     battle = [(name, robots[name]) for name in ("centre.r", "sniper.r")]
