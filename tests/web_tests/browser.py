@@ -11,7 +11,7 @@ from typing import Any, Callable, ContextManager, Iterator
 
 from . import everyone, helping, inside, keeping, paths, robust, seeing
 from .battles import Battle, Mistake, Settings, mistakes, outcome, random_battles, sample_battles, samples, script, vectors
-from .pages import Page, chromium, console, served, without
+from .pages import Page, as_loaded, chromium, console, served, without
 
 DEBIAN = "/usr/lib/python3/dist-packages"
 # the key as the protocol of drivers has it
@@ -360,11 +360,6 @@ def older(page: Page, folder: str) -> list[str]:
 MOST_TO_DRAW, OPENINGS = 300, 20
 
 
-def most_to_draw() -> float:
-    """The same on this machine: more if more than its processors can do at once is to be done."""
-    return MOST_TO_DRAW * max(1, os.getloadavg()[0] / (os.cpu_count() or 1))
-
-
 def first_draw(page: Page) -> float:
     """After how many milliseconds something is drawn, by the browser's own account; of some openings the fastest."""
     least = float("inf")
@@ -381,7 +376,7 @@ def drawn_soon(page: Page) -> list[str]:
     """The first draw comes within 0.3 seconds."""
     drawn = first_draw(page)
     print(f"the page is drawn in {page.driver.name} after {drawn:.0f} ms")
-    return [f"first draw after {drawn:.0f} ms"] if drawn > most_to_draw() else []
+    return [f"first draw after {drawn:.0f} ms"] if drawn > as_loaded(MOST_TO_DRAW) else []
 
 
 def speed(page: Page) -> list[str]:

@@ -22,6 +22,11 @@ from .battles import Battle
 SECONDS = 60
 
 
+def as_loaded(limit: float) -> float:
+    """A limit of a time that holds on a machine with nothing else to do, on this one: more if it has more to do than it can at once."""
+    return limit * max(1, os.getloadavg()[0] / (os.cpu_count() or 1))
+
+
 class Quiet(http.server.SimpleHTTPRequestHandler):
     """Serves files without a word."""
 

@@ -11,7 +11,7 @@ import zipfile
 from typing import Iterator
 
 from .battles import Battle, Settings, samples
-from .pages import Page, console, packed, without
+from .pages import Page, as_loaded, console, packed, without
 
 FIELD = "document.querySelector('#writing textarea:not([style*=none])')"
 # a link of 78 KB that unpacks to 60 MB
@@ -84,7 +84,7 @@ def bomb(page: Page) -> list[str]:
     largest = [{"name": f"{n}.r", "source": " " * 1_048_577} for n in range(4)]
     page.open(packed(json.dumps({"robots": largest}).encode()))
     names = page.names
-    return [] if took < 5 and len(link) < 90_000 and names == [f"{n}.r" for n in range(4)] else [f"{len(link)} bytes, {took:.1f} s, {names}"]
+    return [] if took < as_loaded(5) and len(link) < 90_000 and names == [f"{n}.r" for n in range(4)] else [f"{len(link)} bytes, {took:.1f} s, {names}"]
 
 
 def disguises(page: Page) -> list[str]:
