@@ -114,6 +114,10 @@ def steps(page: Page) -> list[str]:
     return wrong + differ(page.js("return window.keys.filter(([key]) => key.startsWith('F'))"), pressed)
 
 
+IS_SEEN = """const box = document.getElementById('inside-source'), it = box.querySelector('.current');
+    return it.offsetTop >= box.scrollTop && it.offsetTop + it.offsetHeight <= box.scrollTop + box.clientHeight"""
+
+
 def turned(page: Page) -> list[str]:
     """The line is seen after the screen was turned, too: then the source is lower, and what stands above goes over more lines."""
     page.size(1366, 800)
@@ -121,9 +125,9 @@ def turned(page: Page) -> list[str]:
     seen = []
     for width, height in ((1366, 800), (360, 640)):
         page.size(width, height)
-        time.sleep(0.5)
-        seen.append(page.js("const box = document.getElementById('inside-source'), it = box.querySelector('.current');"
-                            "return it.offsetTop >= box.scrollTop && it.offsetTop + it.offsetHeight <= box.scrollTop + box.clientHeight"))
+        # drawn and scrolled after the next frame, which comes late if the machine has much to do
+        tries = (page.js(IS_SEEN) or time.sleep(0.1) for _ in range(100))
+        seen.append(any(tries))
     page.whole_window()
     return differ(seen, [True, True])
 
