@@ -19,7 +19,8 @@ from typing import Any, Iterator
 
 from .battles import Battle
 
-SECONDS = 60
+# for what is waited for, on a machine that has much else to do
+SECONDS = 180
 
 
 def as_loaded(limit: float) -> float:
@@ -71,7 +72,7 @@ def chromium() -> Iterator[Any]:
     service: Any = importlib.import_module("selenium.webdriver.chrome.service")
     driver = webdriver.Chrome(service=service.Service(shutil.which("chromedriver")), options=options)
     # a source of a megabyte takes long on a machine that has much else to do
-    driver.set_script_timeout(5 * SECONDS)
+    driver.set_script_timeout(2 * SECONDS)
     try:
         yield driver
     finally:
