@@ -257,8 +257,19 @@ def listing(page: Page) -> list[str]:
     first = page.text("code")[:40]
     if at != 6 or len(marked) != 10 or marked[0] != "7    8FETCH L0":
         wrong.append(f"line {at + 1}, marked {marked}, {first}")
+    wrong += turn(page)
     page.show(Battle([("a.r", b"main(){\nbreak; }")]))
     return wrong + ([f"a faulty source has code: {page.text('code')}"] if page.text("code") else [])
+
+
+def turn(page: Page) -> list[str]:
+    """What a turn of the loop takes stands before its first instruction: two of line 5, six of line 6, four of line 7 and two back,
+    or six more with the shot; it leads to its line."""
+    rows = page.js("return [...document.querySelectorAll('#code > *')].map(it => it.textContent)")
+    at = rows.index("Line 5: a turn takes 14 to 20 cycles") if "Line 5: a turn takes 14 to 20 cycles" in rows else -1
+    page.js("document.querySelectorAll('#code > *')[arguments[0]].click()", max(at, 0))
+    line = page.js("return document.querySelector('.CodeMirror').CodeMirror.getCursor().line + 1")
+    return [] if at >= 0 and rows[at + 1] == "5    0CONST 1" and line == 5 else [f"no turn in {rows[:6]}, or it leads to line {line}"]
 
 
 def keys(page: Page) -> list[str]:
