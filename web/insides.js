@@ -59,6 +59,8 @@ export class Inside {
         // the film takes these keys too
         screen.onShow = () => screen.inside.addEventListener("keydown", event => this.press(event));
         setInterval(() => this.follow(), LOOK_EVERY);
+        // also once a screen was turned
+        new ResizeObserver(() => this.scroll()).observe(byId("inside-source"));
     }
 
     /** Whether the panel is open, and a film is there to follow. */
@@ -190,14 +192,17 @@ export class Inside {
         this.current?.classList.remove("current");
         this.current?.removeAttribute("aria-current");
         this.current = this.rows[line - 1];
-        if (this.current) {
-            this.current.classList.add("current");
-            this.current.setAttribute("aria-current", "step");
-            const box = byId("inside-source");
-            const {offsetTop, offsetHeight} = this.current;
-            if (offsetTop < box.scrollTop || offsetTop + offsetHeight > box.scrollTop + box.clientHeight) {
-                box.scrollTop = offsetTop - box.clientHeight / 3;
-            }
+        this.current?.classList.add("current");
+        this.current?.setAttribute("aria-current", "step");
+        this.scroll();
+    }
+
+    /** Scrolls the source, and nothing else, until the line is seen. */
+    scroll() {
+        const box = byId("inside-source");
+        const {offsetTop: top, offsetHeight: height} = this.current ?? {};
+        if (top < box.scrollTop || top + height > box.scrollTop + box.clientHeight) {
+            box.scrollTop = top - box.clientHeight / 3;
         }
     }
 

@@ -1,4 +1,5 @@
-// The listing of a robot's code beside its source: each instruction with its address and its line.
+// The listing of a robot's code beside its source: each instruction with its address and its line, and what turns of loops take.
+import {Ending} from "./limits.js";
 
 const INSTRUCTION = /^([ \d]{5}) (.*)$/;
 
@@ -6,6 +7,16 @@ const INSTRUCTION = /^([ \d]{5}) (.*)$/;
 export function linesOf(places) {
     const [, ...rows] = places.trimEnd().split("\n");
     return rows.map(row => Number(row.split("\t")[3]));
+}
+
+/** Returns what is known of the turns of loops, as the module tells it: {line, text} of each. */
+export function turnsOf({ending, text}) {
+    const rows = ending === Ending.DONE ? text.split("\n").slice(0, -1) : [];
+    return rows.map(row => {
+        const [line, , , least, most] = row.split("\t");
+        const cycles = most === undefined ? `at least ${least}` : least === most ? least : `${least} to ${most}`;
+        return {line, text: `Line ${line}: ${least === undefined ? "the loop never begins again" : `a turn takes ${cycles} cycles`}`};
+    });
 }
 
 /** The listing as a list, from which one goes to the source's lines. */
@@ -20,9 +31,15 @@ export class Listing {
         box.addEventListener("keydown", event => this.press(event));
     }
 
-    /** Shows a listing, whose instructions come from these lines. */
-    show(text, lines) {
+    /** Shows a listing, whose instructions come from these lines, and what turns of loops take, each before its loop. */
+    show(text, lines, turns) {
         this.rows = text.trimEnd().split("\n").slice(1).map((row, at) => this.row(row, at, lines));
+        turns.forEach((turn, at) => {
+            const row = this.row(turn.text, `turn-${at}`, lines);
+            row.dataset.line = turn.line;
+            const begin = this.rows.findIndex(it => !it.matches(".heading") && it.dataset.line === turn.line);
+            this.rows.splice(begin < 0 ? this.rows.length : begin, 0, row);
+        });
         this.box.replaceChildren(...this.rows);
         this.chosen = null;
         this.box.removeAttribute("aria-activedescendant");

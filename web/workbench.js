@@ -2,7 +2,7 @@
 import {adviceOf} from "./advice.js";
 import {Limits, Ending} from "./limits.js";
 import {showExplanation, warningsOf} from "./explaining.js";
-import {Listing, linesOf} from "./listings.js";
+import {Listing, linesOf, turnsOf} from "./listings.js";
 import {cleanName, freeName, nameInWork} from "./names.js";
 
 const COMPILE_AFTER = 250;
@@ -153,12 +153,12 @@ export class Workbench {
     async compile() {
         const {robot, battle} = this;
         const {source} = robot;
-        const [listed, places, explained] = await Promise.all(["list", "places", "explain"].map(call => this.ask(call, robot)));
+        const [listed, places, explained, turns] = await Promise.all(["list", "places", "explain", "turns"].map(call => this.ask(call, robot)));
         if (robot === this.robot && battle === this.battle && source === robot.source) {
             const fault = this.take(robot, listed);
             this.editor.mark(fault?.line ?? null, fault ? `${fault.text}. ${adviceOf(fault.text)}` : "");
             this.editor.warn(warningsOf(explained));
-            this.listing.show(listed.text, linesOf(places.text));
+            this.listing.show(listed.text, linesOf(places.text), turnsOf(turns));
             this.listing.mark(this.editor.line);
             this.showDiagnostic(fault, listed);
             showExplanation(byId("explanation"), explained, line => this.editor.goTo(line));

@@ -11,9 +11,11 @@ from typing import Any, Callable, ContextManager, Iterator
 
 from . import everyone, helping, inside, keeping, paths, robust, seeing
 from .battles import Battle, Mistake, Settings, mistakes, outcome, random_battles, sample_battles, samples, script, vectors
-from .pages import Page, chromium, console, served, without
+from .pages import Page, as_loaded, chromium, console, served, without
 
 DEBIAN = "/usr/lib/python3/dist-packages"
+# the key as the protocol of drivers has it
+BACKSPACE = "\ue003"
 # of a source
 MOST_BYTES = 1_048_576
 
@@ -255,8 +257,19 @@ def listing(page: Page) -> list[str]:
     first = page.text("code")[:40]
     if at != 6 or len(marked) != 10 or marked[0] != "7    8FETCH L0":
         wrong.append(f"line {at + 1}, marked {marked}, {first}")
+    wrong += turn(page)
     page.show(Battle([("a.r", b"main(){\nbreak; }")]))
     return wrong + ([f"a faulty source has code: {page.text('code')}"] if page.text("code") else [])
+
+
+def turn(page: Page) -> list[str]:
+    """What a turn of the loop takes stands before its first instruction: two of line 5, six of line 6, four of line 7 and two back,
+    or six more with the shot; it leads to its line."""
+    rows = page.js("return [...document.querySelectorAll('#code > *')].map(it => it.textContent)")
+    at = rows.index("Line 5: a turn takes 14 to 20 cycles") if "Line 5: a turn takes 14 to 20 cycles" in rows else -1
+    page.js("document.querySelectorAll('#code > *')[arguments[0]].click()", max(at, 0))
+    line = page.js("return document.querySelector('.CodeMirror').CodeMirror.getCursor().line + 1")
+    return [] if at >= 0 and rows[at + 1] == "5    0CONST 1" and line == 5 else [f"no turn in {rows[:6]}, or it leads to line {line}"]
 
 
 def keys(page: Page) -> list[str]:
@@ -305,7 +318,7 @@ def story(page: Page, crobots: str, folder: str, fresh: Callable[[], ContextMana
     typed(other, weak + "for", "Line 1: reserved word.")
     other.run()
     wrong = [] if other.text("said") == "No match was played: a robot has a fault." else [other.text("said")]
-    typed(other, "\b\b\b}", "No fault.")
+    typed(other, BACKSPACE * 3 + "}", "No fault.")
     wrong += fought(other, crobots, [("hunter.r", f"{weak}}}".encode()), ("sniper.r", robots["sniper.r"])], "won 0 tied 0 lost 1")
     other.js("document.getElementById('sample').value = 'centre.r'; document.getElementById('replace').click()")
     battle = [(name, robots[name]) for name in ("centre.r", "sniper.r")]
@@ -374,7 +387,7 @@ def drawn_soon(page: Page) -> list[str]:
     """The first draw comes within 0.3 seconds."""
     drawn = first_draw(page)
     print(f"the page is drawn in {page.driver.name} after {drawn:.0f} ms")
-    return [f"first draw after {drawn:.0f} ms"] if drawn > MOST_TO_DRAW else []
+    return [f"first draw after {drawn:.0f} ms"] if drawn > as_loaded(MOST_TO_DRAW) else []
 
 
 def speed(page: Page) -> list[str]:

@@ -13,7 +13,7 @@ import time
 from typing import Any, Iterator
 
 # for an answer, and for the browser's start on a machine that has much else to do
-SECONDS, SECONDS_OF_A_START = 60, 300
+SECONDS, SECONDS_OF_A_START = 180, 300
 # a window is no narrower, so a narrower page is shown magnified by one of these
 LEAST_WIDTH, SCALES = 500, (1, 1.5, 2)
 ELEMENT = "element-6066-11e4-a52e-4f735466cecf"

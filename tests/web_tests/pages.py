@@ -19,7 +19,13 @@ from typing import Any, Iterator
 
 from .battles import Battle
 
-SECONDS = 60
+# for what is waited for, on a machine that has much else to do
+SECONDS = 180
+
+
+def as_loaded(limit: float) -> float:
+    """A limit of a time that holds on a machine with nothing else to do, on this one: more if it has more to do than it can at once."""
+    return limit * max(1, os.getloadavg()[0] / (os.cpu_count() or 1))
 
 
 class Quiet(http.server.SimpleHTTPRequestHandler):
@@ -66,7 +72,7 @@ def chromium() -> Iterator[Any]:
     service: Any = importlib.import_module("selenium.webdriver.chrome.service")
     driver = webdriver.Chrome(service=service.Service(shutil.which("chromedriver")), options=options)
     # a source of a megabyte takes long on a machine that has much else to do
-    driver.set_script_timeout(5 * SECONDS)
+    driver.set_script_timeout(2 * SECONDS)
     try:
         yield driver
     finally:

@@ -12,7 +12,7 @@ MIRROR = "document.querySelector('.CodeMirror').CodeMirror"
 # windows of a usual laptop, a large screen, a phone
 WINDOWS = ((1366, 651), (1920, 1000), (360, 640), (683, 651))
 # seconds of a processor
-MOST_FOR_ROWS = 0.75
+MOST_FOR_ROWS = 1.5
 FAULTY = "main()\n{\n  while (1)\n    break;\n}\n"
 
 
@@ -196,7 +196,7 @@ def busy(page: Page) -> float:
 
 
 def rows(page: Page) -> list[str]:
-    """A film of 700,000 rows doesn't freeze the page: all that it does for it, of which no moment takes longer, is less than a second."""
+    """A film of 700,000 rows doesn't freeze the page: all that its thread does meanwhile, of which no moment takes longer, is less than 1.5 s."""
     page.show(Battle([("idle.r", b"main(){while(1);}"), ("done.r", b"main()\n{\n}\n")], Settings(limit=1_390_000)))
     before = busy(page)
     page.watch(1)

@@ -14,6 +14,7 @@ const {placesOf} = await load("finding");
 const {completions, openCall, wordAt} = await load("helping");
 const {Series, ended} = await load("series");
 const {adviceOf} = await load("advice");
+const {turnsOf} = await load("listings");
 const {Code, callsOf, foundIn, momentOf, valuesOf} = await load("moments");
 
 function check(name, got, wanted) {
@@ -117,5 +118,8 @@ check("open calls of a robot", callsOf(code, inside), [{line: 4, name: "f", vari
 check("externals", valuesOf(code.externals, inside.externals), [{name: "seen", value: 4}]);
 check("no moment, and what was found", [momentOf(ROWS), foundIn(ROWS), foundIn(`${ROWS}8\t1\tfound\n`)], [null, null, 8]);
 
+check("turns of loops", turnsOf({ending: 0, text: "3\t1\tturn\t14\t63\n4\t1\tturn\t14\n5\t1\tturn\t9\t9\n6\t1\tturn\n"}).map(({line, text}) => line + text),
+    ["3Line 3: a turn takes 14 to 63 cycles", "4Line 4: a turn takes at least 14 cycles", "5Line 5: a turn takes 9 cycles", "6Line 6: the loop never begins again"]);
+check("no turns", [turnsOf({ending: 1, text: "x"}), turnsOf({ending: 0, text: ""})], [[], []]);
 check("no advice", adviceOf("nonsense"), "");
 console.log(JSON.stringify(wrong));
