@@ -76,12 +76,7 @@ pub fn follows_update(cycle: u32) -> bool {
 }
 
 /// Makes the event that a robot is at an address: its line and its function.
-fn line_event<'a>(
-    notes: &'a [Note],
-    robot: usize,
-    program: &Program,
-    address: usize,
-) -> Event<'a> {
+fn line_event<'a>(notes: &'a [Note], robot: usize, program: &Program, address: usize) -> Event<'a> {
     let (line, function) = place_of(notes, robot, program, address);
     let fields = [Field::Number(i64::from(line)), Field::Text(function)];
     Event::new("line", &fields)
