@@ -12,6 +12,8 @@ from pathlib import Path
 from listing_machine import USED, Listing, Machine, read
 
 HURTS = ("hurt", "wall", "collision")
+# The distance up to which a burst hurts, in tenths of a metre.
+REACH = 400
 
 
 @dataclass(frozen=True)
@@ -82,6 +84,7 @@ class History:
     asked: list[Asked]
     restarts: set[int]
     hurts: set[int]
+    hits: set[int]
     last: int
     death: int | None
 
@@ -141,6 +144,22 @@ def rows(program: str, form: str, match: Match) -> list[list[str]]:
     return [line.split("\t") for line in text.splitlines()[1:]]
 
 
+def hits_of(match: Match, trace: str, debug: str) -> set[int]:
+    """The cycles after which a missile of the robot bursts so close to another one that it hurts it, by the places of both."""
+    events = [line.split("\t") for line in told(trace, "--events", *match.command()).splitlines()[1:]]
+    bursts = [(int(row[0]), int(row[3]), int(row[4])) for row in events if row[2] == "burst" and row[1] == str(match.robot)]
+    deaths = {row[1]: int(row[0]) for row in events if row[2] == "death"}
+    commands = "".join(f"at {cycle}\n" for cycle, _, _ in bursts)
+    ran = subprocess.run([debug, *match.command()], input=commands, capture_output=True, text=True, timeout=600, check=True)
+    hits = set()
+    for (cycle, x, y), answer in zip(bursts, ran.stdout.split("\n\n")):
+        robots = [row.split("\t")[1:4] for row in answer.splitlines() if row.startswith("robot\t")]
+        lives = [it for it in robots if it[0] != str(match.robot) and deaths.get(it[0], cycle) >= cycle]
+        if any((int(it[1]) - x) ** 2 + (int(it[2]) - y) ** 2 <= REACH**2 for it in lives):
+            hits.add(cycle)
+    return hits
+
+
 def places_of(stages: str, match: Match) -> dict[int, tuple[int, int]]:
     """The line of each address, and its place in that line's rows, by `stages`."""
     found: dict[int, tuple[int, int]] = {}
@@ -163,8 +182,8 @@ def parameters_of(source: str, names: Names) -> dict[str, int]:
     return found
 
 
-def history_of(match: Match, crobots: str, trace: str, stages: str) -> History:
-    """Runs the robot's machine by the replies that `trace` shows."""
+def history_of(match: Match, crobots: str, trace: str, stages: str, debug: str = "") -> History:
+    """Runs the robot's machine by the replies that `trace` shows. Its hits are looked for if `debug` is given."""
     text = told(crobots, "-c", f"-p{match.profile}", str(match.file))
     listing, names = read(text), Names.of(text)
     asked = [Asked(int(cycle), call, int(reply)) for cycle, _, _, _, call, reply in rows(trace, "--asks", match)]
@@ -194,7 +213,8 @@ def history_of(match: Match, crobots: str, trace: str, stages: str) -> History:
     deaths = [int(row[0]) for row in events if row[2] == "death"]
     last = int(next(row[0] for row in events if row[2] == "end"))
     return History(match, listing, names, places_of(stages, match), states, asked, restarts,
-                   {cycle for cycle, percent in hurts.items() if percent}, last, deaths[0] if deaths else None)
+                   {cycle for cycle, percent in hurts.items() if percent}, {it for it in (hits_of(match, trace, debug) if debug else ()) if it < len(states)},
+                   last, deaths[0] if deaths else None)
 
 
 def state_of(machine: Machine) -> State:

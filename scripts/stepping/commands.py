@@ -83,8 +83,11 @@ def happening(session: Session, mark: Mark) -> str:
     before, now = session.before(), session.moment
     if mark.is_watch():
         return f" from {before.value(mark.text)} to {now.value(mark.text)}"
-    if mark.text == "hit":
+    if mark.text == "hurt":
         return f", damage from {before.damage(session.robot)}% to {now.damage(session.robot)}%"
+    if mark.text == "hit":
+        others = [it.number for it in now.robots if it.number != session.robot and it.damage > before.damage(it.number)]
+        return "".join(f", damage of {it} from {before.damage(it)}% to {now.damage(it)}%" for it in others)
     return ""
 
 
@@ -202,7 +205,7 @@ COMMANDS = (
     *moves(FORWARDS, "", "", "next"),
     *moves(BACKWARDS, "reverse-", "r", "last"),
     Command(("goto",), "CYCLE", "to the moment after a cycle", go_to, True),
-    Command(("break", "b"), "WHERE", "stop at LINE, hit, restart or FUNCTION [if reply > 0]", set_breakpoint),
+    Command(("break", "b"), "WHERE", "stop at LINE, hurt, hit, restart or FUNCTION [if reply > 0]", set_breakpoint),
     Command(("watch",), "NAME", "stop where the variable changes", set_watch),
     Command(("delete",), "N", "forget a breakpoint or a watch", delete),
     Command(("print", "p"), "NAME", "the value of a variable", print_value),

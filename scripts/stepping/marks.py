@@ -8,6 +8,8 @@ from dataclasses import dataclass
 from .moments import Moment
 from .pipes import Refused
 
+# What may happen to a robot, by the words of `crobots-debug`.
+HAPPENINGS = ("hurt", "hit", "restart")
 LEAST, MOST = -(2**31), 2**31 - 1
 Range = tuple[int, int]
 CONDITION = re.compile(r"reply *(==|!=|<=|>=|<|>) *(-?\w+)")
@@ -40,10 +42,10 @@ def breakpoint_of(number: int, text: str, moment: Moment) -> Mark:
     word, _, rest = text.partition(" ")
     if not text or word.isascii() and word.isdigit():
         return line_mark(number, str(int(word[:20] or moment.line)), rest)
-    if rest and word in ("hit", "restart"):
+    if rest and word in HAPPENINGS:
         raise Refused(f"{rest}: nothing follows {word}")
-    if word in ("hit", "restart"):
-        return Mark(number, "breakpoint", word, ("hurt" if word == "hit" else "restart",))
+    if word in HAPPENINGS:
+        return Mark(number, "breakpoint", word, (word,))
     return Mark(number, "breakpoint", text, questions(word, rest.strip()))
 
 

@@ -70,7 +70,7 @@ def differ(got: object, wanted: object) -> list[str]:
 
 
 # What the plain model doesn't know.
-UNKNOWN = re.compile(r", column \d+|(?<=^restart): \w+$|(?<=: hit), damage .*$")
+UNKNOWN = re.compile(r", column \d+|(?<=^restart): \w+$|(?<=: hurt), damage .*$|(?<=: hit), damage .*$")
 
 
 def plain(lines: list[str]) -> list[str]:

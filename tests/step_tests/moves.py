@@ -22,7 +22,7 @@ class Moves(Base):
         found = []
         for number, (one, other, robot, profile) in enumerate(SAMPLES, 3):
             match = Match([f"-k{number}", f"-l{CYCLES}", "-s5"], [ROBOTS / one, ROBOTS / other], robot, profile)
-            found.append(history_of(match, *(self._programs[f"crobots{it}"] for it in ("", "-trace", "-stages"))))
+            found.append(history_of(match, *(self._programs[f"crobots{it}"] for it in ("", "-trace", "-stages", "-debug"))))
         return found
 
     def moves_of_the_sample_robots(self) -> list[str]:
@@ -78,9 +78,9 @@ class Moves(Base):
 
     def a_death(self) -> list[str]:
         """Its shots burst at its feet at each update from cycle 15 on. It is dead after cycle 90, and the match is over."""
-        answers = self._answers(["break hit", *["c"] * 7, "rc"], "suicide.r")
+        answers = self._answers(["break hurt", *["c"] * 7, "rc"], "suicide.r")
         wrong = differ([lines[1].partition(",")[0] for lines in answers[2:]], [f"cycle {it}" for it in (15, 30, 45, 60, 75, 90, 90, 75)])
-        wrong += differ(answers[2][0].partition(" to ")[0], "breakpoint 1: hit, damage from 0%")
+        wrong += differ(answers[2][0].partition(" to ")[0], "breakpoint 1: hurt, damage from 0%")
         return wrong + differ(self._last(["goto 500"], "suicide.r")[0].partition(", column")[2][3:], ", dead, the match is over")
 
     def a_restart(self) -> list[str]:
@@ -105,7 +105,7 @@ def short(name: str, draw: random.Random) -> str:
 
 def random_mark(history: History, draw: random.Random) -> tuple[str, str, Happens]:
     """A breakpoint of any kind: its command, how it is listed with N for its number, and whether it happens in a cycle."""
-    return draw.choice([line_mark, reply_mark, reply_mark, hit_mark, restart_mark])(history, draw)
+    return draw.choice([line_mark, reply_mark, reply_mark, hurt_mark, hit_mark, restart_mark])(history, draw)
 
 
 def line_mark(history: History, draw: random.Random) -> tuple[str, str, Happens]:
@@ -122,8 +122,12 @@ def reply_mark(history: History, draw: random.Random) -> tuple[str, str, Happens
     return f"b {text}", f"breakpoint N: {text}", lambda cycle: cycle in replies and test(replies[cycle], asked.reply)
 
 
+def hurt_mark(history: History, _: random.Random) -> tuple[str, str, Happens]:
+    return "break hurt", "breakpoint N: hurt", lambda cycle: cycle in history.hurts
+
+
 def hit_mark(history: History, _: random.Random) -> tuple[str, str, Happens]:
-    return "break hit", "breakpoint N: hit", lambda cycle: cycle in history.hurts
+    return "break hit", "breakpoint N: hit", lambda cycle: cycle in history.hits
 
 
 def restart_mark(history: History, _: random.Random) -> tuple[str, str, Happens]:

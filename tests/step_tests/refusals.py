@@ -21,7 +21,7 @@ WRONG = {
     "print main.b": "main.b: no variable that main sees", "info": "info: not breakpoints, locals, externals or field",
     "info b": "b: not breakpoints, locals, externals or field", "list 0": "0: no number from 1 to 8", "list 9": "9: no number from 1 to 8",
     "break 1": "1: no code in these lines", "break 0": "0: no lines, as 3 or 5,8-12", "break 5 6": "6: nothing follows the line",
-    "break hit now": "now: nothing follows hit", "break main": "main: no intrinsic function", "break scan when": None,
+    "break hit now": "now: nothing follows hit", "break hurt now": "now: nothing follows hurt", "break main": "main: no intrinsic function", "break scan when": None,
     "break scan if": None, "break scan if reply": None, "break scan if reply > x": "x: no number from -2147483648 to 2147483647",
     "break scan if reply > 2147483648": "2147483648: no number from -2147483648 to 2147483647",
     "break scan if reply > 2147483647": "reply > 2147483647: no reply is so",

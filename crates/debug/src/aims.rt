@@ -22,6 +22,8 @@ pub enum Aim {
     Restart,
     /// The robot is hurt.
     Hurt,
+    /// The robot hits another one.
+    Hit,
     /// An external changes.
     Change(u8),
     /// An external has a value.
@@ -42,6 +44,8 @@ const ASK: &str = "ask FUNCTION [LEAST MOST]";
 const RESTART: &str = "restart";
 
 const HURT: &str = "hurt";
+
+const HIT: &str = "hit";
 
 const CHANGE: &str = "change NAME";
 
@@ -72,6 +76,8 @@ impl Aim {
             "restart" => Err(Refusal::Form(RESTART)),
             "hurt" if words.is_empty() => Ok(Aim::Hurt),
             "hurt" => Err(Refusal::Form(HURT)),
+            "hit" if words.is_empty() => Ok(Aim::Hit),
+            "hit" => Err(Refusal::Form(HIT)),
             "change" => change(alloc, session, words),
             "value" => value(alloc, session, words),
             other => Err(Refusal::Event(other)),
@@ -85,6 +91,7 @@ impl Aim {
             Aim::Question(function, least, most) => Sought::Question(*function, *least, *most),
             Aim::Restart => Sought::Restart,
             Aim::Hurt => Sought::Hurt,
+            Aim::Hit => Sought::Hit,
             Aim::Change(number) => Sought::Change(Var::External(*number)),
             Aim::Value(number, value) => Sought::Value(Var::External(*number), *value),
             Aim::LocalChange(marks, number) => Sought::LocalChange(marks.as_slice(), *number),

@@ -38,7 +38,7 @@ impl<'a> fmt::Display for Refusal<'a> {
             Refusal::Command(word) => write!(f, "{}: not at, next, last or quit", Plain(word)),
             Refusal::Event(word) => write!(
                 f,
-                "{}: not line, in, ask, restart, hurt, change or value",
+                "{}: not line, in, ask, restart, hurt, hit, change or value",
                 Plain(word)
             ),
             Refusal::Form(form) => write!(f, "the form is {form}"),

@@ -1,28 +1,32 @@
 -- What two glances show is what happens between two stages.
 use Rattle.std.proofs.Common.{◌≡◌, ℕ, ◌+◌, ◌<◌, Bool, true, false, ℤ, List, length, get_or, Some, refl, sym, ap, ◌∙◌, arith}
-use Rattle.std.specs.Prelude.{option_map, slice_get}
+use Rattle.std.specs.Prelude.{◌&&◌, option_map, slice_get}
 use Rattle.std.proofs.lemmas.Option.{slice_get-get_or, slice_get-map}
-use Rattle.arena.specs.Field.{damage_of, robot_at}
+use Rattle.arena.specs.Field.{Field, damage_of, robot_at}
+use Rattle.arena.specs.Representing.{RepresentsField}
 use Rattle.grammar.specs.declared.resolved_names.Intrinsic.{Intrinsic}
-use Rattle.battles.specs.Battle.{Behaviour, BattleState, state_after}
+use Rattle.battles.specs.Battle.{Behaviour, BattleState, is_due, state_after, turns}
 use Rattle.battles.specs.Carrying.{AreRobotsOf}
 use Rattle.code.specs.declared.want.Want.TheVariants.{Ask}
 use Rattle.code.specs.Generation.{Program}
 use Rattle.code.specs.Machine.{Machine}
-use Rattle.playing.specs.Games.{Game, HasCome}
+use Rattle.playing.specs.Games.{Game, HasCome, HaveTakenTurns}
 use Rattle.playing.specs.Pilot.{Pilot}
+use Rattle.playing.specs.declared.games.PlayEnd.{PlayEnd}
 use Rattle.playing.specs.Played.{codes_of, exes_of}
 use Rattle.playing.proofs.Playing.{code_same, lives_are, robots_as_seats, seat_reached, some_same}
 use Rattle.moments.specs.declared.sought.Glance.{Glance}
 use Rattle.moments.specs.declared.sought.Sought.{Sought}
-use Rattle.moments.specs.declared.sought.Sought.TheVariants.{Place, Question, Restart, Hurt, Change, Value, LocalChange, LocalValue}
+use Rattle.moments.specs.declared.sought.Sought.TheVariants.{Place, Question, Restart, Hurt, Hit, Change, Value, LocalChange, LocalValue}
+use Rattle.moments.specs.Hits.{hits}
 use Rattle.moments.specs.Moments.{last_of, replies_of, wanted}
 use Rattle.moments.specs.Searches.{Happens, IsGlanced, IsOneCall, Seems, Shows, state_at, value_of}
 use Rattle.moments.proofs.Asking.{reply_is, wanted_is}
 
--- two glances see a robot at two stages
-pub record See (robots : List Behaviour) (program : Program) (i : ℕ) (sought : Sought) (now later : BattleState)
-    (before after : Glance) : Type 0 where
+-- two glances see a robot at two stages, and it hits another one in the cycle between them or doesn't
+pub record See (robots : List Behaviour) (program : Program) (i cycle : ℕ) (sought : Sought) (now later : BattleState)
+    (before after : Glance) (is_hit : Bool) : Type 0 where
+  pub hit : is_hit ≡ (is_due cycle && hits (turns robots (length robots) now).field i)
   pub want : before.wanted ≡ wanted robots i now
   pub damage : before.damage ≡ damage_of (robot_at now.field i)
   pub damage_then : after.damage ≡ damage_of (robot_at later.field i)
@@ -41,62 +45,69 @@ one_call : (marks : List Bool) (a b c d a' b' c' d' : ℕ) → a ≡ a' → b �
 one_call marks a b c d a' b' c' d' p q r t (here, there, same) =
     (ap (λ n. get_or marks n false) (sym p) ∙ here, ap (λ n. get_or marks n false) (sym r) ∙ there, sym q ∙ same ∙ t)
 
-pub shows_so : (sought : Sought) (robots : List Behaviour) (program : Program) (i : ℕ) (now later : BattleState)
-    (before after : Glance) → See robots program i sought now later before after → Seems sought before after
-    → Shows sought robots program i now later
-shows_so (Place marks most) robots program i now later before after see (here, few) =
+pub shows_so : (sought : Sought) (robots : List Behaviour) (program : Program) (i cycle : ℕ) (now later : BattleState)
+    (before after : Glance) (is_hit : Bool) → See robots program i cycle sought now later before after is_hit
+    → Seems sought before after is_hit → Shows sought robots program i cycle now later
+shows_so (Place marks most) robots program i cycle now later before after is_hit see (here, few) =
     (ap (λ n. get_or marks.now n false) (sym see.address_then) ∙ here, omega (arith, see.frames, few))
-shows_so (Question k least most) robots program i now later before after see ((a, asks), low, high) =
+shows_so (Question k least most) robots program i cycle now later before after is_hit see ((a, asks), low, high) =
     let asked = sym see.want ∙ asks in
     let word = see.word k a asked in ((a, asked), rw word at low, rw word at high)
-shows_so Restart robots program i now later before after see restarts = sym see.want ∙ restarts
-shows_so Hurt robots program i now later before after see grows = omega (arith, see.damage, see.damage_then, grows)
-shows_so (Change variable) robots program i now later before after see differs =
+shows_so Restart robots program i cycle now later before after is_hit see restarts = sym see.want ∙ restarts
+shows_so Hurt robots program i cycle now later before after is_hit see grows =
+    omega (arith, see.damage, see.damage_then, grows)
+shows_so Hit robots program i cycle now later before after is_hit see is = sym see.hit ∙ is
+shows_so (Change variable) robots program i cycle now later before after is_hit see differs =
     λ same. differs (see.value_then ∙ same ∙ sym see.value)
-shows_so (Value variable value) robots program i now later before after see is = sym see.value_then ∙ is
-shows_so (LocalChange marks number) robots program i now later before after see (one, differs) = (
+shows_so (Value variable value) robots program i cycle now later before after is_hit see is = sym see.value_then ∙ is
+shows_so (LocalChange marks number) robots program i cycle now later before after is_hit see (one, differs) = (
   one_call marks.now before.address before.home after.address after.home (state_at program i now).at
       (state_at program i now).home (state_at program i later).at (state_at program i later).home see.address see.home
       see.address_then see.home_then one,
   λ same. differs (see.value_then ∙ same ∙ sym see.value),
 )
-shows_so (LocalValue marks number value) robots program i now later before after see (here, is) =
+shows_so (LocalValue marks number value) robots program i cycle now later before after is_hit see (here, is) =
     (ap (λ n. get_or marks.now n false) (sym see.address_then) ∙ here, sym see.value_then ∙ is)
 
-pub seems_so : (sought : Sought) (robots : List Behaviour) (program : Program) (i : ℕ) (now later : BattleState)
-    (before after : Glance) → See robots program i sought now later before after →
-    Shows sought robots program i now later
-    → Seems sought before after
-seems_so (Place marks most) robots program i now later before after see (here, few) =
+pub seems_so : (sought : Sought) (robots : List Behaviour) (program : Program) (i cycle : ℕ) (now later : BattleState)
+    (before after : Glance) (is_hit : Bool) → See robots program i cycle sought now later before after is_hit
+    → Shows sought robots program i cycle now later → Seems sought before after is_hit
+seems_so (Place marks most) robots program i cycle now later before after is_hit see (here, few) =
     (ap (λ n. get_or marks.now n false) see.address_then ∙ here, omega (arith, see.frames, few))
-seems_so (Question k least most) robots program i now later before after see ((a, asked), low, high) =
+seems_so (Question k least most) robots program i cycle now later before after is_hit see ((a, asked), low, high) =
     let word = see.word k a asked in ((a, see.want ∙ asked), rw word low, rw word high)
-seems_so Restart robots program i now later before after see restarts = see.want ∙ restarts
-seems_so Hurt robots program i now later before after see grows = omega (arith, see.damage, see.damage_then, grows)
-seems_so (Change variable) robots program i now later before after see differs =
+seems_so Restart robots program i cycle now later before after is_hit see restarts = see.want ∙ restarts
+seems_so Hurt robots program i cycle now later before after is_hit see grows =
+    omega (arith, see.damage, see.damage_then, grows)
+seems_so Hit robots program i cycle now later before after is_hit see is = see.hit ∙ is
+seems_so (Change variable) robots program i cycle now later before after is_hit see differs =
     λ same. differs (sym see.value_then ∙ same ∙ see.value)
-seems_so (Value variable value) robots program i now later before after see is = see.value_then ∙ is
-seems_so (LocalChange marks number) robots program i now later before after see (one, differs) = (
+seems_so (Value variable value) robots program i cycle now later before after is_hit see is = see.value_then ∙ is
+seems_so (LocalChange marks number) robots program i cycle now later before after is_hit see (one, differs) = (
   one_call marks.now (state_at program i now).at (state_at program i now).home (state_at program i later).at
       (state_at program i later).home before.address before.home after.address after.home (sym see.address)
       (sym see.home)
       (sym see.address_then) (sym see.home_then) one,
   λ same. differs (sym see.value_then ∙ same ∙ see.value),
 )
-seems_so (LocalValue marks number value) robots program i now later before after see (here, is) =
+seems_so (LocalValue marks number value) robots program i cycle now later before after is_hit see (here, is) =
     (ap (λ n. get_or marks.now n false) see.address_then ∙ here, see.value_then ∙ is)
 
 -- glances before and after a cycle do so
 pub glances_see : (codes : List Program) (robots : List Behaviour) (s : BattleState) (seats others : List Pilot) (i : ℕ)
-    (none new : Pilot) (game next : Game) (program : Program) (sought : Sought) (before after : Glance)
+    (none new : Pilot) (game next : Game) (program : Program) (sought : Sought) (before after : Glance) (is_hit : Bool)
     → AreRobotsOf (exes_of codes) robots → codes_of seats ≡ codes → codes_of others ≡ codes → i < length seats
     → HasCome codes robots s seats game → HasCome codes robots s others next
     → next.ending.cycles ≡ game.ending.cycles + 1 → (get_or seats i none).code ≡ program
     → IsGlanced game (get_or seats i none) i sought before → IsGlanced next (get_or others i new) i sought after
-    → See robots program i sought (state_after robots s game.ending.cycles)
-    (state_after robots s (game.ending.cycles + 1)) before after
-glances_see codes robots s seats others i none new game next program sought before after are same still inside come came
-    one is first second =
+    → is_hit
+    ≡
+    (is_due (game.ending.cycles + 1) &&
+    hits (turns robots (length robots) (state_after robots s game.ending.cycles)).field i)
+    → See robots program i (game.ending.cycles + 1) sought (state_after robots s game.ending.cycles)
+    (state_after robots s (game.ending.cycles + 1)) before after is_hit
+glances_see codes robots s seats others i none new game next program sought before after is_hit are same still inside
+    come came one is first second hit =
     let now = state_after robots s game.ending.cycles in
     let later = state_after robots s (game.ending.cycles + 1) in
     let old = get_or seats i none in
@@ -110,6 +121,7 @@ glances_see codes robots s seats others i none new game next program sought befo
     rw (one, kept) at (seat_reached codes others next.arena (state_after robots s next.ending.cycles) i new still
     (omega (arith, inside, count)) came.played) in
     record {
+      hit = hit;
       want = wanted_is codes robots seats game.arena s i none before.wanted are same inside game come refl first.wanted;
       damage = first.damage now.field come.played.field;
       damage_then = rw one at (second.damage (state_after robots s next.ending.cycles).field came.played.field);
@@ -132,29 +144,36 @@ code_is seats i none program inside here =
     some_same (sym (slice_get-map (λ (seat : Pilot). seat.code) seats i
     ∙ ap (option_map (λ (seat : Pilot). seat.code)) (slice_get-get_or seats i none inside)) ∙ here)
 
--- So what seems to happen happens, and nothing else does.
+-- So what seems to happen happens, and nothing else does: the robots took their turns, and the cycle was ended.
 pub happens_so : (codes : List Program) (robots : List Behaviour) (s : BattleState) (seats others : List Pilot) (i : ℕ)
-    (none new : Pilot) (game next : Game) (program : Program) (sought : Sought) (before after : Glance)
-    → AreRobotsOf (exes_of codes) robots → codes_of seats ≡ codes → codes_of others ≡ codes → i < length seats
-    → HasCome codes robots s seats game → HasCome codes robots s others next
-    → next.ending.cycles ≡ game.ending.cycles + 1 → slice_get codes i ≡ Some program
+    (none new : Pilot) (game turned next : Game) (program : Program) (sought : Sought) (before after : Glance)
+    (is_hit : Bool) → AreRobotsOf (exes_of codes) robots → codes_of seats ≡ codes → codes_of others ≡ codes
+    → i < length seats → HasCome codes robots s seats game → HaveTakenTurns codes robots s others turned
+    → HasCome codes robots s others next → turned.ending ≡ game.ending
+    → next.ending.cycles ≡ turned.ending.cycles + 1 → slice_get codes i ≡ Some program
     → IsGlanced game (get_or seats i none) i sought before → IsGlanced next (get_or others i new) i sought after
-    → ((before.is_alive ≡ true) × Seems sought before after → Happens robots program s i sought game.ending.cycles)
-    × (Happens robots program s i sought game.ending.cycles → (before.is_alive ≡ true) × Seems sought before after)
-happens_so codes robots s seats others i none new game next program sought before after are same still inside come came
-    one
-    here first second =
+    → ((f : Field) → RepresentsField turned.arena f → is_hit ≡ (is_due (turned.ending.cycles + 1) && hits f i))
+    → ((before.is_alive ≡ true) × Seems sought before after is_hit
+    → Happens robots program s i sought game.ending.cycles)
+    × (Happens robots program s i sought game.ending.cycles
+    → (before.is_alive ≡ true) × Seems sought before after is_hit)
+happens_so codes robots s seats others i none new game turned next program sought before after is_hit are same still
+    inside come took came ending one here first second hit =
     let now = state_after robots s game.ending.cycles in
     let later = state_after robots s (game.ending.cycles + 1) in
     let is = code_is seats i none program inside (rw same here) in
     let see =
-    glances_see codes robots s seats others i none new game next program sought before after are same still inside
-    come came one is first second in
+    glances_see codes robots s seats others i none new game next program sought before after is_hit are same still
+    inside come came (one ∙ ap (λ (e : PlayEnd). e.cycles + 1) ending) is first second
+    (rw ending at (hit (turns robots (length robots) (state_after robots s turned.ending.cycles)).field
+    took.played.field)) in
     let lives_now = first.alive ∙ lives_are game.arena now.field i come.played.field in (
       λ seems. record {
         lives = sym lives_now ∙ seems.0;
-        shows = shows_so sought robots program i now later before after see seems.1;
+        shows = shows_so sought robots program i (game.ending.cycles + 1) now later before after is_hit see seems.1;
       },
-      λ happens.
-          (lives_now ∙ happens.lives, seems_so sought robots program i now later before after see happens.shows),
+      λ happens. (
+        lives_now ∙ happens.lives,
+        seems_so sought robots program i (game.ending.cycles + 1) now later before after is_hit see happens.shows,
+      ),
     )

@@ -1,3 +1,5 @@
+pub mod KnownHits
+pub mod Hitting
 pub mod Replies
 pub mod Asking
 pub mod Moments

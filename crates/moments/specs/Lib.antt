@@ -1,2 +1,4 @@
 pub mod Moments
+pub mod Hits
+pub mod KnownHits
 pub mod Searches

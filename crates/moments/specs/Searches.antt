@@ -1,9 +1,9 @@
 -- In which cycle of a match something happens to a robot.
-use Rattle.std.specs.Prelude.{◌≡◌, ◌≢◌, ◌<◌, ◌≤◌, ◌+◌, ◌≤ℤ◌, ℕ, ℤ, pos, Bool, true, false, if◌then◌else◌, List, get_or, length, Option, Some, None}
+use Rattle.std.specs.Prelude.{◌≡◌, ◌≢◌, ◌<◌, ◌≤◌, ◌+◌, ◌≤ℤ◌, ℕ, ℤ, pos, Bool, ◌&&◌, true, false, if◌then◌else◌, List, get_or, length, Option, Some, None}
 use Rattle.arena.specs.Field.{Field, damage_of, is_live_at, robot_at}
 use Rattle.arena.specs.Arena.{is_live}
 use Rattle.arena.specs.Representing.{RepresentsField}
-use Rattle.battles.specs.Battle.{Behaviour, BattleState, state_after}
+use Rattle.battles.specs.Battle.{Behaviour, BattleState, is_due, state_after, turns}
 use Rattle.code.specs.declared.want.Want.TheVariants.{Ask, Quiet}
 use Rattle.code.specs.declared.want.Want.TheVariants as want
 use Rattle.grammar.specs.declared.resolved_names.Var.TheVariants.{Local}
@@ -14,7 +14,8 @@ use Rattle.playing.specs.Games.{Game}
 use Rattle.playing.specs.Pilot.{Pilot}
 use Rattle.moments.specs.declared.sought.Glance.{Glance}
 use Rattle.moments.specs.declared.sought.Sought.{Sought}
-use Rattle.moments.specs.declared.sought.Sought.TheVariants.{Place, Question, Restart, Hurt, Change, Value, LocalChange, LocalValue}
+use Rattle.moments.specs.declared.sought.Sought.TheVariants.{Place, Question, Restart, Hurt, Hit, Change, Value, LocalChange, LocalValue}
+use Rattle.moments.specs.Hits.{hits}
 use Rattle.moments.specs.Moments.{last_of, replies_of, wanted}
 
 -- where a robot's program is at a stage
@@ -25,25 +26,29 @@ state_at program i stage = reached program (started_machine program) (replies_of
 abbrev pub IsOneCall : List Bool → (at home at' home' : ℕ) → Type 0
 IsOneCall marks at home at' home' = (get_or marks at false ≡ true) × (get_or marks at' false ≡ true) × (home ≡ home')
 
--- what is sought shows between the stages before and after a cycle
-abbrev pub Shows : Sought → List Behaviour → Program → ℕ → (before after : BattleState) → Type 0
-Shows (Place marks most) robots program i before after =
+-- what is sought shows in the cycle of a number, between the stages before and after it
+abbrev pub Shows : Sought → List Behaviour → Program → (i cycle : ℕ) → (before after : BattleState) → Type 0
+Shows (Place marks most) robots program i cycle before after =
     (get_or marks.now (state_at program i after).at false ≡ true) × (length (state_at program i after).frames ≤ most)
-Shows (Question function least most) robots program i before after =
+Shows (Question function least most) robots program i cycle before after =
     ((arguments : List ℤ) × (wanted robots i before ≡ Ask function arguments))
     × (least ≤ℤ last_of (replies_of after i)) × (last_of (replies_of after i) ≤ℤ most)
-Shows Restart robots program i before after = wanted robots i before ≡ want.Restart
-Shows Hurt robots program i before after = damage_of (robot_at before.field i) < damage_of (robot_at after.field i)
-Shows (Change variable) robots program i before after =
+Shows Restart robots program i cycle before after = wanted robots i before ≡ want.Restart
+Shows Hurt robots program i cycle before after =
+    damage_of (robot_at before.field i) < damage_of (robot_at after.field i)
+Shows Hit robots program i cycle before after =
+    (is_due cycle && hits (turns robots (length robots) before).field i) ≡ true
+Shows (Change variable) robots program i cycle before after =
     read_variable (state_at program i after) variable ≢ read_variable (state_at program i before) variable
-Shows (Value variable value) robots program i before after = read_variable (state_at program i after) variable ≡ value
-Shows (LocalChange marks number) robots program i before after =
+Shows (Value variable value) robots program i cycle before after =
+    read_variable (state_at program i after) variable ≡ value
+Shows (LocalChange marks number) robots program i cycle before after =
     IsOneCall marks.now (state_at program i before).at (state_at program i before).home (state_at program i after).at
     (state_at program i after).home
     ×
     (read_variable (state_at program i after) (Local number) ≢
     read_variable (state_at program i before) (Local number))
-Shows (LocalValue marks number value) robots program i before after =
+Shows (LocalValue marks number value) robots program i cycle before after =
     (get_or marks.now (state_at program i after).at false ≡ true)
     × (read_variable (state_at program i after) (Local number) ≡ value)
 
@@ -52,7 +57,7 @@ pub record Happens (robots : List Behaviour) (program : Program) (opening : Batt
     (n : ℕ) :
     Type 0 where
   pub lives : is_live_at (state_after robots opening n).field i ≡ true
-  pub shows : Shows sought robots program i (state_after robots opening n) (state_after robots opening (n + 1))
+  pub shows : Shows sought robots program i (n + 1) (state_after robots opening n) (state_after robots opening (n + 1))
 
 -- The least cycle later than one, up to a match's last, in which something happens: `Happens n` is of cycle n + 1.
 abbrev pub IsNext : (ℕ → Type 0) → (after last : ℕ) → Option ℕ → Type 0
@@ -91,16 +96,17 @@ pub record IsGlanced (game : Game) (seat : Pilot) (i : ℕ) (sought : Sought) (g
   pub home : glance.home ≡ seat.state.home
   pub frames : glance.frames ≡ length seat.state.frames
 
--- what is sought seems to happen between two glances
-abbrev pub Seems : Sought → (before after : Glance) → Type 0
-Seems (Place marks most) before after = (get_or marks.now after.address false ≡ true) × (after.frames ≤ most)
-Seems (Question function least most) before after = ((arguments : List ℤ) × (before.wanted ≡ Ask function arguments))
-    × (least ≤ℤ after.word) × (after.word ≤ℤ most)
-Seems Restart before after = before.wanted ≡ want.Restart
-Seems Hurt before after = before.damage < after.damage
-Seems (Change variable) before after = after.value ≢ before.value
-Seems (Value variable value) before after = after.value ≡ value
-Seems (LocalChange marks number) before after =
+-- what is sought seems to happen between two glances, in a cycle in which the robot hits another one or doesn't
+abbrev pub Seems : Sought → (before after : Glance) → (is_hit : Bool) → Type 0
+Seems (Place marks most) before after is_hit = (get_or marks.now after.address false ≡ true) × (after.frames ≤ most)
+Seems (Question function least most) before after is_hit =
+    ((arguments : List ℤ) × (before.wanted ≡ Ask function arguments)) × (least ≤ℤ after.word) × (after.word ≤ℤ most)
+Seems Restart before after is_hit = before.wanted ≡ want.Restart
+Seems Hurt before after is_hit = before.damage < after.damage
+Seems Hit before after is_hit = is_hit ≡ true
+Seems (Change variable) before after is_hit = after.value ≢ before.value
+Seems (Value variable value) before after is_hit = after.value ≡ value
+Seems (LocalChange marks number) before after is_hit =
     IsOneCall marks.now before.address before.home after.address after.home × (after.value ≢ before.value)
-Seems (LocalValue marks number value) before after =
+Seems (LocalValue marks number value) before after is_hit =
     (get_or marks.now after.address false ≡ true) × (after.value ≡ value)

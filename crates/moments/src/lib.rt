@@ -2,6 +2,7 @@
 #![tactic(auto)]
 
 mod asked;
+mod hits;
 mod moment;
 mod searches;
 mod sought;

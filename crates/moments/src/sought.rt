@@ -10,6 +10,7 @@ ghost use Rattle.playing.specs.Played.{codes_of, exes_of};
 ghost use Rattle.moments.specs.Searches.{Happens, IsGlanced, IsOneCall, Seems, value_of};
 
 use crate::asked::{Nobody, top_word, wanted};
+use crate::hits::hits_after_turns;
 use code::{Intrinsic, Machine, Want};
 use grammar::Var;
 use playing::{Game, Pilot};
@@ -26,6 +27,8 @@ pub enum Sought<'a> {
     Restart,
     /// The robot is hurt: after the cycle, and its update, its damage is greater than before it.
     Hurt,
+    /// The robot hits another one: in the update after the cycle a missile of its own bursts and hurts another robot.
+    Hit,
     /// A variable has another value after the cycle than before it.
     Change(Var),
     /// A variable has this value after the cycle.
@@ -80,9 +83,11 @@ pub(crate) fn happens(
     ensures next { GoesOn game.old game.new }
 {
     let before = look(game, &pilots[robot], robot, sought);
-    game.cycle(pilots, &mut Nobody);
+    game.take_turns(pilots, &mut Nobody);
+    let is_hit = hits_after_turns(game, robot);
+    game.end_cycle(&mut Nobody);
     let after = look(game, &pilots[robot], robot, sought);
-    seems(sought, &before, &after)
+    seems(sought, &before, &after, is_hit)
 }
 
 /// Returns what is seen of a robot between two cycles, with the variable that is sought.
@@ -112,22 +117,27 @@ fn value_of(machine: &Machine, sought: &Sought<'_>) -> i32
         Sought::LocalChange(_, number) | Sought::LocalValue(_, number, _) => {
             machine.variable(Var::Local(number))
         }
-        Sought::Place(_, _) | Sought::Question(_, _, _) | Sought::Restart | Sought::Hurt => 0,
+        Sought::Place(_, _)
+        | Sought::Question(_, _, _)
+        | Sought::Restart
+        | Sought::Hurt
+        | Sought::Hit => 0,
     }
 }
 
 /// Reports whether what is sought seems to happen between two glances: the robot lives at the first one, and it shows.
-fn seems(sought: &Sought<'_>, before: &Glance, after: &Glance) -> bool
-    ensures yes { result ≡ true → (before.now.is_alive ≡ true) × Seems sought.now before.now after.now }
-    ensures no { before.now.is_alive ≡ true → Seems sought.now before.now after.now → result ≡ true }
+fn seems(sought: &Sought<'_>, before: &Glance, after: &Glance, is_hit: bool) -> bool
+    ensures yes { result ≡ true → (before.now.is_alive ≡ true) × Seems sought.now before.now after.now is_hit }
+    ensures no { before.now.is_alive ≡ true → Seems sought.now before.now after.now is_hit → result ≡ true }
 {
-    before.is_alive && shows(sought, before, after)
+    before.is_alive && shows(sought, before, after, is_hit)
 }
 
-/// Reports whether what is sought shows in two glances of a robot that lives at the first one.
-fn shows(sought: &Sought<'_>, before: &Glance, after: &Glance) -> bool
-    ensures yes { result ≡ true → Seems sought.now before.now after.now }
-    ensures no { Seems sought.now before.now after.now → result ≡ true }
+/// Reports whether what is sought shows in two glances of a robot that lives at the first one, and in whether it hits
+/// another one between them.
+fn shows(sought: &Sought<'_>, before: &Glance, after: &Glance, is_hit: bool) -> bool
+    ensures yes { result ≡ true → Seems sought.now before.now after.now is_hit }
+    ensures no { Seems sought.now before.now after.now is_hit → result ≡ true }
 {
     match *sought {
         Sought::Place(marks, most) => is_marked(marks, after.address) && after.frames <= most,
@@ -136,6 +146,7 @@ fn shows(sought: &Sought<'_>, before: &Glance, after: &Glance) -> bool
         }
         Sought::Restart => matches!(before.wanted, Want::Restart),
         Sought::Hurt => before.damage < after.damage,
+        Sought::Hit => is_hit,
         Sought::Change(_) => after.value != before.value,
         Sought::Value(_, value) => after.value == value,
         Sought::LocalChange(marks, _) => {

@@ -28,7 +28,7 @@ use Rattle.battles.proofs.Stages.{HasStepped, robot_at, robots_length, stands_at
 use Rattle.battles.specs.Pairing.{paired, robots_of}
 use Rattle.battles.proofs.Beginnings.{robots_are, stands_more}
 use Rattle.playing.specs.Pilot.{Pilot, TakesTurn}
-use Rattle.playing.specs.Games.{Game, HasCome, HaveRun}
+use Rattle.playing.specs.Games.{Game, HasCome, HasEnded, HaveTakenTurns}
 use Rattle.playing.specs.Played.{EndsAt, HavePlayed, HaveUpdated, codes_of, engine_of, exes_of, plainly, runner_of, runners_of}
 
 -- what a want makes of the field and of the machine
@@ -125,27 +125,21 @@ over_due robots s n arena decides due updated =
     (stage_more robots s n ∙ cycle_updates robots (n + 1) (state_after robots s n) due)
     ∙ sym updated.decided
 
--- So a cycle was run, with an update or without one.
-pub run_due : (robots : List Behaviour) (codes : List Program) (seats others : List Pilot) (old before after : Arena)
+-- So a cycle has ended, with an update or without one.
+pub end_due : (robots : List Behaviour) (codes : List Program) (seats : List Pilot) (before after : Arena)
     (s : BattleState) (n : ℕ) (decides : Bool) → (n + 1) % 15 ≡ 0
-    → (HavePlayed codes seats old (state_after robots s n)
-    → HavePlayed codes others before (turns robots (length robots) (state_after robots s n)))
     → ((f : Field) → RepresentsField before f → HaveUpdated f after decides)
-    → HaveRun codes robots s n seats old others after decides
-run_due robots codes seats others old before after s n decides due turned updates = λ played.
-    let now = turned played in
-    let updated = updates (turns robots (length robots) (state_after robots s n)).field now.field in (
-      cycle_due robots codes others before after s n decides due now updated,
+    → HasEnded codes robots s n seats before after decides
+end_due robots codes seats before after s n decides due updates = λ played.
+    let updated = updates (turns robots (length robots) (state_after robots s n)).field played.field in (
+      cycle_due robots codes seats before after s n decides due played updated,
       over_due robots s n after decides due updated,
     )
 
-pub run_plain : (robots : List Behaviour) (codes : List Program) (seats others : List Pilot) (old after : Arena)
-    (s : BattleState) (n : ℕ) → (n + 1) % 15 ≢ 0
-    → (HavePlayed codes seats old (state_after robots s n)
-    → HavePlayed codes others after (turns robots (length robots) (state_after robots s n)))
-    → HaveRun codes robots s n seats old others after false
-run_plain robots codes seats others old after s n plain turned = λ played. (
-  cycle_plain robots codes others after s n plain (turned played),
+pub end_plain : (robots : List Behaviour) (codes : List Program) (seats : List Pilot) (arena : Arena)
+    (s : BattleState) (n : ℕ) → (n + 1) % 15 ≢ 0 → HasEnded codes robots s n seats arena arena false
+end_plain robots codes seats arena s n plain = λ played. (
+  cycle_plain robots codes seats arena s n plain played,
   goes_on (n + 1) (state_after robots s (n + 1)) plain,
 )
 
@@ -277,18 +271,18 @@ ends_next robots s n limit false ended within before over is = elim (cases_eq (n
       rw (is, no) (ends_later robots s n limit within before over less)
 ]
 
--- A game has come further by a cycle.
-pub comes_on : (codes : List Program) (robots : List Behaviour) (s : BattleState) (seats others : List Pilot)
+-- A game whose turns were taken has come further by a cycle when that ends.
+pub comes_on : (codes : List Program) (robots : List Behaviour) (s : BattleState) (seats : List Pilot)
     (old new : Game) (decided : Bool) → old.ending.cycles < old.limit → old.ending.is_over ≡ false
     → new.ending.cycles ≡ old.ending.cycles + 1 → new.limit ≡ old.limit
     → new.ending.is_over ≡ (decided || old.ending.cycles + 1 == old.limit)
-    → HaveRun codes robots s old.ending.cycles seats old.arena others new.arena decided
-    → HasCome codes robots s seats old → HasCome codes robots s others new
-comes_on codes robots s seats others old new decided within on more same over run come =
-    let ran = run come.played in
-    let before = come.ends.1 on in
-    let ends = ends_next robots s old.ending.cycles old.limit decided new.ending.is_over within before ran.1 over in
-    record { played = rw more ran.0; ends = rw (same, more) ends }
+    → HasEnded codes robots s old.ending.cycles seats old.arena new.arena decided
+    → HaveTakenTurns codes robots s seats old → HasCome codes robots s seats new
+comes_on codes robots s seats old new decided within on more same over end turned =
+    let ended = end turned.played in
+    let before = turned.ends.1 on in
+    let ends = ends_next robots s old.ending.cycles old.limit decided new.ending.is_over within before ended.1 over in
+    record { played = rw more ended.0; ends = rw (same, more) ends }
 
 -- the programs of pilots stay when one of them goes on
 pub codes_stay : (seats : List Pilot) (i : ℕ) (none new : Pilot) → new.code ≡ (get_or seats i none).code

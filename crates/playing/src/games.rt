@@ -4,9 +4,11 @@ ghost use Rattle.std.specs.Prelude.{◌≡◌, ◌⊎◌, ◌==◌, ◌||◌, �
 ghost use Rattle.arena.specs.Field.{Field};
 ghost use Rattle.arena.specs.Arena.{most_updates};
 ghost use Rattle.arena.specs.Representing.{RepresentsField};
-ghost use Rattle.battles.specs.Battle.{Behaviour, BattleState, first_state, turns};
+ghost use Rattle.battles.specs.Battle.{Behaviour, BattleState, first_state, is_due, turns};
 ghost use Rattle.battles.specs.Carrying.{AreRobotsOf, EachIsAheadOf};
-ghost use Rattle.playing.specs.Games.{EndsWell, GoesOn, HasCome, HaveRun};
+ghost use Rattle.code.specs.Generation.{Program};
+ghost use Rattle.playing.specs.Games.{EndsWell, GoesOn, HasCome, HasEnded, HaveTakenTurns};
+ghost use Rattle.playing.specs.Pilot.{Pilot};
 ghost use Rattle.playing.specs.Played.{HavePlayed, HaveUpdated, IsPlayed, codes_of, exes_of, runners_of};
 
 use crate::pilot::Pilot;
@@ -100,8 +102,46 @@ impl Game {
         ensures next { GoesOn self.old self.new }
         ensures ends { EndsWell self.new }
     {
+        self.take_turns(pilots, watcher);
+        self.end_cycle(watcher);
+    }
+
+    /// Runs the robots' turns of the next cycle of a match that isn't over, before a watcher. `end_cycle` is to follow.
+    pub fn take_turns<W: Watcher>(&mut self, pilots: &mut [Pilot<'_>], watcher: &mut W)
+        requires manned { length self.old.arena.robots ≡ length pilots.old }
+        requires goes_on { self.old.ending.is_over ≡ false }
+        ensures battle { (robots : List Behaviour) (s : BattleState) → AreRobotsOf (exes_of (codes_of pilots.old)) robots
+            → HasCome (codes_of pilots.old) robots s pilots.old self.old
+            → HaveTakenTurns (codes_of pilots.old) robots s pilots.new self.new }
+        ensures codes { codes_of pilots.new ≡ codes_of pilots.old }
+        ensures manned { length self.new.arena.robots ≡ length pilots.new }
+        ensures ending { self.new.ending ≡ self.old.ending }
+        ensures limit { self.new.limit ≡ self.old.limit }
+    {
         let cycle = self.ending.cycles + 1;
-        let is_decided = run_cycle(pilots, &mut self.arena, watcher, cycle);
+        turns(pilots, &mut self.arena, watcher, cycle);
+    }
+
+    /// Reports whether an update follows the turns of the next cycle.
+    pub fn is_update_due(&self) -> bool
+        requires { self.now.ending.is_over ≡ false }
+        ensures { result ≡ is_due (self.now.ending.cycles + 1) }
+    {
+        (self.ending.cycles + 1) % UPDATE_CYCLES == 0
+    }
+
+    /// Ends the next cycle of a match that isn't over, in which the robots have taken their turns: does the update if
+    /// one is due, before a watcher.
+    pub fn end_cycle<W: Watcher>(&mut self, watcher: &mut W)
+        requires { self.old.ending.is_over ≡ false }
+        ensures battle { (codes : List Program) (robots : List Behaviour) (s : BattleState) (seats : List Pilot)
+            → HaveTakenTurns codes robots s seats self.old → HasCome codes robots s seats self.new }
+        ensures manned { length self.new.arena.robots ≡ length self.old.arena.robots }
+        ensures next { GoesOn self.old self.new }
+        ensures ends { EndsWell self.new }
+    {
+        let cycle = self.ending.cycles + 1;
+        let is_decided = update_after(&mut self.arena, watcher, cycle);
         self.ending = PlayEnd {
             cycles: cycle,
             is_over: is_last(is_decided, cycle, self.limit),
@@ -173,26 +213,15 @@ fn run<W: Watcher>(game: &mut Game, pilots: &mut [Pilot<'_>], watcher: &mut W)
     }
 }
 
-/// Runs one cycle: the turns of the robots, and after each 15th cycle the update. Reports whether that decides the
-/// match.
-fn run_cycle<W: Watcher>(
-    pilots: &mut [Pilot<'_>],
-    arena: &mut Arena,
-    watcher: &mut W,
-    cycle: u32,
-) -> bool
-    requires manned { length arena.old.robots ≡ length pilots.old }
-    requires most { cycle ≤ MOST_CYCLES }
+/// Does the update after the turns of a cycle, if one is due. Reports whether that decides the match.
+fn update_after<W: Watcher>(arena: &mut Arena, watcher: &mut W, cycle: u32) -> bool
     requires updates { arena.old.updates < most_updates }
-    ensures battle { (robots : List Behaviour) (s : BattleState) (before : ℕ) → cycle ≡ before + 1
-        → AreRobotsOf (exes_of (codes_of pilots.old)) robots
-        → HaveRun (codes_of pilots.old) robots s before pilots.old arena.old pilots.new arena.new result }
-    ensures codes { codes_of pilots.new ≡ codes_of pilots.old }
-    ensures manned { length arena.new.robots ≡ length pilots.new }
+    ensures battle { (codes : List Program) (robots : List Behaviour) (s : BattleState) (seats : List Pilot) (before : ℕ)
+        → cycle ≡ before + 1 → HasEnded codes robots s before seats arena.old arena.new result }
+    ensures manned { length arena.new.robots ≡ length arena.old.robots }
     ensures due { cycle % UPDATE_CYCLES ≡ 0 → arena.new.updates ≡ arena.old.updates + 1 }
     ensures between { cycle % UPDATE_CYCLES ≢ 0 → (arena.new.updates ≡ arena.old.updates) × (result ≡ false) }
 {
-    turns(pilots, arena, watcher, cycle);
     cycle % UPDATE_CYCLES == 0 && decides(arena, watcher, cycle)
 }
 
