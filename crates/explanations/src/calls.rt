@@ -157,17 +157,21 @@ fn warn_of_pair(out: &mut Warnings, subject: &Subject<'_>, index: usize, intrins
     if are_named_swapped(subject.tokens, left, right) {
         return out.tell(node.token, order);
     }
-    match (left.value, right.value) {
-        (Some(first), Some(second)) if may_be_swapped(most, first, second) => {
-            out.tell(node.token, order);
-        }
-        (_, Some(second)) if second > most => out.tell(node.token, beyond),
-        _ => {}
+    let Some(second) = right.value else {
+        return;
+    };
+    if may_be_swapped(most, left.value, second) {
+        out.tell(node.token, order);
+    } else if second > most {
+        out.tell(node.token, beyond);
     }
 }
 
 /// Reports whether two arguments fit better the other way round, by the greatest second one.
-fn may_be_swapped(most: i32, first: i32, second: i32) -> bool {
+fn may_be_swapped(most: i32, first: Option<i32>, second: i32) -> bool {
+    let Some(first) = first else {
+        return false;
+    };
     if most >= CIRCLE {
         return first >= CIRCLE && first <= most && second < CIRCLE;
     }

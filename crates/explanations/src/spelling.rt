@@ -38,12 +38,12 @@ fn is_swapped(left: &[u8], right: &[u8]) -> bool
 
 /// Reports whether two names are the same but for small and capital letters.
 pub fn is_same_but_for_case(left: &[u8], right: &[u8]) -> bool {
-    match (left, right) {
-        ([a, rest @ ..], [b, other @ ..]) if lower(*a) == lower(*b) => {
-            is_same_but_for_case(rest, other)
+    for (a, b) in left.iter().zip(right) {
+        if lower(*a) != lower(*b) {
+            return false;
         }
-        _ => left.is_empty() && right.is_empty(),
     }
+    left.len() == right.len()
 }
 
 /// Returns the small letter of a capital one, and every other byte as it is.

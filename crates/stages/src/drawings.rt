@@ -28,7 +28,7 @@ struct Drawing {
 /// Returns the tree of a file, by its functions in the order of their definitions and its names: a line for each node,
 /// indented by two blanks for each node above it; or a graph of the nodes, in the language of Graphviz. No label has a
 /// quote or a backslash.
-pub fn drawing(
+pub fn drawn(
     alloc: Global,
     functions: &[Function],
     names: &Pools,

@@ -26,7 +26,7 @@ mod token_rows;
 use crate::code_rows::listing;
 use crate::cuts::listing_to_limit;
 use crate::derivation_rows::derivation_rows;
-use crate::drawings::drawing;
+use crate::drawings::drawn;
 use crate::execution::execution;
 use crate::flow_rows::flow_rows;
 use crate::forms::{Form, OPTIONS, Request};
@@ -125,7 +125,7 @@ fn whole(
 fn tree(alloc: Global, source: &[u8], profile: Profile, is_graph: bool) -> Result<String, Fault> {
     let mut maker = TreeMaker::new(alloc, profile);
     match parse(&mut MemoryFeed::new(source, WINDOW_BYTES), &mut maker) {
-        Ok(names) => Ok(drawing(alloc, maker.functions(), &names, is_graph)?),
+        Ok(names) => Ok(drawn(alloc, maker.functions(), &names, is_graph)?),
         Err(_) => Err(Fault::Memory),
     }
 }
