@@ -127,6 +127,7 @@ impl Drawing {
     }
 
     /// Adds statements with all that is in them.
+    #[cycle(statements)]
     fn add_statements(&mut self, above: Node, scope: &FunctionLabels<'_>, body: &[Statement]) {
         for statement in body {
             self.add_statement(above, scope, statement);
@@ -134,6 +135,7 @@ impl Drawing {
     }
 
     /// Adds a statement with all that is in it.
+    #[cycle(statements)]
     fn add_statement(&mut self, above: Node, scope: &FunctionLabels<'_>, statement: &Statement) {
         let node = self.add_words(above, statement_label(statement));
         match statement {
@@ -157,6 +159,7 @@ impl Drawing {
     }
 
     /// Adds a branch or the body of a loop, with its word.
+    #[cycle(statements)]
     fn add_body(
         &mut self,
         above: Node,
@@ -169,6 +172,7 @@ impl Drawing {
     }
 
     /// Adds an expression with all that is in it.
+    #[cycle(expressions)]
     fn add_expression(&mut self, above: Node, scope: &FunctionLabels<'_>, expression: &Expr) {
         let node = self.begin(above);
         add_expression(&mut self.text, scope, expression);
@@ -185,6 +189,7 @@ impl Drawing {
     }
 
     /// Adds the arguments of a call.
+    #[cycle(expressions)]
     fn add_arguments(&mut self, above: Node, scope: &FunctionLabels<'_>, arguments: &[Expr]) {
         for argument in arguments {
             self.add_expression(above, scope, argument);
