@@ -205,7 +205,7 @@ COMMANDS = (
     *moves(FORWARDS, "", "", "next"),
     *moves(BACKWARDS, "reverse-", "r", "last"),
     Command(("goto",), "CYCLE", "to the moment after a cycle", go_to, True),
-    Command(("break", "b"), "WHERE", "stop at LINE, hurt, hit, restart or FUNCTION [if reply > 0]", set_breakpoint),
+    Command(("break", "b"), "WHERE", "stop at LINE, hurt, hit, restart, FUNCTION [if reply > 0]", set_breakpoint),
     Command(("watch",), "NAME", "stop where the variable changes", set_watch),
     Command(("delete",), "N", "forget a breakpoint or a watch", delete),
     Command(("print", "p"), "NAME", "the value of a variable", print_value),
