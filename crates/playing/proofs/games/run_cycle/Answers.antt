@@ -10,11 +10,11 @@ pub returns-then-cycle-eq0-clause-battle : goal.returns-then-cycle-eq0-clause-ba
 returns-then-cycle-eq0-clause-battle g c = λ robots s n is are.
     run_due robots (codes_of c.args.pilots.now) c.args.pilots.now c.turns.new.pilots c.args.arena.now c.turns.new.arena
     c.decides.new.arena s n c.decides.result (rw is at c.if-cycle-eq0.true)
-    (c.turns.ensures.stage robots (state_after robots s n) are) c.decides.ensures.stands
+    (c.turns.ensures.state robots (state_after robots s n) are) c.decides.ensures.stands
 
 pub returns-else-cycle-eq0-clause-battle : goal.returns-else-cycle-eq0-clause-battle
 returns-else-cycle-eq0-clause-battle g c = λ robots s n is are.
     let between : nat_eq (c.args.cycle % 15) 0 ≡ false = grind (arith, nat_tests, c.if-cycle-eq0.false) in
     rw between
     (run_plain robots (codes_of c.args.pilots.now) c.args.pilots.now c.turns.new.pilots c.args.arena.now
-    c.turns.new.arena s n (rw is at c.if-cycle-eq0.false) (c.turns.ensures.stage robots (state_after robots s n) are))
+    c.turns.new.arena s n (rw is at c.if-cycle-eq0.false) (c.turns.ensures.state robots (state_after robots s n) are))
