@@ -18,21 +18,8 @@ use Rattle.arena.specs.Random.{random_word}
 unfoldable pub argument_at : List ℤ → ℕ → ℤ
 argument_at arguments k = slice_index_or arguments k (pos 0)
 
--- a robot fires if fewer of its own missiles are in the air than may be
-unfoldable pub fired : Field → ℕ → ℕ → ℕ → ℤ × Field
-fired field i degree range =
-    if nat_lt (length (in_air field.updates i field.shots)) most_missiles then
-    (pos 1, record field { shots = field.shots ++ shot field.updates i (robot_at field i).leg degree range ∷ [] })
-    else (pos 0, field)
-
--- it sets what it wants
 unfoldable pub with_wanted : Leg → ℕ → ℕ → Leg
 with_wanted leg degree speed = record leg { wanted_heading = degree; wanted_speed = speed }
-
-unfoldable pub field_with_wanted : Field → ℕ → ℕ → ℕ → Field
-field_with_wanted field i degree speed =
-    let robot = robot_at field i in
-    record field { robots = slice_set field.robots i (record robot { leg = with_wanted robot.leg degree speed }) }
 
 -- a random number is below its limit, which is 1 at least
 unfoldable pub random_limit : ℤ → ℕ
@@ -41,20 +28,32 @@ random_limit n = max 1 (clamped most_random_limit n)
 unfoldable pub random_number : Field → ℤ → ℕ
 random_number field n = random_word field.seed field.match_number field.drawn % random_limit n
 
--- the reply, and the field afterwards
-unfoldable pub answer : Field → ℕ → Intrinsic → List ℤ → ℤ × Field
-answer field i Scan a =
-    (pos (scanned field i (degree_of (argument_at a 0)) (clamped most_resolution (argument_at a 1))), field)
-answer field i Cannon a = fired field i (degree_of (argument_at a 0)) (clamped most_range (argument_at a 1))
-answer field i Drive a =
-    (pos 1, field_with_wanted field i (degree_of (argument_at a 0)) (clamped most_speed (argument_at a 1)))
-answer field i Damage a = (pos (damage_of (robot_at field i)), field)
-answer field i Speed a = (pos (robot_at field i).leg.speed, field)
-answer field i LocX a = (pos (metres_x (robot_at field i)), field)
-answer field i LocY a = (pos (metres_y (robot_at field i)), field)
-answer field i Rand a = (pos (random_number field (argument_at a 0)), record field { drawn = field.drawn + 1 })
-answer field i Sqrt a = (root_of (argument_at a 0), field)
-answer field i Sin a = (sine_of (argument_at a 0), field)
-answer field i Cos a = (cosine_of (argument_at a 0), field)
-answer field i Tan a = (tangent_of (argument_at a 0), field)
-answer field i Atan a = (arctangent_of (argument_at a 0), field)
+module _ (field : Field) (i : ℕ) where
+  -- a robot fires if fewer of its own missiles are in the air than may be
+  unfoldable pub fired : ℕ → ℕ → ℤ × Field
+  fired degree range =
+      if nat_lt (length (in_air field.updates i field.shots)) most_missiles then
+      (pos 1, record field { shots = field.shots ++ shot field.updates i (robot_at field i).leg degree range ∷ [] })
+      else (pos 0, field)
+
+  unfoldable pub field_with_wanted : ℕ → ℕ → Field
+  field_with_wanted degree speed =
+      let robot = robot_at field i in
+      record field { robots = slice_set field.robots i (record robot { leg = with_wanted robot.leg degree speed }) }
+
+  -- the reply, and the field afterwards
+  unfoldable pub answer : Intrinsic → List ℤ → ℤ × Field
+  answer Scan a =
+      (pos (scanned field i (degree_of (argument_at a 0)) (clamped most_resolution (argument_at a 1))), field)
+  answer Cannon a = fired (degree_of (argument_at a 0)) (clamped most_range (argument_at a 1))
+  answer Drive a = (pos 1, field_with_wanted (degree_of (argument_at a 0)) (clamped most_speed (argument_at a 1)))
+  answer Damage a = (pos (damage_of (robot_at field i)), field)
+  answer Speed a = (pos (robot_at field i).leg.speed, field)
+  answer LocX a = (pos (metres_x (robot_at field i)), field)
+  answer LocY a = (pos (metres_y (robot_at field i)), field)
+  answer Rand a = (pos (random_number field (argument_at a 0)), record field { drawn = field.drawn + 1 })
+  answer Sqrt a = (root_of (argument_at a 0), field)
+  answer Sin a = (sine_of (argument_at a 0), field)
+  answer Cos a = (cosine_of (argument_at a 0), field)
+  answer Tan a = (tangent_of (argument_at a 0), field)
+  answer Atan a = (arctangent_of (argument_at a 0), field)

@@ -1,9 +1,9 @@
 -- The field: its robots, with every hurt that each of them took, and every shot that was fired.
 use Rattle.std.specs.Prelude.{ℕ, ◌/◌, min, Bool, List, [], ◌∷◌, nat_lt, sum, count_by, slice_index_or}
 use Rattle.arena.specs.Rules.{deadly}
-use Rattle.arena.specs.Leg.{Leg, place_x, place_y}
+use Rattle.arena.specs.Leg.{Leg, leg_at_rest, place_x, place_y}
 
--- who fired, the update in which it bursts, and the place of the burst in tenths of a metre
+-- who fired, and in which update and where it bursts, in tenths of a metre
 pub record Shot : Type 0 where
   pub owner : ℕ
   pub burst : ℕ
@@ -32,18 +32,7 @@ is_alive robot = nat_lt (damage_of robot) deadly
 
 -- what is read past the last robot: a dead one
 unfoldable pub no_robot : FieldRobot
-no_robot = record {
-  leg = record {
-    origin_x = 0;
-    origin_y = 0;
-    heading = 0;
-    distance = 0;
-    speed = 0;
-    wanted_heading = 0;
-    wanted_speed = 0;
-  };
-  damages = deadly ∷ [];
-}
+no_robot = record { leg = leg_at_rest 0 0; damages = deadly ∷ [] }
 
 unfoldable pub robot_at : Field → ℕ → FieldRobot
 robot_at field i = slice_index_or field.robots i no_robot

@@ -14,16 +14,30 @@ pub record Leg : Type 0 where
   pub wanted_heading : ℕ
   pub wanted_speed : ℕ
 
+abbrev pub leg_at_rest : ℕ → ℕ → Leg
+leg_at_rest x y = record {
+  origin_x = x;
+  origin_y = y;
+  heading = 0;
+  distance = 0;
+  speed = 0;
+  wanted_heading = 0;
+  wanted_speed = 0;
+}
+
+-- begun anew at a place, at rest, with the same heading
+abbrev pub stopped_at : ℕ → ℕ → Leg → Leg
+stopped_at x y leg = record leg { origin_x = x; origin_y = y; distance = 0; speed = 0; wanted_speed = 0 }
+
 -- a number, or the end of 0..most that it lies beyond
 unfoldable pub clamped : ℕ → ℤ → ℕ
 clamped most (pos n) = min n most
 clamped most (negsuc n) = 0
 
--- how far one gets from an origin by a way in hundred-thousandths of a tenth; what is left of a tenth is dropped
+-- a way in hundred-thousandths of a tenth from an origin, rounded towards it
 unfoldable pub along : ℕ → ℤ → ℤ
 along origin way = pos origin +ℤ int_div way (pos 100000)
 
--- the way so far on each axis
 unfoldable pub way_east : Leg → ℤ
 way_east leg = pos leg.distance *ℤ cosine_at leg.heading
 
@@ -37,14 +51,13 @@ end_x leg = along leg.origin_x (way_east leg)
 unfoldable pub end_y : Leg → ℤ
 end_y leg = along leg.origin_y (way_north leg)
 
--- the robot's place: the end of a leg that no wall stopped, so not below 0
+-- the robot's place: the end of a leg that hit no wall, so not below 0
 unfoldable pub place_x : Leg → ℕ
 place_x leg = unsigned_abs (end_x leg)
 
 unfoldable pub place_y : Leg → ℕ
 place_y leg = unsigned_abs (end_y leg)
 
--- a new leg, which starts at the place
 unfoldable pub leg_anew : Leg → Leg
 leg_anew leg = record leg { origin_x = place_x leg; origin_y = place_y leg; distance = 0 }
 
@@ -63,30 +76,21 @@ approached speed wanted =
 unfoldable pub sped : Leg → Leg
 sped leg = record leg { speed = approached leg.speed leg.wanted_speed }
 
--- the distance grows by the speed
 unfoldable pub travelled : Leg → Leg
 travelled leg = record leg { distance = leg.distance + leg.speed }
 
--- a leg leads out of the field
 unfoldable pub is_outside : ℤ → Bool
 is_outside z = int_lt z (pos 0) || int_lt (pos last_place) z
 
 unfoldable pub hits_wall : Leg → Bool
 hits_wall leg = is_outside (end_x leg) || is_outside (end_y leg)
 
--- such a robot stops at the wall: each axis of the end is clamped, and a new leg begins there, at rest
+-- each axis is clamped
 unfoldable pub clamped_at_walls : Leg → Leg
 clamped_at_walls leg =
-    if hits_wall leg then record leg {
-      origin_x = clamped last_place (end_x leg);
-      origin_y = clamped last_place (end_y leg);
-      distance = 0;
-      speed = 0;
-      wanted_speed = 0;
-    }
-    else leg
+    if hits_wall leg then stopped_at (clamped last_place (end_x leg)) (clamped last_place (end_y leg)) leg else leg
 
--- the leg that a robot tries to drive in an update, and where it leads without other robots
+-- the leg that a robot tries to drive, and what walls leave of it
 unfoldable pub tried : Leg → Leg
 tried leg = travelled (sped (steered leg))
 

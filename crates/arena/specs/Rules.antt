@@ -30,7 +30,7 @@ acceleration = 10
 abbrev pub near : ℕ
 near = 10
 
--- the damage at which a robot is dead, what a wall takes, and what each collision takes
+-- what makes a robot dead, what a wall takes, and what each collision takes
 abbrev pub deadly : ℕ
 deadly = 100
 

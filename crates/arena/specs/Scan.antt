@@ -13,16 +13,17 @@ east_to from to = pos (metres_x to) -ℤ pos (metres_x from)
 unfoldable pub north_to : FieldRobot → FieldRobot → ℤ
 north_to from to = pos (metres_y to) -ℤ pos (metres_y from)
 
--- the other robot lies in the arc; one at the same whole metres lies in every arc
-unfoldable pub in_arc : FieldRobot → ℕ → ℕ → FieldRobot → Bool
-in_arc from degree resolution to =
-    ((metres_x to == metres_x from) && (metres_y to == metres_y from)) ||
-    nat_le (apart (bearing_of (east_to from to) (north_to from to)) degree) resolution
+module _ (from : FieldRobot) (degree resolution : ℕ) where
+  -- a robot at the same whole metres lies in every arc
+  unfoldable pub in_arc : FieldRobot → Bool
+  in_arc to =
+      ((metres_x to == metres_x from) && (metres_y to == metres_y from)) ||
+      nat_le (apart (bearing_of (east_to from to) (north_to from to)) degree) resolution
 
-unfoldable pub sees : FieldRobot → ℕ → ℕ → FieldRobot → Bool
-sees from degree resolution to = is_alive to && in_arc from degree resolution to
+  unfoldable pub sees : FieldRobot → Bool
+  sees to = is_alive to && in_arc to
 
--- how far away it is: whole metres rounded down, and at least 1
+-- whole metres rounded down, but at least 1
 unfoldable pub range_of : FieldRobot → FieldRobot → ℕ
 range_of from to =
     max 1 (unsigned_abs (root_of (pos (square (metres_x from) (metres_y from) (metres_x to) (metres_y to)))))

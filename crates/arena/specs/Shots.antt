@@ -7,18 +7,18 @@ use Rattle.arena.specs.Leg.{Leg, clamped, along, place_x, place_y}
 use Rattle.arena.specs.Field.{Shot}
 use Rattle.arena.specs.Collisions.{square}
 
--- the place of a burst, at this range in metres and inside the field
+-- the place of a burst: at this range in metres, but inside the field
 unfoldable pub aimed_x : ℕ → ℕ → ℕ → ℕ
 aimed_x from degree range = clamped last_place (along from (pos (10 * range) *ℤ cosine_at degree))
 
 unfoldable pub aimed_y : ℕ → ℕ → ℕ → ℕ
 aimed_y from degree range = clamped last_place (along from (pos (10 * range) *ℤ sine_at degree))
 
--- how many updates a missile flies to this range in metres: at least one
+-- how many updates a missile flies to this range in metres
 unfoldable pub flight : ℕ → ℕ
 flight range = max 1 (div_ceil range missile_speed)
 
--- a shot that a robot on this leg fires after n updates
+-- fired after n updates from this leg
 unfoldable pub shot : ℕ → ℕ → Leg → ℕ → ℕ → Shot
 shot updates owner leg degree range = record {
   owner = owner;
@@ -27,15 +27,13 @@ shot updates owner leg degree range = record {
   y = aimed_y (place_y leg) degree range;
 }
 
--- the shots of a robot that are in the air after n updates
 unfoldable pub in_air : ℕ → ℕ → List Shot → List Shot
 in_air updates owner shots = filter (λ s. (s.owner == owner) && nat_lt updates s.burst) shots
 
--- the shots that burst in an update
 unfoldable pub due_at : ℕ → List Shot → List Shot
 due_at update shots = filter (λ s. s.burst == update) shots
 
--- the damage of a burst at this squared distance: that of the smallest ring that reaches there
+-- the damage at this squared distance from a burst: that of the smallest ring that reaches there
 unfoldable pub ring : ℕ → ℕ
 ring square =
     if nat_le square (inner_ring * inner_ring) then inner_ring_damage

@@ -9,7 +9,8 @@ use Rattle.std.proofs.lemmas.Bool.Decides.{nat_tests}
 pub use Rattle.arith.specs.declared.tables.TheConstants.{ROUND}
 use Rattle.arith.specs.Table.{sines}
 use Rattle.std.specs.Int.{abs_diff}
-use Rattle.arith.specs.Circle.{sine_at, cosine_at, square_of, IsNearlyOnCircle}
+use Rattle.arith.specs.Circle.{sine_at, cosine_at}
+use Rattle.arith.specs.NearCircle.{square_of, IsNearlyOnCircle}
 use Rattle.arith.proofs.Below.{passes_below, passes_at}
 
 -- the sine of the degree of index i, once round

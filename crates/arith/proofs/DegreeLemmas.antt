@@ -1,7 +1,8 @@
 -- A number is its degree and whole rounds.
 use Rattle.std.proofs.Common.{◌/◌, ℤ, pos, negsuc, arith}
 use Rattle.std.proofs.lemmas.Int.{ints}
-use Rattle.arith.specs.Degree.{degree_of, IsDegreeOf}
+use Rattle.arith.specs.Degree.{degree_of}
+use Rattle.arith.specs.Rounds.{IsDegreeOf}
 
 pub degree_of-IsDegreeOf : (n : ℤ) → IsDegreeOf n (degree_of n)
 unfolding degree_of

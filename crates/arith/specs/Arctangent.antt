@@ -10,7 +10,6 @@ bound_of k =
     if nat_lt k 90 then (slice_index tangents (k - 1) + slice_index tangents k) / 2
     else 11457992
 
--- the degrees from 1 to 90
 unfoldable pub quarter : List ℕ
 quarter = range_with_len 1 90
 

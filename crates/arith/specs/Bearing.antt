@@ -14,10 +14,9 @@ unfoldable pub first_greatest : List ℤ → ℕ
 first_greatest [] = 0
 first_greatest (x ∷ xs) = position_or_len (int_eq (fold int_max x xs)) (x ∷ xs)
 
--- the reaches at 0 to 359 degrees
 unfoldable pub projections : ℤ → ℤ → List ℤ
 projections dx dy = map (projection_of dx dy) (range_with_len 0 360)
 
--- the bearing as a number, for definitions to name: the first degree of the greatest reach
+-- the first degree of the greatest reach
 unfoldable pub bearing_of : ℤ → ℤ → ℕ
 bearing_of dx dy = first_greatest (projections dx dy)

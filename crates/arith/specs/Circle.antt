@@ -1,6 +1,5 @@
 -- The sine and the cosine of a whole degree, scaled by 100,000, by quadrants.
-use Rattle.std.specs.Prelude.{ℕ, ◌+◌, ◌-◌, ◌*◌, ◌^◌, ◌%◌, ◌≤◌, ℤ, unsigned_abs, pos, neg_ℤ, nat_le, if◌then◌else◌, slice_index}
-use Rattle.std.specs.Int.{abs_diff}
+use Rattle.std.specs.Prelude.{ℕ, ◌+◌, ◌-◌, ◌%◌, ℤ, pos, neg_ℤ, nat_le, if◌then◌else◌, slice_index}
 use Rattle.arith.specs.Table.{sines}
 use Rattle.arith.specs.Degree.{degree_of}
 
@@ -12,7 +11,6 @@ sine_at d =
     else if nat_le d 270 then neg_ℤ (pos (slice_index sines (d - 180)))
     else neg_ℤ (pos (slice_index sines (360 - d)))
 
--- the cosine is the sine a quarter of the round further
 unfoldable pub cosine_at : ℕ → ℤ
 cosine_at d = sine_at ((d + 90) % 360)
 
@@ -22,10 +20,3 @@ sine_of n = sine_at (degree_of n)
 
 unfoldable pub cosine_of : ℤ → ℤ
 cosine_of n = cosine_at (degree_of n)
-
--- the squares of the two add up to the square of the scale, but for what the rounding of the table leaves
-abbrev pub square_of : ℤ → ℕ
-square_of z = unsigned_abs z * unsigned_abs z
-
-abbrev pub IsNearlyOnCircle : ℕ → Type 0
-IsNearlyOnCircle d = abs_diff (square_of (sine_at d) + square_of (cosine_at d)) (10 ^ 10) ≤ 150000

@@ -5,7 +5,6 @@ use Rattle.std.specs.Ordering.{int_eq}
 use Rattle.arith.specs.declared.operators.Op.{Op}
 use Rattle.arith.specs.declared.operators.Op.TheVariants.{Or, And, BitOr, BitXor, BitAnd, Equal, NotEqual, Less, Greater, LessOrEqual, GreaterOrEqual, ShiftLeft, ShiftRight, Add, Subtract, Multiply, Divide, Remainder}
 
--- the two operators on truth values
 abbrev pub is_logic : Op → Bool
 is_logic Or = true
 is_logic And = true
@@ -33,7 +32,6 @@ quotient a b = if holds b then int_div a b else pos 0
 abbrev pub remainder : ℤ → ℤ → ℤ
 remainder a b = if holds b then int_rem a b else pos 0
 
--- the result among the whole numbers
 abbrev pub whole_value : Op → ℤ → ℤ → ℤ
 whole_value Or a b = truth (holds a || holds b)
 whole_value And a b = truth (holds a && holds b)

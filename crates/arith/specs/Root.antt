@@ -1,14 +1,7 @@
 -- The whole square root of a number's size.
-use Rattle.std.specs.Prelude.{◌≡◌, ℕ, zero, suc, ◌+◌, ◌*◌, ◌/◌, ◌≤◌, nat_le, if◌then◌else◌, ℤ, pos, unsigned_abs}
+use Rattle.std.specs.Prelude.{ℕ, zero, suc, ◌+◌, ◌*◌, ◌/◌, nat_le, if◌then◌else◌, ℤ, pos, unsigned_abs}
 
--- the greatest n whose square is at most |a|
-pub record IsRoot (a root : ℤ) : Type 0 where
-  pub size : ℕ
-  pub natural : root ≡ pos size
-  pub fits : size * size ≤ unsigned_abs a
-  pub greatest : (n : ℕ) → n * n ≤ unsigned_abs a → n ≤ size
-
--- The same number, computed: the root of a quarter, doubled, and one more if that square still fits.
+-- The root of a quarter, doubled, and one more if that square still fits.
 -- It is right for numbers below 4 to the power `digits`.
 unfoldable pub root_by_quarters : ℕ → ℕ → ℕ
 root_by_quarters zero n = 0

@@ -1,7 +1,7 @@
 -- The two tables of the field, scaled by 100,000. They are the definition: they follow from no formula.
 use Rattle.std.specs.Prelude.{ℕ, List, [], ◌∷◌}
 
--- the sines of 0 to 90 degrees, ten a line
+-- of 0 to 90 degrees
 unfoldable pub sines : List ℕ
 sines =
     0 ∷ 1745 ∷ 3490 ∷ 5234 ∷ 6976 ∷ 8716 ∷ 10453 ∷ 12187 ∷ 13917 ∷ 15643 ∷
@@ -15,7 +15,7 @@ sines =
     98481 ∷ 98769 ∷ 99027 ∷ 99255 ∷ 99452 ∷ 99619 ∷ 99756 ∷ 99863 ∷ 99939 ∷ 99985 ∷
     100000 ∷ []
 
--- the tangents of 0 to 89 degrees, ten a line
+-- of 0 to 89 degrees
 unfoldable pub tangents : List ℕ
 tangents =
     0 ∷ 1746 ∷ 3492 ∷ 5241 ∷ 6993 ∷ 8749 ∷ 10510 ∷ 12278 ∷ 14054 ∷ 15838 ∷

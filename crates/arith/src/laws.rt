@@ -4,8 +4,9 @@
 ghost use Rattle.std.specs.Prelude.{◌≡◌, ◌<◌, ◌≤◌, pos, ◌<ℤ◌};
 ghost use Rattle.std.specs.List.Sorted.{IsStrictlyIncreasing};
 ghost use Rattle.arith.specs.Table.{tangents};
-ghost use Rattle.arith.specs.Degree.{degree_of, IsDegreeOf};
-ghost use Rattle.arith.specs.Circle.{IsNearlyOnCircle};
+ghost use Rattle.arith.specs.Degree.{degree_of};
+ghost use Rattle.arith.specs.Rounds.{IsDegreeOf};
+ghost use Rattle.arith.specs.NearCircle.{IsNearlyOnCircle};
 ghost use Rattle.arith.specs.Bearing.{projection_of, bearing_of};
 ghost use Rattle.arith.specs.KnownValues.{KnownOperators, OperatorValues, DegreeValues, RootValues, BearingValues};
 

@@ -1,7 +1,8 @@
 //! Whole square roots.
 
 ghost use Rattle.std.specs.Prelude.{◌≡◌, ◌+◌, ◌*◌, ◌^◌, ◌<◌, ◌≤◌};
-ghost use Rattle.arith.specs.Root.{IsRoot, root_of};
+ghost use Rattle.arith.specs.Root.{root_of};
+ghost use Rattle.arith.specs.GreatestRoot.{IsRoot};
 
 /// Returns the whole square root of a number's size, the greatest n with n * n at most |a|, for any number a
 /// (docs/numbers.md, "Root").

@@ -11,10 +11,10 @@ use Rattle.engine.specs.Executables.{Executable}
 use Rattle.battles.specs.Battle.{Behaviour, BattleState, robot_turn, turn, behaviour_at}
 use Rattle.battles.specs.Carrying.{Runner, AreRobotsOf, EachIsAheadOf, HasReached, IsAheadOf, IsRobotOf}
 use Rattle.battles.specs.Intervals.{AreTurnNumbers, HasCome, HasRunAlone, IsLike, OthersArePast, alone, RunsAlone, turns_left, is_turn_left, cycles_without_updates}
-use Rattle.battles.proofs.Alike.{stands_like, stages_refl, like_same, stages_trans}
+use Rattle.battles.proofs.Alike.{stands_like, states_refl, like_same, states_trans}
 use Rattle.battles.proofs.Commuting.{TurnsAlone}
 use Rattle.battles.proofs.TurnNumbers.{rest_all, rest_none, left_not, turn_numbers_one, turn_numbers_set, next_taken}
-use Rattle.battles.proofs.Stages.{robot_at, robots_length, stands_at, stands_set}
+use Rattle.battles.proofs.States.{robot_at, robots_length, stands_at, stands_set}
 
 -- a robot has run alone for n cycles
 unfoldable pub ran : List Behaviour → ℕ → BattleState → ℕ → BattleState
@@ -74,7 +74,7 @@ pub run_taken : (robots : List Behaviour) (next : List ℕ) (i end n : ℕ) (s :
     (turns_left robots (is_turn_left next) 0 end s)
 run_taken robots next i end zero s are small inside within ready =
     let same : get_or next i 0 + 4 * 0 ≡ get_or next i 0 = omega arith in
-    rw (ran_none robots i s, same, set-get_or next i 0) (stages_refl _)
+    rw (ran_none robots i s, same, set-get_or next i 0) (states_refl _)
 run_taken robots next i end (suc n) s are small inside within ready =
     let four = are.four in
     let d = get_or next i 0 in
@@ -100,7 +100,7 @@ run_taken robots next i end (suc n) s are small inside within ready =
     rw (later, ran_more robots i s n inside) at
     (next_taken robots before i end (ran robots i s n) (turn_numbers_set next i n are small) small
     (omega (arith, turn_number)) turns) in
-    stages_trans _ _ _ last (run_taken robots next i end n s are small inside (omega arith) fewer)
+    states_trans _ _ _ last (run_taken robots next i end n s are small inside (omega arith) fewer)
 
 -- What a robot that runs alone makes of its machine and of the arena, whatever its trace and the field are.
 pub record Runs (free : Type 0) (i : ℕ) (exe : Executable) (n : ℕ) (runner after : Runner) (arena grown : Arena) :
@@ -134,7 +134,7 @@ pub come_alone : (robots : List Behaviour) (exes : List Executable) (next : List
 unfolding behaviour_at ran
 come_alone robots exes next w n i runners arena grown opened exe none after free are turn_numbers small inside within
     past come here gone =
-    let s = come.stage in
+    let s = come.state in
     let robot = robot_at exes robots i exe (λ trace. Quiet) are here in
     let at = stands_at runners exes s.traces i exe none come.reached.traces here in
     let lengths = traces_length runners exes s.traces come.reached.traces in
@@ -146,12 +146,12 @@ come_alone robots exes next w n i runners arena grown opened exe none after free
       | inr drawn ↦ inr (past drawn)
     ] in
     record {
-      stage = ran robots i s n;
+      state = ran robots i s n;
       reached = record {
         field = on.stands;
         traces = stands_set runners exes s.traces i after exe _ come.reached.traces here on.at;
       };
-      ends = stages_trans _ _ _
+      ends = states_trans _ _ _
           (run_taken robots next i (4 * w) n s turn_numbers small (omega (arith, lengths, inside)) within ready)
           come.ends;
     }
@@ -168,7 +168,7 @@ pub come_on : (robots : List Behaviour) (exes : List Executable) (next : List �
 unfolding turn behaviour_at ran
 come_on robots exes next w n i runners arena grown opened exe none after free are turn_numbers small inside within
     first past come here gone =
-    let s = come.stage in
+    let s = come.state in
     let robot = robot_at exes robots i exe (λ trace. Quiet) are here in
     let at = stands_at runners exes s.traces i exe none come.reached.traces here in
     let lengths = traces_length runners exes s.traces come.reached.traces in
@@ -200,12 +200,12 @@ come_on robots exes next w n i runners arena grown opened exe none after free ar
     ap (λ t. set (set s.traces i stepped.1) i (alone (behaviour_at robots i) i stepped.0 t n).1) same
     ∙ set-set s.traces i stepped.1 (alone (behaviour_at robots i) i stepped.0 stepped.1 n).1 in
     record {
-      stage = ran robots i (turn robots i s) n;
+      state = ran robots i (turn robots i s) n;
       reached = record {
         field = rw same on.stands;
         traces = rw moved (stands_set runners exes s.traces i after exe _ come.reached.traces here on.at);
       };
-      ends = stages_trans _ _ _ (stages_trans _ _ _ (rw twice at taken)
+      ends = states_trans _ _ _ (states_trans _ _ _ (rw twice at taken)
           (next_taken robots next i (4 * w) s turn_numbers small (omega (arith, within)) (inr first))) come.ends;
     }
 
@@ -238,7 +238,7 @@ pub opens : (robots : List Behaviour) (exes : List Executable) (next : List ℕ)
 opens robots exes next w runners arena s are turn_numbers most first past reached =
     let all = robots_length exes robots are in
     record {
-      stage = s;
+      state = s;
       reached = reached;
       ends =
           like_same _ _
@@ -252,12 +252,12 @@ pub closes : (robots : List Behaviour) (exes : List Executable) (next : List ℕ
     → ((i : ℕ) → i < 4 → 4 * w ≤ get_or next i 0)
     → HasCome robots exes next w runners arena s → HasReached runners exes arena (cycles_without_updates robots w s)
 closes robots exes next w runners arena s past come =
-    let done : turns_left robots (is_turn_left next) 0 (4 * w) come.stage ≡ come.stage =
-    rest_none robots (is_turn_left next) 0 (4 * w) come.stage
+    let done : turns_left robots (is_turn_left next) 0 (4 * w) come.state ≡ come.state =
+    rest_none robots (is_turn_left next) 0 (4 * w) come.state
     (λ t from to. left_not next t (omega (arith, past (t % 4) (omega arith), to))) in
-    let like : IsLike come.stage (cycles_without_updates robots w s) = rw done at come.ends in
+    let like : IsLike come.state (cycles_without_updates robots w s) = rw done at come.ends in
     record {
-      field = stands_like arena come.stage.field (cycles_without_updates robots w s).field like.field
+      field = stands_like arena come.state.field (cycles_without_updates robots w s).field like.field
           come.reached.field;
       traces = rw like.traces come.reached.traces;
     }

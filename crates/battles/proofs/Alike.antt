@@ -133,15 +133,15 @@ step_like robot f shots i trace same = elim (cases_Bool (is_live_at f i)) [
   | inr dead ↦ rw dead (refl, record { shots = shots; is = refl; same = same })
 ]
 
--- the same of whole stages
-pub stages_refl : (s : BattleState) → IsLike s s
-stages_refl s = record { field = like_refl s.field; traces = refl }
+-- the same of whole states
+pub states_refl : (s : BattleState) → IsLike s s
+states_refl s = record { field = like_refl s.field; traces = refl }
 
 pub like_same : (s t : BattleState) → s ≡ t → IsLike s t
-like_same s t same = rw same (stages_refl t)
+like_same s t same = rw same (states_refl t)
 
-pub stages_trans : (s t u : BattleState) → IsLike s t → IsLike t u → IsLike s u
-stages_trans s t u first second = record {
+pub states_trans : (s t u : BattleState) → IsLike s t → IsLike t u → IsLike s u
+states_trans s t u first second = record {
   field = like_trans s.field t.field u.field first.field second.field;
   traces = second.traces ∙ first.traces;
 }

@@ -10,7 +10,7 @@ use Rattle.code.specs.declared.want.Want.TheVariants.{Quiet}
 use Rattle.grammar.specs.Profile.{Profile}
 use Rattle.grammar.specs.Resolved.{IsResolved}
 use Rattle.grammar.specs.Tree.{File}
-use Rattle.code.specs.Generation.{IsProgramOf}
+use Rattle.code.specs.Codes.{IsProgramOf}
 use Rattle.code.specs.Meaning.{want}
 use Rattle.engine.specs.declared.engines.Engine.{Engine}
 use Rattle.engine.specs.Executables.{Executable}

@@ -17,7 +17,7 @@ use Rattle.battles.specs.Battle.{Behaviour, Outcome, first_state, damages_of, st
 use Rattle.battles.specs.Carrying.{Runner, AreRobotsOf, IsAheadOf, EachFits, EachIsAheadOf, HasReached}
 use Rattle.code.specs.Codes.{AreProgramsOf}
 use Rattle.battles.specs.Pairing.{paired, robots_of}
-use Rattle.battles.proofs.Stages.{robots_length}
+use Rattle.battles.proofs.States.{robots_length}
 
 -- one runner more
 fits_then : (runners : List Runner) (exes : List Executable) (i : ℕ) (runner : Runner) (exe : Executable)

@@ -391,7 +391,7 @@ steps_alike robot other i j f trace others steps distinct =
           ) (like_refl _, refl, refl)
     ]
 
--- The same of whole stages: the next turn of a robot is one that it does alone.
+-- The same of whole states: the next turn of a robot is one that it does alone.
 unfoldable pub TurnsAlone : List Behaviour → ℕ → BattleState → Type 0
 TurnsAlone robots i s = StepsAlone (behaviour_at robots i) i s.field (get_or s.traces i [])
 

@@ -47,14 +47,14 @@ pub updated_reached : (runners : List Runner) (exes : List Executable) (arena af
 updated_reached runners exes arena after s reached moves = record { field = moves; traces = reached.traces }
 
 -- no cycle was run yet
-pub stage_none : (robots : List Behaviour) (s : BattleState) → state_after robots s 0 ≡ s
+pub state_none : (robots : List Behaviour) (s : BattleState) → state_after robots s 0 ≡ s
 unfolding state_after
-stage_none robots s = refl
+state_none robots s = refl
 
-pub stage_more : (robots : List Behaviour) (s : BattleState) (n : ℕ) →
+pub state_more : (robots : List Behaviour) (s : BattleState) (n : ℕ) →
     state_after robots s (n + 1) ≡ cycle robots (n + 1) (state_after robots s n)
 unfolding state_after
-stage_more robots s n = rw add-one refl
+state_more robots s n = rw add-one refl
 
 -- the search for the last cycle goes on from a cycle that is not the last
 pub first_begins : (robots : List Behaviour) (s : BattleState) (limit : ℕ)

@@ -1,5 +1,5 @@
 pub mod ProgramsLemmas
-pub mod Stages
+pub mod States
 pub mod Cycles
 pub mod Alike
 pub mod Commuting

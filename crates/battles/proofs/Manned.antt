@@ -9,7 +9,7 @@ use Rattle.engine.specs.Executables.{Executable}
 use Rattle.battles.specs.Carrying.{Runner}
 use Rattle.battles.specs.IntervalKeeping.{HaveMachines, CanPlay, HaveFieldRobots, KeepsPlayable}
 use Rattle.battles.specs.Intervals.{WaitsToDraw}
-use Rattle.battles.proofs.Stages.{fits_at, fits_length, fits_set}
+use Rattle.battles.proofs.States.{fits_at, fits_length, fits_set}
 
 pub have_places : (exes : List Executable) (runners : List Runner) (arena : Arena) → HaveMachines exes runners arena →
     HaveFieldRobots runners arena

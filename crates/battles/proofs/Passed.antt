@@ -15,7 +15,7 @@ use Rattle.battles.specs.Intervals.{AreTurnNumbers, HasCome, HasRunAlone, cycles
 use Rattle.battles.proofs.Ahead.{Runs, come_alone, opens, closes}
 use Rattle.battles.proofs.Alone.{quiet_alone, quiet_runs}
 use Rattle.battles.proofs.Running.{at_less, quiet_less}
-use Rattle.battles.proofs.Stages.{fits_at, fits_length, fits_set}
+use Rattle.battles.proofs.States.{fits_at, fits_length, fits_set}
 use Rattle.battles.proofs.TurnNumbers.{turn_numbers_set}
 
 -- a live robot goes on

@@ -18,7 +18,7 @@ use Rattle.battles.specs.Carrying.{Runner, AreRobotsOf, EachIsAheadOf, HasReache
 use Rattle.battles.specs.Intervals.{AreAhead, cycles_without_updates, period, periods}
 use Rattle.battles.proofs.Passed.{code_at, runners_length}
 use Rattle.battles.proofs.Running.{quiet_less}
-use Rattle.battles.proofs.Stages.{robot_at, robots_length, stands_at}
+use Rattle.battles.proofs.States.{robot_at, robots_length, stands_at}
 
 -- Who lives, and how many, an arena says of each field that it represents.
 live_is : (g : Arena) (f : Field) (i : ℕ) → RepresentsField g f → is_live_at f i ≡ is_live g i
@@ -162,8 +162,8 @@ quiet_on g robots k j traces all quiet i low live m less =
     ∙ ap (λ zeros. get_or traces i [] ++ zeros) (replicate-append-replicate k m (pos 0)))
     ∙ quiet i low live (k + m) (omega arith)
 
-updated_stage : BattleState → BattleState
-updated_stage s = record { field = moved s.field; traces = s.traces }
+updated_state : BattleState → BattleState
+updated_state s = record { field = moved s.field; traces = s.traces }
 
 quiet_within : (g : Arena) (robots : List Behaviour) (traces : List (List ℤ)) (k n : ℕ) → k ≤ n →
     AreQuiet g robots traces n
@@ -177,7 +177,7 @@ segments_wait : (g : Arena) (robots : List Behaviour) (k : ℕ) (s : BattleState
     →
     periods robots k s ≡
     record { field = moved_times k s.field; traces = waits (is_live g) (length robots) (15 * k) s.traces }
-unfolding periods period moved_times is_live updated_stage waits
+unfolding periods period moved_times is_live updated_state waits
 segments_wait g robots zero s field still all quiet = refl
 segments_wait g robots (suc k) s field still all quiet =
     let traces = waits (is_live g) (length robots) (15 * k) s.traces in
@@ -190,11 +190,11 @@ segments_wait g robots (suc k) s field still all quiet =
     let sum : 15 * k + 15 ≡ 15 * suc k = omega arith in
     ap (period robots) before
     ∙
-    ap updated_stage (rounds_wait grown robots 15 (record { field = moved_times k s.field; traces = traces })
+    ap updated_state (rounds_wait grown robots 15 (record { field = moved_times k s.field; traces = traces })
     (only_rests g s.field k field still)
     (omega (arith, all, waits_length (is_live g) (length robots) (15 * k) s.traces))
     (quiet_on g robots (15 * k) 15 s.traces all more))
-    ∙ ap (λ (ts : List (List ℤ)). updated_stage (record { field = moved_times k s.field; traces = ts }))
+    ∙ ap (λ (ts : List (List ℤ)). updated_state (record { field = moved_times k s.field; traces = ts }))
     (waits_plus (is_live g) (length robots) (15 * k) 15 s.traces ∙
     ap (λ m. waits (is_live g) (length robots) m s.traces) sum)
 

@@ -5,57 +5,57 @@ use Rattle.arena.specs.Field.{live_count}
 use Rattle.arena.specs.Moved.{moved}
 use Rattle.battles.specs.Battle.{Behaviour, BattleState, turns, is_over, state_after, first_passing}
 use Rattle.battles.specs.Intervals.{cycles_without_updates, period, periods}
-use Rattle.battles.proofs.Cycles.{cycle_alone, cycle_updates, goes_on, stage_more, over_if_few, first_later, first_none, first_is, first_more}
+use Rattle.battles.proofs.Cycles.{cycle_alone, cycle_updates, goes_on, state_more, over_if_few, first_later, first_none, first_is, first_more}
 
 -- no update falls within an interval
-pub stage_within : (robots : List Behaviour) (s : BattleState) (n w : ℕ) → n % 15 ≡ 0 → w < 15
+pub state_within : (robots : List Behaviour) (s : BattleState) (n w : ℕ) → n % 15 ≡ 0 → w < 15
     → state_after robots s (n + w) ≡ cycles_without_updates robots w (state_after robots s n)
 unfolding cycles_without_updates
-stage_within robots s n zero begins small = ap (state_after robots s) (omega arith)
-stage_within robots s n (suc w) begins small =
+state_within robots s n zero begins small = ap (state_after robots s) (omega arith)
+state_within robots s n (suc w) begins small =
     let next : n + suc w ≡ n + w + 1 = omega arith in
     ap (state_after robots s) next
-    ∙ stage_more robots s (n + w)
+    ∙ state_more robots s (n + w)
     ∙ cycle_alone robots (n + w + 1) (state_after robots s (n + w)) (omega arith)
-    ∙ ap (turns robots (length robots)) (stage_within robots s n w begins (omega arith))
+    ∙ ap (turns robots (length robots)) (state_within robots s n w begins (omega arith))
 
 -- an update falls at its end
-updated_stage : BattleState → BattleState
-updated_stage s = record { field = moved s.field; traces = s.traces }
+updated_state : BattleState → BattleState
+updated_state s = record { field = moved s.field; traces = s.traces }
 
-stage_updated : (robots : List Behaviour) (s : BattleState) (n : ℕ) → n % 15 ≡ 0
+state_updated : (robots : List Behaviour) (s : BattleState) (n : ℕ) → n % 15 ≡ 0
     → state_after robots s (n + 15) ≡ period robots (state_after robots s n)
-unfolding cycles_without_updates period updated_stage
-stage_updated robots s n begins =
+unfolding cycles_without_updates period updated_state
+state_updated robots s n begins =
     let last : n + 15 ≡ n + 14 + 1 = omega arith in
     ap (state_after robots s) last
-    ∙ stage_more robots s (n + 14)
+    ∙ state_more robots s (n + 14)
     ∙ cycle_updates robots (n + 14 + 1) (state_after robots s (n + 14)) (omega arith)
     ∙
-    ap (λ before. updated_stage (turns robots (length robots) before))
-    (stage_within robots s n 14 begins (omega arith))
+    ap (λ before. updated_state (turns robots (length robots) before))
+    (state_within robots s n 14 begins (omega arith))
 
-pub stage_segment : (robots : List Behaviour) (s : BattleState) (n : ℕ)
+pub state_segment : (robots : List Behaviour) (s : BattleState) (n : ℕ)
     → state_after robots s (15 * (n + 1)) ≡ period robots (state_after robots s (15 * n))
-stage_segment robots s n =
+state_segment robots s n =
     let next : 15 * (n + 1) ≡ 15 * n + 15 = omega arith in
-    ap (state_after robots s) next ∙ stage_updated robots s (15 * n) (omega arith)
+    ap (state_after robots s) next ∙ state_updated robots s (15 * n) (omega arith)
 
-pub stage_segments : (robots : List Behaviour) (s : BattleState) (n k : ℕ)
+pub state_segments : (robots : List Behaviour) (s : BattleState) (n k : ℕ)
     → state_after robots s (15 * (n + k)) ≡ periods robots k (state_after robots s (15 * n))
 unfolding periods
-stage_segments robots s n zero = ap (state_after robots s) (omega arith)
-stage_segments robots s n (suc k) =
+state_segments robots s n zero = ap (state_after robots s) (omega arith)
+state_segments robots s n (suc k) =
     let next : n + suc k ≡ n + k + 1 = omega arith in
     ap (λ m. state_after robots s (15 * m)) next
-    ∙ stage_segment robots s (n + k)
-    ∙ ap (period robots) (stage_segments robots s n k)
+    ∙ state_segment robots s (n + k)
+    ∙ ap (period robots) (state_segments robots s n k)
 
-pub stage_rest : (robots : List Behaviour) (s : BattleState) (n limit : ℕ) → n ≡ limit / 15
+pub state_rest : (robots : List Behaviour) (s : BattleState) (n limit : ℕ) → n ≡ limit / 15
     → state_after robots s limit ≡ cycles_without_updates robots (limit % 15) (state_after robots s (15 * n))
-stage_rest robots s n limit all =
+state_rest robots s n limit all =
     let sum : limit ≡ 15 * n + limit % 15 = omega arith in
-    ap (state_after robots s) sum ∙ stage_within robots s (15 * n) (limit % 15) (omega arith) (omega arith)
+    ap (state_after robots s) sum ∙ state_within robots s (15 * n) (limit % 15) (omega arith) (omega arith)
 
 -- the search for the last cycle passes over cycles that aren't
 first_skips : (passes : ℕ → Bool) (n k count : ℕ) → ((j : ℕ) → n < j → j ≤ n + k → passes j ≡ false)
@@ -100,7 +100,7 @@ few_after robots s n =
     over_if_few (15 * n + 14 + 1) (state_after robots s (15 * n + 14 + 1)) (omega arith)
     ∙
     ap (λ (t : BattleState). nat_le (live_count t.field) 1)
-    (ap (state_after robots s) next ∙ stage_updated robots s (15 * n) (omega arith))
+    (ap (state_after robots s) next ∙ state_updated robots s (15 * n) (omega arith))
 
 pub first_decided : (robots : List Behaviour) (s : BattleState) (n limit last : ℕ) → 15 * n + 15 ≤ limit
     → first_passing (λ k. is_over k (state_after robots s k)) (15 * n) (limit - 15 * n) ≡ last
@@ -134,7 +134,7 @@ first_skipped robots s n (suc k) limit last within so undecided =
     let next : n + suc k ≡ n + k + 1 = omega arith in
     let before = first_skipped robots s n k limit last (omega arith) so (λ j low. undecided j (omega arith)) in
     rw next (first_undecided robots s (n + k) limit last (omega arith) before
-    (ap (λ (t : BattleState). nat_le (live_count t.field) 1) (ap (period robots) (stage_segments robots s n k)) ∙
+    (ap (λ (t : BattleState). nat_le (live_count t.field) 1) (ap (period robots) (state_segments robots s n k)) ∙
     undecided (suc k) (omega arith)))
 
 -- no update comes before the limit

@@ -6,7 +6,7 @@ use Rattle.std.proofs.lemmas.List.{get_or-set_same, get_or-set_other, length-set
 use Rattle.std.proofs.lemmas.Bool.Decides.{nat_tests}
 use Rattle.battles.specs.Battle.{Behaviour, BattleState, turn, turns}
 use Rattle.battles.specs.Intervals.{cycles_without_updates, turns_left, is_turn_left, AreTurnNumbers, IsLike}
-use Rattle.battles.proofs.Alike.{like_same, stages_trans, rest_like}
+use Rattle.battles.proofs.Alike.{like_same, states_trans, rest_like}
 use Rattle.battles.proofs.Commuting.{TurnsAlone, alone_stays, commutes}
 
 rest_more : (robots : List Behaviour) (left : ℕ → Bool) (t n : ℕ) (s : BattleState) → left t ≡ true
@@ -61,7 +61,7 @@ takes robots left other i d t (suc n) s own here gone same later from to ready =
         ] in
         let after = turn robots (t % 4) s in
         rw (rest_more robots left t n s held, rest_more robots other t n (turn robots i s) (sym (same t before) ∙ held))
-        (stages_trans (turns_left robots other (t + 1) n (turn robots (t % 4) (turn robots i s)))
+        (states_trans (turns_left robots other (t + 1) n (turn robots (t % 4) (turn robots i s)))
         (turns_left robots other (t + 1) n (turn robots i after)) (turns_left robots left (t + 1) n after)
         (rest_like robots other (t + 1) n (turn robots (t % 4) (turn robots i s)) (turn robots i after)
         (commutes robots i (t % 4) s alone distinct))

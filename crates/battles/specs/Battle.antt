@@ -12,7 +12,6 @@ use Rattle.code.specs.declared.want.Want.TheVariants.{Quiet, Ask, Restart}
 abbrev pub Behaviour : Type 0
 Behaviour = List ℤ → Want
 
--- a stage of a battle: the field, and the trace of each robot
 pub record BattleState : Type 0 where
   pub field : Field
   pub traces : List (List ℤ)
@@ -28,20 +27,6 @@ after_want Restart i field trace = (field, [])
 unfoldable pub robot_turn : Behaviour → ℕ → Field → List ℤ → Field × List ℤ
 robot_turn robot i field trace = if is_live_at field i then after_want (robot trace) i field trace else (field, trace)
 
--- past the last robot there is one that asks nothing
-unfoldable pub behaviour_at : List Behaviour → ℕ → Behaviour
-behaviour_at robots i = slice_index_or robots i (λ trace. Quiet)
-
--- the turn of one robot, and the turns of the first n robots in their order
-unfoldable pub turn : List Behaviour → ℕ → BattleState → BattleState
-turn robots i stage =
-    let stepped = robot_turn (behaviour_at robots i) i stage.field (slice_index_or stage.traces i []) in
-    record { field = stepped.0; traces = slice_set stage.traces i stepped.1 }
-
-unfoldable pub turns : List Behaviour → ℕ → BattleState → BattleState
-turns robots zero stage = stage
-turns robots (suc n) stage = turn robots n (turns robots n stage)
-
 -- an update of the field follows each cycle whose number is a multiple of this
 abbrev pub update_cycles : ℕ
 update_cycles = 15
@@ -50,33 +35,18 @@ unfoldable pub is_due : ℕ → Bool
 is_due number = number % update_cycles == 0
 
 unfoldable pub updated : ℕ → BattleState → BattleState
-updated number stage =
-    if is_due number then record { field = moved stage.field; traces = stage.traces } else stage
-
--- the cycle of this number; the first is 1
-unfoldable pub cycle : List Behaviour → ℕ → BattleState → BattleState
-cycle robots number stage = updated number (turns robots (length robots) stage)
-
--- the stage after n cycles
-unfoldable pub state_after : List Behaviour → BattleState → ℕ → BattleState
-state_after robots first_state zero = first_state
-state_after robots first_state (suc n) = cycle robots (suc n) (state_after robots first_state n)
+updated number state = if is_due number then record state { field = moved state.field } else state
 
 -- a battle is over after an update that leaves at most one robot alive
 unfoldable pub is_over : ℕ → BattleState → Bool
-is_over number stage = is_due number && nat_le (live_count stage.field) 1
+is_over number state = is_due number && nat_le (live_count state.field) 1
 
 -- the least of the next numbers after n that passes, or the last of them
 unfoldable pub first_passing : (ℕ → Bool) → ℕ → ℕ → ℕ
 first_passing passes n zero = n
 first_passing passes n (suc count) = if passes (n + 1) then n + 1 else first_passing passes (n + 1) count
 
--- the least cycle after which the battle is over, or its limit
-unfoldable pub last_cycle : List Behaviour → BattleState → ℕ → ℕ
-last_cycle robots first_state limit =
-    first_passing (λ number. is_over number (state_after robots first_state number)) 0 limit
-
--- the stage at the start of the match of this number: its robots, with no replies yet
+-- the start of the match of this number: n robots, with no replies yet
 unfoldable pub first_state : ℕ → ℕ → ℕ → BattleState
 first_state n seed number = record { field = start seed number n; traces = replicate n [] }
 
@@ -89,13 +59,39 @@ pub record Outcome : Type 0 where
   pub cycles : ℕ
   pub damages : List ℕ
 
--- the battle of these robots in the match of this number, with this seed and limit of cycles
-unfoldable pub battle : List Behaviour → (seed number limit : ℕ) → Outcome
-battle robots seed number limit =
-    let opened = first_state (length robots) seed number in
-    let cycles = last_cycle robots opened limit in
-    record { cycles = cycles; damages = damages_of (length robots) (state_after robots opened cycles).field }
-
--- a robot is alive if its damage is below 100
 unfoldable pub is_survivor : Outcome → ℕ → Bool
 is_survivor outcome i = nat_lt (slice_index_or outcome.damages i 100) 100
+
+module _ (robots : List Behaviour) where
+  -- past the last robot there is one that asks nothing
+  unfoldable pub behaviour_at : ℕ → Behaviour
+  behaviour_at i = slice_index_or robots i (λ trace. Quiet)
+
+  -- the turn of one robot, and of the first n
+  unfoldable pub turn : ℕ → BattleState → BattleState
+  turn i state =
+      let stepped = robot_turn (behaviour_at i) i state.field (slice_index_or state.traces i []) in
+      record { field = stepped.0; traces = slice_set state.traces i stepped.1 }
+
+  unfoldable pub turns : ℕ → BattleState → BattleState
+  turns zero state = state
+  turns (suc n) state = turn n (turns n state)
+
+  -- the cycle of this number; the first is 1
+  unfoldable pub cycle : ℕ → BattleState → BattleState
+  cycle number state = updated number (turns (length robots) state)
+
+  unfoldable pub state_after : BattleState → ℕ → BattleState
+  state_after first zero = first
+  state_after first (suc n) = cycle (suc n) (state_after first n)
+
+  -- the least cycle after which the battle is over, or its limit
+  unfoldable pub last_cycle : BattleState → ℕ → ℕ
+  last_cycle first limit = first_passing (λ number. is_over number (state_after first number)) 0 limit
+
+  -- the battle in the match of this number, with this seed and limit of cycles
+  unfoldable pub battle : (seed number limit : ℕ) → Outcome
+  battle seed number limit =
+      let first = first_state (length robots) seed number in
+      let cycles = last_cycle first limit in
+      record { cycles = cycles; damages = damages_of (length robots) (state_after first cycles).field }

@@ -1,4 +1,4 @@
--- Which stage of a battle the machines and the arena have reached.
+-- Which state of a battle the machines and the arena have reached.
 use Rattle.std.specs.Prelude.{ℕ, ◌<◌, ℤ, pos, ◌≡◌, List, [], ◌∷◌, ◌++◌, replicate}
 use Rattle.arena.specs.Arena.{Arena}
 use Rattle.arena.specs.Representing.{RepresentsField}
@@ -6,7 +6,7 @@ use Rattle.grammar.specs.Profile.{Profile}
 use Rattle.grammar.specs.Resolved.{IsResolved}
 use Rattle.grammar.specs.Tree.{File}
 use Rattle.code.specs.declared.want.Want.TheVariants.{Quiet}
-use Rattle.code.specs.Generation.{IsProgramOf}
+use Rattle.code.specs.Codes.{IsProgramOf}
 use Rattle.engine.specs.declared.engines.Engine.{Engine}
 use Rattle.code.specs.Meaning.{want}
 use Rattle.engine.specs.Executables.{Executable}
@@ -53,7 +53,7 @@ EachIsAheadOf (runner ∷ runners) (exe ∷ exes) (trace ∷ traces) =
     IsAheadOf runner exe trace × EachIsAheadOf runners exes traces
 EachIsAheadOf _ _ _ = ⊥
 
-pub record HasReached (runners : List Runner) (exes : List Executable) (arena : Arena) (stage : BattleState) : Type 0
+pub record HasReached (runners : List Runner) (exes : List Executable) (arena : Arena) (state : BattleState) : Type 0
   where
-    pub field : RepresentsField arena stage.field
-    pub traces : EachIsAheadOf runners exes stage.traces
+    pub field : RepresentsField arena state.field
+    pub traces : EachIsAheadOf runners exes state.traces

@@ -76,14 +76,14 @@ pub record IsWaitingInterval (exes : List Executable) (next : List ℕ) (w : ℕ
   pub interval : IsInterval exes next w runners arena
   pub waiting : AreWaiting w next exes runners
 
--- the stage after an update, and whether that decides the battle: at most one robot is alive
-pub record HasUpdated (exes : List Executable) (runners : List Runner) (arena : Arena) (stage : BattleState)
+-- the state after an update, and whether that decides the battle: at most one robot is alive
+pub record HasUpdated (exes : List Executable) (runners : List Runner) (arena : Arena) (state : BattleState)
     (decides : Bool) : Type 0 where
-  pub reached : HasReached runners exes arena stage
-  pub decided : decides ≡ nat_le (live_count stage.field) 1
+  pub reached : HasReached runners exes arena state
+  pub decided : decides ≡ nat_le (live_count state.field) 1
 
--- the stage after n periods, in none of which a robot died
+-- the state after n periods, in none of which a robot died
 pub record HasPassedPeriods (robots : List Behaviour) (exes : List Executable) (n : ℕ)
-    (runners : List Runner) (arena : Arena) (stage : BattleState) : Type 0 where
-  pub reached : HasReached runners exes arena (periods robots n stage)
-  pub alive : (k : ℕ) → k ≤ n → live_count (periods robots k stage).field ≡ live_count stage.field
+    (runners : List Runner) (arena : Arena) (state : BattleState) : Type 0 where
+  pub reached : HasReached runners exes arena (periods robots n state)
+  pub alive : (k : ℕ) → k ≤ n → live_count (periods robots k state).field ≡ live_count state.field

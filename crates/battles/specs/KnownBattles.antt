@@ -8,7 +8,8 @@ use Rattle.arith.specs.declared.operators.Op.TheVariants as op
 use Rattle.grammar.specs.declared.operators.StoreOp.TheVariants as store_op
 use Rattle.grammar.specs.Compiled.{compiled}
 use Rattle.grammar.specs.KnownSources.{constant, file_of_main, late_read_file, main_of, shot_tree}
-use Rattle.grammar.specs.Profile.{Profile, first_profile, second_profile}
+use Rattle.grammar.specs.Profile.{Profile}
+use Rattle.grammar.specs.ProfileNumbers.{first_profile, second_profile}
 use Rattle.grammar.specs.Tree.{Variable, Binary, Assign, Call, NoMore, Argument, Body, Done, ExpressionStatement, IfStatement, While, File}
 use Rattle.code.specs.KnownPrograms.{shooting_file}
 use Rattle.battles.specs.Battle.{Outcome, BattleState, battle, first_state, state_after, damages_of}
@@ -73,13 +74,13 @@ idling = codes "main(){while(1);}"
 abbrev pub drawing : List ℕ
 drawing = codes "main(){while(1)cannon(0,rand(41));}"
 
-abbrev pub shooting_stage : ℕ → BattleState
-shooting_stage n = state_after (robots_of first_profile (shooting_file ∷ [])) (first_state 2 1 1) n
+abbrev pub shooting_state : ℕ → BattleState
+shooting_state n = state_after (robots_of first_profile (shooting_file ∷ [])) (first_state 2 1 1) n
 
 pub record KnownBattles : Type 0 where
   pub empty : Fights first_profile (codes "main(){}" ∷ []) (file_of_main [] Done ∷ []) 15 (after 15 (0 ∷ 0 ∷ []))
   pub none_survives : Fights first_profile (shooting ∷ []) (shooting_file ∷ []) 500000 (after 90 (100 ∷ 100 ∷ []))
-  pub damages : map (λ n. damages_of 2 (shooting_stage n).field) (15 ∷ 30 ∷ 45 ∷ 60 ∷ 75 ∷ 90 ∷ [])
+  pub damages : map (λ n. damages_of 2 (shooting_state n).field) (15 ∷ 30 ∷ 45 ∷ 60 ∷ 75 ∷ 90 ∷ [])
       ≡ (20 ∷ 20 ∷ []) ∷ (30 ∷ 30 ∷ []) ∷ (50 ∷ 50 ∷ []) ∷ (70 ∷ 70 ∷ []) ∷ (80 ∷ 80 ∷ []) ∷ (100 ∷ 100 ∷ []) ∷ []
   pub stopped_before : Fights first_profile (shooting ∷ []) (shooting_file ∷ []) 89 (after 89 (80 ∷ 80 ∷ []))
   pub one_survives : Fights first_profile (shooting ∷ idling ∷ [])

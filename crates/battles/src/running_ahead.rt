@@ -20,7 +20,7 @@ use arena::Arena;
 #[inline(always)]
 pub(crate) fn advance_if_ahead(runners: &mut [Runner], arena: &Arena, cycles: u32) -> bool
     requires { HaveFieldRobots runners.old arena.now }
-    ensures stage { result ≡ true → (exes : List Executable) (robots : List Behaviour) (s : BattleState)
+    ensures state { result ≡ true → (exes : List Executable) (robots : List Behaviour) (s : BattleState)
         → AreRobotsOf exes robots → HasReached runners.old exes arena.now s
         → HasReached runners.new exes arena.now (cycles_without_updates robots cycles s) }
     ensures stays { result ≡ false → runners.new ≡ runners.old }
@@ -39,7 +39,7 @@ pub(crate) fn advance_if_ahead(runners: &mut [Runner], arena: &Arena, cycles: u3
 pub(crate) fn skip_intervals(runners: &mut [Runner], arena: &mut Arena, most: u32) -> u32
     requires places { HaveFieldRobots runners.old arena.old }
     requires updates { arena.old.updates + most ≤ most_updates }
-    ensures stage { (exes : List Executable) (robots : List Behaviour) (s : BattleState)
+    ensures state { (exes : List Executable) (robots : List Behaviour) (s : BattleState)
         → AreRobotsOf exes robots → HasReached runners.old exes arena.old s
         → HasPassedPeriods robots exes result runners.new arena.new s }
     ensures manned { (exes : List Executable) → HaveMachines exes runners.old arena.old
@@ -94,7 +94,7 @@ fn are_ahead(runners: &[Runner], arena: &Arena, cycles: u32) -> bool
 fn advance_all(runners: &mut [Runner], arena: &Arena, cycles: u32)
     requires places { HaveFieldRobots runners.old arena.now }
     requires ahead { AreAhead (length runners.old) cycles arena.now runners.old }
-    ensures stage { (exes : List Executable) (robots : List Behaviour) (s : BattleState)
+    ensures state { (exes : List Executable) (robots : List Behaviour) (s : BattleState)
         → AreRobotsOf exes robots → HasReached runners.old exes arena.now s
         → HasReached runners.new exes arena.now (cycles_without_updates robots cycles s) }
     ensures fits { (exes : List Executable) → EachFits runners.old exes → EachFits runners.new exes }

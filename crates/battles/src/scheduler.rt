@@ -25,7 +25,7 @@ fn play_period(
     requires manned { HaveMachines executables.now runners.old arena.old }
     requires updates { arena.old.updates < most_updates }
     requires ahead { MayRunAhead UPDATE_CYCLES farthest }
-    ensures stage { (robots : List Behaviour) (s : BattleState) → AreRobotsOf executables.now robots
+    ensures state { (robots : List Behaviour) (s : BattleState) → AreRobotsOf executables.now robots
         → HasReached runners.old executables.now arena.old s
         → HasUpdated executables.now runners.new arena.new (period robots s) result }
     ensures manned { HaveMachines executables.now runners.new arena.new }
@@ -49,7 +49,7 @@ pub(crate) fn play_cycles(
     requires manned { HaveMachines executables.now runners.old arena.old }
     requires updates { arena.old.updates ≡ 0 }
     requires within { limit ≤ MOST_CYCLES }
-    ensures stage { (robots : List Behaviour) (s : BattleState) → AreRobotsOf executables.now robots
+    ensures state { (robots : List Behaviour) (s : BattleState) → AreRobotsOf executables.now robots
         → HasReached runners.old executables.now arena.old s
         → HasReached runners.new executables.now arena.new (state_after robots s result) }
     ensures cycles { (robots : List Behaviour) (s : BattleState) → AreRobotsOf executables.now robots

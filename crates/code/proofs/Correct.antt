@@ -222,7 +222,7 @@ module _ (p : Profile) (file : File) where
       let k = λ (x : ℤ) (vars : Vars) (rest : List ℤ). Some Restart in
       let deep : IsDepth l [] [] l = record { is = omega arith } in
       let end =
-      λ (flow : Completion) (vars : Vars) (rest : List ℤ). end_of_function {A = ℤ} p l 1 flow vars rest
+      λ (flow : Completion) (vars : Vars) (rest : List ℤ). end_of_function p {A = ℤ} l 1 flow vars rest
       (λ x vars rest. Awaits Restart) in
       read_off e l n (and_then o end) w
       (chain e l e l n o w (flown program at [] first_frame []) end k f

@@ -2,7 +2,7 @@
 use Rattle.std.proofs.Common.{refl}
 use Rattle.std.specs.Int.{int_wrap}
 use Rattle.arith.specs.Op.{value_of}
-use Rattle.grammar.specs.Profile.{first_profile, second_profile}
+use Rattle.grammar.specs.ProfileNumbers.{first_profile, second_profile}
 use Rattle.code.specs.KnownPrograms.{KnownChoices, KnownRestarts, KnownValues, KnownWants}
 use Rattle.code.specs.Values.{stored}
 

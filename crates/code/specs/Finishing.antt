@@ -7,7 +7,8 @@ use Rattle.grammar.specs.Profile.{Profile}
 use Rattle.grammar.specs.Resolved.{IsResolved}
 use Rattle.grammar.specs.Scope.{number_of_name}
 use Rattle.grammar.specs.Tree.{File}
-use Rattle.code.specs.Generation.{Program, IsProgramOf}
+use Rattle.code.specs.Generation.{Program}
+use Rattle.code.specs.Codes.{IsProgramOf}
 use Rattle.code.specs.Making.{Maker}
 use Rattle.code.specs.Reported.{MakerRepresents}
 

@@ -5,6 +5,5 @@ use Rattle.grammar.specs.Tree.{Done, Function, File}
 abbrev pub no_function : Function
 no_function = record { name = []; parameters = 0; variables = []; body = Done }
 
--- the function of this number
 abbrev pub function_at : File → ℕ → Function
 function_at file number = slice_index_or file.functions number no_function

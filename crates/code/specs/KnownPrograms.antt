@@ -9,7 +9,8 @@ use Rattle.arith.specs.declared.operators.Op.TheVariants as op
 use Rattle.grammar.specs.declared.operators.StoreOp.{StoreOp}
 use Rattle.grammar.specs.declared.operators.StoreOp.TheVariants as store_op
 use Rattle.grammar.specs.KnownSources.{call_of, constant, file_of_main, late_read_file, local, main_of, shot_tree}
-use Rattle.grammar.specs.Profile.{Profile, first_profile, second_profile}
+use Rattle.grammar.specs.Profile.{Profile}
+use Rattle.grammar.specs.ProfileNumbers.{first_profile, second_profile}
 use Rattle.grammar.specs.Tree.{Expr, Args, NoMore, Argument, Assign, Binary, Postfix, Body, Call, Done, ExpressionStatement, IfStatement, File, Function, Return, While}
 use Rattle.code.specs.declared.want.Want.{Want}
 use Rattle.code.specs.declared.want.Want.TheVariants.{Quiet, Ask, Restart}

@@ -1,7 +1,7 @@
 //! The program of a file: its code, without names.
 
 ghost use Rattle.std.specs.Prelude.{◌≡◌, ◌<◌, ◌≤◌, length};
-ghost use Rattle.grammar.specs.Profile.{IsProfile};
+ghost use Rattle.grammar.specs.ProfileNumbers.{IsProfile};
 ghost use Rattle.code.specs.Finishing.{IsOfSomeFile};
 ghost use Rattle.code.specs.Machine.{address_at, counts_at};
 
@@ -27,7 +27,7 @@ impl Model for Program {
     ghost use Rattle.std.specs.Prelude.{◌≤◌};
     ghost use Rattle.code.specs.Generation.{Program};
     ghost use Rattle.code.specs.Finishing.{IsOfSomeFile};
-    ghost use Rattle.grammar.specs.Profile.{IsProfile};
+    ghost use Rattle.grammar.specs.ProfileNumbers.{IsProfile};
     ghost use Rattle.grammar.specs.declared.name_limits.TheConstants.{MOST_NAMES};
 
     ghost Value = { Program };

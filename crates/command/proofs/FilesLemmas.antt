@@ -3,7 +3,8 @@ use Rattle.std.proofs.Common.{◌≡◌, ◌<◌, ◌+◌, ℕ, zero, suc, List,
 use Rattle.std.specs.Prelude.{All, slice_get, slice_index_or, slice_set}
 use Rattle.std.proofs.lemmas.List.{map_more, map_push}
 use Rattle.std.proofs.lemmas.List.Elements.{All-push}
-use Rattle.tokens.specs.Feed.{FailureCount, Device, failed_again}
+use Rattle.tokens.specs.Feed.{failed_again}
+use Rattle.tokens.specs.Device.{FailureCount, Device}
 use Rattle.series.specs.Failures.{accounts, no_device}
 use Rattle.command.specs.Files.{EachShows, HasFailed, ShowsFailure}
 

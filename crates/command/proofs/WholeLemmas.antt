@@ -40,10 +40,11 @@ ends_by_run files asked settings fails known ending before after failed failed_a
       output = ran.output;
       devices = ran.devices;
     } in
-    let told : RunsTo files.fails settings (map files.holds settings.file_words) ending before after failed failed_after
+    let contents : RunsTo files.fails settings (map files.holds settings.file_words) ending before after failed
+    failed_after
     =
     subst (λ contents. RunsTo files.fails settings contents ending before after failed failed_after) same over in
-    subst (λ answer. Ends files answer ending before after) is (inr (failed, failed_after, told))
+    subst (λ answer. Ends files answer ending before after) is (inr (failed, failed_after, contents))
 
 -- it may end for want of memory whatever its words ask for
 pub ends_without_memory : (files : Files) (asked : Result Settings UseFault) (before : Taken) →

@@ -1,7 +1,8 @@
 -- The files that words name: what is known of them, and what opening and reading them shows.
 use Rattle.std.specs.Prelude.{◌≡◌, ◌<◌, ℕ, List, [], ◌∷◌, Option, Some, None, length, ⊤}
 use Rattle.std.specs.Prelude.{slice_get, slice_index_or, slice_set}
-use Rattle.tokens.specs.Feed.{FailureCount, Device, failed_again}
+use Rattle.tokens.specs.Feed.{failed_again}
+use Rattle.tokens.specs.Device.{FailureCount, Device}
 use Rattle.series.specs.Failures.{no_device}
 
 -- What each file holds, if that is known; that it was opened, that it was refused, and that a read of it failed.

@@ -1,6 +1,6 @@
 -- The known spans, worked out.
 use Rattle.std.proofs.Common.{refl}
-use Rattle.grammar.specs.Profile.{first_profile, second_profile}
+use Rattle.grammar.specs.ProfileNumbers.{first_profile, second_profile}
 use Rattle.cycles.specs.KnownSpans.{KnownQuestions, KnownRuns, KnownTurns}
 
 pub runs : KnownRuns

@@ -6,7 +6,8 @@ use Rattle.grammar.specs.declared.resolved_names.Var.TheVariants as var
 use Rattle.arith.specs.declared.operators.Op.TheVariants as op
 use Rattle.grammar.specs.declared.operators.StoreOp.TheVariants as store_op
 use Rattle.grammar.specs.KnownSources.{call_of, constant, file_of_main, local, main_of, shot_tree}
-use Rattle.grammar.specs.Profile.{Profile, first_profile, second_profile}
+use Rattle.grammar.specs.Profile.{Profile}
+use Rattle.grammar.specs.ProfileNumbers.{first_profile, second_profile}
 use Rattle.grammar.specs.Tree.{Expr, Assign, Body, Call, Done, ExpressionStatement, File, IfElseStatement, IfStatement, NoMore, Postfix, Return, While}
 use Rattle.code.specs.KnownPrograms.{asking_file, calls_f, either_or_shot, shooting_file, statement_of_call}
 use Rattle.cycles.specs.declared.counted.Counted.{Counted}

@@ -130,7 +130,7 @@ pub enum Item {
     Part(Symbol),
     /// A tree is made.
     Make(SemanticAction),
-    /// The end of a production that opened a level.
+    /// The end of a nested production.
     Close,
 }
 

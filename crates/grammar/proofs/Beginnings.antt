@@ -13,7 +13,7 @@ use Rattle.grammar.specs.declared.actions.Action.TheVariants.{BeginFunction, End
 use Rattle.grammar.specs.Actions.{expr_actions, body_actions, function_actions, last_return}
 use Rattle.grammar.specs.Beginning.{IsReportable, AreReportable, IsBeginning}
 use Rattle.grammar.specs.Derivation.{Definition}
-use Rattle.grammar.specs.Faults.{definitions_actions}
+use Rattle.grammar.specs.Beginning.{definitions_actions}
 use Rattle.grammar.specs.Following.{InFunction, Opened, open_count, few_open, follow, follow_all, then_follow, is_number, is_var_numbered, is_callee_numbered, only_on}
 use Rattle.grammar.specs.Nesting.{nesting, body_nesting, right_side}
 use Rattle.grammar.specs.Laws.Origins.{origin_of, ends_in_return}

@@ -10,7 +10,8 @@ use Rattle.tokens.specs.declared.located_tokens.Token.TheVariants as token
 use Rattle.tokens.specs.declared.located_tokens.Keyword.TheVariants as keyword
 use Rattle.arith.specs.declared.operators.Op.{Op}
 use Rattle.grammar.specs.declared.operators.StoreOp.{StoreOp}
-use Rattle.grammar.specs.Derivation.{State, state, PartialTree, Definition, step, stack_step, stepped, derived, next_token, token_after_next, matched, name_matched, replaced, constant_matched}
+use Rattle.grammar.specs.Derivation.{State, PartialTree, Definition, step, stack_step, stepped, derived, next_token, token_after_next, matched, name_matched, replaced, constant_matched}
+use Rattle.grammar.specs.Laws.StateParts.{state}
 use Rattle.grammar.specs.Grammar.{Symbol, Source, Types, Head, More, Parameters, ParameterTypes, FunctionBlock, Block, Declarations, Statements, Statement, ElsePart, Back, Expression, Level, Tail, Unary, Primary, Arguments, MoreArguments, Role, Item, Exactly, AKeyword, AName, AConstant, AnEnd, Part, Make, Close, Production, choice, assignment_or, tail_production, is_lexical_error}
 use Rattle.grammar.specs.Operators.{operator_at, store_of}
 use Rattle.grammar.specs.Scope.{Scope}

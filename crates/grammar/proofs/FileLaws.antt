@@ -6,11 +6,12 @@ use Rattle.std.specs.List.{list_any}
 use Rattle.std.specs.Option.{is_some}
 use Rattle.std.specs.Prelude.{Option, Some, None, Ok, Err, if◌then◌else◌, slice_get, ◌==◌, ◌||◌, map}
 use Rattle.tokens.specs.declared.located_tokens.LocatedToken.{LocatedToken}
-use Rattle.grammar.specs.declared.diagnostics.Code.TheVariants as code
+use Rattle.grammar.specs.declared.diagnostics.Code.TheVariants as fault_code
 use Rattle.grammar.specs.Actions.{numbered_actions, functions_actions}
 use Rattle.grammar.specs.Compiled.{compiled_tokens, diagnostic, last_line, defined_as, in_front, all_defined, file_of, main_name, order_of, resolved}
-use Rattle.grammar.specs.Derivation.{State, Definition, state}
-use Rattle.grammar.specs.Faults.{definitions_actions}
+use Rattle.grammar.specs.Derivation.{State, Definition}
+use Rattle.grammar.specs.Laws.StateParts.{state}
+use Rattle.grammar.specs.Beginning.{definitions_actions}
 use Rattle.grammar.specs.Laws.Naming.{line_of_undefined}
 use Rattle.grammar.specs.Pools.{FunctionNames, pools_of, names_of_function}
 use Rattle.grammar.specs.Profile.{Profile}
@@ -195,7 +196,7 @@ resolved_at located_tokens scope ds functions main all named = rw (all, named) r
 without_main_at : (located_tokens : List LocatedToken) (scope : Scope) (ds : List Definition)
     (functions : List Function) → all_defined 0 scope.lines ds ≡ Ok functions →
     function_number main_name scope ≡ None →
-    resolved located_tokens scope ds ≡ Err (diagnostic (last_line located_tokens) code.NoMainFunction)
+    resolved located_tokens scope ds ≡ Err (diagnostic (last_line located_tokens) fault_code.NoMainFunction)
 without_main_at located_tokens scope ds functions all named = rw (all, named) refl
 
 names_same : (scope : Scope) (ds : List Definition) (functions : List Function) (main : ℕ) →

@@ -7,10 +7,11 @@ use Rattle.tokens.specs.declared.located_tokens.Punctuator.{Punctuator}
 use Rattle.tokens.specs.declared.located_tokens.Punctuator.TheVariants as punctuator
 use Rattle.tokens.specs.declared.located_tokens.Keyword.{Keyword}
 use Rattle.grammar.specs.declared.diagnostics.Code.{Code}
-use Rattle.grammar.specs.declared.diagnostics.Code.TheVariants as code
+use Rattle.grammar.specs.declared.diagnostics.Code.TheVariants as fault_code
 use Rattle.grammar.specs.Compiled.{diagnostic}
-use Rattle.grammar.specs.Derivation.{State, state, PartialTree, Definition, definition_of, last_body, stepped, derived, next_token, token_after_next, line_at, name_of_token}
-use Rattle.grammar.specs.Faults.{Fault, fault, faults_at, is_first, stack_faults, nesting_faults, length_faults, name_faults, role_faults, no_room, unexpected_tokens, unexpected_token_code, nested_count, code_number, is_too_long, only_if}
+use Rattle.grammar.specs.Derivation.{State, PartialTree, Definition, definition_of, last_body, stepped, derived, next_token, token_after_next, line_at, name_of_token}
+use Rattle.grammar.specs.Laws.StateParts.{state}
+use Rattle.grammar.specs.Faults.{Fault, fault, faults_at, is_first, stack_faults, nesting_faults, length_faults, name_faults, role_faults, no_room, unexpected_tokens, unexpected_token_code, nested_count, fault_code_number, is_too_long, only_if}
 use Rattle.grammar.specs.Grammar.{Item, Exactly, AKeyword, AName, AConstant, AnEnd, Part, Make, Close, Symbol, Role, Defined, External, Parameter, Typed, Local, Called, Mentioned, Define, choice, enters, is_punctuator, is_keyword, is_lexical_error}
 use Rattle.grammar.specs.Intrinsics.{is_intrinsic}
 use Rattle.grammar.specs.Laws.Parsing.{IsIn, IsFirstFault, Fails}
@@ -25,7 +26,7 @@ reflexive_at : (n c : ℕ) → (if nat_lt n n then true else (if nat_lt n n then
 reflexive_at n c = grind (arith, nat_tests)
 
 pub reflexive : (f : Fault) → is_first f f ≡ true
-reflexive f = reflexive_at (length f.rest) (code_number f.code)
+reflexive f = reflexive_at (length f.rest) (fault_code_number f.code)
 
 only_one : (f g : Fault) (faults : List Fault) → faults ≡ f ∷ [] → IsIn g faults → f ≡ g
 only_one f g [] e h = absurd h
@@ -128,30 +129,31 @@ no_room_rest g new count c rest h =
 role_rest : (g : Fault) (role : Role) (name : List ℕ) (scope : Scope) (rest : List LocatedToken) →
     IsIn g (role_faults role name scope rest) → g.rest ≡ rest
 role_rest g Defined name scope rest h =
-    guarded_rest g (is_intrinsic name) (fault rest code.IntrinsicRedefined ∷ [])
-    (if has_begun name scope then fault rest code.FunctionDefinedTwice ∷
-    [] else no_room (is_function_new name scope) (length scope.functions) code.TooManyFunctions rest) rest
-    (single_rest g rest code.IntrinsicRedefined)
-    (guarded_rest g (has_begun name scope) (fault rest code.FunctionDefinedTwice ∷ [])
-    (no_room (is_function_new name scope) (length scope.functions) code.TooManyFunctions rest) rest
-    (single_rest g rest code.FunctionDefinedTwice)
-    (no_room_rest g (is_function_new name scope) (length scope.functions) code.TooManyFunctions rest)) h
+    guarded_rest g (is_intrinsic name) (fault rest fault_code.IntrinsicRedefined ∷ [])
+    (if has_begun name scope then fault rest fault_code.FunctionDefinedTwice ∷
+    [] else no_room (is_function_new name scope) (length scope.functions) fault_code.TooManyFunctions rest) rest
+    (single_rest g rest fault_code.IntrinsicRedefined)
+    (guarded_rest g (has_begun name scope) (fault rest fault_code.FunctionDefinedTwice ∷ [])
+    (no_room (is_function_new name scope) (length scope.functions) fault_code.TooManyFunctions rest) rest
+    (single_rest g rest fault_code.FunctionDefinedTwice)
+    (no_room_rest g (is_function_new name scope) (length scope.functions) fault_code.TooManyFunctions rest)) h
 role_rest g External name scope rest h =
-    no_room_rest g (is_external_new name scope) (length scope.externals) code.TooManyVariables rest h
+    no_room_rest g (is_external_new name scope) (length scope.externals) fault_code.TooManyVariables rest h
 role_rest g Parameter name scope rest h =
-    guarded_rest g (is_local_new name scope) (no_room true (length scope.current.variables) code.TooManyVariables rest)
-    (fault rest code.BadParameterDeclaration ∷ []) rest
-    (no_room_rest g true (length scope.current.variables) code.TooManyVariables rest)
-    (single_rest g rest code.BadParameterDeclaration) h
+    guarded_rest g (is_local_new name scope)
+    (no_room true (length scope.current.variables) fault_code.TooManyVariables rest)
+    (fault rest fault_code.BadParameterDeclaration ∷ []) rest
+    (no_room_rest g true (length scope.current.variables) fault_code.TooManyVariables rest)
+    (single_rest g rest fault_code.BadParameterDeclaration) h
 role_rest g Typed name scope rest h =
-    only_if_rest g (is_local_new name scope) (fault rest code.BadParameterDeclaration ∷ []) rest
-    (single_rest g rest code.BadParameterDeclaration) h
+    only_if_rest g (is_local_new name scope) (fault rest fault_code.BadParameterDeclaration ∷ []) rest
+    (single_rest g rest fault_code.BadParameterDeclaration) h
 role_rest g Local name scope rest h =
-    no_room_rest g (is_local_new name scope) (length scope.current.variables) code.TooManyVariables rest h
+    no_room_rest g (is_local_new name scope) (length scope.current.variables) fault_code.TooManyVariables rest h
 role_rest g Called name scope rest h =
-    no_room_rest g (is_function_new name scope) (length scope.functions) code.TooManyFunctions rest h
+    no_room_rest g (is_function_new name scope) (length scope.functions) fault_code.TooManyFunctions rest h
 role_rest g Mentioned name scope rest h =
-    no_room_rest g (is_variable_new name scope) (length scope.current.variables) code.TooManyVariables rest h
+    no_room_rest g (is_variable_new name scope) (length scope.current.variables) fault_code.TooManyVariables rest h
 
 name_rest : (g : Fault) (role : Role) (name : Option (List ℕ)) (scope : Scope) (rest : List LocatedToken) →
     IsIn g (name_faults role name scope rest) → g.rest ≡ rest
@@ -170,12 +172,12 @@ item_rest profile g (AnEnd ∷ stack) rest values scope functions h = absurd h
 item_rest profile g (AConstant ∷ stack) rest values scope functions h = absurd h
 item_rest profile g (Part symbol ∷ stack) rest values scope functions h =
     only_if_rest g (enters symbol (next_token rest) (token_after_next rest))
-    (only_if (nat_le most_nested (nested_count stack)) (fault rest code.NestedTooDeeply ∷ [])) rest
-    (only_if_rest g (nat_le most_nested (nested_count stack)) (fault rest code.NestedTooDeeply ∷ []) rest
-    (single_rest g rest code.NestedTooDeeply)) h
+    (only_if (nat_le most_nested (nested_count stack)) (fault rest fault_code.NestedTooDeeply ∷ [])) rest
+    (only_if_rest g (nat_le most_nested (nested_count stack)) (fault rest fault_code.NestedTooDeeply ∷ []) rest
+    (single_rest g rest fault_code.NestedTooDeeply)) h
 item_rest profile g (Make Define ∷ stack) rest values scope functions h =
     only_if_rest g (is_too_long profile (functions ++ definition_of scope (last_body values) ∷ []))
-    (fault rest code.TooMuchCode ∷ []) rest (single_rest g rest code.TooMuchCode) h
+    (fault rest fault_code.TooMuchCode ∷ []) rest (single_rest g rest fault_code.TooMuchCode) h
 item_rest profile g (Make rule ∷ stack) rest values scope functions h = absurd h
 item_rest profile g (Close ∷ stack) rest values scope functions h = absurd h
 
@@ -202,8 +204,10 @@ later_first profile f g s n before h =
     rw (lt-ltb (length g.rest) (length f.rest) less) refl
 
 -- at the same token, with a code that is not less
-same_token_first : (f g : Fault) → g.rest ≡ f.rest → code_number f.code ≤ code_number g.code → is_first f g ≡ true
-same_token_first f g same most = rw same (tested (length f.rest) (code_number f.code) (code_number g.code) most)
+same_token_first : (f g : Fault) → g.rest ≡ f.rest → fault_code_number f.code ≤ fault_code_number g.code →
+    is_first f g ≡ true
+same_token_first f g same most =
+    rw same (tested (length f.rest) (fault_code_number f.code) (fault_code_number g.code) most)
   where
     tested : (n c d : ℕ) → c ≤ d → (if nat_lt n n then true else (if nat_lt n n then false else nat_le c d)) ≡ true
     tested n c d h = grind (arith, nat_tests)
@@ -259,14 +263,14 @@ pub too_long : (profile : Profile) (stack : List Item) (located_token : LocatedT
     is_lexical_error located_token.token ≡ false → is_punctuator punctuator.CloseCurly located_token.token ≡ true →
     length_faults profile
     (state (Exactly punctuator.CloseCurly ∷ stack) (located_token ∷ rest) values scope functions) ≡
-    fault (located_token ∷ rest) code.TooMuchCode ∷ [] →
+    fault (located_token ∷ rest) fault_code.TooMuchCode ∷ [] →
     Fails profile
     (state (Make Define ∷ Exactly punctuator.CloseCurly ∷ stack) (located_token ∷ rest) values scope functions)
-    (diagnostic located_token.line code.TooMuchCode)
+    (diagnostic located_token.line fault_code.TooMuchCode)
 too_long profile stack located_token rest values scope functions sound fits long = record {
-  fault = fault (located_token ∷ rest) code.TooMuchCode;
+  fault = fault (located_token ∷ rest) fault_code.TooMuchCode;
   first = matched_first profile _ _ (rw (sound, long) refl)
-      (none_in (fault (located_token ∷ rest) code.TooMuchCode) _ (simp (sound, fits)))
+      (none_in (fault (located_token ∷ rest) fault_code.TooMuchCode) _ (simp (sound, fits)))
       (simp (sound, fits) (omega arith));
   line = refl;
   code = refl;
@@ -280,13 +284,13 @@ pub too_deep : (profile : Profile) (symbol : Symbol) (m : Punctuator) (items sta
     choice symbol located_token.token (next_token rest) ≡ Some (Exactly m ∷ items) →
     is_punctuator m located_token.token ≡ true →
     nesting_faults symbol (state stack (located_token ∷ rest) values scope functions) ≡
-    fault (located_token ∷ rest) code.NestedTooDeeply ∷ [] →
+    fault (located_token ∷ rest) fault_code.NestedTooDeeply ∷ [] →
     Fails profile (state (Part symbol ∷ stack) (located_token ∷ rest) values scope functions)
-    (diagnostic located_token.line code.NestedTooDeeply)
+    (diagnostic located_token.line fault_code.NestedTooDeeply)
 too_deep profile symbol m items stack located_token rest values scope functions sound chosen fits deep = record {
-  fault = fault (located_token ∷ rest) code.NestedTooDeeply;
+  fault = fault (located_token ∷ rest) fault_code.NestedTooDeeply;
   first = matched_first profile _ _ (rw (sound, deep, chosen) refl)
-      (none_in (fault (located_token ∷ rest) code.NestedTooDeeply) _ (simp (sound, chosen, fits)))
+      (none_in (fault (located_token ∷ rest) fault_code.NestedTooDeeply) _ (simp (sound, chosen, fits)))
       (simp (sound, chosen, fits) (omega arith));
   line = refl;
   code = refl;
@@ -300,13 +304,13 @@ pub too_deep_word : (profile : Profile) (symbol : Symbol) (w : Keyword) (items s
     choice symbol located_token.token (next_token rest) ≡ Some (AKeyword w ∷ items) →
     is_keyword w located_token.token ≡ true →
     nesting_faults symbol (state stack (located_token ∷ rest) values scope functions) ≡
-    fault (located_token ∷ rest) code.NestedTooDeeply ∷ [] →
+    fault (located_token ∷ rest) fault_code.NestedTooDeeply ∷ [] →
     Fails profile (state (Part symbol ∷ stack) (located_token ∷ rest) values scope functions)
-    (diagnostic located_token.line code.NestedTooDeeply)
+    (diagnostic located_token.line fault_code.NestedTooDeeply)
 too_deep_word profile symbol w items stack located_token rest values scope functions sound chosen fits deep = record {
-  fault = fault (located_token ∷ rest) code.NestedTooDeeply;
+  fault = fault (located_token ∷ rest) fault_code.NestedTooDeeply;
   first = matched_first profile _ _ (rw (sound, deep, chosen) refl)
-      (none_in (fault (located_token ∷ rest) code.NestedTooDeeply) _ (simp (sound, chosen, fits)))
+      (none_in (fault (located_token ∷ rest) fault_code.NestedTooDeeply) _ (simp (sound, chosen, fits)))
       (simp (sound, chosen, fits) (omega arith));
   line = refl;
   code = refl;
@@ -314,65 +318,70 @@ too_deep_word profile symbol w items stack located_token rest values scope funct
 
 -- A fault of a role has a greater code than that of a level.
 
-single_code : (g : Fault) (rest : List LocatedToken) (c : Code) → 9 ≤ code_number c → IsIn g (fault rest c ∷ []) →
-    9 ≤ code_number g.code
-single_code g rest c least (inl p) = subst (λ (f : Fault). 9 ≤ code_number f.code) p least
+single_code : (g : Fault) (rest : List LocatedToken) (c : Code) → 9 ≤ fault_code_number c → IsIn g (fault rest c ∷ []) →
+    9 ≤ fault_code_number g.code
+single_code g rest c least (inl p) = subst (λ (f : Fault). 9 ≤ fault_code_number f.code) p least
 single_code g rest c least (inr h) = absurd h
 
-only_if_code : (g : Fault) (b : Bool) (faults : List Fault) → (IsIn g faults → 9 ≤ code_number g.code) →
-    IsIn g (only_if b faults) → 9 ≤ code_number g.code
+only_if_code : (g : Fault) (b : Bool) (faults : List Fault) → (IsIn g faults → 9 ≤ fault_code_number g.code) →
+    IsIn g (only_if b faults) → 9 ≤ fault_code_number g.code
 only_if_code g true faults each h = each h
 only_if_code g false faults each h = absurd h
 
-guarded_code : (g : Fault) (b : Bool) (xs ys : List Fault) → (IsIn g xs → 9 ≤ code_number g.code) →
-    (IsIn g ys → 9 ≤ code_number g.code) →
-    IsIn g (if b then xs else ys) → 9 ≤ code_number g.code
+guarded_code : (g : Fault) (b : Bool) (xs ys : List Fault) → (IsIn g xs → 9 ≤ fault_code_number g.code) →
+    (IsIn g ys → 9 ≤ fault_code_number g.code) →
+    IsIn g (if b then xs else ys) → 9 ≤ fault_code_number g.code
 guarded_code g true xs ys p q h = p h
 guarded_code g false xs ys p q h = q h
 
-no_room_code : (g : Fault) (new : Bool) (count : ℕ) (c : Code) (rest : List LocatedToken) → 9 ≤ code_number c →
-    IsIn g (no_room new count c rest) → 9 ≤ code_number g.code
+no_room_code : (g : Fault) (new : Bool) (count : ℕ) (c : Code) (rest : List LocatedToken) → 9 ≤ fault_code_number c →
+    IsIn g (no_room new count c rest) → 9 ≤ fault_code_number g.code
 no_room_code g new count c rest least h =
     only_if_code g new (only_if (nat_le most_names count) (fault rest c ∷ []))
     (only_if_code g (nat_le most_names count) (fault rest c ∷ []) (single_code g rest c least)) h
 
 role_code : (g : Fault) (role : Role) (name : List ℕ) (scope : Scope) (rest : List LocatedToken) →
-    IsIn g (role_faults role name scope rest) → 9 ≤ code_number g.code
+    IsIn g (role_faults role name scope rest) → 9 ≤ fault_code_number g.code
 role_code g Defined name scope rest h =
-    guarded_code g (is_intrinsic name) (fault rest code.IntrinsicRedefined ∷ [])
-    (if has_begun name scope then fault rest code.FunctionDefinedTwice ∷
-    [] else no_room (is_function_new name scope) (length scope.functions) code.TooManyFunctions rest)
-    (single_code g rest code.IntrinsicRedefined (omega arith))
-    (guarded_code g (has_begun name scope) (fault rest code.FunctionDefinedTwice ∷ [])
-    (no_room (is_function_new name scope) (length scope.functions) code.TooManyFunctions rest)
-    (single_code g rest code.FunctionDefinedTwice (omega arith))
-    (no_room_code g (is_function_new name scope) (length scope.functions) code.TooManyFunctions rest (omega arith)))
+    guarded_code g (is_intrinsic name) (fault rest fault_code.IntrinsicRedefined ∷ [])
+    (if has_begun name scope then fault rest fault_code.FunctionDefinedTwice ∷
+    [] else no_room (is_function_new name scope) (length scope.functions) fault_code.TooManyFunctions rest)
+    (single_code g rest fault_code.IntrinsicRedefined (omega arith))
+    (guarded_code g (has_begun name scope) (fault rest fault_code.FunctionDefinedTwice ∷ [])
+    (no_room (is_function_new name scope) (length scope.functions) fault_code.TooManyFunctions rest)
+    (single_code g rest fault_code.FunctionDefinedTwice (omega arith))
+    (no_room_code g (is_function_new name scope) (length scope.functions) fault_code.TooManyFunctions rest
+    (omega arith)))
     h
 role_code g External name scope rest h =
-    no_room_code g (is_external_new name scope) (length scope.externals) code.TooManyVariables rest (omega arith) h
+    no_room_code g (is_external_new name scope) (length scope.externals) fault_code.TooManyVariables rest (omega arith)
+    h
 role_code g Parameter name scope rest h =
-    guarded_code g (is_local_new name scope) (no_room true (length scope.current.variables) code.TooManyVariables rest)
-    (fault rest code.BadParameterDeclaration ∷ [])
-    (no_room_code g true (length scope.current.variables) code.TooManyVariables rest (omega arith))
-    (single_code g rest code.BadParameterDeclaration (omega arith)) h
+    guarded_code g (is_local_new name scope)
+    (no_room true (length scope.current.variables) fault_code.TooManyVariables rest)
+    (fault rest fault_code.BadParameterDeclaration ∷ [])
+    (no_room_code g true (length scope.current.variables) fault_code.TooManyVariables rest (omega arith))
+    (single_code g rest fault_code.BadParameterDeclaration (omega arith)) h
 role_code g Typed name scope rest h =
-    only_if_code g (is_local_new name scope) (fault rest code.BadParameterDeclaration ∷ [])
-    (single_code g rest code.BadParameterDeclaration (omega arith)) h
+    only_if_code g (is_local_new name scope) (fault rest fault_code.BadParameterDeclaration ∷ [])
+    (single_code g rest fault_code.BadParameterDeclaration (omega arith)) h
 role_code g Local name scope rest h =
-    no_room_code g (is_local_new name scope) (length scope.current.variables) code.TooManyVariables rest (omega arith) h
+    no_room_code g (is_local_new name scope) (length scope.current.variables) fault_code.TooManyVariables rest
+    (omega arith) h
 role_code g Called name scope rest h =
-    no_room_code g (is_function_new name scope) (length scope.functions) code.TooManyFunctions rest (omega arith) h
+    no_room_code g (is_function_new name scope) (length scope.functions) fault_code.TooManyFunctions rest (omega arith)
+    h
 role_code g Mentioned name scope rest h =
-    no_room_code g (is_variable_new name scope) (length scope.current.variables) code.TooManyVariables rest
+    no_room_code g (is_variable_new name scope) (length scope.current.variables) fault_code.TooManyVariables rest
     (omega arith) h
 
 deep_before_role : (g : Fault) (role : Role) (name : List ℕ) (scope : Scope) (rest : List LocatedToken)
     (faults : List Fault) → faults ≡ role_faults role name scope rest →
-    IsIn g faults → is_first (fault rest code.NestedTooDeeply) g ≡ true
+    IsIn g faults → is_first (fault rest fault_code.NestedTooDeeply) g ≡ true
 deep_before_role g role name scope rest faults same h =
     let here : IsIn g (role_faults role name scope rest) = subst (λ (fs : List Fault). IsIn g fs) same h in
-    let large : 9 ≤ code_number g.code = role_code g role name scope rest here in
-    same_token_first (fault rest code.NestedTooDeeply) g (role_rest g role name scope rest here) (omega arith)
+    let large : 9 ≤ fault_code_number g.code = role_code g role name scope rest here in
+    same_token_first (fault rest fault_code.NestedTooDeeply) g (role_rest g role name scope rest here) (omega arith)
 
 -- A level beyond the last one, opened by a name: the name may have a fault of its role, which comes after.
 pub too_deep_name : (profile : Profile) (symbol : Symbol) (role : Role) (name : List ℕ) (items stack : List Item)
@@ -382,12 +391,12 @@ pub too_deep_name : (profile : Profile) (symbol : Symbol) (role : Role) (name : 
     choice symbol located_token.token (next_token rest) ≡ Some (AName role ∷ items) →
     name_of_token located_token.token ≡ Some name →
     nesting_faults symbol (state stack (located_token ∷ rest) values scope functions) ≡
-    fault (located_token ∷ rest) code.NestedTooDeeply ∷ [] →
+    fault (located_token ∷ rest) fault_code.NestedTooDeeply ∷ [] →
     Fails profile (state (Part symbol ∷ stack) (located_token ∷ rest) values scope functions)
-    (diagnostic located_token.line code.NestedTooDeeply)
+    (diagnostic located_token.line fault_code.NestedTooDeeply)
 too_deep_name profile symbol role name items stack located_token rest values scope functions sound chosen fits deep =
     record {
-      fault = fault (located_token ∷ rest) code.NestedTooDeeply;
+      fault = fault (located_token ∷ rest) fault_code.NestedTooDeeply;
       first = matched_first profile _ _ (rw (sound, deep, chosen) refl)
           (λ g h. deep_before_role g role name scope (located_token ∷ rest) _ (simp (sound, chosen, fits, append-nil))
           h)

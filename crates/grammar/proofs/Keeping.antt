@@ -9,7 +9,8 @@ use Rattle.tokens.specs.declared.located_tokens.Token.TheVariants as token
 use Rattle.tokens.specs.declared.located_tokens.Keyword.TheVariants as keyword
 use Rattle.arith.specs.declared.operators.Op.{Op}
 use Rattle.grammar.specs.declared.operators.StoreOp.{StoreOp}
-use Rattle.grammar.specs.Derivation.{State, state, PartialTree, Definition, step, item_step, stack_step, stepped, derived, next_token, token_after_next, line_at, matched, name_matched, constant_matched, replaced, name_of_token, constant_value, is_end, functions_defined, scope_after_action}
+use Rattle.grammar.specs.Derivation.{State, PartialTree, Definition, step, item_step, stack_step, stepped, derived, next_token, token_after_next, line_at, matched, name_matched, constant_matched, replaced, name_of_token, constant_value, is_end, functions_defined, scope_after_action}
+use Rattle.grammar.specs.Laws.StateParts.{state}
 use Rattle.grammar.specs.Grammar.{Symbol, Source, Types, Head, More, Parameters, ParameterTypes, FunctionBlock, Block, Declarations, Statements, Statement, ElsePart, Back, Expression, Level, Tail, Unary, Primary, Arguments, MoreArguments, Role, Defined, External, Parameter, Typed, Local, Called, Mentioned, Item, Exactly, AKeyword, AName, AConstant, AnEnd, Part, Make, Close, SemanticAction, Define, Production, choice, assignment_or, tail_production, is_lexical_error, is_punctuator, is_keyword}
 use Rattle.grammar.specs.Laws.{KeepsFunction, BlocksKeepTheFunction}
 use Rattle.grammar.specs.Operators.{operator_at, store_of}

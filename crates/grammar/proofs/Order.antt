@@ -3,8 +3,8 @@ use Rattle.std.proofs.Common.{◌≡◌, ℕ, ◌<◌, ◌≤◌, ◌⊎◌, Lis
 use Rattle.std.proofs.lemmas.Bool.Decides.{nat_tests}
 use Rattle.std.specs.Prelude.{nat_lt, nat_le, if◌then◌else◌, Some, slice_get}
 use Rattle.grammar.specs.declared.diagnostics.Code.{Code}
-use Rattle.grammar.specs.declared.diagnostics.Code.TheVariants as code
-use Rattle.grammar.specs.Faults.{Fault, is_first, first_fault, code_number}
+use Rattle.grammar.specs.declared.diagnostics.Code.TheVariants as fault_code
+use Rattle.grammar.specs.Faults.{Fault, is_first, first_fault, fault_code_number}
 use Rattle.grammar.specs.Laws.Parsing.{IsIn}
 use Rattle.grammar.proofs.Firsts.{reflexive}
 
@@ -29,13 +29,13 @@ before_trans a c b d x e (inr p) (inl q) = inl (omega (arith, p.0))
 before_trans a c b d x e (inr p) (inr q) = inr (omega (arith, p.0, q.0), omega (arith, p.1, q.1))
 
 pub trans : (f g h : Fault) → is_first f g ≡ true → is_first g h ≡ true → is_first f h ≡ true
-trans f g h p q = tested (length f.rest) (code_number f.code) (length h.rest) (code_number h.code)
-    (before_trans _ _ (length g.rest) (code_number g.code) _ _
-    (meaning (length f.rest) (code_number f.code) (length g.rest) (code_number g.code) p)
-    (meaning (length g.rest) (code_number g.code) (length h.rest) (code_number h.code) q))
+trans f g h p q = tested (length f.rest) (fault_code_number f.code) (length h.rest) (fault_code_number h.code)
+    (before_trans _ _ (length g.rest) (fault_code_number g.code) _ _
+    (meaning (length f.rest) (fault_code_number f.code) (length g.rest) (fault_code_number g.code) p)
+    (meaning (length g.rest) (fault_code_number g.code) (length h.rest) (fault_code_number h.code) q))
 
 pub total : (f g : Fault) → is_first f g ≡ false → is_first g f ≡ true
-total f g h = total_at (length f.rest) (code_number f.code) (length g.rest) (code_number g.code) h
+total f g h = total_at (length f.rest) (fault_code_number f.code) (length g.rest) (fault_code_number g.code) h
 
 same_both : (a c b d : ℕ) → (b < a) ⊎ ((a ≡ b) × (c ≤ d)) → (a < b) ⊎ ((b ≡ a) × (d ≤ c)) → (a ≡ b) × (c ≡ d)
 same_both a c b d (inl p) (inl q) = absurd (omega arith)
@@ -45,44 +45,47 @@ same_both a c b d (inr p) (inr q) = (p.0, omega (arith, p.1, q.1))
 
 all_codes : List Code
 all_codes =
-    code.BadCharacter ∷ code.BadCharacter ∷ code.CommentNotClosed ∷ code.NameTooLong ∷ code.ConstantTooLarge ∷
-    code.SourceTooLong ∷ code.SyntaxError ∷ code.ReservedWord ∷ code.NestedTooDeeply ∷ code.TooManyVariables ∷
-    code.TooManyFunctions ∷ code.FunctionDefinedTwice ∷ code.IntrinsicRedefined ∷ code.BadParameterDeclaration ∷
-    code.TooMuchCode ∷ code.FunctionNotDefined ∷ code.NoMainFunction ∷ []
+    fault_code.BadCharacter ∷ fault_code.BadCharacter ∷ fault_code.CommentNotClosed ∷ fault_code.NameTooLong ∷
+    fault_code.ConstantTooLarge ∷
+    fault_code.SourceTooLong ∷ fault_code.SyntaxError ∷ fault_code.ReservedWord ∷ fault_code.NestedTooDeeply ∷
+    fault_code.TooManyVariables ∷
+    fault_code.TooManyFunctions ∷ fault_code.FunctionDefinedTwice ∷ fault_code.IntrinsicRedefined ∷
+    fault_code.BadParameterDeclaration ∷
+    fault_code.TooMuchCode ∷ fault_code.FunctionNotDefined ∷ fault_code.NoMainFunction ∷ []
 
-found : (c : Code) → slice_get all_codes (code_number c) ≡ Some c
+found : (c : Code) → slice_get all_codes (fault_code_number c) ≡ Some c
 unfolding all_codes
-found code.BadCharacter = refl
-found code.CommentNotClosed = refl
-found code.NameTooLong = refl
-found code.ConstantTooLarge = refl
-found code.SourceTooLong = refl
-found code.SyntaxError = refl
-found code.ReservedWord = refl
-found code.NestedTooDeeply = refl
-found code.TooManyVariables = refl
-found code.TooManyFunctions = refl
-found code.FunctionDefinedTwice = refl
-found code.IntrinsicRedefined = refl
-found code.BadParameterDeclaration = refl
-found code.TooMuchCode = refl
-found code.FunctionNotDefined = refl
-found code.NoMainFunction = refl
+found fault_code.BadCharacter = refl
+found fault_code.CommentNotClosed = refl
+found fault_code.NameTooLong = refl
+found fault_code.ConstantTooLarge = refl
+found fault_code.SourceTooLong = refl
+found fault_code.SyntaxError = refl
+found fault_code.ReservedWord = refl
+found fault_code.NestedTooDeeply = refl
+found fault_code.TooManyVariables = refl
+found fault_code.TooManyFunctions = refl
+found fault_code.FunctionDefinedTwice = refl
+found fault_code.IntrinsicRedefined = refl
+found fault_code.BadParameterDeclaration = refl
+found fault_code.TooMuchCode = refl
+found fault_code.FunctionNotDefined = refl
+found fault_code.NoMainFunction = refl
 
 some_same : (c d : Code) → Some c ≡ Some d → c ≡ d
 some_same c d e = cc
 
-pub same_code : (c d : Code) → code_number c ≡ code_number d → c ≡ d
+pub same_code : (c d : Code) → fault_code_number c ≡ fault_code_number d → c ≡ d
 same_code c d e = some_same c d (sym (found c) ∙ ap (λ n. slice_get all_codes n) e ∙ found d)
 
 -- two faults that each come first are at one token, with one code
 pub same_place : (f g : Fault) → is_first f g ≡ true → is_first g f ≡ true →
     (length f.rest ≡ length g.rest) × (f.code ≡ g.code)
 same_place f g p q =
-    let both : (length f.rest ≡ length g.rest) × (code_number f.code ≡ code_number g.code) =
-    same_both (length f.rest) (code_number f.code) (length g.rest) (code_number g.code)
-    (meaning (length f.rest) (code_number f.code) (length g.rest) (code_number g.code) p)
-    (meaning (length g.rest) (code_number g.code) (length f.rest) (code_number f.code) q) in
+    let both : (length f.rest ≡ length g.rest) × (fault_code_number f.code ≡ fault_code_number g.code) =
+    same_both (length f.rest) (fault_code_number f.code) (length g.rest) (fault_code_number g.code)
+    (meaning (length f.rest) (fault_code_number f.code) (length g.rest) (fault_code_number g.code) p)
+    (meaning (length g.rest) (fault_code_number g.code) (length f.rest) (fault_code_number f.code) q) in
     (both.0, same_code f.code g.code both.1)
 
 -- the first of a list is one of it

@@ -6,7 +6,8 @@ use Rattle.std.specs.Prelude.{Option, Some, None, Result, Ok, Err, if◌then◌e
 use Rattle.tokens.specs.declared.located_tokens.LocatedToken.{LocatedToken}
 use Rattle.grammar.specs.declared.diagnostics.Diagnostic.{Diagnostic}
 use Rattle.grammar.specs.Compiled.{order_of, defined_as, in_front, all_defined, file_of, resolved, verdict, main_name, all_faults, last_state, enough_steps, last_line}
-use Rattle.grammar.specs.Derivation.{State, state, initial_state, PartialTree, Definition, definition_of, last_body, trees_after, name_tree, next_token, token_after_next, line_at, name_of_token, constant_value, matched, name_matched, constant_matched, replaced, stack_step, step, stepped, derived}
+use Rattle.grammar.specs.Derivation.{State, initial_state, PartialTree, Definition, definition_of, last_body, trees_after, name_tree, next_token, token_after_next, line_at, name_of_token, constant_value, matched, name_matched, constant_matched, replaced, stack_step, step, stepped, derived}
+use Rattle.grammar.specs.Laws.StateParts.{state}
 use Rattle.grammar.specs.Faults.{Fault, faults_at, faults_in, stack_faults, name_faults, role_faults, unexpected_token, unexpected_tokens}
 use Rattle.grammar.specs.Grammar.{Item, Exactly, AKeyword, AName, AConstant, AnEnd, Part, Make, Close, Symbol, SemanticAction, Operate, Negate, Not, Complement, Fetch, Store, PrefixIncrement, PostfixIncrement, AddArgument, Invoke, Empty, Evaluate, Decide, DecideElse, Repeat, Zero, GiveBack, Define, Role, Defined, External, Parameter, Typed, Local, Called, Mentioned, Production, choice, is_lexical_error}
 use Rattle.grammar.specs.Laws.{CompiledIsResolved}

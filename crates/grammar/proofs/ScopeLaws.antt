@@ -12,7 +12,7 @@ use Rattle.std.specs.Str.{bytes_eq}
 use Rattle.std.specs.Prelude.{nat_le, nat_lt, slice_index_or, ◌==◌}
 use Rattle.tokens.specs.declared.located_tokens.LocatedToken.{LocatedToken}
 use Rattle.grammar.specs.declared.diagnostics.Code.{Code}
-use Rattle.grammar.specs.declared.diagnostics.Code.TheVariants as code
+use Rattle.grammar.specs.declared.diagnostics.Code.TheVariants as fault_code
 use Rattle.grammar.specs.Faults.{fault, no_room, parameter_faults}
 use Rattle.grammar.specs.Grammar.{Called}
 use Rattle.grammar.specs.Intrinsics.{intrinsic_named}
@@ -49,9 +49,9 @@ below_most n h = grind (arith, nat_tests)
 
 pub parameter_full : (name : List ℕ) (scope : Scope) (rest : List LocatedToken) → is_local_new name scope ≡ true →
     nat_le 64 (length scope.current.variables) ≡ true →
-    parameter_faults name scope rest ≡ fault rest code.TooManyVariables ∷ []
+    parameter_faults name scope rest ≡ fault rest fault_code.TooManyVariables ∷ []
 parameter_full name scope rest new large =
-    rw new (full true (length scope.current.variables) code.TooManyVariables rest refl large)
+    rw new (full true (length scope.current.variables) fault_code.TooManyVariables rest refl large)
 
 -- a name that none of the functions has
 pub not_there : (name : List ℕ) (fs : List FunctionNames) →
@@ -117,10 +117,10 @@ function_new name scope own unknown = rw (own, unknown) refl
 -- one function too many is called
 pub called_full : (name : List ℕ) (scope : Scope) (rest : List LocatedToken) → intrinsic_named name ≡ None →
     function_number name scope ≡ None → nat_le 64 (length scope.functions) ≡ true →
-    no_room (is_function_new name scope) (length scope.functions) code.TooManyFunctions rest ≡
-    fault rest code.TooManyFunctions ∷ []
+    no_room (is_function_new name scope) (length scope.functions) fault_code.TooManyFunctions rest ≡
+    fault rest fault_code.TooManyFunctions ∷ []
 called_full name scope rest own unknown large =
-    full (is_function_new name scope) (length scope.functions) code.TooManyFunctions rest
+    full (is_function_new name scope) (length scope.functions) fault_code.TooManyFunctions rest
     (function_new name scope own unknown) large
 
 -- a function is called for the first time
@@ -128,7 +128,7 @@ pub called_new : (name : List ℕ) (line : ℕ) (scope new : Scope) → intrinsi
     function_number name scope ≡ None → nat_le 64 (length scope.functions) ≡ false →
     new ≡ with_new_function name line scope → LearnsName Called name line scope new
 called_new name line scope new own unknown small e = rw e (record {
-  clean = λ rest. room (is_function_new name scope) (length scope.functions) code.TooManyFunctions rest small;
+  clean = λ rest. room (is_function_new name scope) (length scope.functions) fault_code.TooManyFunctions rest small;
   behind = rw (function_new name scope own unknown) refl;
 })
 

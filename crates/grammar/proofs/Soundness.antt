@@ -7,7 +7,7 @@ use Rattle.std.specs.List.{position_or_len, list_any}
 use Rattle.std.specs.Str.{bytes_eq}
 use Rattle.tokens.specs.declared.located_tokens.LocatedToken.{LocatedToken}
 use Rattle.grammar.specs.declared.diagnostics.Code.{Code}
-use Rattle.grammar.specs.declared.diagnostics.Code.TheVariants as code
+use Rattle.grammar.specs.declared.diagnostics.Code.TheVariants as fault_code
 use Rattle.grammar.specs.declared.resolved_names.Callee.{Callee}
 use Rattle.grammar.specs.declared.resolved_names.Intrinsic.{Intrinsic}
 use Rattle.grammar.specs.Derivation.{PartialTree, AnExpr, AVariable, ACall, ABody, Definition, last_body, trees_after}
@@ -383,33 +383,33 @@ role_grows Defined name line scope ds rest other k clean = absurd other
 role_grows External name line scope ds rest other k clean =
     grows_if (is_external_new name scope) scope (with_external name scope) scope ds
     (λ is. external_grows name scope ds k
-    (room_if (is_external_new name scope) (length scope.externals) code.TooManyVariables rest clean is) is)
+    (room_if (is_external_new name scope) (length scope.externals) fault_code.TooManyVariables rest clean is) is)
     (same_grows scope ds k)
 role_grows Parameter name line scope ds rest other k clean =
     grows_if (is_local_new name scope) scope (with_parameter name scope) scope ds
     (λ is. parameter_grows name scope ds k
-    (room (length scope.current.variables) code.TooManyVariables rest (fits (is_local_new name scope) is clean))
+    (room (length scope.current.variables) fault_code.TooManyVariables rest (fits (is_local_new name scope) is clean))
     (local_free name scope is)) (same_grows scope ds k)
   where
     fits : (b : Bool) → b ≡ true →
-        (if b then no_room true (length scope.current.variables) code.TooManyVariables rest else fault rest
-        code.BadParameterDeclaration ∷ []) ≡ [] →
-        no_room true (length scope.current.variables) code.TooManyVariables rest ≡ []
+        (if b then no_room true (length scope.current.variables) fault_code.TooManyVariables rest else fault rest
+        fault_code.BadParameterDeclaration ∷ []) ≡ [] →
+        no_room true (length scope.current.variables) fault_code.TooManyVariables rest ≡ []
     fits true is h = h
     fits false is h = absurd (cc)
 role_grows Typed name line scope ds rest other k clean = same_grows scope ds k
 role_grows Local name line scope ds rest other k clean =
     grows_if (is_local_new name scope) scope (with_variable name scope) scope ds
     (λ is. variable_grows name scope ds k
-    (room_if (is_local_new name scope) (length scope.current.variables) code.TooManyVariables rest clean is)
+    (room_if (is_local_new name scope) (length scope.current.variables) fault_code.TooManyVariables rest clean is)
     (local_free name scope is)) (same_grows scope ds k)
 role_grows Called name line scope ds rest other k clean =
     function_grows name line scope ds k
-    (room_if (is_function_new name scope) (length scope.functions) code.TooManyFunctions rest clean)
+    (room_if (is_function_new name scope) (length scope.functions) fault_code.TooManyFunctions rest clean)
 role_grows Mentioned name line scope ds rest other k clean =
     grows_if (is_variable_new name scope) scope (with_variable name scope) scope ds
     (λ is. variable_grows name scope ds k
-    (room_if (is_variable_new name scope) (length scope.current.variables) code.TooManyVariables rest clean is)
+    (room_if (is_variable_new name scope) (length scope.current.variables) fault_code.TooManyVariables rest clean is)
     (variable_free name scope is)) (same_grows scope ds k)
 
 -- what a definition that begins makes known
@@ -448,10 +448,10 @@ definition_begins name line scope ds rest k clean = at_tests (is_intrinsic name)
         subst (λ (x : ℕ). x < length (with_function name line scope).functions) (sym e) within
 
     at_tests : (own begun : Bool) → is_intrinsic name ≡ own → has_begun name scope ≡ begun →
-        (if own then fault rest code.IntrinsicRedefined ∷
+        (if own then fault rest fault_code.IntrinsicRedefined ∷
         [] else
-        (if begun then fault rest code.FunctionDefinedTwice ∷
-        [] else no_room (is_function_new name scope) (length scope.functions) code.TooManyFunctions rest)) ≡
+        (if begun then fault rest fault_code.FunctionDefinedTwice ∷
+        [] else no_room (is_function_new name scope) (length scope.functions) fault_code.TooManyFunctions rest)) ≡
         [] →
         BeginsWell name line scope ds
     at_tests true begun is was h = absurd (cc)
@@ -459,7 +459,7 @@ definition_begins name line scope ds rest k clean = at_tests (is_intrinsic name)
     at_tests false false is was h =
         let g : Grows scope (with_function name line scope) ds =
         function_grows name line scope ds k
-        (room_if (is_function_new name scope) (length scope.functions) code.TooManyFunctions rest h) in
+        (room_if (is_function_new name scope) (length scope.functions) fault_code.TooManyFunctions rest h) in
         let at : begun_with name scope ≡ scope.begun ++ number_or_next name scope ∷ [] = rw is refl in
         let within : number_or_next name scope < length (with_function name line scope).functions =
         number_in name line scope is in

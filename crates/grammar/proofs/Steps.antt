@@ -4,7 +4,8 @@ use Rattle.std.specs.Prelude.{Some}
 use Rattle.tokens.specs.declared.located_tokens.LocatedToken.{LocatedToken}
 use Rattle.tokens.specs.declared.located_tokens.Punctuator.{Punctuator}
 use Rattle.tokens.specs.declared.located_tokens.Keyword.{Keyword}
-use Rattle.grammar.specs.Derivation.{State, state, PartialTree, AnExpr, Definition, stepped, next_token, token_after_next, line_at, trees_after, functions_defined, scope_after_action, name_tree, name_of_token, constant_value, is_end}
+use Rattle.grammar.specs.Derivation.{State, PartialTree, AnExpr, Definition, stepped, next_token, token_after_next, line_at, trees_after, functions_defined, scope_after_action, name_tree, name_of_token, constant_value, is_end}
+use Rattle.grammar.specs.Laws.StateParts.{state}
 use Rattle.grammar.specs.Faults.{faults_at, item_faults, nesting_faults, role_faults}
 use Rattle.grammar.specs.Grammar.{Item, Exactly, AKeyword, AName, AConstant, AnEnd, Part, Make, Close, Symbol, Role, SemanticAction, choice, is_punctuator, is_keyword, is_lexical_error}
 use Rattle.grammar.specs.Laws.Parsing.{DerivesWithoutFault}

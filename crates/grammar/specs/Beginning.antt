@@ -2,10 +2,16 @@
 use Rattle.std.specs.Prelude.{◌≡◌, ◌<◌, ◌≤◌, List, [], ◌∷◌, ◌++◌, length}
 use Rattle.grammar.specs.declared.actions.Action.{Action}
 use Rattle.grammar.specs.Derivation.{Definition}
-use Rattle.grammar.specs.Faults.{definitions_actions}
-use Rattle.grammar.specs.NameLimits.{most_names, most_open}
+use Rattle.grammar.specs.NameLimits.{most_names}
+use Rattle.grammar.specs.Nesting.{most_open}
 use Rattle.grammar.specs.Nesting.{body_nesting}
 use Rattle.grammar.specs.Resolved.{InBody}
+use Rattle.grammar.specs.Actions.{function_actions}
+
+-- the actions of functions that were defined
+abbrev pub definitions_actions : List Definition → List Action
+definitions_actions [] = []
+definitions_actions (d ∷ ds) = function_actions d.number d.function ++ definitions_actions ds
 
 -- a function whose numbers are within the limits, its own among them, and in which at most as many calls, ifs, whiles
 -- and right sides of && and || are open at once as may be

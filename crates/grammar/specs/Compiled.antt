@@ -4,7 +4,7 @@ use Rattle.std.specs.Prelude.{if◌then◌else◌, ◌==◌}
 use Rattle.tokens.specs.Tokens.{tokens}
 use Rattle.tokens.specs.declared.located_tokens.LocatedToken.{LocatedToken}
 use Rattle.grammar.specs.declared.diagnostics.Code.{Code}
-use Rattle.grammar.specs.declared.diagnostics.Code.TheVariants as code
+use Rattle.grammar.specs.declared.diagnostics.Code.TheVariants as fault_code
 use Rattle.grammar.specs.declared.diagnostics.Diagnostic.{Diagnostic}
 use Rattle.grammar.specs.Derivation.{State, Definition, initial_state, derived, line_at}
 use Rattle.grammar.specs.Faults.{Fault, faults_in, first_fault}
@@ -15,13 +15,11 @@ use Rattle.grammar.specs.Tree.{Function, File}
 abbrev pub diagnostic : ℕ → Code → Diagnostic
 diagnostic line c = record { line = line; code = c }
 
--- the line of the last token
 abbrev pub last_line : List LocatedToken → ℕ
 last_line [] = 1
 last_line (located_token ∷ []) = located_token.line
 last_line (located_token ∷ other ∷ rest) = last_line (other ∷ rest)
 
--- the function of this number
 abbrev pub defined_as : ℕ → List Definition → Option Function
 defined_as number [] = None
 defined_as number (d ∷ ds) = if d.number == number then Some d.function else defined_as number ds
@@ -31,7 +29,7 @@ in_front None line others = Err line
 in_front (Some f) line (Ok functions) = Ok (f ∷ functions)
 in_front (Some f) line (Err other) = Err other
 
--- the functions from this number on, or the line on which the first of them without a definition was first mentioned
+-- the functions from this number on, or the line on which the first that isn't defined was first mentioned
 abbrev pub all_defined : ℕ → List ℕ → List Definition → Result (List Function) ℕ
 all_defined number [] definitions = Ok []
 all_defined number (line ∷ lines) definitions = in_front (defined_as number definitions) line
@@ -43,34 +41,32 @@ main_name = codes "main"
 abbrev pub order_of : List Definition → List ℕ
 order_of definitions = map (λ (d : Definition). d.number) definitions
 
--- a file has each function that it mentions, and a function main
+-- each function that is mentioned must be there, and a function main
 abbrev pub file_of : ℕ → Scope → List ℕ → Result (List Function) ℕ → Option ℕ → Result File Diagnostic
-file_of last scope order (Err line) main = Err (diagnostic line code.FunctionNotDefined)
-file_of last scope order (Ok functions) None = Err (diagnostic last code.NoMainFunction)
+file_of last scope order (Err line) main = Err (diagnostic line fault_code.FunctionNotDefined)
+file_of last scope order (Ok functions) None = Err (diagnostic last fault_code.NoMainFunction)
 file_of last scope order (Ok functions) (Some main) =
     Ok (record { externals = scope.externals; functions = functions; order = order; main = main })
 
-abbrev pub resolved : List LocatedToken → Scope → List Definition → Result File Diagnostic
-resolved located_tokens scope definitions =
-    file_of (last_line located_tokens) scope (order_of definitions) (all_defined 0 scope.lines definitions)
-    (function_number main_name scope)
+module _ (located_tokens : List LocatedToken) where
+  abbrev pub resolved : Scope → List Definition → Result File Diagnostic
+  resolved scope definitions =
+      file_of (last_line located_tokens) scope (order_of definitions) (all_defined 0 scope.lines definitions)
+      (function_number main_name scope)
 
--- the first of the faults, or the file if there is none
-abbrev pub verdict : List LocatedToken → List Fault → Scope → List Definition → Result File Diagnostic
-verdict located_tokens [] scope definitions = resolved located_tokens scope definitions
-verdict located_tokens (f ∷ faults) scope definitions =
-    let first = first_fault f faults in Err (diagnostic (line_at first.rest) first.code)
+  -- the first of the faults, or the file if there is none
+  abbrev pub verdict : List Fault → Scope → List Definition → Result File Diagnostic
+  verdict [] scope definitions = resolved scope definitions
+  verdict (f ∷ faults) scope definitions =
+      let first = first_fault f faults in Err (diagnostic (line_at first.rest) first.code)
 
--- This many steps are enough for a derivation of these tokens: at most 40 a token, and 71 for the whole. That the
--- derivation has then ended is the law `EachDerivationEnds` (`Laws.antt`), so the two numbers decide nothing.
-abbrev pub enough_steps : List LocatedToken → ℕ
-enough_steps located_tokens = 40 * length located_tokens + 71
+  -- By then the derivation has ended: the law `EachDerivationEnds` (`Laws.antt`). So the two numbers decide nothing.
+  abbrev pub enough_steps : ℕ
+  enough_steps = 40 * length located_tokens + 71
 
--- the last state of a derivation
-abbrev pub last_state : List LocatedToken → State
-last_state located_tokens = derived (enough_steps located_tokens) (initial_state located_tokens)
+  abbrev pub last_state : State
+  last_state = derived enough_steps (initial_state located_tokens)
 
--- the faults of a derivation
 abbrev pub all_faults : Profile → List LocatedToken → List Fault
 all_faults profile located_tokens = faults_in profile (enough_steps located_tokens) (initial_state located_tokens)
 

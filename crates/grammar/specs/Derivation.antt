@@ -23,7 +23,6 @@ pub data PartialTree : Type 0 where
   ACall : (callee : Callee) (arguments : Args) → PartialTree  -- with its arguments so far
   ABody : (b : Body) → PartialTree
 
--- a function that was defined, with its number
 pub record Definition : Type 0 where
   pub number : ℕ
   pub function : Function
@@ -33,26 +32,21 @@ pub record State : Type 0 where
   pub stack : List Item  -- what is still to match or to do, the next first
   pub rest : List LocatedToken  -- the tokens left
   pub values : List PartialTree  -- the trees made, the last first
-  pub scope : Scope  -- the names known
+  pub scope : Scope  -- the names in scope
   pub functions : List Definition  -- the functions defined, in file order
 
-abbrev pub state : List Item → List LocatedToken → List PartialTree → Scope → List Definition → State
-state stack rest values scope functions = record
-    { stack = stack; rest = rest; values = values; scope = scope; functions = functions }
-
 abbrev pub initial_state : List LocatedToken → State
-initial_state tokens = state (Part Source ∷ []) tokens [] no_names []
+initial_state tokens = record
+    { stack = Part Source ∷ []; rest = tokens; values = []; scope = no_names; functions = [] }
 
 -- the next token: after the last one, the end
 abbrev pub next_token : List LocatedToken → Token
 next_token [] = token.End
 next_token (located_token ∷ rest) = located_token.token
 
--- the token after the next
 abbrev pub token_after_next : List LocatedToken → Token
 token_after_next rest = next_token (drop 1 rest)
 
--- the line of the next token
 abbrev pub line_at : List LocatedToken → ℕ
 line_at [] = 1
 line_at (located_token ∷ rest) = located_token.line
@@ -65,11 +59,11 @@ function_of names body = record {
   body = body;
 }
 
--- the function that is being defined, with its body
+-- the function that is being defined
 abbrev pub definition_of : Scope → Body → Definition
 definition_of scope body = record { number = scope.number; function = function_of scope.current body }
 
--- what a semantic action makes of the trees; after a function there are none
+-- the trees after a semantic action; after a function there are none
 abbrev pub trees_after : SemanticAction → List PartialTree → List PartialTree
 trees_after (Operate o) (AnExpr b ∷ AnExpr a ∷ values) = AnExpr (tree.Binary o a b) ∷ values
 trees_after Negate (AnExpr e ∷ values) = AnExpr (tree.Binary op.Subtract (tree.Constant (pos 0)) e) ∷ values
@@ -92,22 +86,20 @@ trees_after GiveBack (AnExpr e ∷ ABody b ∷ values) = ABody (join b (tree.Ret
 trees_after Define values = []
 trees_after rule values = values
 
--- the body made last
 abbrev pub last_body : List PartialTree → Body
 last_body (ABody b ∷ values) = b
 last_body values = tree.Done
 
--- what it adds to the functions
+-- the functions that it defines
 abbrev pub functions_defined : SemanticAction → List PartialTree → Scope → List Definition
 functions_defined Define values scope = definition_of scope (last_body values) ∷ []
 functions_defined rule values scope = []
 
--- what is known of the names after it
+-- the names in scope after it
 abbrev pub scope_after_action : SemanticAction → Scope → Scope
 scope_after_action Define scope = end_definition scope
 scope_after_action rule scope = scope
 
--- the tree of a name that was matched
 abbrev pub name_tree : Role → List ℕ → Scope → List PartialTree
 name_tree Called name scope = ACall (callee_of name scope) tree.NoMore ∷ []
 name_tree Mentioned name scope = AVariable (variable_of name scope) ∷ []
@@ -125,18 +117,14 @@ abbrev pub constant_value : Token → Option ℕ
 constant_value (token.Constant value) = Some value
 constant_value next = None
 
--- the state after the next token
 abbrev pub past_token : State → State
 past_token s = record s { rest = drop 1 s.rest }
 
--- with these items in front of those of the stack, and with these trees on those made
-abbrev pub with_items : List Item → State → State
-with_items items s = record s { stack = items ++ s.stack }
-
+-- with these trees on those made
 abbrev pub with_trees : List PartialTree → State → State
 with_trees trees s = record s { values = trees ++ s.values }
 
--- if the next token is the one wanted, the state after it
+-- if the next token is the one wanted
 abbrev pub matched : Bool → State → Option State
 matched fits s = if fits then Some (past_token s) else None
 
@@ -153,9 +141,8 @@ abbrev pub constant_matched : Option ℕ → State → Option State
 constant_matched value s = option_map (λ n. with_trees (AnExpr (tree.Constant (pos n)) ∷ []) (past_token s)) value
 
 abbrev pub replaced : Production → State → Option State
-replaced production s = option_map (λ items. with_items items s) production
+replaced production s = option_map (λ items. record s { stack = items ++ s.stack }) production
 
--- what a semantic action makes of a state
 abbrev pub acted : SemanticAction → State → State
 acted action s = record s {
   values = trees_after action s.values;
@@ -174,7 +161,7 @@ item_step (Part symbol) s = replaced (choice symbol (next_token s.rest) (token_a
 item_step (Make action) s = Some (acted action s)
 item_step Close s = Some s
 
--- one step with these items in front: none if there is none, and the derivation is done
+-- with these items: if there is none, the derivation is done
 abbrev pub stack_step : List Item → State → Option State
 stack_step [] s = None
 stack_step (item ∷ stack) s = item_step item (record s { stack = stack })
@@ -183,11 +170,10 @@ stack_step (item ∷ stack) s = item_step item (record s { stack = stack })
 abbrev pub step : State → Option State
 step s = if is_lexical_error (next_token s.rest) then None else stack_step s.stack s
 
--- the state after a step; if there is none, the derivation stays
+-- if there is no step, the derivation stays
 abbrev pub stepped : State → State
 stepped s = unwrap_or (step s) s
 
--- the state after n steps
 abbrev pub derived : ℕ → State → State
 derived zero s = s
 derived (suc n) s = derived n (stepped s)

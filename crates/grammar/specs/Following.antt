@@ -13,7 +13,8 @@ use Rattle.grammar.specs.declared.actions.Action.TheVariants.{PushConstant, Fetc
 use Rattle.grammar.specs.declared.actions.Action.TheVariants.{LogicMiddle, BeginCall, EndCall, IfTest, ElsePart, EndIf}
 use Rattle.grammar.specs.declared.actions.Action.TheVariants.{BeginWhile, WhileTest, EndWhile, GiveBack, Chop}
 use Rattle.grammar.specs.declared.actions.Action.TheVariants.{BeginFunction, EndFunction}
-use Rattle.grammar.specs.NameLimits.{most_names, most_open}
+use Rattle.grammar.specs.NameLimits.{most_names}
+use Rattle.grammar.specs.Nesting.{most_open}
 use Rattle.arith.specs.Op.{is_logic}
 
 -- how a value came about, as far as it matters for what follows

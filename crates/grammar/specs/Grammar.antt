@@ -1,6 +1,6 @@
 -- The grammar as a table: what each symbol is replaced by, chosen by the next token and the one after it.
 -- `Productions` of the crate `grammar_laws` is the same table as a plain grammar, without semantic actions and roles.
-use Rattle.std.specs.Prelude.{ℕ, ◌+◌, List, [], ◌∷◌, Bool, true, false, Option, Some, None, nat_lt, is_some}
+use Rattle.std.specs.Prelude.{ℕ, ◌+◌, List, [], ◌∷◌, ◌++◌, Bool, true, false, Option, Some, None, nat_lt, is_some}
 use Rattle.std.specs.Prelude.{if◌then◌else◌}
 use denote.Enum.Bare.{sameb}
 use Rattle.tokens.specs.contracts.located_tokens.Punctuator as punctuators
@@ -16,12 +16,11 @@ use Rattle.grammar.specs.declared.operators.StoreOp.{StoreOp}
 use Rattle.grammar.specs.declared.operators.StoreOp.TheVariants as store_op
 use Rattle.grammar.specs.Operators.{operator_at, store_of}
 
--- what a name is there for
 pub data Role : Type 0 where
   Defined : Role  -- a function's definition begins
   External : Role  -- an external is declared
   Parameter : Role  -- a parameter, in the list
-  Typed : Role  -- a parameter is declared, after the list
+  Typed : Role  -- a parameter's type is declared, after the list
   Local : Role  -- a local is declared
   Called : Role  -- a function is called
   Mentioned : Role  -- a variable is mentioned
@@ -29,12 +28,12 @@ pub data Role : Type 0 where
 pub data Symbol : Type 0 where
   Source : Symbol
   Types : Symbol  -- further type words
-  Head : Symbol  -- what follows the type words at a file's level
+  Head : Symbol  -- what follows them outside of functions
   More : (role : Role) → Symbol  -- further names of a list, in this role
   Parameters : Symbol
-  ParameterTypes : Symbol  -- declarations of parameters
-  FunctionBlock : Symbol  -- the block of a function
-  Block : Symbol  -- a block within a function
+  ParameterTypes : Symbol
+  FunctionBlock : Symbol
+  Block : Symbol  -- within a function
   Declarations : Symbol
   Statements : Symbol
   Statement : Symbol
@@ -43,31 +42,31 @@ pub data Symbol : Type 0 where
   Expression : Symbol
   Level : (n : ℕ) → Symbol  -- operators of level n and of tighter ones: levels 1 to 11
   Tail : (n : ℕ) → Symbol  -- further operators of level n
-  Unary : Symbol  -- the unary operators: level 11
+  Unary : Symbol  -- level 11
   Primary : Symbol
   Arguments : Symbol
   MoreArguments : Symbol
 
--- what is made of the trees just derived
+-- what is made of the trees just derived (`trees_after` of Derivation)
 pub data SemanticAction : Type 0 where
-  Operate : (op : Op) → SemanticAction  -- of the last two expressions: the operator's
-  Negate : SemanticAction  -- of an expression: -e
+  Operate : (op : Op) → SemanticAction
+  Negate : SemanticAction  -- -e
   Not : SemanticAction  -- !e
   Complement : SemanticAction  -- ~e
-  Fetch : SemanticAction  -- of a variable: its value
-  Store : (op : StoreOp) → SemanticAction  -- of a variable and an expression: the assignment
-  PrefixIncrement : (op : StoreOp) → SemanticAction  -- of a variable: ++v or --v
+  Fetch : SemanticAction  -- a variable's value
+  Store : (op : StoreOp) → SemanticAction
+  PrefixIncrement : (op : StoreOp) → SemanticAction  -- ++v or --v
   PostfixIncrement : (op : StoreOp) → SemanticAction  -- v++ or v--
-  AddArgument : SemanticAction  -- of a call and an expression: the call with this argument after the others
-  Invoke : SemanticAction  -- of a call: the expression
+  AddArgument : SemanticAction
+  Invoke : SemanticAction  -- the call with its arguments
   Empty : SemanticAction  -- a body without statements
-  Evaluate : SemanticAction  -- of a body and an expression: the body with the expression as its last statement
-  Decide : SemanticAction  -- of a body, a condition and a body: the first with an `if` as its last statement
-  DecideElse : SemanticAction  -- and one body more: with an `if` and its `else`
-  Repeat : SemanticAction  -- of a body, a condition and a body: with a `while`
+  Evaluate : SemanticAction  -- an expression as a statement
+  Decide : SemanticAction  -- `if`
+  DecideElse : SemanticAction  -- `if` with its `else`
+  Repeat : SemanticAction  -- `while`
   Zero : SemanticAction  -- the value of `return;`
-  GiveBack : SemanticAction  -- of a body and an expression: with a `return`
-  Define : SemanticAction  -- of a body: the function
+  GiveBack : SemanticAction  -- `return`
+  Define : SemanticAction  -- the function, with its body
 
 -- what a derivation still has to match or to do
 pub data Item : Type 0 where
@@ -78,23 +77,17 @@ pub data Item : Type 0 where
   AnEnd : Item  -- the end comes next
   Part : (symbol : Symbol) → Item  -- what the symbol is replaced by
   Make : (rule : SemanticAction) → Item
-  Close : Item  -- the end of a production that opened a level
+  Close : Item  -- the end of a nested production
 
 abbrev pub Production : Type 0
 Production = Option (List Item)
 
-abbrev pub same_punctuator : Punctuator → Punctuator → Bool
-same_punctuator m n = sameb punctuators.the_type m n
-
 abbrev pub is_punctuator : Punctuator → Token → Bool
-is_punctuator m (token.Punctuator n) = same_punctuator m n
+is_punctuator m (token.Punctuator n) = sameb punctuators.the_type m n
 is_punctuator m _ = false
 
-abbrev pub same_keyword : Keyword → Keyword → Bool
-same_keyword w v = sameb keywords.the_type w v
-
 abbrev pub is_keyword : Keyword → Token → Bool
-is_keyword w (token.Keyword v) = same_keyword w v
+is_keyword w (token.Keyword v) = sameb keywords.the_type w v
 is_keyword w _ = false
 
 abbrev pub is_lexical_error : Token → Bool
@@ -106,25 +99,30 @@ abbrev pub assignment_or : Option StoreOp → Punctuator → List Item
 assignment_or None m = Part (Level 1) ∷ []
 assignment_or (Some op) m = AName Mentioned ∷ Exactly m ∷ Part Expression ∷ Make (Store op) ∷ Close ∷ []
 
--- further operators of a level
 abbrev pub tail_production : ℕ → Option Op → Punctuator → List Item
 tail_production n None m = []
 tail_production n (Some op) m = Exactly m ∷ Part (Level (n + 1)) ∷ Make (Operate op) ∷ Part (Tail n) ∷ []
+
+-- a function's definition, from its name on
+abbrev pub definition_items : List Item
+definition_items = AName Defined ∷ Exactly punctuator.OpenRound ∷ Part Parameters ∷ Exactly punctuator.CloseRound
+    ∷ Part ParameterTypes ∷ Part FunctionBlock ∷ []
+
+-- a declaration, and further ones
+abbrev pub declaration_items : Role → Symbol → List Item
+declaration_items role further = AKeyword keyword.Type ∷ Part Types ∷ AName role ∷ Part (More role)
+    ∷ Exactly punctuator.Semicolon ∷ Part further ∷ []
 
 -- the production of a symbol if the next token is no lexical error
 abbrev pub choice : Symbol → Token → Token → Production
 choice Source token.End after = Some (AnEnd ∷ [])
 choice Source (token.Keyword keyword.Type) after =
     Some (AKeyword keyword.Type ∷ Part Types ∷ Part Head ∷ Part Source ∷ [])
-choice Source (token.Name name) after =
-    Some (AName Defined ∷ Exactly punctuator.OpenRound ∷ Part Parameters ∷ Exactly punctuator.CloseRound
-    ∷ Part ParameterTypes ∷ Part FunctionBlock ∷ Part Source ∷ [])
+choice Source (token.Name name) after = Some (definition_items ++ Part Source ∷ [])
 choice Source next after = None
 choice Types (token.Keyword keyword.Type) after = Some (AKeyword keyword.Type ∷ Part Types ∷ [])
 choice Types next after = Some []
-choice Head (token.Name name) (token.Punctuator punctuator.OpenRound) =
-    Some (AName Defined ∷ Exactly punctuator.OpenRound ∷ Part Parameters ∷ Exactly punctuator.CloseRound
-    ∷ Part ParameterTypes ∷ Part FunctionBlock ∷ [])
+choice Head (token.Name name) (token.Punctuator punctuator.OpenRound) = Some definition_items
 choice Head (token.Name name) after = Some (AName External ∷ Part (More External) ∷ Exactly punctuator.Semicolon ∷ [])
 choice Head next after = None
 choice (More role) (token.Punctuator punctuator.Comma) after =
@@ -132,9 +130,7 @@ choice (More role) (token.Punctuator punctuator.Comma) after =
 choice (More role) next after = Some []
 choice Parameters (token.Name name) after = Some (AName Parameter ∷ Part (More Parameter) ∷ [])
 choice Parameters next after = Some []
-choice ParameterTypes (token.Keyword keyword.Type) after =
-    Some (AKeyword keyword.Type ∷ Part Types ∷ AName Typed ∷ Part (More Typed) ∷ Exactly punctuator.Semicolon
-    ∷ Part ParameterTypes ∷ [])
+choice ParameterTypes (token.Keyword keyword.Type) after = Some (declaration_items Typed ParameterTypes)
 choice ParameterTypes next after = Some []
 choice FunctionBlock (token.Punctuator punctuator.OpenCurly) after =
     Some (Exactly punctuator.OpenCurly ∷ Make Empty ∷ Part Declarations ∷ Part Statements ∷ Make Define
@@ -144,9 +140,7 @@ choice Block (token.Punctuator punctuator.OpenCurly) after =
     Some (Exactly punctuator.OpenCurly ∷ Part Declarations ∷ Part Statements ∷ Exactly punctuator.CloseCurly ∷ Close
     ∷ [])
 choice Block next after = None
-choice Declarations (token.Keyword keyword.Type) after =
-    Some (AKeyword keyword.Type ∷ Part Types ∷ AName Local ∷ Part (More Local) ∷ Exactly punctuator.Semicolon
-    ∷ Part Declarations ∷ [])
+choice Declarations (token.Keyword keyword.Type) after = Some (declaration_items Local Declarations)
 choice Declarations next after = Some []
 choice Statements (token.Punctuator punctuator.CloseCurly) after = Some []
 choice Statements next after = Some (Part Statement ∷ Part Statements ∷ [])
@@ -202,8 +196,7 @@ choice MoreArguments (token.Punctuator punctuator.Comma) after =
     Some (Exactly punctuator.Comma ∷ Part Expression ∷ Make AddArgument ∷ Part MoreArguments ∷ [])
 choice MoreArguments next after = Some []
 
--- Whether the production chosen enters a level: a block, an `if`, a `while`, an assignment, a unary `-`, `!` or `~`,
--- an expression in brackets, a call.
+-- whether the production chosen is nested in others: it ends in `Close`
 abbrev pub enters : Symbol → Token → Token → Bool
 enters FunctionBlock (token.Punctuator punctuator.OpenCurly) after = true
 enters Block (token.Punctuator punctuator.OpenCurly) after = true

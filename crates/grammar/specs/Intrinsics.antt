@@ -36,11 +36,9 @@ intrinsic_name Cos = codes "cos"
 intrinsic_name Tan = codes "tan"
 intrinsic_name Atan = codes "atan"
 
--- each intrinsic function
 abbrev pub all_intrinsics : List Intrinsic
 all_intrinsics = Scan ∷ Cannon ∷ Drive ∷ Damage ∷ Speed ∷ LocX ∷ LocY ∷ Rand ∷ Sqrt ∷ Sin ∷ Cos ∷ Tan ∷ Atan ∷ []
 
--- the intrinsic function of this name, if there is one
 unfoldable pub intrinsic_named : List ℕ → Option Intrinsic
 intrinsic_named name = find (λ i. bytes_eq name (intrinsic_name i)) all_intrinsics
 

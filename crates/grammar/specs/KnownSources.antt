@@ -9,7 +9,7 @@ use Rattle.tokens.specs.declared.located_tokens.Token.{Token}
 use Rattle.tokens.specs.declared.located_tokens.Token.TheVariants as token
 use Rattle.tokens.specs.declared.located_tokens.Keyword.TheVariants as keyword
 use Rattle.grammar.specs.declared.diagnostics.Code.{Code}
-use Rattle.grammar.specs.declared.diagnostics.Code.TheVariants as code
+use Rattle.grammar.specs.declared.diagnostics.Code.TheVariants as fault_code
 use Rattle.grammar.specs.declared.diagnostics.Diagnostic.{Diagnostic}
 use Rattle.grammar.specs.declared.resolved_names.Callee.TheVariants as callee
 use Rattle.grammar.specs.declared.resolved_names.Intrinsic.TheVariants as intrinsic
@@ -25,7 +25,8 @@ use Rattle.grammar.specs.Compiled.{compiled_tokens, diagnostic}
 use Rattle.grammar.specs.Beginning.{IsBeginning}
 use Rattle.grammar.specs.Following.{Opened, follow_all, InFunction, AValue, Computed}
 use Rattle.grammar.specs.Need.{need_tokens, built_tokens}
-use Rattle.grammar.specs.Profile.{Profile, first_profile}
+use Rattle.grammar.specs.Profile.{Profile}
+use Rattle.grammar.specs.ProfileNumbers.{first_profile}
 use Rattle.grammar.specs.Tree.{Expr, Constant, Variable, Binary, Assign, Postfix, Call, NoMore, Argument, Body, Done}
 use Rattle.grammar.specs.Tree.{ExpressionStatement, IfStatement, IfElseStatement, While, Return, Function, File}
 
@@ -298,22 +299,22 @@ pub record KnownTrees : Type 0 where
 -- Tokens that don't fit.
 pub record KnownMisfits : Type 0 where
   pub sum_assigned : HasFault (in_main (a ∷ token.Punctuator punctuator.Plus ∷ b ∷ equals ∷ c ∷ end ∷ [])) 8
-      code.SyntaxError
+      fault_code.SyntaxError
   pub brackets_stepped : HasFault (in_main (ro ∷ a ∷ rc ∷ token.Punctuator punctuator.PlusPlus ∷ end ∷ [])) 8
-      code.SyntaxError
+      fault_code.SyntaxError
   pub sign_stepped : HasFault (in_main (token.Punctuator punctuator.MinusMinus ∷ token.Punctuator punctuator.Minus ∷ a
-      ∷ end ∷ [])) 6 code.SyntaxError
-  pub constant_then_name : HasFault (in_main (number 12 ∷ token.Name (codes "ab") ∷ end ∷ [])) 6 code.SyntaxError
-  pub late_declaration : HasFault (in_main (end ∷ int ∷ x ∷ end ∷ [])) 6 code.SyntaxError
-  pub unclosed : HasFault (on_lines (main ∷ ro ∷ rc ∷ co ∷ [])) 5 code.SyntaxError
-  pub refused_word : HasFault (in_main (token.Keyword keyword.Refused ∷ end ∷ [])) 5 code.ReservedWord
-  pub misplaced_word : HasFault (in_main (token.Keyword keyword.Else ∷ end ∷ [])) 5 code.SyntaxError
-  pub bad_character : HasFault (broken_off (main ∷ ro ∷ []) lexical_error.BadCharacter) 3 code.BadCharacter
+      ∷ end ∷ [])) 6 fault_code.SyntaxError
+  pub constant_then_name : HasFault (in_main (number 12 ∷ token.Name (codes "ab") ∷ end ∷ [])) 6 fault_code.SyntaxError
+  pub late_declaration : HasFault (in_main (end ∷ int ∷ x ∷ end ∷ [])) 6 fault_code.SyntaxError
+  pub unclosed : HasFault (on_lines (main ∷ ro ∷ rc ∷ co ∷ [])) 5 fault_code.SyntaxError
+  pub refused_word : HasFault (in_main (token.Keyword keyword.Refused ∷ end ∷ [])) 5 fault_code.ReservedWord
+  pub misplaced_word : HasFault (in_main (token.Keyword keyword.Else ∷ end ∷ [])) 5 fault_code.SyntaxError
+  pub bad_character : HasFault (broken_off (main ∷ ro ∷ []) lexical_error.BadCharacter) 3 fault_code.BadCharacter
   pub comment_not_closed : HasFault (broken_off (function main []) lexical_error.CommentNotClosed) 6
-      code.CommentNotClosed
-  pub fault_behind_a_name : HasFault (broken_off (int ∷ f ∷ []) lexical_error.NameTooLong) 3 code.NameTooLong
+      fault_code.CommentNotClosed
+  pub fault_behind_a_name : HasFault (broken_off (int ∷ f ∷ []) lexical_error.NameTooLong) 3 fault_code.NameTooLong
   pub misfit_before_a_fault : HasFault (broken_off (int ∷ int ∷ end ∷ []) lexical_error.ConstantTooLarge) 3
-      code.SyntaxError
+      fault_code.SyntaxError
 
 -- n brackets round a constant
 abbrev pub bracketed : ℕ → List Token
@@ -349,40 +350,43 @@ HasLength source instructions = length_of (compiled_tokens first_profile source)
 abbrev pub limited : ℕ → Profile
 limited n = record first_profile { instructions = n }
 
--- Faults of levels, names and length, at the least size that has them.
+-- Faults of nesting, names and length, at the least size that has them.
 pub record KnownLimits : Type 0 where
   pub deepest : compiled_tokens first_profile (in_main (bracketed 63))
       ≡ Ok (file_of_main [] (ExpressionStatement (constant 1) Done))
-  pub too_deep : HasFault (in_main (bracketed 64)) 68 code.NestedTooDeeply
+  pub too_deep : HasFault (in_main (bracketed 64)) 68 fault_code.NestedTooDeeply
   pub most_variables : HasLength (in_main (statements_of_names 64)) 131
-  pub variables : HasFault (in_main (statements_of_names 65)) 133 code.TooManyVariables
+  pub variables : HasFault (in_main (statements_of_names 65)) 133 fault_code.TooManyVariables
   pub most_externals : HasLength (on_lines (declared_names 64 ++ function main [])) 3
-  pub externals : HasFault (on_lines (declared_names 65)) 194 code.TooManyVariables
-  pub most_functions : HasFault (in_main (calls_of_names 63)) 5 code.FunctionNotDefined
-  pub functions : HasFault (in_main (calls_of_names 64)) 257 code.TooManyFunctions
+  pub externals : HasFault (on_lines (declared_names 65)) 194 fault_code.TooManyVariables
+  pub most_functions : HasFault (in_main (calls_of_names 63)) 5 fault_code.FunctionNotDefined
+  pub functions : HasFault (in_main (calls_of_names 64)) 257 fault_code.TooManyFunctions
   pub long : HasLength (in_main (ones 998)) 1999
-  pub too_long_by_one : HasFault (in_main (ones 999)) 2003 code.TooMuchCode
+  pub too_long_by_one : HasFault (in_main (ones 999)) 2003 fault_code.TooMuchCode
   pub longest : compiled_tokens (limited 3) (in_main []) ≡ Ok (file_of_main [] Done)
-  pub too_long : compiled_tokens (limited 2) (in_main []) ≡ Err (diagnostic 5 code.TooMuchCode)
+  pub too_long : compiled_tokens (limited 2) (in_main []) ≡ Err (diagnostic 5 fault_code.TooMuchCode)
   pub too_long_before_misfit : compiled_tokens (limited 2) (on_lines (function main [] ++ cc ∷ []))
-      ≡ Err (diagnostic 5 code.TooMuchCode)
-  pub misfit_before_too_long : compiled_tokens (limited 2) (in_main (comma ∷ [])) ≡ Err (diagnostic 5 code.SyntaxError)
+      ≡ Err (diagnostic 5 fault_code.TooMuchCode)
+  pub misfit_before_too_long : compiled_tokens (limited 2) (in_main (comma ∷ [])) ≡
+      Err (diagnostic 5 fault_code.SyntaxError)
 
 -- Faults of names, each at its name.
 pub record KnownNameFaults : Type 0 where
-  pub defined_twice : HasFault (on_lines (function f [] ++ function f [])) 6 code.FunctionDefinedTwice
-  pub mentioned_as_twice : HasFault (on_lines (function f [] ++ f ∷ end ∷ [])) 6 code.FunctionDefinedTwice
-  pub intrinsic_defined : HasFault (on_lines (function scan [])) 1 code.IntrinsicRedefined
-  pub intrinsic_alone : HasFault (on_lines (scan ∷ end ∷ [])) 1 code.IntrinsicRedefined
-  pub parameter_twice : HasFault (on_lines (f ∷ ro ∷ a ∷ comma ∷ a ∷ rc ∷ [])) 5 code.BadParameterDeclaration
-  pub no_parameter : HasFault (on_lines (f ∷ ro ∷ a ∷ rc ∷ int ∷ b ∷ end ∷ co ∷ cc ∷ [])) 6 code.BadParameterDeclaration
-  pub not_defined : HasFault (in_main (f ∷ ro ∷ rc ∷ end ∷ [])) 5 code.FunctionNotDefined
-  pub earliest_not_defined : HasFault (in_main (g ∷ ro ∷ f ∷ ro ∷ rc ∷ rc ∷ end ∷ [])) 5 code.FunctionNotDefined
-  pub main_not_defined : HasFault (on_lines (function f (main ∷ ro ∷ rc ∷ end ∷ []))) 5 code.FunctionNotDefined
-  pub not_defined_before_no_main : HasFault (on_lines (function f (g ∷ ro ∷ rc ∷ end ∷ []))) 5 code.FunctionNotDefined
-  pub no_main : HasFault (on_lines (function f [])) 6 code.NoMainFunction
-  pub external_main : HasFault (on_lines (int ∷ main ∷ end ∷ [])) 4 code.NoMainFunction
-  pub empty_source : HasFault (on_lines []) 1 code.NoMainFunction
+  pub defined_twice : HasFault (on_lines (function f [] ++ function f [])) 6 fault_code.FunctionDefinedTwice
+  pub mentioned_as_twice : HasFault (on_lines (function f [] ++ f ∷ end ∷ [])) 6 fault_code.FunctionDefinedTwice
+  pub intrinsic_defined : HasFault (on_lines (function scan [])) 1 fault_code.IntrinsicRedefined
+  pub intrinsic_alone : HasFault (on_lines (scan ∷ end ∷ [])) 1 fault_code.IntrinsicRedefined
+  pub parameter_twice : HasFault (on_lines (f ∷ ro ∷ a ∷ comma ∷ a ∷ rc ∷ [])) 5 fault_code.BadParameterDeclaration
+  pub no_parameter : HasFault (on_lines (f ∷ ro ∷ a ∷ rc ∷ int ∷ b ∷ end ∷ co ∷ cc ∷ [])) 6
+      fault_code.BadParameterDeclaration
+  pub not_defined : HasFault (in_main (f ∷ ro ∷ rc ∷ end ∷ [])) 5 fault_code.FunctionNotDefined
+  pub earliest_not_defined : HasFault (in_main (g ∷ ro ∷ f ∷ ro ∷ rc ∷ rc ∷ end ∷ [])) 5 fault_code.FunctionNotDefined
+  pub main_not_defined : HasFault (on_lines (function f (main ∷ ro ∷ rc ∷ end ∷ []))) 5 fault_code.FunctionNotDefined
+  pub not_defined_before_no_main : HasFault (on_lines (function f (g ∷ ro ∷ rc ∷ end ∷ []))) 5
+      fault_code.FunctionNotDefined
+  pub no_main : HasFault (on_lines (function f [])) 6 fault_code.NoMainFunction
+  pub external_main : HasFault (on_lines (int ∷ main ∷ end ∷ [])) 4 fault_code.NoMainFunction
+  pub empty_source : HasFault (on_lines []) 1 fault_code.NoMainFunction
 
 -- How far a source need be read, and what a builder has by then: here a token ends at the byte of its line.
 pub record KnownNeeds : Type 0 where

@@ -6,6 +6,10 @@ pub mod Index
 pub mod Parsing
 pub mod Origins
 pub mod Finished
+pub mod OperatorTokens
+pub mod ProfileParts
+pub mod ScopeParts
+pub mod StateParts
 use Rattle.std.specs.Prelude.{◌≡◌, ◌≤◌, ℕ, List, [], ◌∷◌, ◌++◌, length, Some, None, Ok, Err}
 use Rattle.std.specs.Prelude.{slice_get}
 use Rattle.tokens.specs.Cursors.{reach_of}
@@ -13,15 +17,17 @@ use Rattle.tokens.specs.Tokens.{tokens}
 use Rattle.tokens.specs.declared.located_tokens.LocatedToken.{LocatedToken}
 use Rattle.grammar.specs.declared.diagnostics.Diagnostic.{Diagnostic}
 use Rattle.grammar.specs.Compiled.{compiled_tokens, last_state, resolved}
-use Rattle.grammar.specs.Derivation.{State, state, PartialTree, Definition, initial_state, step, derived}
+use Rattle.grammar.specs.Derivation.{State, PartialTree, Definition, initial_state, step, derived}
+use Rattle.grammar.specs.Laws.StateParts.{state}
 use Rattle.grammar.specs.Faults.{Fault, faults_at}
 use Rattle.grammar.specs.declared.actions.Action.{Action}
-use Rattle.grammar.specs.Actions.{actions}
+use Rattle.grammar.specs.Actions.{actions, code_length, function_actions}
+use Rattle.grammar.specs.CodeLengths.{function_length}
 use Rattle.grammar.specs.Building.{Representation, MayFollow, LeavesOpen}
 use Rattle.grammar.specs.Beginning.{IsBeginning}
 use Rattle.grammar.specs.Following.{AreInOrder, Opened, follow, follow_all, open_count}
 use Rattle.grammar.specs.Grammar.{Declarations, Statements, Item, Part, Make, Define}
-use Rattle.grammar.specs.NameLimits.{most_open}
+use Rattle.grammar.specs.Nesting.{most_open}
 use Rattle.grammar.specs.Need.{need}
 use Rattle.grammar.specs.Nesting.{body_nesting}
 use Rattle.grammar.specs.Laws.Parsing.{Fails, IsFault, DerivesWithoutFault}
@@ -52,6 +58,11 @@ EachFileFollows = (file : File) → IsResolved file
     → ((k : ℕ) (f : Function) → slice_get file.functions k ≡ Some f → body_nesting f.body ≤ most_open) →
     follow_all (actions file) [] ≡ Some []
 
+-- the actions of a function make as many instructions as its trees have
+abbrev pub ActionsHaveLengths : Type 0
+ActionsHaveLengths = (p : Profile) (number : ℕ) (f : Function) →
+    code_length p (function_actions number f) ≡ function_length p f
+
 -- actions are a beginning of those of some functions exactly if each may follow those before it
 abbrev pub BeginningsAreInOrder : Type 0
 BeginningsAreInOrder = (acts : List Action) → IsBeginning acts → AreInOrder acts
@@ -70,19 +81,19 @@ MayBeTold stands = (opened next : Opened) (action : Action) → LeavesOpen stand
     → follow action opened ≡ Some next → open_count next ≤ most_open → MayFollow stands action
 
 -- the function that is being defined keeps its number, its name and its parameters, and no other definition begins
-pub record KeepsFunction (known learnt : Scope) : Type 0 where
-  pub number : learnt.number ≡ known.number
-  pub begun : learnt.begun ≡ known.begun
-  pub name : learnt.current.name ≡ known.current.name
-  pub parameters : learnt.current.parameters ≡ known.current.parameters
+pub record KeepsFunction (before after : Scope) : Type 0 where
+  pub number : after.number ≡ before.number
+  pub begun : after.begun ≡ before.begun
+  pub name : after.current.name ≡ before.current.name
+  pub parameters : after.current.parameters ≡ before.current.parameters
 
 -- what is in a function's block keeps the function, up to the block's end: there no further function is defined yet
 abbrev pub BlocksKeepTheFunction : Type 0
 BlocksKeepTheFunction = (n : ℕ) (stack : List Item) (rest later : List LocatedToken) (values left : List PartialTree)
-    (known learnt : Scope) (functions : List Definition) →
-    derived n (state (Part Declarations ∷ Part Statements ∷ Make Define ∷ stack) rest values known functions)
-    ≡ state (Make Define ∷ stack) later left learnt functions →
-    KeepsFunction known learnt
+    (before after : Scope) (functions : List Definition) →
+    derived n (state (Part Declarations ∷ Part Statements ∷ Make Define ∷ stack) rest values before functions)
+    ≡ state (Make Define ∷ stack) later left after functions →
+    KeepsFunction before after
 
 -- If no fault is before these last tokens of a source, the source is needed up to the second of them, or the
 -- first if it is the last.

@@ -1,8 +1,10 @@
 pub mod Profile
+pub mod ProfileNumbers
 pub mod Operators
 pub mod Intrinsics
 pub mod Tree
 pub mod Actions
+pub mod CodeLengths
 pub mod Pools
 pub mod Grammar
 pub mod Scope

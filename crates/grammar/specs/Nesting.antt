@@ -5,6 +5,10 @@ use Rattle.arith.specs.Op.{is_logic}
 use Rattle.grammar.specs.Tree.{Expr, Constant, Variable, Binary, Assign, Postfix, Call, Args, NoMore, Argument, Body}
 use Rattle.grammar.specs.Tree.{Done, ExpressionStatement, IfStatement, IfElseStatement, While, Return}
 
+-- the most calls, ifs, whiles and right sides of && and || that are open at once
+abbrev pub most_open : ℕ
+most_open = 200
+
 abbrev pub right_side : Op → ℕ
 right_side op = if is_logic op then 1 else 0
 

@@ -13,7 +13,6 @@ use Rattle.grammar.specs.declared.operators.StoreOp.TheVariants as store_op
 abbrev pub at_level : ℕ → Op → Option BinaryOperator
 at_level n o = Some (record { level = n; op = o })
 
--- the binary operator that a punctuator spells
 abbrev pub binary_of : Punctuator → Option BinaryOperator
 binary_of punctuator.OrOr = at_level 1 op.Or
 binary_of punctuator.AndAnd = at_level 2 op.And
@@ -35,7 +34,6 @@ binary_of punctuator.Slash = at_level 10 op.Divide
 binary_of punctuator.Percent = at_level 10 op.Remainder
 binary_of _ = None
 
--- the punctuator that spells a binary operator
 abbrev pub binary_punctuator : Op → Punctuator
 binary_punctuator op.Or = punctuator.OrOr
 binary_punctuator op.And = punctuator.AndAnd
@@ -65,12 +63,7 @@ abbrev pub operator_at : ℕ → Token → Option Op
 operator_at n (token.Punctuator m) = if_at n (binary_of m)
 operator_at n _ = None
 
--- the operator that a token spells, with its level
-abbrev pub operator_of : Token → Option BinaryOperator
-operator_of (token.Punctuator m) = binary_of m
-operator_of _ = None
-
--- the operator of an assignment that a punctuator spells
+-- the same of assignments
 abbrev pub store_of : Punctuator → Option StoreOp
 store_of punctuator.Equals = Some store_op.Set
 store_of punctuator.PlusEquals = Some store_op.Add
@@ -85,7 +78,6 @@ store_of punctuator.XorEquals = Some store_op.BitXor
 store_of punctuator.OrEquals = Some store_op.BitOr
 store_of _ = None
 
--- the punctuator that spells an assignment's operator
 abbrev pub store_punctuator : StoreOp → Punctuator
 store_punctuator store_op.Set = punctuator.Equals
 store_punctuator store_op.Add = punctuator.PlusEquals
@@ -112,8 +104,3 @@ op_of store_op.ShiftRight = Some op.ShiftRight
 op_of store_op.BitAnd = Some op.BitAnd
 op_of store_op.BitXor = Some op.BitXor
 op_of store_op.BitOr = Some op.BitOr
-
--- the operator of an assignment that a token spells
-abbrev pub store_operator : Token → Option StoreOp
-store_operator (token.Punctuator m) = store_of m
-store_operator _ = None

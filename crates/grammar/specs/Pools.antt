@@ -2,7 +2,7 @@
 use Rattle.std.specs.Prelude.{ℕ, List, map}
 use Rattle.grammar.specs.Tree.{Function, File}
 
--- a function's name, how many parameters it has, and its variables: the parameters come first
+-- of its variables the parameters come first
 pub record FunctionNames : Type 0 where
   pub name : List ℕ
   pub parameters : ℕ

@@ -5,7 +5,7 @@ use Rattle.grammar.specs.declared.operators.StoreOp.{StoreOp}
 use Rattle.grammar.specs.declared.resolved_names.Var.{Var}
 use Rattle.grammar.specs.declared.resolved_names.Callee.{Callee}
 
--- an expression, its variables and functions by number
+-- variables and functions are named by their numbers
 mutual
   pub data Expr : Type 0 where
     Constant : (value : ℤ) → Expr
@@ -17,7 +17,6 @@ mutual
     Postfix : (op : StoreOp) (v : Var) → Expr
     Call : (callee : Callee) (arguments : Args) → Expr
 
-  -- the arguments of a call
   pub data Args : Type 0 where
     NoMore : Args
     Argument : (e : Expr) (rest : Args) → Args
@@ -33,12 +32,11 @@ pub data Body : Type 0 where
 
 -- -e is 0 - e, !e is e == 0, ~e is e ^ -1, ++v is v += 1, --v is v -= 1, and return; is return 0;
 
--- the arguments, and one more after them
 abbrev pub add_argument : Args → Expr → Args
 add_argument NoMore e = Argument e NoMore
 add_argument (Argument a rest) e = Argument a (add_argument rest e)
 
--- the statements of one body and then those of another
+-- the statements of one body, then those of another
 abbrev pub join : Body → Body → Body
 join Done b = b
 join (ExpressionStatement e rest) b = ExpressionStatement e (join rest b)
@@ -54,10 +52,9 @@ pub record Function : Type 0 where
   pub variables : List (List ℕ)
   pub body : Body
 
--- a resolved file: the names of its externals, its functions by number, their numbers in the order of the definitions,
--- and main's
+-- a resolved file
 pub record File : Type 0 where
-  pub externals : List (List ℕ)
-  pub functions : List Function
-  pub order : List ℕ
-  pub main : ℕ
+  pub externals : List (List ℕ)  -- their names
+  pub functions : List Function  -- by number
+  pub order : List ℕ  -- the numbers in the order of the definitions
+  pub main : ℕ  -- its number

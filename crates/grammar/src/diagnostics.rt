@@ -24,7 +24,7 @@ pub enum Code {
     SyntaxError,
     /// A word that C reserves and this language refuses.
     ReservedWord,
-    /// The first token of the 65th level that is open at once.
+    /// The first token of the 65th construct that is nested in one another.
     NestedTooDeeply,
     /// The name of the 65th external, or of a function's 65th variable.
     TooManyVariables,

@@ -3,7 +3,7 @@
 ghost use Rattle.std.specs.Prelude.{◌≡◌};
 ghost use Rattle.grammar.specs.Intrinsics.{all_intrinsics};
 ghost use Rattle.grammar.specs.Laws.Finished.{Finished, Undefined, WithoutMain};
-ghost use Rattle.grammar.specs.Laws.{BeginningsAreInOrder, BlocksKeepTheFunction, CompiledIsResolved};
+ghost use Rattle.grammar.specs.Laws.{ActionsHaveLengths, BeginningsAreInOrder, BlocksKeepTheFunction, CompiledIsResolved};
 ghost use Rattle.grammar.specs.Laws.{EachDerivationEnds, EachFileFollows, FaultlessIsResolved, FirstFaultDecides};
 ghost use Rattle.grammar.specs.Laws.{MayBeTold, WhatIsInOrderBegins, WhatWasReadIsNeeded};
 
@@ -39,6 +39,11 @@ pub fn blocks_keep_scope()
 /// Proves that the actions of a file may follow one another.
 pub fn actions()
     ensures { EachFileFollows }
+{}
+
+/// Proves that the actions of a function make as many instructions as the definitions say of its trees.
+pub fn lengths()
+    ensures { ActionsHaveLengths }
 {}
 
 /// Proves that actions are a beginning of those of some functions exactly if each may follow those before it.

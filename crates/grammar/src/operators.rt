@@ -2,7 +2,8 @@
 
 ghost use Rattle.std.specs.Prelude.{◌≡◌, ◌≤◌, length};
 ghost use Rattle.tokens.specs.Punctuators.{spelling};
-ghost use Rattle.grammar.specs.Operators.{binary_of, binary_punctuator, op_of, store_of, store_operator, store_punctuator};
+ghost use Rattle.grammar.specs.Operators.{binary_of, binary_punctuator, op_of, store_of, store_punctuator};
+ghost use Rattle.grammar.specs.Laws.OperatorTokens.{store_operator};
 ghost use Rattle.grammar.specs.Laws.Climbing.{operator_from};
 
 use arith::Op;

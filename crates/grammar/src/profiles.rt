@@ -1,7 +1,8 @@
 //! The language profiles.
 
 ghost use Rattle.std.specs.Prelude.{◌≡◌, ◌≤◌};
-ghost use Rattle.grammar.specs.Profile.{first_profile, second_profile, profile_numbered, IsProfile};
+ghost use Rattle.grammar.specs.ProfileNumbers.{first_profile, second_profile, IsProfile};
+ghost use Rattle.grammar.specs.ProfileNumbers.{profile_numbered};
 
 use std::marker::Model;
 
@@ -18,7 +19,9 @@ pub struct Profile {
 }
 
 impl Model for Profile {
-    ghost use Rattle.grammar.specs.Profile.{Profile, IsProfile, profile_of};
+    ghost use Rattle.grammar.specs.Profile.{Profile};
+    ghost use Rattle.grammar.specs.ProfileNumbers.{IsProfile};
+    ghost use Rattle.grammar.specs.Laws.ProfileParts.{profile_of};
 
     ghost Value = { Profile };
 
@@ -50,7 +53,7 @@ impl Profile {
 
     /// Makes the first profile: `&&` and `||` evaluate both sides. A program has at most 2,000 instructions, 500 words
     /// of stack and 64 frames.
-    #[tactic(auto, unfolding(crate::specs::Profile::first_profile))]
+    #[tactic(auto, unfolding(crate::specs::ProfileNumbers::first_profile))]
     pub fn first() -> Profile
         ensures { result ≡ first_profile }
     {
@@ -64,7 +67,7 @@ impl Profile {
 
     /// Makes the second profile: `&&` and `||` leave out their right side, as in C. A program has at most 4,000
     /// instructions, 1,000 words of stack and 128 frames.
-    #[tactic(auto, unfolding(crate::specs::Profile::second_profile))]
+    #[tactic(auto, unfolding(crate::specs::ProfileNumbers::second_profile))]
     pub fn second() -> Profile
         ensures { result ≡ second_profile }
     {

@@ -1,4 +1,4 @@
-//! The names that are known at a point of a source, and what a name in each role names.
+//! The names that are in scope at a point of a source, and what a name in each role names.
 
 ghost use Rattle.std.specs.Prelude.{◌≡◌, ◌<◌, ◌≤◌, ℕ, List, [], ◌∷◌, ◌++◌, length, Option, Some, None, IfOk, IfErr};
 ghost use Rattle.std.specs.Prelude.{IfSome, OnOk, map, nat_le, is_some, ◌==◌, true, false};
@@ -59,7 +59,7 @@ fn if_named(intrinsic: Intrinsic, name: &Name) -> Option<Intrinsic>
     }
 }
 
-/// What is known of the names of a file at a point of its source.
+/// The names of a file that are in scope at a point of its source.
 #[derive(Drop)]
 pub struct Scope {
     pools: Pools,
@@ -73,7 +73,8 @@ pub struct Scope {
 impl Model for Scope {
     ghost use Rattle.grammar.specs.Laws.Index.{IsIndexed};
     ghost use Rattle.grammar.specs.Laws.Naming.{IsScopeKept};
-    ghost use Rattle.grammar.specs.Scope.{Scope, scope_with};
+    ghost use Rattle.grammar.specs.Scope.{Scope};
+    ghost use Rattle.grammar.specs.Laws.ScopeParts.{scope_with};
 
     ghost Value = { Scope };
 
@@ -94,7 +95,7 @@ impl Scope {
     ghost use Rattle.grammar.specs.Laws.Naming.{with_begun};
     ghost use Rattle.grammar.specs.Scope.{function_number};
 
-    /// Makes the scope before a file's first token, in which nothing is known.
+    /// Makes the scope before a file's first token, in which no name is in scope.
     #[tactic(auto, using(crate::proofs::ScopeLaws::kept_nothing))]
     pub fn new() -> Scope
         ensures { result ≡ no_names }
@@ -109,7 +110,7 @@ impl Scope {
         }
     }
 
-    /// Forgets all names: nothing is known, as before a file's first token.
+    /// Forgets all names, as before a file's first token.
     #[tactic(auto, using(crate::proofs::ScopeLaws::kept_nothing))]
     pub fn clear(&mut self)
         ensures { self.new ≡ no_names }
@@ -189,7 +190,7 @@ impl Scope {
         Ok(())
     }
 
-    /// Resolves a called name. A function of the file that is new is known from here on, by the line of this name.
+    /// Resolves a called name. A function of the file that is new is in scope from here on, by the line of this name.
     #[tactic(auto, using(crate::proofs::ScopeLaws::names))]
     pub fn resolve_call(&mut self, name: &Name, line: u32) -> Result<Callee, Code>
         ensures known { IfOk result (λ callee. (callee ≡ callee_of name.now self.old)

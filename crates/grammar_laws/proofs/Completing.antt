@@ -12,7 +12,7 @@ use Rattle.grammar.specs.Actions.{body_actions, last_return}
 use Rattle.grammar.specs.Beginning.{AreReportable, IsReportable}
 use Rattle.grammar.specs.Derivation.{PartialTree, Definition, last_body, trees_after}
 use Rattle.grammar_laws.specs.Emission.{on_rule}
-use Rattle.grammar.specs.Faults.{definitions_actions}
+use Rattle.grammar.specs.Beginning.{definitions_actions}
 use Rattle.grammar.specs.Grammar.{Symbol, Source, Types, Head, More, Parameters, ParameterTypes, FunctionBlock, Block}
 use Rattle.grammar.specs.Grammar.{Declarations, Statements, Statement, ElsePart, Back, Expression, Level, Tail, Unary}
 use Rattle.grammar.specs.Grammar.{Primary, Arguments, MoreArguments, Role, Defined, External, Parameter, Typed, Local}

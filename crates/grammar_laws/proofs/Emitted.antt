@@ -7,11 +7,13 @@ use Rattle.tokens.specs.declared.located_tokens.LocatedToken.{LocatedToken}
 use Rattle.grammar.specs.declared.actions.Action.{Action}
 use Rattle.grammar.specs.Actions.{function_actions}
 use Rattle.grammar.specs.Beginning.{IsBeginning}
-use Rattle.grammar.specs.Derivation.{State, state, initial_state, PartialTree, Definition, last_body, definition_of, next_token, token_after_next}
+use Rattle.grammar.specs.Derivation.{State, initial_state, PartialTree, Definition, last_body, definition_of, next_token, token_after_next}
+use Rattle.grammar.specs.Laws.StateParts.{state}
 use Rattle.grammar.specs.Derivation.{name_of_token, constant_value, is_end, matched, name_matched, constant_matched}
 use Rattle.grammar.specs.Derivation.{replaced, stack_step, stepped, derived}
 use Rattle.grammar_laws.specs.Emission.{on_item, emitted, emissions}
-use Rattle.grammar.specs.Faults.{definitions_actions, faults_at, faults_in}
+use Rattle.grammar.specs.Faults.{faults_at, faults_in}
+use Rattle.grammar.specs.Beginning.{definitions_actions}
 use Rattle.grammar.specs.Grammar.{Item, Exactly, AKeyword, AName, AConstant, AnEnd, Part, Make, Close, Operate, Negate}
 use Rattle.grammar.specs.Grammar.{Not, Complement, Fetch, Store, PrefixIncrement, PostfixIncrement, AddArgument, Invoke, Empty, Evaluate}
 use Rattle.grammar.specs.Grammar.{Decide, DecideElse, Repeat, Zero, GiveBack, Define, Role, Production, choice}

@@ -9,7 +9,8 @@ use Rattle.grammar.specs.Compiled.{all_defined, all_faults, defined_as, enough_s
 use Rattle.grammar.specs.Compiled.{main_name, order_of}
 use Rattle.grammar.specs.Derivation.{Definition, State, next_token, derived, initial_state, stack_step}
 use Rattle.grammar_laws.specs.Emitted.{EmitsItsFile}
-use Rattle.grammar.specs.Faults.{Fault, definitions_actions, faults_at, faults_in, stack_faults, unexpected_token, unexpected_tokens}
+use Rattle.grammar.specs.Faults.{Fault, faults_at, faults_in, stack_faults, unexpected_token, unexpected_tokens}
+use Rattle.grammar.specs.Beginning.{definitions_actions}
 use Rattle.grammar.specs.Grammar.{Item, is_lexical_error}
 use Rattle.grammar.specs.Profile.{Profile}
 use Rattle.grammar.specs.Scope.{function_number}

@@ -3,7 +3,7 @@ use Rattle.std.proofs.Common.{refl, ◌∷◌}
 use Rattle.grammar.specs.declared.actions.Action.TheVariants.{BeginFunction}
 use Rattle.grammar.specs.Intrinsics.{intrinsic_named, intrinsic_name}
 use Rattle.grammar.specs.NameLimits.{most_nested}
-use Rattle.grammar.specs.Profile.{first_profile}
+use Rattle.grammar.specs.ProfileNumbers.{first_profile}
 use Rattle.grammar.specs.KnownSources.{calls_begun, KnownBeginnings, KnownLimits, KnownMisfits, KnownNameFaults, KnownNeeds, KnownTrees}
 use Rattle.grammar.proofs.Beginnings.{follows_begins}
 

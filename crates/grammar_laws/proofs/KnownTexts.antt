@@ -8,7 +8,7 @@ use Rattle.grammar.specs.Intrinsics.{intrinsic_named, intrinsic_name}
 use Rattle.grammar_laws.specs.KnownTexts.{KnownTexts}
 use Rattle.grammar.specs.NameLimits.{most_nested}
 use Rattle.grammar.specs.Need.{built, need}
-use Rattle.grammar.specs.Profile.{first_profile}
+use Rattle.grammar.specs.ProfileNumbers.{first_profile}
 
 pub texts : KnownTexts
 unfolding compiled need built tokens located_tokens punctuator_of keyword_of most_nested intrinsic_named intrinsic_name

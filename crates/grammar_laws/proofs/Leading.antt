@@ -4,7 +4,8 @@ use Rattle.std.proofs.lemmas.List.{append-nil}
 use Rattle.std.specs.Prelude.{Some}
 use Rattle.tokens.specs.declared.located_tokens.LocatedToken.{LocatedToken}
 use Rattle.tokens.specs.declared.located_tokens.Token.{Token}
-use Rattle.grammar.specs.Derivation.{State, state, PartialTree, Definition, derived, next_token, token_after_next, trees_after, functions_defined, scope_after_action}
+use Rattle.grammar.specs.Derivation.{State, PartialTree, Definition, derived, next_token, token_after_next, trees_after, functions_defined, scope_after_action}
+use Rattle.grammar.specs.Laws.StateParts.{state}
 use Rattle.grammar.specs.Grammar.{Item, Part, Make, Close, Symbol, SemanticAction, choice, is_lexical_error}
 use Rattle.grammar.specs.Scope.{Scope}
 use Rattle.grammar.proofs.Runs.{derived-add}

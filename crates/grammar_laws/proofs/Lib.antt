@@ -15,7 +15,7 @@ pub mod Numbered
 pub mod KnownSources
 pub mod KnownTexts
 pub mod KnownEmissions
-pub mod ClosedLevels
+pub mod ClosedNesting
 pub mod Productions
 pub mod Telling
 pub mod Fitting

@@ -3,7 +3,8 @@ use Rattle.std.proofs.Common.{◌≡◌, List, [], ◌∷◌, ◌++◌, refl, ap
 use Rattle.tokens.specs.declared.located_tokens.Punctuator.TheVariants as punctuator
 use Rattle.tokens.specs.declared.located_tokens.Token.{Token}
 use Rattle.tokens.specs.declared.located_tokens.Token.TheVariants as token
-use Rattle.grammar.specs.Derivation.{State, state, initial_state, ABody, Definition, definition_of}
+use Rattle.grammar.specs.Derivation.{State, initial_state, ABody, Definition, definition_of}
+use Rattle.grammar.specs.Laws.StateParts.{state}
 use Rattle.grammar.specs.Grammar as grammar
 use Rattle.grammar.specs.Grammar.{Item, Exactly, Part, Make, Close, Declarations, Empty, Define}
 use Rattle.grammar.specs.Scope.{Scope, end_definition}

@@ -5,9 +5,10 @@ use Rattle.std.specs.Prelude.{Option, Some, None, unwrap_or, slice_get, set, if�
 use Rattle.tokens.specs.declared.located_tokens.LocatedToken.{LocatedToken}
 use Rattle.tokens.specs.declared.located_tokens.Token.{Token}
 use Rattle.tokens.specs.declared.located_tokens.Token.TheVariants as token
-use Rattle.grammar.specs.declared.diagnostics.Code.TheVariants as code
+use Rattle.grammar.specs.declared.diagnostics.Code.TheVariants as fault_code
 use Rattle.grammar.specs.Compiled.{order_of, all_defined, all_faults, defined_as, enough_steps, last_line, last_state, main_name}
-use Rattle.grammar.specs.Derivation.{State, state, initial_state, PartialTree, Definition, definition_of, last_body, name_tree, next_token, token_after_next, line_at, name_of_token, constant_value, is_end, matched, name_matched, constant_matched, replaced, stack_step, step, stepped, derived}
+use Rattle.grammar.specs.Derivation.{State, initial_state, PartialTree, Definition, definition_of, last_body, name_tree, next_token, token_after_next, line_at, name_of_token, constant_value, is_end, matched, name_matched, constant_matched, replaced, stack_step, step, stepped, derived}
+use Rattle.grammar.specs.Laws.StateParts.{state}
 use Rattle.grammar.specs.Faults.{Fault, fault, faults_at, faults_in, stack_faults, definition_faults, name_faults, role_faults, unexpected_token, unexpected_tokens}
 use Rattle.grammar.specs.Grammar.{Item, Exactly, AKeyword, AName, AConstant, AnEnd, Part, Make, Close, Define, Role, Defined, External, Parameter, Typed, Local, Called, Mentioned, Production, choice, is_lexical_error, is_punctuator, is_keyword}
 use Rattle.grammar.specs.Intrinsics.{is_intrinsic}
@@ -182,7 +183,7 @@ own_name : (name : List ℕ) (scope : Scope) (rest : List LocatedToken) → defi
 own_name name scope rest clean = by (is_intrinsic name) refl
   where
     by : (b : Bool) → is_intrinsic name ≡ b → is_intrinsic name ≡ false
-    by true is = absurd (let no : fault rest code.IntrinsicRedefined ∷ [] ≡ [] = rw is at clean in cc)
+    by true is = absurd (let no : fault rest fault_code.IntrinsicRedefined ∷ [] ≡ [] = rw is at clean in cc)
     by false is = is
 
 named_counts : (role : Role) (name : List ℕ) (line : ℕ) (rest : List LocatedToken) (h : History) (scope : Scope)

@@ -4,7 +4,8 @@ use Rattle.std.proofs.lemmas.List.{map-append}
 use Rattle.std.specs.Prelude.{Option, Some, None, unwrap_or, if◌then◌else◌}
 use Rattle.std.specs.Option.{option_map}
 use Rattle.tokens.specs.declared.located_tokens.LocatedToken.{LocatedToken}
-use Rattle.grammar.specs.Derivation.{State, state, PartialTree, Definition, step, stack_step, stepped, derived, next_token, token_after_next, matched, name_matched, constant_matched, replaced, name_of_token, constant_value, name_tree, functions_defined, scope_after_action, is_end}
+use Rattle.grammar.specs.Derivation.{State, PartialTree, Definition, step, stack_step, stepped, derived, next_token, token_after_next, matched, name_matched, constant_matched, replaced, name_of_token, constant_value, name_tree, functions_defined, scope_after_action, is_end}
+use Rattle.grammar.specs.Laws.StateParts.{state}
 use Rattle.grammar.specs.Grammar.{Item, Exactly, AKeyword, AName, AConstant, AnEnd, Part, Make, Close, Role, Defined, External, Parameter, Typed, Local, Called, Mentioned, SemanticAction, Define, Production, choice, is_punctuator, is_keyword, is_lexical_error}
 use Rattle.grammar.specs.Scope.{Scope, scope_after_name, with_function, with_new_function, with_variable, with_parameter, with_external, is_function_new, is_variable_new, is_local_new, is_external_new}
 use Rattle.grammar_laws.specs.RoundTrip.{tokens_of}

@@ -11,7 +11,8 @@ use Rattle.grammar.specs.Actions.{expr_actions, args_actions, body_actions}
 use Rattle.grammar.specs.Beginning.{AreReportable}
 use Rattle.grammar.specs.Derivation.{PartialTree, AnExpr, AVariable, ACall, ABody, Definition, last_body, trees_after}
 use Rattle.grammar_laws.specs.Emission.{on_rule}
-use Rattle.grammar.specs.Faults.{definitions_actions, nested_count}
+use Rattle.grammar.specs.Faults.{nested_count}
+use Rattle.grammar.specs.Beginning.{definitions_actions}
 use Rattle.grammar.specs.Grammar.{Symbol, Source, Types, Head, More, Parameters, ParameterTypes, FunctionBlock, Block}
 use Rattle.grammar.specs.Grammar.{Declarations, Statements, Statement, ElsePart, Back, Expression, Level, Tail, Unary}
 use Rattle.grammar.specs.Grammar.{Primary, Arguments, MoreArguments, Role, Defined, Parameter, Called, Mentioned, Item}

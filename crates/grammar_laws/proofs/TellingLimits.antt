@@ -3,9 +3,10 @@ use Rattle.std.proofs.Common.{◌≡◌, ℕ, ◌<◌, List, [], ◌∷◌, ◌+
 use Rattle.std.proofs.lemmas.Bool.Decides.{nat_tests}
 use Rattle.std.specs.Prelude.{Option, Some, nat_le, if◌then◌else◌}
 use Rattle.tokens.specs.declared.located_tokens.LocatedToken.{LocatedToken}
-use Rattle.grammar.specs.declared.diagnostics.Code.TheVariants as code
+use Rattle.grammar.specs.declared.diagnostics.Code.TheVariants as fault_code
 use Rattle.grammar.specs.Compiled.{order_of}
-use Rattle.grammar.specs.Derivation.{State, state, PartialTree, Definition, next_token, token_after_next, line_at, name_of_token}
+use Rattle.grammar.specs.Derivation.{State, PartialTree, Definition, next_token, token_after_next, line_at, name_of_token}
+use Rattle.grammar.specs.Laws.StateParts.{state}
 use Rattle.grammar.specs.Derivation.{stack_step}
 use Rattle.grammar.specs.Faults.{Fault, fault, faults_at, stack_faults, nested_count, unexpected_token, unexpected_tokens}
 use Rattle.grammar.specs.Faults.{name_faults, only_if, role_faults}
@@ -87,7 +88,7 @@ item_allowed : (profile : Profile) (stack : List Item) (rest : List LocatedToken
 item_allowed profile [] rest values scope ds clean s = tt
 item_allowed profile (Part symbol ∷ stack) rest values scope ds clean s = (
   (λ a e. level_below (enters symbol (next_token rest) (token_after_next rest)) (nested_count stack)
-      (fault rest code.NestedTooDeeply)
+      (fault rest fault_code.NestedTooDeeply)
       clean e),
   begins_allowed symbol stack rest values scope ds s,
 )

@@ -11,12 +11,13 @@ use Rattle.grammar.specs.declared.actions.Action.TheVariants as action
 use Rattle.grammar.specs.declared.actions.Action.{Action}
 use Rattle.grammar.specs.declared.actions.Action.TheVariants.{PushConstant, BeginFunction, EndFunction}
 use Rattle.grammar.specs.Actions.{body_actions}
-use Rattle.grammar.specs.Derivation.{State, state, PartialTree, AnExpr, AVariable, ACall, Definition, definition_of, last_body, trees_after}
+use Rattle.grammar.specs.Derivation.{State, PartialTree, AnExpr, AVariable, ACall, Definition, definition_of, last_body, trees_after}
+use Rattle.grammar.specs.Laws.StateParts.{state}
 use Rattle.grammar.specs.Derivation.{name_tree, next_token, token_after_next, line_at, name_of_token, constant_value, is_end}
 use Rattle.grammar.specs.Derivation.{matched, name_matched, constant_matched, replaced, stack_step, stepped}
 use Rattle.grammar.specs.declared.operators.StoreOp.{StoreOp}
 use Rattle.grammar_laws.specs.Emission.{on_choice, on_name, on_constant, on_rule, on_item, emitted}
-use Rattle.grammar.specs.Faults.{definitions_actions}
+use Rattle.grammar.specs.Beginning.{definitions_actions}
 use Rattle.grammar.specs.Grammar.{Symbol, FunctionBlock, Statement, Tail, Unary, Item, Exactly, AKeyword, AName, AConstant}
 use Rattle.grammar.specs.Grammar.{AnEnd, Part, Make, Close, SemanticAction, Operate, Negate, Not, Complement, Fetch}
 use Rattle.grammar.specs.Grammar.{Store, PrefixIncrement, PostfixIncrement, AddArgument, Invoke, Empty, Evaluate, Decide, DecideElse}

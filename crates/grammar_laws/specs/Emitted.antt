@@ -9,7 +9,8 @@ use Rattle.grammar.specs.Beginning.{IsBeginning}
 use Rattle.grammar.specs.Compiled.{compiled_tokens, enough_steps}
 use Rattle.grammar.specs.Derivation.{Definition, initial_state, derived}
 use Rattle.grammar_laws.specs.Emission.{emitted, emissions}
-use Rattle.grammar.specs.Faults.{definitions_actions, faults_at, faults_in}
+use Rattle.grammar.specs.Faults.{faults_at, faults_in}
+use Rattle.grammar.specs.Beginning.{definitions_actions}
 use Rattle.grammar.specs.NameLimits.{most_names}
 use Rattle.grammar.specs.Profile.{Profile}
 use Rattle.grammar.specs.Resolved.{IsVariable, IsCallable}

@@ -5,7 +5,7 @@ pub mod RoundTrip
 pub mod KnownSpellings
 pub mod Numbering
 pub mod Numbered
-pub mod ClosedLevels
+pub mod ClosedNesting
 pub mod Productions
 pub mod Scheme
 pub mod Emission

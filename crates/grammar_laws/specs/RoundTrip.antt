@@ -15,7 +15,7 @@ use Rattle.grammar_laws.specs.Resolving.{tree_of, behind, body_of, behind_statem
 abbrev pub tokens_of : List LocatedToken → List Token
 tokens_of located_tokens = map (λ (l : LocatedToken). l.token) located_tokens
 
--- the names known, but for the lines on which they were first mentioned
+-- the names in scope, but for the lines on which they were first mentioned
 abbrev pub without_lines : Scope → Scope
 without_lines scope = record scope { lines = [] }
 

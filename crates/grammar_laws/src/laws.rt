@@ -1,7 +1,7 @@
-//! Laws on the grammar: the round-trip law, names are numbered by the rules on names, levels are closed, productions
+//! Laws on the grammar: the round-trip law, names are numbered by the rules on names, nested productions close, productions
 //! are those of the plain grammar, and derivations emit the actions of the functions that they define.
 
-ghost use Rattle.grammar_laws.specs.ClosedLevels.{LevelsAreClosed};
+ghost use Rattle.grammar_laws.specs.ClosedNesting.{NestedProductionsClose};
 ghost use Rattle.grammar_laws.specs.Emitted.{BeginningsAreNumbered, EmitsABeginning, EmitsAPart, EmitsItsFile};
 ghost use Rattle.grammar_laws.specs.Emitted.{EmitsItsFunctions, NextMayFollow};
 ghost use Rattle.grammar_laws.specs.KnownSpellings.{KnownSpellings};
@@ -34,9 +34,9 @@ pub fn numbered()
     ensures files { FilesAreNumbered }
 {}
 
-/// Proves that the grammar's productions close each level that they open.
-pub fn levels()
-    ensures { LevelsAreClosed }
+/// Proves that the grammar's productions close what they nest.
+pub fn nesting()
+    ensures { NestedProductionsClose }
 {}
 
 /// Proves that the productions that the tokens choose are those of the plain grammar, with the semantic actions listed

@@ -2,7 +2,7 @@
 use Rattle.std.proofs.Common.{refl}
 use Rattle.std.specs.Fmt.{digits}
 use Rattle.grammar.specs.Intrinsics.{intrinsic_name}
-use Rattle.grammar.specs.Profile.{first_profile, second_profile}
+use Rattle.grammar.specs.ProfileNumbers.{first_profile, second_profile}
 use Rattle.listings.specs.KnownListings.{KnownListings}
 use Rattle.listings.specs.Listing.{code_lines, externals_lines, function_lines, instr_line, name_line}
 use Rattle.listings.specs.Spelling.{callee_text, instr_text, variable_text}

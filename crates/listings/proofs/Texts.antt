@@ -36,8 +36,8 @@ portions_of (Some taken) = taken.portions
 pub all_taken : (new after : KnownPortions) (portions : List (List ℕ)) (bytes : List ℕ) → new.portions ≡ []
     → Some after ≡ Some (record new { portions = new.portions ++ portions }) → concat portions ≡ bytes →
     concat after.portions ≡ bytes
-all_taken new after portions bytes none told joined =
-    ap concat (ap portions_of told ∙ ap (λ (first : List (List ℕ)). first ++ portions) none) ∙ joined
+all_taken new after portions bytes none taken joined =
+    ap concat (ap portions_of taken ∙ ap (λ (first : List (List ℕ)). first ++ portions) none) ∙ joined
 
 same_get : {A : Type 0} (xs : List A) (n : ℕ) (d : A) → n < length xs → get_or xs n d ≡ get_or xs n (get_or xs n d)
 same_get [] n d within = absurd (omega (arith, within))

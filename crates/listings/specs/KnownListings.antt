@@ -2,10 +2,16 @@
 use Rattle.std.specs.Prelude.{◌≡◌, ℕ, List, [], ◌∷◌, ◌++◌, codes, flat_map}
 use Rattle.arith.specs.declared.operators.Op.TheVariants as op
 use Rattle.grammar.specs.KnownSources.{constant, distance_file, file_of_main, late_read_file, nearest_else_tree, sum_of_postfix_tree}
-use Rattle.grammar.specs.Profile.{Profile, first_profile, second_profile}
+use Rattle.grammar.specs.Profile.{Profile}
+use Rattle.grammar.specs.ProfileNumbers.{first_profile, second_profile}
 use Rattle.grammar.specs.Tree.{Binary, Done, File}
 use Rattle.code.specs.KnownPrograms.{asking_file, cannon_of, defined_behind_file, says, sum_file, truth_file}
-use Rattle.listings.specs.Listing.{listing}
+use Rattle.grammar.specs.Pools.{pools_of}
+use Rattle.code.specs.Generation.{code_of}
+use Rattle.listings.specs.Listing.{listing_of}
+
+abbrev pub listing : Profile → List ℕ → File → List ℕ
+listing p name file = listing_of name (pools_of file) (code_of p file)
 
 -- the lines of a file's listing after the one that names it
 abbrev pub HasLines : Profile → File → List (List ℕ) → Type 0

@@ -1,15 +1,13 @@
 -- The listing of a file: lines, each of which ends with an LF.
 use Rattle.std.specs.Prelude.{ℕ, ◌+◌, List, [], ◌∷◌, ◌++◌, codes, length, get_or}
 use Rattle.std.specs.Fmt.{decimal}
-use Rattle.grammar.specs.Pools.{FunctionNames, Pools, pools_of}
-use Rattle.grammar.specs.Profile.{Profile}
-use Rattle.grammar.specs.Tree.{File}
+use Rattle.grammar.specs.Pools.{FunctionNames, Pools}
 use Rattle.code.specs.declared.instr.Instr.{Instr}
-use Rattle.code.specs.Generation.{Program, code_of}
+use Rattle.code.specs.Generation.{Program}
 use Rattle.sinks.specs.Texts.{column}
 use Rattle.listings.specs.Spelling.{instr_text}
 
--- the texts of members in order: each has its member's number, of which the first is this one
+-- the texts of members, which are numbered from this one on
 abbrev pub numbered : {A : Type 0} → (ℕ → A → List ℕ) → ℕ → List A → List ℕ
 numbered text n [] = []
 numbered text n (x ∷ xs) = text n x ++ numbered text (n + 1) xs
@@ -38,6 +36,3 @@ abbrev pub listing_of : List ℕ → Pools → Program → List ℕ
 listing_of name names code =
     codes "File " ++ name ++ codes "\n" ++ externals_lines names.externals
     ++ numbered (function_lines code.addresses) 0 names.functions ++ code_lines code.instructions
-
-abbrev pub listing : Profile → List ℕ → File → List ℕ
-listing p name file = listing_of name (pools_of file) (code_of p file)

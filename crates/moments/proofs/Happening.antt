@@ -1,4 +1,4 @@
--- What two glances show is what happens between two stages.
+-- What two glances show is what happens between two states.
 use Rattle.std.proofs.Common.{◌≡◌, ℕ, ◌+◌, ◌<◌, Bool, true, false, ℤ, List, length, get_or, Some, refl, sym, ap, ◌∙◌, arith}
 use Rattle.std.specs.Prelude.{◌&&◌, option_map, slice_get}
 use Rattle.std.proofs.lemmas.Option.{slice_get-get_or, slice_get-map}
@@ -23,7 +23,7 @@ use Rattle.moments.specs.Moments.{last_of, replies_of, wanted}
 use Rattle.moments.specs.Searches.{Happens, IsGlanced, IsOneCall, Seems, Shows, state_at, value_of}
 use Rattle.moments.proofs.Asking.{reply_is, wanted_is}
 
--- two glances see a robot at two stages, and it hits another one in the cycle between them or doesn't
+-- two glances see a robot at two states, and it hits another one in the cycle between them or doesn't
 pub record See (robots : List Behaviour) (program : Program) (i cycle : ℕ) (sought : Sought) (now later : BattleState)
     (before after : Glance) (is_hit : Bool) : Type 0 where
   pub hit : is_hit ≡ (is_due cycle && hits (turns robots (length robots) now).field i)

@@ -9,7 +9,7 @@ use Rattle.code.specs.declared.want.Want.TheVariants.{Ask}
 use Rattle.battles.specs.Battle.{Behaviour, BattleState, cycle, is_due, behaviour_at, state_after, robot_turn, turn, turns, updated}
 use Rattle.battles.proofs.Asking.{step_asks}
 use Rattle.battles.proofs.Commuting.{live_same}
-use Rattle.battles.proofs.Cycles.{stage_more}
+use Rattle.battles.proofs.Cycles.{state_more}
 use Rattle.moments.specs.Moments.{replies_of}
 
 -- before a robot's own turn it lives as at the cycle's begin, and has the same replies
@@ -76,7 +76,7 @@ reply_comes robots i n s k a one inside live asks =
     let stepped = step_asks (behaviour_at robots i) i before.field (replies_of before i) k a lives asked in
     let reply = (answer before.field i k a).0 in (
       reply,
-      ap (λ (t : BattleState). replies_of t i) (stage_more robots s n)
+      ap (λ (t : BattleState). replies_of t i) (state_more robots s n)
           ∙ replies_updated (n + 1) i (turns robots (length robots) now)
           ∙ replies_after robots i (length robots) now one
           ∙ replies_own robots i now inside

@@ -17,13 +17,13 @@ use Rattle.playing.specs.Played.{codes_of}
 use Rattle.moments.specs.declared.asked.Asked.{Asked}
 use Rattle.moments.specs.declared.moment.Moment.{Moment}
 
--- the replies that a robot of a stage got since it began
+-- the replies that a robot of a state got since it began
 abbrev pub replies_of : BattleState → ℕ → List ℤ
-replies_of stage i = slice_index_or stage.traces i []
+replies_of state i = slice_index_or state.traces i []
 
--- what a robot wants of the cycle after a stage: a dead one wants nothing
+-- what a robot wants of the cycle after a state: a dead one wants nothing
 unfoldable pub wanted : List Behaviour → ℕ → BattleState → Want
-wanted robots i stage = if is_live_at stage.field i then behaviour_at robots i (replies_of stage i) else Quiet
+wanted robots i state = if is_live_at state.field i then behaviour_at robots i (replies_of state i) else Quiet
 
 -- the last of some numbers, 0 if there is none
 abbrev pub last_of : List ℤ → ℤ

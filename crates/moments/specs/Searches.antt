@@ -18,15 +18,15 @@ use Rattle.moments.specs.declared.sought.Sought.TheVariants.{Place, Question, Re
 use Rattle.moments.specs.Hits.{hits}
 use Rattle.moments.specs.Moments.{last_of, replies_of, wanted}
 
--- where a robot's program is at a stage
+-- where a robot's program is at a state
 abbrev pub state_at : Program → ℕ → BattleState → Machine
-state_at program i stage = reached program (started_machine program) (replies_of stage i)
+state_at program i state = reached program (started_machine program) (replies_of state i)
 
 -- two instructions are both marked, in one call of a function: its variables begin at the same word
 abbrev pub IsOneCall : List Bool → (at home at' home' : ℕ) → Type 0
 IsOneCall marks at home at' home' = (get_or marks at false ≡ true) × (get_or marks at' false ≡ true) × (home ≡ home')
 
--- what is sought shows in the cycle of a number, between the stages before and after it
+-- what is sought shows in the cycle of a number, between the states before and after it
 abbrev pub Shows : Sought → List Behaviour → Program → (i cycle : ℕ) → (before after : BattleState) → Type 0
 Shows (Place marks most) robots program i cycle before after =
     (get_or marks.now (state_at program i after).at false ≡ true) × (length (state_at program i after).frames ≤ most)

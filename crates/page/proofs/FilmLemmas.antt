@@ -26,7 +26,7 @@ use Rattle.page.specs.Running.{IsOfRun, blank}
 use Rattle.page.specs.Sheets.{contents_of}
 use Rattle.page.proofs.RunningLemmas.{lines_held}
 use Rattle.series.specs.Compiling.{compiling}
-use Rattle.grammar.specs.Profile.{profile_numbered}
+use Rattle.grammar.specs.ProfileNumbers.{profile_numbered}
 
 -- no codes: a source is faulty
 no_codes : (profile : Profile) (files : Option (List File))

@@ -9,7 +9,8 @@ use Rattle.series.specs.Compiling.{SourceFile}
 use Rattle.series.specs.Output.{Output}
 use Rattle.series.specs.SourceContents.{AreSources}
 use Rattle.series.specs.Failures.{FailsAsAnswered, Failures, SinkFailed, failing, no_device}
-use Rattle.tokens.specs.Feed.{FailureCount, failed_again}
+use Rattle.tokens.specs.Feed.{failed_again}
+use Rattle.tokens.specs.Device.{FailureCount}
 use Rattle.series.specs.Pieces.{Channel, Piece, Taken, Text, Faults, Writes, TakesOn, on_both}
 use Rattle.series.specs.declared.run_results.RunFault.{RunFault}
 use Rattle.series.specs.declared.run_results.RunFault.TheVariants as run_fault

@@ -2,7 +2,8 @@
 use Rattle.std.specs.Prelude.{ℕ, ◌≡◌, List, Option, Some, None, Err, slice_get}
 use Rattle.explanations.specs.Compiling.{Compiles}
 use Rattle.grammar.specs.Compiled.{compiled}
-use Rattle.grammar.specs.Profile.{Profile, profile_numbered}
+use Rattle.grammar.specs.Profile.{Profile}
+use Rattle.grammar.specs.ProfileNumbers.{profile_numbered}
 use Rattle.grammar.specs.declared.diagnostics.Diagnostic.{Diagnostic}
 use Rattle.page.specs.declared.explaining.Explained.{Explained}
 use Rattle.page.specs.declared.explaining.Explained.TheVariants.{Good, Faulty, Cut}

@@ -10,7 +10,7 @@ use Rattle.series.specs.declared.run_results.RunFault.{RunFault}
 use Rattle.series.specs.declared.run_results.RunFault.TheVariants as run_fault
 use Rattle.series.specs.declared.run_results.Status.{Status}
 use Rattle.series.specs.declared.run_results.Status.TheVariants as status
-use Rattle.grammar.specs.Profile.{profile_numbered}
+use Rattle.grammar.specs.ProfileNumbers.{profile_numbered}
 use Rattle.settings.specs.declared.settings.Mode.TheVariants.{Matches}
 use Rattle.page.specs.declared.films.Shown.{Shown}
 use Rattle.page.specs.declared.films.Shown.TheVariants.{Over, GoesOn, Faulty}

@@ -3,10 +3,10 @@ use Rattle.std.specs.Prelude.{ℕ, ◌≤◌, ◌==◌, List, if◌then◌else�
 use Rattle.settings.specs.declared.settings.Mode.{Mode}
 use Rattle.settings.specs.declared.settings.Mode.TheVariants.{Listing, Matches}
 use Rattle.settings.specs.declared.settings.Numbers.{Numbers}
-use Rattle.grammar.specs.Profile.{most_profile, profile_numbered}
+use Rattle.grammar.specs.ProfileNumbers.{most_profile, profile_numbered}
 use Rattle.settings.specs.SettingsLimits.{most_matches, most_cycles, most_first_match}
 use Rattle.settings.specs.Settings.{Settings}
-use Rattle.settings.specs.Settings as setup
+use Rattle.settings.specs.Accepted as setup
 use Rattle.page.specs.declared.orders.Order.{Order}
 use Rattle.page.specs.declared.stretches.Stretch.{Stretch}
 

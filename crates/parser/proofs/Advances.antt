@@ -4,7 +4,7 @@ use Rattle.std.specs.Prelude.{Option, Result, Ok, Err}
 use Rattle.tokens.specs.Window.{TakesBytes}
 use Rattle.grammar.specs.declared.diagnostics.ParseFault.{ParseFault}
 use Rattle.parser.specs.ScopedCursors.{ScopedCursor}
-use Rattle.tokens.specs.Feed.{FailureCount}
+use Rattle.tokens.specs.Device.{FailureCount}
 use Rattle.parser.specs.Segment.{account_after}
 use Rattle.parser.specs.Advancing.{Advances, IsReady, HasStayedOrAdvanced, Stopped, HasAdvanced}
 

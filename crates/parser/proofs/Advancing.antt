@@ -7,8 +7,10 @@ use Rattle.grammar.specs.declared.diagnostics.ParseFault.TheVariants as parse_fa
 use Rattle.grammar.specs.declared.actions.Action.{Action}
 use Rattle.grammar.specs.Actions.{function_actions}
 use Rattle.grammar.specs.Building.{Representation}
-use Rattle.grammar.specs.Derivation.{Definition, State, state}
-use Rattle.grammar.specs.Faults.{definitions_actions, nested_count}
+use Rattle.grammar.specs.Derivation.{Definition, State}
+use Rattle.grammar.specs.Laws.StateParts.{state}
+use Rattle.grammar.specs.Faults.{nested_count}
+use Rattle.grammar.specs.Beginning.{definitions_actions}
 use Rattle.grammar.specs.Grammar.{Item}
 use Rattle.grammar.specs.Laws.Parsing.{DerivesWithoutFault, Fails}
 use Rattle.grammar.proofs.Runs.{here, then}

@@ -6,7 +6,7 @@ use Rattle.tokens.specs.declared.located_tokens.LocatedToken.{LocatedToken}
 use Rattle.tokens.specs.declared.located_tokens.Punctuator.{Punctuator}
 use Rattle.tokens.specs.declared.located_tokens.Token.{Token}
 use Rattle.tokens.specs.declared.located_tokens.Token.TheVariants as token
-use Rattle.grammar.specs.declared.diagnostics.Code.TheVariants as code
+use Rattle.grammar.specs.declared.diagnostics.Code.TheVariants as fault_code
 use Rattle.grammar.specs.declared.diagnostics.ParseFault.{ParseFault}
 use Rattle.grammar.specs.declared.resolved_names.Var.{Var}
 use Rattle.grammar.specs.declared.operators.StoreOp.{StoreOp}
@@ -18,7 +18,8 @@ use Rattle.grammar.specs.Compiled.{diagnostic}
 use Rattle.grammar.specs.Derivation.{AnExpr, AVariable, name_of_token}
 use Rattle.grammar.specs.Grammar.{AName, Exactly, Expression, Level, Make, Mentioned, Part, Close, Store, choice, is_lexical_error, is_punctuator, enters}
 use Rattle.grammar.specs.Nesting.{nesting}
-use Rattle.grammar.specs.Operators.{store_of, store_operator}
+use Rattle.grammar.specs.Operators.{store_of}
+use Rattle.grammar.specs.Laws.OperatorTokens.{store_operator}
 use Rattle.grammar.specs.Resolved.{InExpr, IsVariable}
 use Rattle.grammar.specs.Tree.{Assign, Expr}
 use Rattle.parser.specs.declared.parser.Parser.{Parser}
@@ -158,7 +159,7 @@ pub store_too_deep : (at : UnreadPosition) (used : ℕ) (near : IsNearTo at.look
     (o : StoreOp) →
     IsAssignment at o → 64 ≤ depth →
     FailsAt depth (Part Expression ∷ []) [] at
-    (stop_with (parse_fault.Source (diagnostic (next_at at).line code.NestedTooDeeply)) used)
+    (stop_with (parse_fault.Source (diagnostic (next_at at).line fault_code.NestedTooDeeply)) used)
 store_too_deep at used near depth o a deep =
     let s : SpellsStore o (after_at at) = sign_of at o a in
     let n : (next_at at).token ≡ token.Name a.named.name = a.named.is in

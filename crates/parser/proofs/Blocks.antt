@@ -6,7 +6,7 @@ use Rattle.tokens.specs.declared.located_tokens.LocatedToken.{LocatedToken}
 use Rattle.tokens.specs.declared.located_tokens.Punctuator.TheVariants as punctuator
 use Rattle.tokens.specs.declared.located_tokens.Token.{Token}
 use Rattle.tokens.specs.declared.located_tokens.Token.TheVariants as token
-use Rattle.grammar.specs.declared.diagnostics.Code.TheVariants as code
+use Rattle.grammar.specs.declared.diagnostics.Code.TheVariants as fault_code
 use Rattle.grammar.specs.declared.diagnostics.Diagnostic.{Diagnostic}
 use Rattle.grammar.specs.declared.diagnostics.ParseFault.{ParseFault}
 use Rattle.grammar.specs.declared.diagnostics.ParseFault.TheVariants as parse_fault
@@ -14,15 +14,17 @@ use Rattle.grammar.specs.declared.actions.Action.{Action}
 use Rattle.grammar.specs.declared.actions.Action.TheVariants.{BeginFunction, EndFunction}
 use Rattle.grammar.specs.Actions.{body_actions, code_length, function_actions, last_return}
 use Rattle.grammar.specs.Building.{Representation, AppendsAll}
-use Rattle.grammar.specs.Derivation.{ABody, Definition, PartialTree, definition_of, state}
-use Rattle.grammar.specs.Faults.{definitions_actions, is_too_long}
-use Rattle.grammar.specs.Grammar.{Item, AName, Define, Defined, Exactly, FunctionBlock, Make, ParameterTypes, Parameters, Part, Close, is_lexical_error, is_punctuator}
+use Rattle.grammar.specs.Derivation.{ABody, Definition, PartialTree, definition_of}
+use Rattle.grammar.specs.Laws.StateParts.{state}
+use Rattle.grammar.specs.Faults.{definitions_length, is_too_long}
+use Rattle.grammar.specs.Beginning.{definitions_actions}
+use Rattle.grammar.specs.Grammar.{definition_items, Item, Define, Exactly, FunctionBlock, Make, Part, Close, is_lexical_error, is_punctuator}
 use Rattle.grammar.specs.Laws.Parsing.{DerivesWithoutFault, Fails}
 use Rattle.grammar.specs.Profile.{Profile}
 use Rattle.grammar.specs.Scope.{Scope, end_definition}
 use Rattle.grammar.specs.Tree.{Body}
 use Rattle.grammar.proofs.Firsts.{too_long}
-use Rattle.grammar.proofs.Lengths.{code_length-append}
+use Rattle.grammar.proofs.Lengths.{code_length-append, definitions_lengths}
 use Rattle.grammar.proofs.Runs.{then}
 use Rattle.grammar.proofs.Steps.{make, close}
 use Rattle.parser.specs.Advancing.{IsReady, HasStayedOrAdvanced, Stopped}
@@ -37,11 +39,6 @@ use Rattle.parser.proofs.Segments.{Begins, fails_then, goes_begins, halts, joine
 use Rattle.parser.specs.Progress.{AddsBlock, ReadsOn, ClosesFunction, IsTooMuch, RefusesEnd, StopsPart, at_brace, at_definition, at_source}
 use Rattle.parser.proofs.Advancing.{definitions_actions-append, telling_back, telling_inside, told_alone, told_grown}
 use Rattle.tokens.specs.Cursors.{IsNearTo}
-
-abbrev pub definition_items : List Item
-definition_items =
-    AName Defined ∷ Exactly punctuator.OpenRound ∷ Part Parameters ∷ Exactly punctuator.CloseRound ∷
-    Part ParameterTypes ∷ Part FunctionBlock ∷ []
 
 -- up to the block
 pub headed : (at now : UnreadPosition) → Derives 0 header_items [] [] [] at now →
@@ -62,7 +59,7 @@ braced before after at now there h b =
 
 -- the code of functions and one more is what was told up to its return
 code_with : (p : Profile) (functions : List Definition) (scope : Scope) (body : Body) (parameters number : ℕ) →
-    code_length p (definitions_actions (functions ++ definition_of scope body ∷ [])) ≡
+    definitions_length p (functions ++ definition_of scope body ∷ []) ≡
     code_length p
     (((definitions_actions functions ++ BeginFunction number parameters ∷ []) ++ body_actions body) ++
     last_return)
@@ -70,7 +67,8 @@ code_with p functions scope body parameters number =
     let d : Definition = definition_of scope body in
     let finish : List Action = last_return ++ EndFunction (length scope.current.variables) ∷ [] in
     let told : List Action = definitions_actions functions ++ BeginFunction number parameters ∷ [] in
-    ap (code_length p) (definitions_actions-append functions (d ∷ []))
+    sym (definitions_lengths p (functions ++ d ∷ []))
+    ∙ ap (code_length p) (definitions_actions-append functions (d ∷ []))
     ∙ code_length-append p (definitions_actions functions) (function_actions d.number d.function ++ [])
     ∙
     omega (
@@ -303,7 +301,7 @@ too_much_stops first second third after at now brace number parameters d used ne
     past_limit profile _ _ (code_with profile functions (scope_at brace) b.tree parameters number)
     (much.over profile _ (b.added profile _ (told profile _ k))) in
     let fails : Fails profile (state (at_brace ++ at_source) t.rest (ABody b.tree ∷ []) (scope_at brace) functions)
-    (diagnostic (next_at brace).line code.TooMuchCode) =
+    (diagnostic (next_at brace).line fault_code.TooMuchCode) =
     rw x.is
     (too_long profile (Close ∷ at_source) (next_at brace) x.tail (ABody b.tree ∷ []) (scope_at brace) functions
     sound closed (rw long refl)) in

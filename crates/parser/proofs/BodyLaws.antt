@@ -3,7 +3,7 @@ use Rattle.std.proofs.Common.{◌≡◌, ℕ, ◌+◌, ◌<◌, ◌≤◌, List,
 use Rattle.std.specs.Prelude.{Option, Some, None}
 use Rattle.tokens.specs.declared.located_tokens.Punctuator.TheVariants as punctuator
 use Rattle.tokens.specs.declared.located_tokens.Keyword.TheVariants as keyword
-use Rattle.grammar.specs.declared.diagnostics.Code.TheVariants as code
+use Rattle.grammar.specs.declared.diagnostics.Code.TheVariants as fault_code
 use Rattle.grammar.specs.declared.diagnostics.ParseFault.TheVariants as parse_fault
 use Rattle.grammar.specs.declared.actions.Action.{Action}
 use Rattle.grammar.specs.declared.actions.Action.TheVariants.{BeginWhile, EndIf, EndWhile, IfTest, WhileTest}
@@ -65,7 +65,7 @@ pub block_too_deep : (at : UnreadPosition) (used : ℕ) (near : IsNearTo at.look
     is_lexical_error (next_at at).token ≡ false → is_punctuator punctuator.OpenCurly (next_at at).token ≡ true →
     64 ≤ depth →
     FailsBody depth (Part Statement ∷ []) at
-    (stop_with (parse_fault.Source (diagnostic (next_at at).line code.NestedTooDeeply)) used)
+    (stop_with (parse_fault.Source (diagnostic (next_at at).line fault_code.NestedTooDeeply)) used)
 block_too_deep at used near depth sound is deep b =
     let begins : BeginsBlock (next_at at).token = begins_block _ is in
     block_fails at depth b sound is _
@@ -201,7 +201,7 @@ while_stops at depth sound is shallow d stop b =
 pub if_too_deep : (at : UnreadPosition) (used : ℕ) (near : IsNearTo at.lookahead.cursor used) (depth : ℕ) →
     is_lexical_error (next_at at).token ≡ false → is_keyword keyword.If (next_at at).token ≡ true → 64 ≤ depth →
     FailsBody depth (Part Statement ∷ []) at
-    (stop_with (parse_fault.Source (diagnostic (next_at at).line code.NestedTooDeeply)) used)
+    (stop_with (parse_fault.Source (diagnostic (next_at at).line fault_code.NestedTooDeeply)) used)
 if_too_deep at used near depth sound is deep b =
     word_too_deep at used near depth Statement keyword.If (in_brackets ++ behind_if) (ABody b ∷ []) sound
     (if_chosen _ is)
@@ -210,7 +210,7 @@ if_too_deep at used near depth sound is deep b =
 pub while_too_deep : (at : UnreadPosition) (used : ℕ) (near : IsNearTo at.lookahead.cursor used) (depth : ℕ) →
     is_lexical_error (next_at at).token ≡ false → is_keyword keyword.While (next_at at).token ≡ true → 64 ≤ depth →
     FailsBody depth (Part Statement ∷ []) at
-    (stop_with (parse_fault.Source (diagnostic (next_at at).line code.NestedTooDeeply)) used)
+    (stop_with (parse_fault.Source (diagnostic (next_at at).line fault_code.NestedTooDeeply)) used)
 while_too_deep at used near depth sound is deep b =
     word_too_deep at used near depth Statement keyword.While (in_brackets ++ behind_while) (ABody b ∷ []) sound
     (while_chosen _ is) is (while_enters _ is) deep

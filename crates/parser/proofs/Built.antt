@@ -10,8 +10,9 @@ use Rattle.tokens.specs.declared.located_tokens.Token.TheVariants as token
 use Rattle.grammar.specs.declared.actions.Action.{Action}
 use Rattle.grammar.specs.Actions.{function_actions}
 use Rattle.grammar.specs.Compiled.{enough_steps}
-use Rattle.grammar.specs.Derivation.{Definition, State, PartialTree, constant_matched, constant_value, definition_of, is_end, last_body, matched, name_matched, name_of_token, next_token, replaced, derived, initial_state, state, stack_step, stepped}
-use Rattle.grammar.specs.Faults.{definitions_actions}
+use Rattle.grammar.specs.Derivation.{Definition, State, PartialTree, constant_matched, constant_value, definition_of, is_end, last_body, matched, name_matched, name_of_token, next_token, replaced, derived, initial_state, stack_step, stepped}
+use Rattle.grammar.specs.Laws.StateParts.{state}
+use Rattle.grammar.specs.Beginning.{definitions_actions}
 use Rattle.grammar.specs.Grammar.{AConstant, AName, AKeyword, AnEnd, Close, Define, Exactly, Item, Make, Part, Production, Role, is_lexical_error}
 use Rattle.grammar.specs.Need.{built, built_in, built_of, ends_by, has_ahead, is_behind_brace}
 use Rattle.grammar.specs.Scope.{Scope}

@@ -19,7 +19,8 @@ use Rattle.grammar.specs.Faults.{nested_count}
 use Rattle.grammar.specs.Following.{AValue, open_count}
 use Rattle.grammar.specs.Grammar.{Item, Level, Part, Tail, Unary, choice, is_lexical_error}
 use Rattle.grammar.specs.Nesting.{nesting, right_side}
-use Rattle.grammar.specs.Operators.{binary_of, if_at, operator_at, operator_of}
+use Rattle.grammar.specs.Operators.{binary_of, if_at, operator_at}
+use Rattle.grammar.specs.Laws.OperatorTokens.{operator_of}
 use Rattle.grammar.specs.Laws.Climbing.{if_from, operator_from}
 use Rattle.grammar.specs.Tree.{Binary}
 use Rattle.grammar.proofs.FollowingLaws.{expr_leads, origin_of}

@@ -7,17 +7,18 @@ use Rattle.tokens.specs.declared.located_tokens.Punctuator.TheVariants as punctu
 use Rattle.tokens.specs.declared.located_tokens.Token.{Token}
 use Rattle.tokens.specs.declared.located_tokens.Token.TheVariants as token
 use Rattle.tokens.specs.Tokens.{followed_by}
-use Rattle.grammar.specs.declared.diagnostics.Code.TheVariants as code
+use Rattle.grammar.specs.declared.diagnostics.Code.TheVariants as fault_code
 use Rattle.grammar.specs.declared.diagnostics.ParseFault.TheVariants as parse_fault
 use Rattle.grammar.specs.Building.{Representation}
 use Rattle.grammar.specs.Compiled.{diagnostic}
-use Rattle.grammar.specs.Derivation.{ABody, Definition, state}
+use Rattle.grammar.specs.Derivation.{ABody, Definition}
+use Rattle.grammar.specs.Laws.StateParts.{state}
 use Rattle.grammar.specs.Faults.{fault, nested_count, unexpected_token_code, only_if}
 use Rattle.grammar.specs.Grammar.{Item, Declarations, Define, Empty, Exactly, FunctionBlock, Make, Part, Close, Statements, choice, is_lexical_error, is_punctuator}
 use Rattle.grammar.specs.Laws.{KeepsFunction}
 use Rattle.grammar.specs.Laws.Parsing.{DerivesWithoutFault}
 use Rattle.grammar.specs.NameLimits.{most_nested}
-use Rattle.grammar.specs.Profile.{first_profile}
+use Rattle.grammar.specs.ProfileNumbers.{first_profile}
 use Rattle.grammar.specs.Scope.{Scope}
 use Rattle.grammar.specs.Tree.{Done}
 use Rattle.grammar.proofs.Firsts.{no_part}
@@ -45,7 +46,7 @@ not_open token.End after other = refl
 not_open (token.Fault lexical_error) after other = refl
 
 first_level : (opened : Bool) (n : ℕ) (rest : List LocatedToken) → n ≡ 0 →
-    only_if opened (only_if (nat_le most_nested n) (fault rest code.NestedTooDeeply ∷ [])) ≡ []
+    only_if opened (only_if (nat_le most_nested n) (fault rest fault_code.NestedTooDeeply ∷ [])) ≡ []
 unfolding most_nested
 first_level false n rest e = refl
 first_level true n rest e = rw e refl

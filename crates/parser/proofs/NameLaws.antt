@@ -3,10 +3,11 @@ use Rattle.std.proofs.Common.{◌≡◌, ℕ, zero, suc, List, [], ◌∷◌, �
 use Rattle.std.specs.Prelude.{Some}
 use Rattle.tokens.specs.Tokens.{followed_by}
 use Rattle.tokens.specs.declared.located_tokens.LocatedToken.{LocatedToken}
-use Rattle.grammar.specs.Derivation.{state, State, PartialTree, Definition, name_of_token, next_token, line_at, name_tree, derived, stepped}
+use Rattle.grammar.specs.Derivation.{State, PartialTree, Definition, name_of_token, next_token, line_at, name_tree, derived, stepped}
+use Rattle.grammar.specs.Laws.StateParts.{state}
 use Rattle.grammar.specs.Grammar.{AName, Role, is_lexical_error}
 use Rattle.grammar.specs.Laws.Parsing.{DerivesWithoutFault}
-use Rattle.grammar.specs.Profile.{first_profile}
+use Rattle.grammar.specs.ProfileNumbers.{first_profile}
 use Rattle.grammar.specs.Scope.{Scope, scope_after_name}
 use Rattle.parser.specs.ScopedCursors.{MayContinue, UnreadPosition, next_at, scope_at}
 use Rattle.parser.specs.Segment.{Derives, DerivesItem}

@@ -4,7 +4,7 @@ use Rattle.std.proofs.lemmas.List.{length-append}
 use Rattle.std.specs.Prelude.{if◌then◌else◌}
 use Rattle.tokens.specs.declared.located_tokens.LocatedToken.{LocatedToken}
 use Rattle.grammar.specs.declared.diagnostics.Code.{Code}
-use Rattle.grammar.specs.declared.diagnostics.Code.TheVariants as code
+use Rattle.grammar.specs.declared.diagnostics.Code.TheVariants as fault_code
 use Rattle.grammar.specs.Faults.{Fault, no_room}
 use Rattle.grammar.specs.Grammar.{Role, Defined, External, Parameter, Typed, Local, Called, Mentioned}
 use Rattle.grammar.specs.Intrinsics.{is_intrinsic}
@@ -35,11 +35,11 @@ with_variable_within true name scope c rest clean w =
     }
 
 with_parameter_within : (new : Bool) (name : List ℕ) (scope : Scope) (rest : List LocatedToken) (d : Fault) →
-    (if new then no_room true (length scope.current.variables) code.TooManyVariables rest else d ∷ []) ≡ [] →
+    (if new then no_room true (length scope.current.variables) fault_code.TooManyVariables rest else d ∷ []) ≡ [] →
     IsWithin scope → IsWithin (if new then with_parameter name scope else scope)
 with_parameter_within false name scope rest d clean w = w
 with_parameter_within true name scope rest d clean w =
-    let small : length scope.current.variables < 64 = room _ code.TooManyVariables rest clean in
+    let small : length scope.current.variables < 64 = room _ fault_code.TooManyVariables rest clean in
     let more : length (scope.current.variables ++ name ∷ []) ≡ length scope.current.variables + 1 = longer _ name in
     record {
       functions = w.functions;
@@ -91,14 +91,15 @@ within Parameter name line old new k w =
     rw k.behind (with_parameter_within (is_local_new name old) name old [] _ (k.clean []) w)
 within Typed name line old new k w = rw k.behind w
 within Local name line old new k w =
-    rw k.behind (with_variable_within (is_local_new name old) name old code.TooManyVariables [] (k.clean []) w)
+    rw k.behind (with_variable_within (is_local_new name old) name old fault_code.TooManyVariables [] (k.clean []) w)
 within Mentioned name line old new k w =
-    rw k.behind (with_variable_within (is_variable_new name old) name old code.TooManyVariables [] (k.clean []) w)
+    rw k.behind (with_variable_within (is_variable_new name old) name old fault_code.TooManyVariables [] (k.clean []) w)
 within Called name line old new k w =
-    rw k.behind (functions_within (is_function_new name old) name line old code.TooManyFunctions [] (k.clean []) w)
+    rw k.behind
+    (functions_within (is_function_new name old) name line old fault_code.TooManyFunctions [] (k.clean []) w)
 within Defined name line old new k w = rw k.behind (record {
   functions = begun_within (is_intrinsic name) (has_begun name old) (is_function_new name old) name line old
-      code.TooManyFunctions [] _ _ (k.clean []) w;
+      fault_code.TooManyFunctions [] _ _ (k.clean []) w;
   parameters = omega arith;
   variables = omega arith;
 })

@@ -5,7 +5,7 @@ use Rattle.tokens.specs.declared.located_tokens.Punctuator.{Punctuator}
 use Rattle.tokens.specs.declared.located_tokens.Punctuator.TheVariants as punctuator
 use Rattle.tokens.specs.declared.located_tokens.Token.{Token}
 use Rattle.tokens.specs.declared.located_tokens.Token.TheVariants as token
-use Rattle.grammar.specs.declared.diagnostics.Code.TheVariants as code
+use Rattle.grammar.specs.declared.diagnostics.Code.TheVariants as fault_code
 use Rattle.grammar.specs.declared.diagnostics.ParseFault.{ParseFault}
 use Rattle.grammar.specs.declared.diagnostics.ParseFault.TheVariants as parse_fault
 use Rattle.grammar.specs.Building.{Representation}
@@ -51,7 +51,7 @@ open_enters at fits after more =
 pub bracket_too_deep : (at : UnreadPosition) (used : ℕ) (near : IsNearTo at.lookahead.cursor used) (depth : ℕ) →
     is_punctuator punctuator.OpenRound (next_at at).token ≡ true → 64 ≤ depth →
     FailsAt depth (Part Primary ∷ []) [] at
-    (stop_with (parse_fault.Source (diagnostic (next_at at).line code.NestedTooDeeply)) used)
+    (stop_with (parse_fault.Source (diagnostic (next_at at).line fault_code.NestedTooDeeply)) used)
 bracket_too_deep at used near depth fits deep =
     punctuator_too_deep at used near depth Primary punctuator.OpenRound
     (Part Expression ∷ Exactly punctuator.CloseRound ∷ Close ∷ []) (open_chooses at fits) (open_enters at fits) fits

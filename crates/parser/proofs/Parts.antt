@@ -10,10 +10,11 @@ use Rattle.tokens.specs.declared.located_tokens.Keyword.{Keyword}
 use Rattle.tokens.specs.contracts.located_tokens.Punctuator as punctuators
 use Rattle.tokens.specs.contracts.located_tokens.Keyword as keywords
 use denote.Enum.Bare.{same_true}
-use Rattle.grammar.specs.declared.diagnostics.Code.TheVariants as code
+use Rattle.grammar.specs.declared.diagnostics.Code.TheVariants as fault_code
 use Rattle.grammar.specs.declared.diagnostics.ParseFault.TheVariants as parse_fault
 use Rattle.grammar.specs.Compiled.{diagnostic}
-use Rattle.grammar.specs.Derivation.{State, PartialTree, Definition, scope_after_action, functions_defined, trees_after, next_token, state}
+use Rattle.grammar.specs.Derivation.{State, PartialTree, Definition, scope_after_action, functions_defined, trees_after, next_token}
+use Rattle.grammar.specs.Laws.StateParts.{state}
 use Rattle.grammar.specs.Faults.{fault, item_faults, nesting_faults, nested_count, only_if}
 use Rattle.grammar.specs.Grammar.{AKeyword, Exactly, Item, Make, Part, SemanticAction, Close, Symbol, choice, is_lexical_error, is_punctuator, is_keyword, enters}
 use Rattle.grammar.specs.Laws.Parsing.{DerivesWithoutFault}
@@ -57,7 +58,7 @@ IsFree depth symbol located_token =
 
 -- while a level is left there is no fault
 pub within : (opened : Bool) (n : ℕ) (rest : List LocatedToken) → n < 64 →
-    only_if opened (only_if (nat_le most_nested n) (fault rest code.NestedTooDeeply ∷ [])) ≡ []
+    only_if opened (only_if (nat_le most_nested n) (fault rest fault_code.NestedTooDeeply ∷ [])) ≡ []
 unfolding most_nested
 within false n rest small = refl
 within true n rest small = let test : nat_le 64 n ≡ false = below n small in rw test refl
@@ -67,8 +68,8 @@ within true n rest small = let test : nat_le 64 n ≡ false = below n small in r
 
 -- a level beyond the last one is a fault
 pub beyond : (opened : Bool) (n : ℕ) (rest : List LocatedToken) → opened ≡ true → 64 ≤ n →
-    only_if opened (only_if (nat_le most_nested n) (fault rest code.NestedTooDeeply ∷ [])) ≡
-    fault rest code.NestedTooDeeply ∷ []
+    only_if opened (only_if (nat_le most_nested n) (fault rest fault_code.NestedTooDeeply ∷ [])) ≡
+    fault rest fault_code.NestedTooDeeply ∷ []
 unfolding most_nested
 beyond opened n rest is large = rw (is, above n large) refl
   where
@@ -183,7 +184,7 @@ pub word_too_deep : (at : UnreadPosition) (n : ℕ) (near : IsNearTo at.lookahea
     Chooses symbol (next_at at).token (AKeyword w ∷ items) → is_keyword w (next_at at).token ≡ true →
     ((after : Token) → enters symbol (next_at at).token after ≡ true) → 64 ≤ depth →
     FailsAt depth (Part symbol ∷ []) trees at
-    (stop_with (parse_fault.Source (diagnostic (next_at at).line code.NestedTooDeeply)) n)
+    (stop_with (parse_fault.Source (diagnostic (next_at at).line fault_code.NestedTooDeeply)) n)
 word_too_deep at n near depth symbol w items trees sound chosen fits opened deep =
     fails_at_next depth (Part symbol ∷ []) trees at _ n near (λ tail b profile stack values functions depths.
     too_deep_word profile symbol w items stack (next_at at) tail _ (scope_at at) functions sound
@@ -198,7 +199,7 @@ pub punctuator_too_deep : (at : UnreadPosition) (n : ℕ) (near : IsNearTo at.lo
     Chooses symbol (next_at at).token (Exactly m ∷ items) → is_punctuator m (next_at at).token ≡ true →
     ((after : Token) → enters symbol (next_at at).token after ≡ true) → 64 ≤ depth →
     FailsAt depth (Part symbol ∷ []) trees at
-    (stop_with (parse_fault.Source (diagnostic (next_at at).line code.NestedTooDeeply)) n)
+    (stop_with (parse_fault.Source (diagnostic (next_at at).line fault_code.NestedTooDeeply)) n)
 punctuator_too_deep at n near depth symbol m items trees sound chosen fits opened deep =
     fails_at_next depth (Part symbol ∷ []) trees at _ n near (λ tail b profile stack values functions depths.
     too_deep profile symbol m items stack (next_at at) tail _ (scope_at at) functions sound (chosen (next_token tail))

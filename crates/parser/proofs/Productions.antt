@@ -6,17 +6,18 @@ use Rattle.std.specs.Prelude.{Some, None, nat_le}
 use Rattle.tokens.specs.Tokens.{is_last}
 use Rattle.tokens.specs.declared.located_tokens.LocatedToken.{LocatedToken}
 use Rattle.tokens.specs.declared.located_tokens.Punctuator.{Punctuator}
+use denote.Enum.Bare.{sameb}
 use Rattle.tokens.specs.contracts.located_tokens.Punctuator.{the_type}
 use Rattle.tokens.specs.declared.located_tokens.Token.{Token}
 use Rattle.tokens.specs.declared.located_tokens.Token.TheVariants as token
 use denote.Enum.Declared.{tag_of}
-use Rattle.grammar.specs.declared.diagnostics.Code.TheVariants as code
+use Rattle.grammar.specs.declared.diagnostics.Code.TheVariants as fault_code
 use Rattle.grammar.specs.declared.diagnostics.ParseFault.{ParseFault}
 use Rattle.grammar.specs.declared.diagnostics.ParseFault.TheVariants as parse_fault
 use Rattle.grammar.specs.Compiled.{diagnostic}
 use Rattle.grammar.specs.Derivation.{PartialTree, name_of_token, next_token}
 use Rattle.grammar.specs.Faults.{fault, nested_count, unexpected_token_code, only_if}
-use Rattle.grammar.specs.Grammar.{Item, AName, Exactly, Make, Part, Role, SemanticAction, Close, Symbol, choice, is_lexical_error, is_punctuator, enters, same_punctuator}
+use Rattle.grammar.specs.Grammar.{Item, AName, Exactly, Make, Part, Role, SemanticAction, Close, Symbol, choice, is_lexical_error, is_punctuator, enters}
 use Rattle.grammar.specs.NameLimits.{most_nested}
 use Rattle.grammar.proofs.Firsts.{no_part, too_deep, too_deep_name}
 use Rattle.grammar.proofs.Runs.{then}
@@ -34,7 +35,7 @@ use Rattle.tokens.specs.Cursors.{IsNearTo}
 eqb_self : (n : ℕ) → eqb n n ≡ true
 eqb_self n = grind (arith, nat_tests)
 
-pub same_self : (m : Punctuator) → same_punctuator m m ≡ true
+pub same_self : (m : Punctuator) → sameb the_type m m ≡ true
 same_self m = eqb_self (tag_of the_type m)
 
 pub punctuator_sound : (m : Punctuator) (t : Token) → is_punctuator m t ≡ true → is_lexical_error t ≡ false
@@ -79,7 +80,7 @@ abbrev pub EntersLevel : UnreadPosition → Symbol → Type 0
 EntersLevel at symbol = WithAfter at (λ after. enters symbol (next_at at).token after ≡ true)
 
 free : (n : ℕ) (opened : Bool) (rest : List LocatedToken) → opened ≡ false →
-    only_if opened (only_if (nat_le most_nested n) (fault rest code.NestedTooDeeply ∷ [])) ≡ []
+    only_if opened (only_if (nat_le most_nested n) (fault rest fault_code.NestedTooDeeply ∷ [])) ≡ []
 free n opened rest none = rw none refl
 
 -- a production that enters no level is chosen
@@ -111,7 +112,7 @@ pub punctuator_too_deep : (at : UnreadPosition) (used : ℕ) (near : IsNearTo at
     EntersLevel at symbol →
     is_punctuator m (next_at at).token ≡ true → 64 ≤ depth →
     FailsAt depth (Part symbol ∷ []) [] at
-    (stop_with (parse_fault.Source (diagnostic (next_at at).line code.NestedTooDeeply)) used)
+    (stop_with (parse_fault.Source (diagnostic (next_at at).line fault_code.NestedTooDeeply)) used)
 punctuator_too_deep at used near depth symbol m items c opened fits deep =
     fails_at_next depth (Part symbol ∷ []) [] at _ used near (λ tail b profile stack values functions depths.
     too_deep profile symbol m items stack (next_at at) tail values (scope_at at) functions c.sound
@@ -125,7 +126,7 @@ pub name_too_deep : (at : UnreadPosition) (used : ℕ) (near : IsNearTo at.looka
     (role : Role) (name : List ℕ) (items : List Item) → Chooses at symbol (AName role ∷ items) → EntersLevel at symbol →
     name_of_token (next_at at).token ≡ Some name → 64 ≤ depth →
     FailsAt depth (Part symbol ∷ []) [] at
-    (stop_with (parse_fault.Source (diagnostic (next_at at).line code.NestedTooDeeply)) used)
+    (stop_with (parse_fault.Source (diagnostic (next_at at).line fault_code.NestedTooDeeply)) used)
 name_too_deep at used near depth symbol role name items c opened fits deep =
     fails_at_next depth (Part symbol ∷ []) [] at _ used near (λ tail b profile stack values functions depths.
     too_deep_name profile symbol role name items stack (next_at at) tail values (scope_at at) functions c.sound

@@ -10,7 +10,8 @@ use Rattle.grammar.specs.declared.diagnostics.Diagnostic.{Diagnostic}
 use Rattle.grammar.specs.declared.diagnostics.ParseFault.{ParseFault}
 use Rattle.grammar.specs.declared.diagnostics.ParseFault.TheVariants as parse_fault
 use Rattle.grammar.specs.Compiled.{diagnostic}
-use Rattle.grammar.specs.Derivation.{State, derived, state, PartialTree, Definition, next_token, line_at}
+use Rattle.grammar.specs.Derivation.{State, derived, PartialTree, Definition, next_token, line_at}
+use Rattle.grammar.specs.Laws.StateParts.{state}
 use Rattle.grammar.specs.Faults.{unexpected_token_code, nested_count}
 use Rattle.grammar.specs.Grammar.{Item, is_lexical_error}
 use Rattle.grammar.specs.Laws.Parsing.{Fails, IsFault, DerivesWithoutFault}

@@ -3,7 +3,7 @@ use Rattle.std.proofs.Common.{◌≡◌, ℕ, pos, ◌+◌, ◌<◌, ◌≤◌, 
 use Rattle.std.specs.Prelude.{Some}
 use Rattle.tokens.specs.declared.located_tokens.Token.{Token}
 use Rattle.tokens.specs.declared.located_tokens.Token.TheVariants as token
-use Rattle.grammar.specs.declared.diagnostics.Code.TheVariants as code
+use Rattle.grammar.specs.declared.diagnostics.Code.TheVariants as fault_code
 use Rattle.grammar.specs.declared.diagnostics.ParseFault.{ParseFault}
 use Rattle.grammar.specs.declared.diagnostics.ParseFault.TheVariants as parse_fault
 use Rattle.grammar.specs.declared.actions.Action.{Action}
@@ -91,7 +91,7 @@ pub sign_too_deep : (at : UnreadPosition) (used : ℕ) (near : IsNearTo at.looka
     (s : UnaryOp) →
     is_punctuator (unary_punctuator s) (next_at at).token ≡ true → 64 ≤ depth →
     FailsAt depth (Part Unary ∷ []) [] at
-    (stop_with (parse_fault.Source (diagnostic (next_at at).line code.NestedTooDeeply)) used)
+    (stop_with (parse_fault.Source (diagnostic (next_at at).line fault_code.NestedTooDeeply)) used)
 sign_too_deep at used near depth s fits deep =
     punctuator_too_deep at used near depth Unary (unary_punctuator s) (Part Unary ∷ Make (unary_action s) ∷ Close ∷ [])
     (sign_chooses at s fits) (sign_enters_level at s fits) fits deep

@@ -9,14 +9,15 @@ use Rattle.tokens.proofs.ReadingLemmas.{open-to_last, open-within}
 use Rattle.tokens.specs.declared.located_tokens.LocatedToken.{LocatedToken}
 use Rattle.tokens.specs.declared.located_tokens.Token.{Token}
 use Rattle.tokens.specs.declared.located_tokens.Token.TheVariants as token
-use Rattle.grammar.specs.declared.diagnostics.Code.TheVariants as code
+use Rattle.grammar.specs.declared.diagnostics.Code.TheVariants as fault_code
 use Rattle.grammar.specs.declared.diagnostics.Diagnostic.{Diagnostic}
 use Rattle.grammar.specs.declared.diagnostics.ParseFault.{ParseFault}
 use Rattle.grammar.specs.declared.diagnostics.ParseFault.TheVariants as parse_fault
 use Rattle.grammar.specs.declared.actions.Action.{Action}
 use Rattle.grammar.specs.Building.{Representation, LeavesOpen}
 use Rattle.grammar.specs.Compiled.{compiled, compiled_tokens, diagnostic, last_line, main_name, resolved}
-use Rattle.grammar.specs.Derivation.{derived, initial_state, Definition, is_end, next_token, line_at, state}
+use Rattle.grammar.specs.Derivation.{derived, initial_state, Definition, is_end, next_token, line_at}
+use Rattle.grammar.specs.Laws.StateParts.{state}
 use Rattle.grammar.specs.Faults.{unexpected_token_code}
 use Rattle.grammar.specs.Grammar.{AnEnd, Source, is_lexical_error}
 use Rattle.grammar.specs.Laws.Naming.{line_of_undefined}
@@ -151,9 +152,10 @@ whole_file before after told at there names new w complete same closed =
 
 lacks_definition : (before after : Representation) (told : Option (List ℕ)) (at there : UnreadPosition) (line : ℕ) →
     IsWhole before after told at there → line_of_undefined 0 (scope_at there).lines (scope_at there).begun ≡ Some line →
-    FailsBytes before told (diagnostic line code.FunctionNotDefined)
+    FailsBytes before told (diagnostic line fault_code.FunctionNotDefined)
 lacks_definition before after told at there line w is bytes shows profile h =
-    compiled_as profile bytes (all_of before after told at there w) (Err (diagnostic line code.FunctionNotDefined))
+    compiled_as profile bytes (all_of before after told at there w)
+    (Err (diagnostic line fault_code.FunctionNotDefined))
     (tokens_all before after told at there w bytes shows)
     (undefined profile (all_of before after told at there w) (scope_at there) w.reads.more line
     (passes_all before after told at there w profile h) is)
@@ -162,13 +164,14 @@ lacks_main : (before after : Representation) (told : Option (List ℕ)) (at ther
     IsWhole before after told at there →
     line_of_undefined 0 (scope_at there).lines (scope_at there).begun ≡ None →
     is_some (function_number main_name (scope_at there)) ≡ false →
-    FailsBytes before told (diagnostic (next_at there).line code.NoMainFunction)
+    FailsBytes before told (diagnostic (next_at there).line fault_code.NoMainFunction)
 lacks_main before after told at there w defined none bytes shows profile h =
     compiled_as profile bytes (all_of before after told at there w)
-    (Err (diagnostic (next_at there).line code.NoMainFunction)) (tokens_all before after told at there w bytes shows)
+    (Err (diagnostic (next_at there).line fault_code.NoMainFunction))
+    (tokens_all before after told at there w bytes shows)
     (without_main profile (all_of before after told at there w) (scope_at there) w.reads.more
     (passes_all before after told at there w profile h) defined none
-    ∙ ap (λ (n : ℕ). Err (diagnostic n code.NoMainFunction)) (last_line_is w.reads.consumed (next_at there)))
+    ∙ ap (λ (n : ℕ). Err (diagnostic n fault_code.NoMainFunction)) (last_line_is w.reads.consumed (next_at there)))
 
 pub lacking : (before after : Representation) (told to_come : Option (List ℕ)) (at there : UnreadPosition)
     (f : ParseFault)

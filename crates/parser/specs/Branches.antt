@@ -4,13 +4,13 @@ use Rattle.parser.specs.Stopping.{Stop}
 use Rattle.grammar.specs.declared.diagnostics.ParseFault.{ParseFault}
 use Rattle.grammar.specs.declared.name_limits.TheConstants.{MOST_NAMES}
 use Rattle.grammar.specs.declared.actions.Action.{Action}
-use Rattle.grammar.specs.declared.actions.Action.TheVariants.{ElsePart as BetweenBranches}
 use Rattle.grammar.specs.Actions.{body_actions}
 use Rattle.grammar.specs.Building.{Representation, AppendsAll, LeavesOpen}
 use Rattle.grammar.specs.Derivation.{PartialTree, ABody, AnExpr}
 use Rattle.grammar.specs.Following.{Open, Opened, may_take_statement, open_count}
 use Rattle.grammar.specs.Grammar.{ElsePart, Part}
-use Rattle.grammar.specs.NameLimits.{most_open}
+use Rattle.grammar.specs.declared.actions.Action.TheVariants.{ElsePart as BetweenBranches}
+use Rattle.grammar.specs.Nesting.{most_open}
 use Rattle.grammar.specs.Nesting.{body_nesting}
 use Rattle.grammar.specs.Resolved.{InBody}
 use Rattle.grammar.specs.Tree.{Body, IfElseStatement, Done, Expr, IfStatement, join}

@@ -1,4 +1,4 @@
--- What stays true of the names known while a function is defined.
+-- What stays true of the names in scope while a function is defined.
 use Rattle.std.specs.Prelude.{◌≡◌, ◌≤◌, length}
 use Rattle.grammar.specs.declared.name_limits.TheConstants.{MOST_NAMES}
 use Rattle.grammar.specs.Scope.{Scope}

@@ -22,7 +22,7 @@ use Rattle.parser.specs.Stopping.{Stop}
 use Rattle.parser.specs.Parsers.{BreaksOffFrom}
 use Rattle.parser.specs.Segment.{Derives, FailsAt, FailsItem}
 
--- An expression was read, by the items in front, of operators from `level` on, with `depth` levels of nesting open.
+-- An expression was read, by the items in front, of operators from `level` on, with `depth` constructs open.
 pub record AddsExpr (before after : Representation) (depth level : ℕ) (front pending : List Item)
     (here there : UnreadPosition)
     : Type 0 where
@@ -84,7 +84,7 @@ ParsesLevels (Ok x) denied stands level old new =
 ParsesLevels (Err fault) denied stands level old new =
     BreaksOffFrom (FailsAt old.depth (Part (Level level) ∷ []) [] old.tokens.position) denied stands old new fault
 
--- the same of an operand that opens no level, at any depth
+-- the same of an operand that nests nothing, at any depth
 abbrev pub ParsesOperandAlone : {A F B : Type 0} → Result A ParseFault → (denied : Type 0) → (B → Representation) →
     Symbol → (old new : Parser F B) → Type 0
 ParsesOperandAlone (Ok x) denied stands symbol old new =

@@ -23,7 +23,7 @@ pub record IsNew (before : Representation) : Type 0 where
   pub profile : Profile
   pub stands : before profile []
 
--- the builder is new, and no names are known
+-- the builder is new, and no name is in scope
 abbrev pub AreNew : Representation → Scope → Type 0
 AreNew before scope = IsNew before × (scope ≡ no_names)
 

@@ -1,6 +1,6 @@
 -- What each method of a parser needs and keeps. Every contract of the grammar's productions cites these facts.
 use Rattle.std.specs.Prelude.{ℕ, ◌≡◌, ◌≤◌, [], Result, Ok, Err}
-use Rattle.grammar.specs.declared.diagnostics.Code.TheVariants as code
+use Rattle.grammar.specs.declared.diagnostics.Code.TheVariants as fault_code
 use Rattle.grammar.specs.declared.diagnostics.ParseFault.{ParseFault}
 use Rattle.grammar.specs.declared.diagnostics.ParseFault.TheVariants as parse_fault
 use Rattle.grammar.specs.Building.{Representation, LeavesOpen}
@@ -13,10 +13,10 @@ use Rattle.parser.specs.ScopedCursors.{ScopedCursor, next_at, taken_at}
 use Rattle.parser.specs.Room.{HasStatementRoom, room}
 use Rattle.parser.specs.Stopping.{Stop}
 
--- the most levels are open, and the next token is refused for that
+-- the most constructs are open, and the next token is refused for that
 pub record IsTooDeep {F B : Type 0} (at : Parser F B) (fault : ParseFault) : Type 0 where
   pub deep : MOST_NESTED ≤ at.depth
-  pub is : fault ≡ parse_fault.Source (diagnostic (next_at at.tokens.position).line code.NestedTooDeeply)
+  pub is : fault ≡ parse_fault.Source (diagnostic (next_at at.tokens.position).line fault_code.NestedTooDeeply)
 
 -- What a method needs: room in the builder for the operators from this level on, at the depth at which the parser is, a
 -- scoped cursor that is ready, and these next tokens.
@@ -26,8 +26,8 @@ pub record IsAt {F B : Type 0} (stands : B → Representation) (has_room : Repre
   pub ready : IsReady at.tokens
   pub is : starts at.tokens
 
--- What it needs between functions: a builder in which nothing is open, no open level, a scoped cursor that is ready,
--- and these next tokens.
+-- What it needs between functions: a builder in which nothing is open, no open construct, a scoped cursor that is
+-- ready, and these next tokens.
 pub record IsBetween {F B : Type 0} (stands : B → Representation) (starts : ScopedCursor → Type 0) (at : Parser F B)
     : Type 0 where
   pub builder : LeavesOpen (stands at.builder.now) []
@@ -35,13 +35,13 @@ pub record IsBetween {F B : Type 0} (stands : B → Representation) (starts : Sc
   pub ready : IsReady at.tokens
   pub is : starts at.tokens
 
--- What it needs at a function's block, which opens the first level.
+-- What it needs at a function's block, which is the first construct to be open.
 pub record IsAtBlock {F B : Type 0} (stands : B → Representation) (at : Parser F B) : Type 0 where
   pub builder : HasStatementRoom (stands at.builder.now) (room 1 1)
   pub flat : at.depth ≡ 0
   pub ready : IsReady at.tokens
 
--- A parser went on, and its cursor as `went` says: as many levels are open, and it reports to the same builder.
+-- A parser went on, and its cursor as `went` says: as many constructs are open, and it reports to the same builder.
 pub record ParserKept {F B : Type 0} (went : ScopedCursor → ScopedCursor → Type 0) (old new : Parser F B) : Type 0 where
   pub tokens : went old.tokens new.tokens
   pub depth : new.depth ≡ old.depth

@@ -4,7 +4,7 @@ use Rattle.std.specs.Prelude.{Result, Ok, Err, is_some}
 use Rattle.tokens.specs.declared.located_tokens.LocatedToken.{LocatedToken}
 use Rattle.tokens.specs.declared.located_tokens.Punctuator.TheVariants as punctuator
 use Rattle.tokens.specs.declared.located_tokens.Token.TheVariants as token
-use Rattle.grammar.specs.declared.diagnostics.Code.TheVariants as code
+use Rattle.grammar.specs.declared.diagnostics.Code.TheVariants as fault_code
 use Rattle.grammar.specs.declared.actions.Action.{Action}
 use Rattle.grammar.specs.declared.actions.Action.TheVariants.{EndFunction}
 use Rattle.grammar.specs.Actions.{body_actions, code_length, last_return}
@@ -14,14 +14,15 @@ use Rattle.grammar.specs.declared.diagnostics.ParseFault.{ParseFault}
 use Rattle.grammar.specs.declared.diagnostics.ParseFault.TheVariants as parse_fault
 use Rattle.grammar.specs.declared.name_limits.TheConstants.{MOST_NAMES}
 use Rattle.grammar.specs.Compiled.{diagnostic, main_name}
-use Rattle.grammar.specs.Derivation.{ABody, Definition, State, is_end, derived, state}
-use Rattle.grammar.specs.Faults.{definitions_actions}
+use Rattle.grammar.specs.Derivation.{ABody, Definition, State, is_end, derived}
+use Rattle.grammar.specs.Laws.StateParts.{state}
+use Rattle.grammar.specs.Beginning.{definitions_actions}
 use Rattle.grammar.specs.Following.{InFunction}
 use Rattle.grammar.specs.Grammar.{Item, AName, Define, Defined, Exactly, FunctionBlock, Make, ParameterTypes}
 use Rattle.grammar.specs.Grammar.{Parameters, Part, Close, Source, is_punctuator}
 use Rattle.grammar.specs.Laws.{KeepsFunction}
 use Rattle.grammar.specs.Laws.Naming.{line_of_undefined}
-use Rattle.grammar.specs.NameLimits.{most_open}
+use Rattle.grammar.specs.Nesting.{most_open}
 use Rattle.grammar.specs.Nesting.{body_nesting}
 use Rattle.grammar.specs.Laws.Parsing.{DerivesWithoutFault}
 use Rattle.grammar.specs.Profile.{Profile}
@@ -114,7 +115,7 @@ pub record ClosesFunction (before after : Representation) (variables : ℕ) : Ty
 
 -- The code exceeds the limit, and the diagnostic says so at this line.
 pub record IsTooMuch (before : Representation) (line : ℕ) (d : Diagnostic) : Type 0 where
-  pub is : d ≡ diagnostic line code.TooMuchCode
+  pub is : d ≡ diagnostic line fault_code.TooMuchCode
   pub over : (profile : Profile) (acts : List Action) → before profile acts →
       profile.instructions < code_length profile (acts ++ last_return) + 1
 
@@ -141,10 +142,10 @@ pub record IsComplete (scope : Scope) : Type 0 where
 -- A function is not defined, or else there is no main function.
 pub data LacksDefinition (position : Lookahead) (fault : ParseFault) : Type 0 where
   ADefinition : (line : ℕ) → line_of_undefined 0 position.scope.lines position.scope.begun ≡ Some line →
-      fault ≡ parse_fault.Source (diagnostic line code.FunctionNotDefined) → LacksDefinition position fault
+      fault ≡ parse_fault.Source (diagnostic line fault_code.FunctionNotDefined) → LacksDefinition position fault
   AMain : line_of_undefined 0 position.scope.lines position.scope.begun ≡ None →
       is_some (function_number main_name position.scope) ≡ false →
-      fault ≡ parse_fault.Source (diagnostic position.cursor.next.line code.NoMainFunction) →
+      fault ≡ parse_fault.Source (diagnostic position.cursor.next.line fault_code.NoMainFunction) →
       LacksDefinition position fault
 
 -- What the parse of a file's parts says, by its result.

@@ -2,11 +2,11 @@
 use Rattle.std.specs.Prelude.{ℕ, ◌+◌, ◌-◌, ◌*◌, ◌≡◌, ◌≤◌, ◌∷◌, true}
 use Rattle.grammar.specs.Building.{Representation, LeavesOpen}
 use Rattle.grammar.specs.Following.{Open, AValue, Opened, ValueCategory, may_take_statement, open_count}
-use Rattle.grammar.specs.NameLimits.{most_open}
+use Rattle.grammar.specs.Nesting.{most_open}
 use Rattle.grammar.specs.declared.name_limits.TheConstants.{MOST_NESTED}
 
--- the most that the operators from `level` on can open, with `depth` levels of nesting open:
--- each further level of nesting opens at most a call and the right sides of && and ||
+-- the most that the operators from `level` on can open, with `depth` constructs open:
+-- each further one opens at most a call and the right sides of && and ||
 abbrev pub room : (depth level : ℕ) → ℕ
 room depth level = 3 * (MOST_NESTED - depth) + (3 - level)
 

@@ -1,6 +1,7 @@
--- What a scoped cursor is at: the next tokens, the names known there, and the bytes that the device has still to give.
+-- What a scoped cursor is at: the next tokens, the names in scope there, and the bytes that the device has still to
+-- give.
 use Rattle.std.specs.Prelude.{ℕ, ◌≡◌, List, Option}
-use Rattle.tokens.specs.Feed.{FailureCount}
+use Rattle.tokens.specs.Device.{FailureCount}
 use Rattle.tokens.specs.Cursors.{Cursor, most_left, shown, bytes_taken}
 use Rattle.tokens.specs.Tokens.{followed_by}
 use Rattle.tokens.specs.declared.located_tokens.LocatedToken.{LocatedToken}
@@ -61,7 +62,7 @@ scope_of at = scope_at at.position
 abbrev pub pools_in : Scope → Pools
 pools_in scope = record { externals = scope.externals; functions = scope.functions }
 
--- the same cursor with these names known
+-- the same cursor with these names in scope
 abbrev pub with_scope : Scope → ScopedCursor → ScopedCursor
 with_scope scope at =
     record at

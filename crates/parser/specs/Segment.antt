@@ -2,7 +2,8 @@
 use Rattle.std.specs.Prelude.{ℕ, ◌≡◌, ◌<◌, ◌≤◌, List, [], ◌∷◌, ◌++◌, drop, length, true, false}
 use Rattle.std.specs.Prelude.{Option, Some, None, Result, Ok, Err}
 use Rattle.std.specs.Option.{option_map}
-use Rattle.tokens.specs.Feed.{FailureCount, failed_again}
+use Rattle.tokens.specs.Feed.{failed_again}
+use Rattle.tokens.specs.Device.{FailureCount}
 use Rattle.tokens.specs.WindowLimits.{most_taken_bytes}
 use Rattle.tokens.specs.Tokens.{is_last, tokens}
 use Rattle.tokens.specs.declared.located_tokens.LocatedToken.{LocatedToken}
@@ -12,7 +13,8 @@ use Rattle.grammar.specs.declared.diagnostics.ParseFault.{ParseFault}
 use Rattle.grammar.specs.declared.diagnostics.ParseFault.TheVariants as parse_fault
 use Rattle.grammar.specs.declared.name_limits.TheConstants.{MOST_NAMES}
 use Rattle.grammar.specs.Compiled.{diagnostic}
-use Rattle.grammar.specs.Derivation.{state, PartialTree, Definition, line_at, name_of_token, next_token}
+use Rattle.grammar.specs.Derivation.{PartialTree, Definition, line_at, name_of_token, next_token}
+use Rattle.grammar.specs.Laws.StateParts.{state}
 use Rattle.grammar.specs.Faults.{nested_count, unexpected_token_code}
 use Rattle.grammar.specs.Grammar.{Item, is_lexical_error}
 use Rattle.grammar.specs.Laws.Parsing.{DerivesWithoutFault}
@@ -27,8 +29,8 @@ pub record TakesTokens (consumed located_tokens : List LocatedToken) (there : Un
   pub is : located_tokens ≡ consumed ++ rest
   pub shows : tokens_at there ≡ Some rest
 
--- From one position to another the derivation replaces these items in front by those, with `depth` levels open below
--- them, and these trees by those. It consumes the same tokens whether the device's bytes are known or not.
+-- From one position to another the derivation replaces these items in front by those, with `depth` constructs open
+-- below them, and these trees by those. It consumes the same tokens whether the device's bytes are known or not.
 pub record Derives (depth : ℕ) (front pending : List Item) (taken left : List PartialTree) (here there : UnreadPosition)
     : Type 0
   where
@@ -43,8 +45,8 @@ pub record Derives (depth : ℕ) (front pending : List Item) (taken left : List 
         (state (front ++ stack) (consumed ++ rest) (taken ++ values) (scope_at here) functions)
         (state (pending ++ stack) rest (left ++ values) (scope_at there) functions)
 
--- if the tokens are known, the derivation from these items on stops so, with `depth` levels open, and before a further
--- function is defined
+-- if the tokens are known, the derivation from these items on stops so, with `depth` constructs open, and before a
+-- further function is defined
 abbrev pub FailsAt : ℕ → List Item → List PartialTree → UnreadPosition → Stop → Type 0
 FailsAt depth front taken here stop =
     (located_tokens : List LocatedToken) → tokens_at here ≡ Some located_tokens →
@@ -52,14 +54,14 @@ FailsAt depth front taken here stop =
     nested_count stack ≡ depth →
     StopsInside profile (state (front ++ stack) located_tokens (taken ++ values) (scope_at here) functions) stop
 
--- one item was matched or replaced, however many levels are open
+-- one item was matched or replaced, however many constructs are open
 abbrev pub DerivesItem : Item → List Item → List PartialTree → UnreadPosition → UnreadPosition → Type 0
 DerivesItem item pending left here there = (depth : ℕ) → Derives depth (item ∷ []) pending [] left here there
 
 abbrev pub FailsItem : Item → UnreadPosition → Stop → Type 0
 FailsItem item here stop = (depth : ℕ) → FailsAt depth (item ∷ []) [] here stop
 
--- one token was passed, and no name became known
+-- one token was passed, and no name came into scope
 pub record GoesPast (here there : UnreadPosition) : Type 0 where
   pub more : is_last (next_at here).token ≡ false
   pub next : next_at there ≡ here.lookahead.cursor.after

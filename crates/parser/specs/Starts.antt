@@ -2,12 +2,12 @@
 use Rattle.std.specs.Prelude.{◌≡◌, ℕ, Some, None, is_some, true, false}
 use Rattle.tokens.specs.declared.located_tokens.Punctuator.TheVariants as punctuator
 use Rattle.tokens.specs.declared.located_tokens.Token.TheVariants as token
-use Rattle.tokens.specs.Tokens.{FitsToken}
+use Rattle.tokens.specs.Cursors.{FitsToken}
 use Rattle.grammar.specs.declared.operators.BinaryOperator.{BinaryOperator}
 use Rattle.grammar.specs.declared.operators.StoreOp.{StoreOp}
 use Rattle.grammar.specs.Derivation.{name_of_token}
 use Rattle.grammar.specs.Grammar.{is_punctuator}
-use Rattle.grammar.specs.Operators.{operator_of, store_operator}
+use Rattle.grammar.specs.Laws.OperatorTokens.{operator_of, store_operator}
 use Rattle.parser.specs.ScopedCursors.{ScopedCursor, token_after, token_of}
 use Rattle.parser.specs.declared.unary_ops.IncrementOp.{IncrementOp}
 use Rattle.parser.specs.UnaryOps.{increment_punctuator}

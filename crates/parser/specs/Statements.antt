@@ -19,7 +19,7 @@ use Rattle.parser.specs.Room.{room}
 use Rattle.parser.specs.Parsers.{BreaksOffFrom}
 use Rattle.parser.specs.Segment.{Derives, FailsAt}
 
--- Statements were read, by the items in front, with `depth` levels of nesting open, whatever the body is so far.
+-- Statements were read, by the items in front, with `depth` constructs open, whatever the body is so far.
 pub record AddsBody (before after : Representation) (depth : ℕ) (front pending : List Item)
     (here there : UnreadPosition) :
     Type 0 where

@@ -1,4 +1,4 @@
-//! A parser: a scoped cursor, the builder that it reports to, and how many levels are open.
+//! A parser: a scoped cursor, the builder that it reports to, and how many constructs are open.
 
 ghost use Rattle.std.specs.Prelude.{◌<◌, IfErr, OnOk};
 ghost use Rattle.parser.specs.Parsers.{IsTooDeep};
@@ -12,16 +12,16 @@ use tokens::Feed;
 /// After an `Err` a parser is of no more use.
 #[derive(Drop)]
 pub struct Parser<'s, 'a, 'b, F: Feed, B: Build> {
-    /// The next tokens, and the names known there.
+    /// The next tokens, and the names in scope there.
     pub tokens: ScopedCursor<'s, 'a, F>,
     /// The builder that each action is reported to.
     pub builder: &'b mut B,
-    /// How many levels are open.
+    /// How many constructs are open.
     pub depth: u8,
 }
 
 impl<F: Feed, B: Build> Parser<'_, '_, '_, F, B> {
-    /// Refuses the next token if the most levels are open: it would open one more.
+    /// Refuses the next token if the most constructs are open: it would open one more.
     #[inline(always)]
     pub fn check_nesting(&self) -> Result<(), ParseFault>
         ensures ok { OnOk result (self.now.depth < MOST_NESTED) }

@@ -1,8 +1,9 @@
-//! A cursor over the tokens of a device with the names known there, and the calls that consume one token.
+//! A cursor over the tokens of a device with the names in scope there, and the calls that consume one token.
 
 ghost use Rattle.std.specs.Prelude.{ℕ, ◌≡◌, ◌<◌, ◌≤◌, [], ◌∷◌, length, false, true, is_some, Ok, OnOk, IfOk, IfErr};
 ghost use Rattle.tokens.specs.Cursors.{OpensCursor, beyond};
-ghost use Rattle.tokens.specs.Tokens.{FitsToken, is_last};
+ghost use Rattle.tokens.specs.Tokens.{is_last};
+ghost use Rattle.tokens.specs.Cursors.{FitsToken};
 ghost use Rattle.tokens.specs.Window.{KnowsEnd};
 ghost use Rattle.tokens.specs.declared.located_tokens.Token.TheVariants as token;
 ghost use Rattle.tokens.specs.declared.located_tokens.Keyword.TheVariants as keyword;
@@ -26,7 +27,7 @@ use grammar::{Callee, Code, Diagnostic, MOST_NAMES, ParseFault, Scope, Var, lexi
 use std::marker::Model;
 use tokens::{Cursor, Feed, Keyword, LocatedToken, Name, Punctuator, Token};
 
-/// The next tokens of a device's bytes, and the names known there. Neither the next token nor one that was consumed is
+/// The next tokens of a device's bytes, and the names in scope there. Neither the next token nor one that was consumed is
 /// a lexical error. A device that has ended is not asked again.
 ///
 /// After an `Err` a scoped cursor is of no more use.
@@ -85,7 +86,7 @@ impl<'s, 'a, F: Feed> ScopedCursor<'s, 'a, F> {
     ghost use Rattle.parser.specs.ScopedCursors.{token_of};
     ghost use Rattle.parser.specs.Segment.{BeginsDefinition};
 
-    /// Makes a scoped cursor at the first token of a device, with the names known there.
+    /// Makes a scoped cursor at the first token of a device, with the names in scope there.
     ///
     /// `cursor` is what `open_cursor` returned for the same device. The names are large, so the caller keeps them.
     pub fn new(cursor: Cursor, scope: &'s mut Scope, feed: &'a mut F) -> ScopedCursor<'s, 'a, F>
@@ -282,7 +283,7 @@ impl<'s, 'a, F: Feed> ScopedCursor<'s, 'a, F> {
         self.scope.has_main()
     }
 
-    /// Takes the scoped cursor apart: the names known, and the device.
+    /// Takes the scoped cursor apart: the names in scope, and the device.
     pub fn into_parts(self) -> (&'s mut Scope, &'a mut F)
         ensures names { result.0.now ≡ scope_of self.entry }
         ensures scope { result.0.ghost_name ≡ self.entry.borrows.0 }

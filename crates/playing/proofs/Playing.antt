@@ -22,9 +22,9 @@ use Rattle.code.specs.ReachedMachines.{IsReached}
 use Rattle.code.proofs.Correct.{want_code_is_want}
 use Rattle.battles.specs.Battle.{Behaviour, BattleState, first_passing, after_want, is_over, last_cycle, behaviour_at, state_after, robot_turn, turns}
 use Rattle.battles.specs.Carrying.{AreRobotsOf, EachIsAheadOf, IsRobotOf, Runner}
-use Rattle.battles.proofs.Cycles.{cycle_alone, cycle_updates, first_here, first_later, first_none, goes_on, over_if_few, stage_more}
+use Rattle.battles.proofs.Cycles.{cycle_alone, cycle_updates, first_here, first_later, first_none, goes_on, over_if_few, state_more}
 use Rattle.battles.proofs.Running.{at_end, end_at}
-use Rattle.battles.proofs.Stages.{HasStepped, robot_at, robots_length, stands_at, turn_reached, turns_more}
+use Rattle.battles.proofs.States.{HasStepped, robot_at, robots_length, stands_at, turn_reached, turns_more}
 use Rattle.battles.specs.Pairing.{paired, robots_of}
 use Rattle.battles.proofs.Beginnings.{robots_are, stands_more}
 use Rattle.playing.specs.Pilot.{Pilot, TakesTurn}
@@ -104,7 +104,7 @@ pub cycle_plain : (robots : List Behaviour) (codes : List Program) (seats : List
     → HavePlayed codes seats arena (turns robots (length robots) (state_after robots s n))
     → HavePlayed codes seats arena (state_after robots s (n + 1))
 cycle_plain robots codes seats arena s n plain played =
-    rw (stage_more robots s n, cycle_alone robots (n + 1) (state_after robots s n) plain) played
+    rw (state_more robots s n, cycle_alone robots (n + 1) (state_after robots s n) plain) played
 
 -- and with one
 pub cycle_due : (robots : List Behaviour) (codes : List Program) (seats : List Pilot) (before after : Arena)
@@ -113,7 +113,7 @@ pub cycle_due : (robots : List Behaviour) (codes : List Program) (seats : List P
     → HaveUpdated (turns robots (length robots) (state_after robots s n)).field after decides
     → HavePlayed codes seats after (state_after robots s (n + 1))
 cycle_due robots codes seats before after s n decides due played updated =
-    rw (stage_more robots s n, cycle_updates robots (n + 1) (state_after robots s n) due)
+    rw (state_more robots s n, cycle_updates robots (n + 1) (state_after robots s n) due)
     (record { field = updated.stands; traces = played.traces })
 
 pub over_due : (robots : List Behaviour) (s : BattleState) (n : ℕ) (arena : Arena) (decides : Bool) → (n + 1) % 15 ≡ 0
@@ -122,7 +122,7 @@ pub over_due : (robots : List Behaviour) (s : BattleState) (n : ℕ) (arena : Ar
 over_due robots s n arena decides due updated =
     over_if_few (n + 1) (state_after robots s (n + 1)) due
     ∙ ap (λ (t : BattleState). nat_le (live_count t.field) 1)
-    (stage_more robots s n ∙ cycle_updates robots (n + 1) (state_after robots s n) due)
+    (state_more robots s n ∙ cycle_updates robots (n + 1) (state_after robots s n) due)
     ∙ sym updated.decided
 
 -- So a cycle has ended, with an update or without one.

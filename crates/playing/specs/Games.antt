@@ -13,7 +13,7 @@ pub record Game : Type 0 where
   pub ending : PlayEnd
   pub limit : ℕ
 
--- The pilots and the field are at the stage after the cycles that were played since the opening. The match is over
+-- The pilots and the field are at the state after the cycles that were played since the opening. The match is over
 -- exactly if its last cycle was played.
 pub record HasCome (codes : List Program) (robots : List Behaviour) (opening : BattleState) (seats : List Pilot)
     (game : Game) : Type 0 where

@@ -39,9 +39,9 @@ runner_of seat = record { machine = engine_of seat.state; ahead = 0 }
 abbrev pub runners_of : List Pilot → List Runner
 runners_of seats = map runner_of seats
 
--- the pilots and the field have reached a stage
+-- the pilots and the field have reached a state
 abbrev pub HavePlayed : List Program → List Pilot → Arena → BattleState → Type 0
-HavePlayed codes seats arena stage = HasReached (runners_of seats) (exes_of codes) arena stage
+HavePlayed codes seats arena state = HasReached (runners_of seats) (exes_of codes) arena state
 
 -- an update was done, which decides a match if it leaves at most one robot alive
 pub record HaveUpdated (field : Field) (arena : Arena) (decides : Bool) : Type 0 where

@@ -229,7 +229,7 @@ fn update_after<W: Watcher>(arena: &mut Arena, watcher: &mut W, cycle: u32) -> b
 fn turns<W: Watcher>(pilots: &mut [Pilot<'_>], arena: &mut Arena, watcher: &mut W, cycle: u32)
     requires manned { length arena.old.robots ≡ length pilots.old }
     requires cycle { cycle ≤ MOST_CYCLES }
-    ensures stage { (robots : List Behaviour) (s : BattleState) → AreRobotsOf (exes_of (codes_of pilots.old)) robots
+    ensures state { (robots : List Behaviour) (s : BattleState) → AreRobotsOf (exes_of (codes_of pilots.old)) robots
         → HavePlayed (codes_of pilots.old) pilots.old arena.old s
         → HavePlayed (codes_of pilots.old) pilots.new arena.new (turns robots (length robots) s) }
     ensures codes { codes_of pilots.new ≡ codes_of pilots.old }

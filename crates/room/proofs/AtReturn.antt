@@ -4,7 +4,8 @@ use Rattle.std.specs.Prelude.{ℕ, ℤ, ◌+◌, ◌≡◌, List, [], ◌∷◌,
 use Rattle.std.proofs.Common.{refl, ap, sym, ◌∙◌, arith}
 use Rattle.std.proofs.lemmas.Bool.Decides.{nat_tests}
 use Rattle.grammar.specs.declared.resolved_names.Callee.TheVariants as callee
-use Rattle.grammar.specs.Profile.{Profile, profile_of}
+use Rattle.grammar.specs.Profile.{Profile}
+use Rattle.grammar.specs.Laws.ProfileParts.{profile_of}
 use Rattle.grammar.specs.Resolved.{IsResolved}
 use Rattle.grammar.specs.Tree.{File}
 use Rattle.code.specs.declared.cause.Cause.{Cause}

@@ -5,7 +5,8 @@ use Rattle.grammar.specs.declared.diagnostics.ParseFault.{ParseFault}
 use Rattle.grammar.specs.declared.diagnostics.ParseFault.TheVariants as parse_fault
 use Rattle.grammar.specs.Actions.{actions}
 use Rattle.grammar.specs.Building.{Representation, LeavesOpen}
-use Rattle.grammar.specs.Profile.{Profile, IsProfile}
+use Rattle.grammar.specs.Profile.{Profile}
+use Rattle.grammar.specs.ProfileNumbers.{IsProfile}
 use Rattle.grammar.specs.Resolved.{IsResolved}
 use Rattle.grammar.specs.Tree.{File}
 use Rattle.code.proofs.Bounds.{few_words, few_frames}

@@ -1,6 +1,6 @@
 -- The known needs, worked out.
 use Rattle.std.proofs.Common.{refl}
-use Rattle.grammar.specs.Profile.{first_profile, second_profile}
+use Rattle.grammar.specs.ProfileNumbers.{first_profile, second_profile}
 use Rattle.room.specs.KnownNeeds.{KnownNeeds}
 
 pub needs : KnownNeeds

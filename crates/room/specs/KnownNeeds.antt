@@ -6,7 +6,7 @@ use Rattle.grammar.specs.declared.resolved_names.Intrinsic.TheVariants as intrin
 use Rattle.grammar.specs.declared.resolved_names.Var.TheVariants as var
 use Rattle.grammar.specs.declared.operators.StoreOp.TheVariants as store_op
 use Rattle.grammar.specs.KnownSources.{constant, file_of_main, local}
-use Rattle.grammar.specs.Profile.{first_profile, second_profile}
+use Rattle.grammar.specs.ProfileNumbers.{first_profile, second_profile}
 use Rattle.grammar.specs.Tree.{Expr, Binary, Assign, Postfix, Call, Args, NoMore, Argument, Body, Done}
 use Rattle.grammar.specs.Tree.{ExpressionStatement, IfStatement, IfElseStatement, While, Return, Function, File}
 use Rattle.code.specs.KnownPrograms.{ask, cannon_of, defined_behind_file, file_of_two, says, two}

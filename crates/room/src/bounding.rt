@@ -3,7 +3,7 @@
 ghost use Rattle.std.specs.Prelude.{◌≡◌, ◌≤◌, IfErr, IfOk, length, map, true};
 ghost use Rattle.tokens.specs.Feed.{MayRead};
 ghost use Rattle.grammar.specs.Compiled.{main_name};
-ghost use Rattle.grammar.specs.Profile.{IsProfile};
+ghost use Rattle.grammar.specs.ProfileNumbers.{IsProfile};
 ghost use Rattle.grammar.specs.Scope.{number_of_name};
 ghost use Rattle.parser.specs.ParsedFiles.{TakesEnough};
 ghost use Rattle.parser.specs.Segment.{CountsRefusal};

@@ -12,7 +12,8 @@ use Rattle.grammar.specs.Tree.{File}
 use Rattle.code.specs.Generation.{Program, code_of}
 use Rattle.settings.specs.declared.settings.Mode.{Mode}
 use Rattle.settings.specs.Settings.{Settings}
-use Rattle.series.specs.Compiling.{SourceFile, and_file, files_of, programs_of, program_or_fault, compiled_program, pieces_of, source_pieces, compile_status, compiling}
+use Rattle.series.specs.Compiling.{SourceFile, and_file, files_of, pieces_of, source_pieces, compile_status, compiling}
+use Rattle.series.specs.CompiledFiles.{programs_of, program_or_fault, compiled_program}
 use Rattle.series.specs.Pieces.{Taken, Writes, Begins}
 use Rattle.series.specs.ProgramKeeping.{and_program_of_file, and_compiled, worse_status, count_of, kept_by, KeepsMore, status_by}
 use Rattle.series.specs.CompiledFiles.{CompilesAll}

@@ -15,23 +15,24 @@ use Rattle.code.specs.Making.{Maker}
 use Rattle.code.specs.Reported.{MakerRepresents}
 use Rattle.parser.specs.ParsedFiles.{ParsesToFile}
 use Rattle.settings.specs.declared.settings.Mode.{Mode}
-use Rattle.series.specs.Compiling.{program_or_fault, compiled_program, listed, listing_piece, pieces_of}
+use Rattle.series.specs.Compiling.{listed, listing_piece, pieces_of}
+use Rattle.series.specs.CompiledFiles.{program_or_fault, compiled_program}
 use Rattle.series.specs.Pieces.{Taken, Writes, Begins}
 use Rattle.series.specs.ProgramKeeping.{and_compiled, and_program, KeepsMore, status_by}
 use Rattle.series.specs.declared.run_results.Status.TheVariants.{Done}
 
 -- a file is that of its names, whoever has them
-file_of_names : (before after : Representation) (told : Option (List ℕ)) (kept names : Pools) → names ≡ kept →
-    ParsesToFile before after told kept → ParsesToFile before after told names
-file_of_names before after told kept names same file = rw same file
+file_of_names : (before after : Representation) (contents : Option (List ℕ)) (kept names : Pools) → names ≡ kept →
+    ParsesToFile before after contents kept → ParsesToFile before after contents names
+file_of_names before after contents kept names same file = rw same file
 
--- a parsed file, whose bytes the device may have told: the maker was told it, and these are its names
+-- a parsed file, whose bytes the device may have contents: the maker was contents it, and these are its names
 pub record IsGood (maker : Maker) (profile : Profile) (bytes_told : Option (List ℕ)) (names : Pools) : Type 0 where
   pub file : File
-  pub told : MakerRepresentsFile maker profile names file
+  pub contents : MakerRepresentsFile maker profile names file
   pub is : (bytes : List ℕ) → bytes_told ≡ Some bytes → compiled profile bytes ≡ Ok file
 
--- what a new maker was told of a file
+-- what a new maker was contents of a file
 pub good_file : (before after : Maker) (profile : Profile) (bytes_told : Option (List ℕ)) (kept names : Pools) →
     MakerRepresents before profile [] → names ≡ kept →
     ParsesToFile (λ p acts. MakerRepresents before p acts) (λ p acts. MakerRepresents after p acts) bytes_told kept →
@@ -42,7 +43,7 @@ good_file before after profile bytes_told kept names new same file =
     names same file in
     record {
       file = f.file;
-      told = record { resolved = f.resolved; stands = f.built profile new; named = f.named; main = f.main };
+      contents = record { resolved = f.resolved; stands = f.built profile new; named = f.named; main = f.main };
       is = λ bytes are. f.is bytes are profile new;
     }
 

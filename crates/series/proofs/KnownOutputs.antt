@@ -7,7 +7,7 @@ use Rattle.tokens.specs.Keywords.{keyword_of}
 use Rattle.grammar.specs.Compiled.{compiled}
 use Rattle.grammar.specs.Intrinsics.{intrinsic_named, intrinsic_name}
 use Rattle.grammar.specs.NameLimits.{most_nested}
-use Rattle.grammar.specs.Profile.{first_profile}
+use Rattle.grammar.specs.ProfileNumbers.{first_profile}
 use Rattle.grammar.specs.DiagnosticTexts.{text_of}
 use Rattle.listings.specs.Listing.{code_lines, externals_lines, function_lines, instr_line, name_line}
 use Rattle.listings.specs.Spelling.{instr_text}

@@ -20,7 +20,8 @@ use Rattle.series.specs.declared.run_results.RunFault.{RunFault}
 use Rattle.series.specs.declared.run_results.RunFault.TheVariants as run_fault
 use Rattle.series.specs.declared.run_results.Status.{Status}
 use Rattle.series.specs.declared.run_results.Status.TheVariants.{Done, Faulty}
-use Rattle.series.specs.Compiling.{SourceFile, and_file, programs_of, compiling, files_of, compile_status}
+use Rattle.series.specs.Compiling.{SourceFile, and_file, compiling, files_of, compile_status}
+use Rattle.series.specs.CompiledFiles.{programs_of}
 use Rattle.series.specs.Output.{output, played, Runs, StopsRun}
 use Rattle.series.specs.Pieces.{Piece, Taken, Writes, Begins}
 use Rattle.series.specs.Playing.{playing}

@@ -18,7 +18,7 @@ use Rattle.series.proofs.PiecesLemmas.{begins_then, writes_split}
 use Rattle.series.proofs.RunsLemmas.{feed_here, rest_more}
 
 module _ {X : Type 0} where
-  -- what a feed tells, and what it told at the start
+  -- what a feed tells, and what it contents at the start
   told_there : (tells : X → Option (List ℕ)) (start feeds : List X) (file : ℕ) (x : X) → file < length start →
       drop file feeds ≡ drop file start
       → get_or (map tells start) file None ≡ tells (get_or feeds file x)
@@ -56,7 +56,7 @@ module _ {X : Type 0} where
       subst Takes (sym (told_others tells feeds file i y other)) (read i below)
 
   -- the file that was read
-  pub reads_here : (Takes : (told later : Option (List ℕ)) → Type 0) (tells : X → Option (List ℕ))
+  pub reads_here : (Takes : (contents later : Option (List ℕ)) → Type 0) (tells : X → Option (List ℕ))
       (start feeds : List X) (file : ℕ) (x y : X) → file < length start
       → drop file feeds ≡ drop file start → Takes (tells (get_or feeds file x)) (tells y)
       → Takes (get_or (map tells start) file None) (get_or (map tells (set feeds file y)) file None)
@@ -74,7 +74,7 @@ module _ {X : Type 0} where
       → TakesOfFirst profile (map tells start) (map tells (set feeds file y)) (file + 1)
   reads_more tells profile start feeds file x y within same read takes =
       below_more _ _ (reads_before tells profile start feeds file y read)
-      (reads_here (λ told later. TakesOf profile told later 4096) tells start feeds file x y within same takes)
+      (reads_here (λ contents later. TakesOf profile contents later 4096) tells start feeds file x y within same takes)
 
   unread_of : (tells : X → Option (List ℕ)) (start feeds : List X) (count : ℕ) → drop count feeds ≡ drop count start
       → drop count (map tells feeds) ≡ drop count (map tells start)
@@ -136,14 +136,14 @@ cut_behind mode profile sources count before now after pieces writes begins =
     (between, front, (rest ++ pieces, begins_then between now after rest pieces back begins))
 
 -- what was read by the end of the matches
-pub reads_played : (settings : Settings) (result : Result Status RunFault) (told later : List (Option (List ℕ)))
+pub reads_played : (settings : Settings) (result : Result Status RunFault) (contents later : List (Option (List ℕ)))
     (before after : Taken)
-    → ReadsFirst settings.profile told later (length told)
+    → ReadsFirst settings.profile contents later (length contents)
     → MatchResult result (λ status. status ≡ Done) (λ stopped. stopped ≡ run_fault.Write)
-    → (result ≡ Err run_fault.Write → (sources : List SourceFile) → AreSources sources settings.file_words told
-    → TakesPast before after (compiling settings.mode settings.profile (take (length told - 1) sources)))
-    → ReadsSources settings result told later before after
-reads_played settings (Ok status) told later before after reads is puts = reads
-reads_played settings (Err stopped) told later before after reads is puts =
-    let P : RunFault → Type 0 = λ f. StopsReading settings f told later before after in
-    subst P (sym is) (record { count = length told; reads = reads; puts = puts (ap (λ f. Err f) is) })
+    → (result ≡ Err run_fault.Write → (sources : List SourceFile) → AreSources sources settings.file_words contents
+    → TakesPast before after (compiling settings.mode settings.profile (take (length contents - 1) sources)))
+    → ReadsSources settings result contents later before after
+reads_played settings (Ok status) contents later before after reads is puts = reads
+reads_played settings (Err stopped) contents later before after reads is puts =
+    let P : RunFault → Type 0 = λ f. StopsReading settings f contents later before after in
+    subst P (sym is) (record { count = length contents; reads = reads; puts = puts (ap (λ f. Err f) is) })

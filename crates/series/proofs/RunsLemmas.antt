@@ -5,7 +5,8 @@ use Rattle.std.proofs.lemmas.List.Elements.{All-push}
 use Rattle.std.proofs.lemmas.List.{get_or-map, get_or-drop, drop-set-lt, length-map, map-set}
 use Rattle.std.proofs.Math.Seq.{map-set_same}
 use Rattle.series.specs.Compiling.{SourceFile}
-use Rattle.tokens.specs.Feed.{FailureCount, failed_again}
+use Rattle.tokens.specs.Feed.{failed_again}
+use Rattle.tokens.specs.Device.{FailureCount}
 use Rattle.series.specs.Failures.{Failures, failing, feed_failed, no_device, SinkFailed}
 use Rattle.series.specs.SourceContents.{AreSources}
 use Rattle.sinks.specs.Texts.{file_name}
@@ -15,17 +16,17 @@ abbrev pub no_source : SourceFile
 no_source = record { word = []; bytes = [] }
 
 -- each word has its source
-pub length_sources : (sources : List SourceFile) (words : List (List ℕ)) (told : List (Option (List ℕ))) →
-    AreSources sources words told
+pub length_sources : (sources : List SourceFile) (words : List (List ℕ)) (contents : List (Option (List ℕ))) →
+    AreSources sources words contents
     → length sources ≡ length words
-length_sources sources words told are = sym (length-map sources (λ (s : SourceFile). s.word)) ∙ ap length are.named
+length_sources sources words contents are = sym (length-map sources (λ (s : SourceFile). s.word)) ∙ ap length are.named
 
 -- the source of a word
-pub word_here : (sources : List SourceFile) (words : List (List ℕ)) (told : List (Option (List ℕ))) (file : ℕ) →
-    AreSources sources words told
+pub word_here : (sources : List SourceFile) (words : List (List ℕ)) (contents : List (Option (List ℕ))) (file : ℕ) →
+    AreSources sources words contents
     → file < length words → get_or words file [] ≡ (get_or sources file no_source).word
-word_here sources words told file are within =
-    let in_sources : file < length sources = rw (length_sources sources words told are) within in
+word_here sources words contents file are within =
+    let in_sources : file < length sources = rw (length_sources sources words contents are) within in
     rw (sym are.named) (get_or-map (λ (s : SourceFile). s.word) sources file no_source [] in_sources)
 
 module _ {X : Type 0} where
@@ -110,14 +111,14 @@ module _ {X : Type 0} where
       drop-set-lt (file + 1) feeds file y (omega arith) ∙ behind feeds ∙ ap (λ l. drop 1 l) same ∙ sym (behind start)
 
   -- the name of a source's file
-  pub name_here : (bytes : X → List ℕ) (words : List X) (sources : List SourceFile) (told : List (Option (List ℕ)))
+  pub name_here : (bytes : X → List ℕ) (words : List X) (sources : List SourceFile) (contents : List (Option (List ℕ)))
       (file : ℕ) (x : X) (word name : List ℕ)
-      → AreSources sources (map bytes words) told → file < length words → word ≡ bytes (get_or words file x) →
+      → AreSources sources (map bytes words) contents → file < length words → word ≡ bytes (get_or words file x) →
       name ≡ file_name word
       → name ≡ file_name (get_or sources file no_source).word
-  name_here bytes words sources told file x word name are within is named =
+  name_here bytes words sources contents file x word name are within is named =
       let in_words : file < length (map bytes words) = rw (length-map words bytes) within in
       named ∙
       ap file_name
       (is ∙ sym (get_or-map bytes words file x [] within) ∙
-      word_here sources (map bytes words) told file are in_words)
+      word_here sources (map bytes words) contents file are in_words)

@@ -1,17 +1,31 @@
 -- What compiling leaves: what the sinks took, and the programs.
-use Rattle.std.specs.Prelude.{◌≡◌, ℕ, List, Option, Result, MatchResult, IfOk, IfSome}
+use Rattle.std.specs.Prelude.{◌≡◌, ℕ, List, Option, Result, MatchResult, IfOk, IfSome, Ok, Err, map, option_map}
 use Rattle.grammar.specs.Compiled.{compiled}
 use Rattle.grammar.specs.Profile.{Profile}
-use Rattle.code.specs.Generation.{Program}
+use Rattle.code.specs.Generation.{Program, code_of}
 use Rattle.settings.specs.declared.settings.Mode.{Mode}
 use Rattle.settings.specs.Settings.{Settings}
 use Rattle.series.specs.declared.compiling.CompileFault.{CompileFault}
 use Rattle.series.specs.declared.run_results.RunFault.{RunFault}
 use Rattle.series.specs.declared.run_results.Status.{Status}
-use Rattle.series.specs.Compiling.{SourceFile, programs_of, compiled_program, compiling, files_of, pieces_of, compile_status}
+use Rattle.series.specs.Compiling.{SourceFile, compiling, files_of, pieces_of, compile_status}
 use Rattle.series.specs.ProgramKeeping.{and_compiled, kept_by, status_by}
 use Rattle.series.specs.Output.{StopsRun}
 use Rattle.series.specs.Pieces.{Piece, Taken, Writes, Begins}
+use Rattle.grammar.specs.declared.diagnostics.Diagnostic.{Diagnostic}
+use Rattle.grammar.specs.Tree.{File}
+
+-- the program of each file
+abbrev pub programs_of : Profile → List SourceFile → Option (List Program)
+programs_of profile sources = option_map (λ files. map (code_of profile) files) (files_of profile sources)
+
+-- the program of a file, or its fault
+abbrev pub program_or_fault : Profile → Result File Diagnostic → Result Program Diagnostic
+program_or_fault profile (Ok file) = Ok (code_of profile file)
+program_or_fault profile (Err d) = Err d
+
+abbrev pub compiled_program : Profile → List ℕ → Result Program Diagnostic
+compiled_program profile bytes = program_or_fault profile (compiled profile bytes)
 
 -- the files were compiled: the sinks took what that writes, and this is the answer, or a device stopped it
 abbrev pub CompilesTo : {T : Type 0} → T → Settings → List SourceFile → Result T RunFault → Taken → Taken → Type 0

@@ -1,5 +1,5 @@
 -- What compiling source files gives and writes.
-use Rattle.std.specs.Prelude.{ℕ, List, [], ◌∷◌, ◌++◌, Option, Some, None, Result, Ok, Err, map, fold, flat_map, option_map}
+use Rattle.std.specs.Prelude.{ℕ, List, [], ◌∷◌, ◌++◌, Option, Some, None, Result, Ok, Err, fold, flat_map}
 use Rattle.grammar.specs.declared.diagnostics.Diagnostic.{Diagnostic}
 use Rattle.grammar.specs.Compiled.{compiled}
 use Rattle.grammar.specs.Pools.{Pools, pools_of}
@@ -30,28 +30,13 @@ and_file _ _ = None
 abbrev pub files_of : Profile → List SourceFile → Option (List File)
 files_of profile sources = fold (λ files source. and_file files (compiled profile source.bytes)) (Some []) sources
 
--- the program of each file
-abbrev pub programs_of : Profile → List SourceFile → Option (List Program)
-programs_of profile sources = option_map (λ files. map (code_of profile) files) (files_of profile sources)
-
--- whether a file had a fault
 abbrev pub compile_status : Option (List File) → Status
 compile_status (Some files) = Done
 compile_status None = Faulty
 
--- the program of a file, or its fault
-abbrev pub program_or_fault : Profile → Result File Diagnostic → Result Program Diagnostic
-program_or_fault profile (Ok file) = Ok (code_of profile file)
-program_or_fault profile (Err d) = Err d
-
-abbrev pub compiled_program : Profile → List ℕ → Result Program Diagnostic
-compiled_program profile bytes = program_or_fault profile (compiled profile bytes)
-
--- a good file's listing goes to the channel of texts
 abbrev pub listing_piece : List ℕ → Pools → Program → Piece
 listing_piece name names code = record { channel = Text; bytes = listing_of name names code }
 
--- a faulty file's diagnostic goes to the channel of faults
 abbrev pub diagnostic_piece : List ℕ → Diagnostic → Piece
 diagnostic_piece name d = record { channel = Faults; bytes = diagnostic_line name d.line (text_of d.code) }
 
@@ -60,14 +45,14 @@ abbrev pub listed : Mode → Piece → List Piece
 listed Listing listing = listing ∷ []
 listed Matches listing = []
 
--- what is written of one file, by its name and what it compiles to
-abbrev pub pieces_of : Mode → Profile → List ℕ → Result File Diagnostic → List Piece
-pieces_of mode profile name (Ok file) = listed mode (listing_piece name (pools_of file) (code_of profile file))
-pieces_of mode profile name (Err d) = diagnostic_piece name d ∷ []
+module _ (mode : Mode) (profile : Profile) where
+  -- what is written of one file, by its name and what it compiles to
+  abbrev pub pieces_of : List ℕ → Result File Diagnostic → List Piece
+  pieces_of name (Ok file) = listed mode (listing_piece name (pools_of file) (code_of profile file))
+  pieces_of name (Err d) = diagnostic_piece name d ∷ []
 
-abbrev pub source_pieces : Mode → Profile → SourceFile → List Piece
-source_pieces mode profile source = pieces_of mode profile (file_name source.word) (compiled profile source.bytes)
+  abbrev pub source_pieces : SourceFile → List Piece
+  source_pieces source = pieces_of (file_name source.word) (compiled profile source.bytes)
 
--- what is written while the files are compiled, in order
-abbrev pub compiling : Mode → Profile → List SourceFile → List Piece
-compiling mode profile sources = flat_map (source_pieces mode profile) sources
+  abbrev pub compiling : List SourceFile → List Piece
+  compiling sources = flat_map source_pieces sources

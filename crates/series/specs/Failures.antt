@@ -1,6 +1,7 @@
 -- Which devices failed, and how often.
 use Rattle.std.specs.Prelude.{◌≡◌, ◌⊎◌, ⊤, ℕ, ◌+◌, ◌-◌, ◌^◌, ◌<◌, Bool, false, true, List, Result, MatchResult, All, is_err, length, map, slice_index_or, slice_set}
-use Rattle.tokens.specs.Feed.{FailureCount, Device, failed_again}
+use Rattle.tokens.specs.Feed.{failed_again}
+use Rattle.tokens.specs.Device.{FailureCount, Device}
 use Rattle.sinks.specs.Portions.{SinkState}
 use Rattle.sinks.specs.Puts.{CanFail, CountsSink}
 use Rattle.series.specs.declared.compiling.CompileFault.{CompileFault}

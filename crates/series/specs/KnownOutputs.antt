@@ -1,7 +1,7 @@
 -- Known outputs: from the bytes of files to what a run writes.
 use Rattle.std.specs.Prelude.{◌≡◌, ℕ, List, [], ◌∷◌, codes, map, ◌++◌}
 use Rattle.battles.specs.Battle.{Outcome}
-use Rattle.grammar.specs.Profile.{first_profile}
+use Rattle.grammar.specs.ProfileNumbers.{first_profile}
 use Rattle.series.specs.declared.run_results.Status.TheVariants.{Done, Faulty}
 use Rattle.series.specs.Compiling.{SourceFile}
 use Rattle.series.specs.DiagnosticLines.{diagnostic_line}

@@ -17,20 +17,17 @@ pub record Taken : Type 0 where
   pub text : Portions
   pub faults : Portions
 
--- these portions on the two channels
 abbrev pub on_both : Portions → Portions → Taken
 on_both text faults = record { text = text; faults = faults }
 
--- what the sink of texts and that of faults have taken
 abbrev pub taken_by_sinks : (text faults : SinkState) → Taken
 taken_by_sinks text faults = on_both text.portions faults.portions
 
--- the channel's sink took exactly these bytes, and the other one nothing
+-- the channel's sink took these bytes, or a prefix of them, and the other one nothing
 abbrev pub TakesOn : Channel → Taken → Taken → List ℕ → Type 0
 TakesOn Text before after bytes = Takes before.text after.text bytes × (after.faults ≡ before.faults)
 TakesOn Faults before after bytes = Takes before.faults after.faults bytes × (after.text ≡ before.text)
 
--- the channel's sink took a prefix of these bytes, and the other one nothing
 abbrev pub TakesPrefixOn : Channel → Taken → Taken → List ℕ → Type 0
 TakesPrefixOn Text before after bytes = TakesPrefix before.text after.text bytes × (after.faults ≡ before.faults)
 TakesPrefixOn Faults before after bytes = TakesPrefix before.faults after.faults bytes × (after.text ≡ before.text)
@@ -41,7 +38,7 @@ Writes before after [] = after ≡ before
 Writes before after (piece ∷ pieces) = (between : Taken) × TakesOn piece.channel before between piece.bytes
     × Writes between after pieces
 
--- the sinks took some of these pieces whole, from the first on, and perhaps a prefix of the next
+-- some of them whole, from the first on, and perhaps a prefix of the next
 abbrev pub Begins : Taken → Taken → List Piece → Type 0
 Begins before after [] = after ≡ before
 Begins before after (piece ∷ pieces) =

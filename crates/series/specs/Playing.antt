@@ -9,10 +9,9 @@ use Rattle.series.specs.Pieces.{Piece, Text}
 abbrev pub text_piece : List ℕ → Piece
 text_piece text = record { channel = Text; bytes = text }
 
--- the reports of n matches, from the first on
-abbrev pub reports : Settings → List File → ℕ → List Piece
-reports settings files count =
-    map (λ k. text_piece (report_text settings files k)) (range_with_len settings.first count)
+module _ (settings : Settings) (files : List File) where
+  abbrev pub reports : ℕ → List Piece
+  reports count = map (λ k. text_piece (report_text settings files k)) (range_with_len settings.first count)
 
-unfoldable pub playing : Settings → List File → List Piece
-playing settings files = reports settings files settings.matches ++ text_piece (totals_text settings files) ∷ []
+  unfoldable pub playing : List Piece
+  playing = reports settings.matches ++ text_piece (totals_text settings files) ∷ []

@@ -1,9 +1,9 @@
 -- What is known of the source files: the word that names each, and the bytes that its device gives.
 use Rattle.std.specs.Prelude.{◌≡◌, ℕ, List, Option, Some, map}
-use Rattle.tokens.specs.Feed.{Device}
+use Rattle.tokens.specs.Device.{Device}
 use Rattle.series.specs.Compiling.{SourceFile}
 
--- of each feed the bytes still to come, if its contents are known
+-- of each feed, if its contents are known
 abbrev pub known_to_come : {F : Type 0} → (F → Device) → List F → List (Option (List ℕ))
 known_to_come device feeds = map (λ feed. (device feed).to_come) feeds
 

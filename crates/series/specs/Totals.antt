@@ -8,19 +8,19 @@ use Rattle.series.specs.Lines.{lines_text}
 abbrev pub survivors : Outcome → ℕ
 survivors outcome = count_by (λ damage. nat_lt damage 100) outcome.damages
 
--- a sole survivor won
-abbrev pub has_won : ℕ → Outcome → Bool
-has_won i outcome = is_survivor outcome i && survivors outcome == 1
+module _ (i : ℕ) (outcome : Outcome) where
+  -- a sole survivor won
+  abbrev pub has_won : Bool
+  has_won = is_survivor outcome i && survivors outcome == 1
 
--- if two or more survived, each of them tied
-abbrev pub has_tied : ℕ → Outcome → Bool
-has_tied i outcome = is_survivor outcome i && nat_le 2 (survivors outcome)
+  -- if two or more survived, each of them tied
+  abbrev pub has_tied : Bool
+  has_tied = is_survivor outcome i && nat_le 2 (survivors outcome)
 
--- all others lost
-abbrev pub has_lost : ℕ → Outcome → Bool
-has_lost i outcome = not (has_won i outcome || has_tied i outcome)
+  -- all others lost
+  abbrev pub has_lost : Bool
+  has_lost = not (has_won || has_tied)
 
--- how often a robot won, tied and lost these matches
 abbrev pub score_of : List Outcome → ℕ → Score
 score_of outcomes i = record {
   won = count_by (has_won i) outcomes;

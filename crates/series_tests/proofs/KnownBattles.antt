@@ -18,7 +18,7 @@ use Rattle.arith.specs.Op.{value_of}
 use Rattle.std.specs.Int.{int_wrap}
 use Rattle.code.specs.Values.{stored}
 use Rattle.grammar.specs.NameLimits.{most_nested}
-use Rattle.grammar.specs.Profile.{first_profile, second_profile}
+use Rattle.grammar.specs.ProfileNumbers.{first_profile, second_profile}
 use Rattle.tokens.specs.Tokens.{tokens, located_tokens}
 use Rattle.tokens.specs.Punctuators.{punctuator_of}
 use Rattle.tokens.specs.Keywords.{keyword_of}

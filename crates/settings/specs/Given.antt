@@ -1,14 +1,31 @@
 -- The settings that follow from what the command line gave.
 use Rattle.std.specs.Prelude.{ℕ, ◌≤◌, List, Bool, Option, Some, None, Result, Err, length, nat_lt, option_map, ok_or, if◌then◌else◌}
-use Rattle.grammar.specs.Profile.{IsProfile, most_profile, profile_numbered}
+use Rattle.grammar.specs.ProfileNumbers.{IsProfile}
+use Rattle.grammar.specs.ProfileNumbers.{most_profile, profile_numbered}
 use Rattle.settings.specs.declared.faults.UseFault.{UseFault}
 use Rattle.settings.specs.declared.faults.UseFault.TheVariants.{Number, TooMany, NoMode}
 use Rattle.settings.specs.declared.settings.Mode.{Mode}
 use Rattle.settings.specs.declared.settings.Numbers.{Numbers}
 use Rattle.settings.specs.declared.settings.Mode.TheVariants.{Listing, Matches}
-use Rattle.settings.specs.SettingsLimits.{most_matches, matches_default, most_cycles, cycles_default, most_seed, seed_default, profile_default, most_first_match, first_default, most_files}
+use Rattle.settings.specs.SettingsLimits.{most_matches, most_cycles, most_seed, most_first_match, most_files}
 use Rattle.settings.specs.Numbers.{value_number}
-use Rattle.settings.specs.Settings.{Settings, settings_of}
+use Rattle.settings.specs.Settings.{Settings}
+use Rattle.settings.specs.Accepted.{settings_of}
+
+abbrev pub matches_default : ℕ
+matches_default = 1
+
+abbrev pub cycles_default : ℕ
+cycles_default = 500000
+
+abbrev pub seed_default : ℕ
+seed_default = 1
+
+abbrev pub profile_default : ℕ
+profile_default = 1
+
+abbrev pub first_default : ℕ
+first_default = 1
 
 -- whether `-c` was given, the texts of `-m`, `-l`, `-s`, `-p` and `-f`, and the file words
 pub record Given : Type 0 where

@@ -1,6 +1,6 @@
 -- Known settings and refusals, worked out by hand.
 use Rattle.std.specs.Prelude.{◌≡◌, ℕ, List, [], ◌∷◌, true, false, Some, None, Ok, Err, codes}
-use Rattle.grammar.specs.Profile.{first_profile, second_profile}
+use Rattle.grammar.specs.ProfileNumbers.{first_profile, second_profile}
 use Rattle.settings.specs.declared.faults.UseFault.TheVariants.{Number, TooMany, NoMode}
 use Rattle.settings.specs.declared.settings.Mode.{Mode}
 use Rattle.settings.specs.declared.settings.Mode.TheVariants.{Listing, Matches}

@@ -1,5 +1,6 @@
 pub mod SettingsLimits
 pub mod Settings
+pub mod Accepted
 pub mod Numbers
 pub mod Given
 pub mod KnownSettings

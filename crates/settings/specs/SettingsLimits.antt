@@ -5,29 +5,14 @@ use Rattle.std.specs.Prelude.{ℕ}
 abbrev pub most_matches : ℕ
 most_matches = 1000000
 
-abbrev pub matches_default : ℕ
-matches_default = 1
-
 abbrev pub most_cycles : ℕ
 most_cycles = 1000000000
-
-abbrev pub cycles_default : ℕ
-cycles_default = 500000
 
 abbrev pub most_seed : ℕ
 most_seed = 18446744073709551615
 
-abbrev pub seed_default : ℕ
-seed_default = 1
-
-abbrev pub profile_default : ℕ
-profile_default = 1
-
 abbrev pub most_first_match : ℕ
 most_first_match = 1000000
-
-abbrev pub first_default : ℕ
-first_default = 1
 
 abbrev pub most_files : ℕ
 most_files = 4

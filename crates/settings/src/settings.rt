@@ -1,7 +1,8 @@
 //! What a run is asked to do.
 
 ghost use Rattle.std.specs.Prelude.{◌≡◌, map};
-ghost use Rattle.settings.specs.Settings.{Settings, AreSettings, settings_of};
+ghost use Rattle.settings.specs.Settings.{Settings};
+ghost use Rattle.settings.specs.Accepted.{AreSettings, settings_of};
 
 use crate::settings_limits::MOST_FILES;
 use arrayvec::ArrayVec;

@@ -21,14 +21,14 @@ and_portions_none (Some taken) =
 
 -- at first nothing is taken
 pub nothing_taken : (p : Portions) (bytes : List ℕ) → TakesAllBut p p bytes bytes
-nothing_taken p bytes = record { portions = []; told = and_portions_none p; joined = refl }
+nothing_taken p bytes = record { portions = []; taken = and_portions_none p; joined = refl }
 
 -- one more call takes a prefix of what is left
 pub one_more : (before now after : Portions) (bytes left : List ℕ) (n : ℕ) → TakesAllBut before now bytes left
     → after ≡ and_portions now (take n left ∷ []) → TakesAllBut before after bytes (between n (length left) left)
-one_more before now after bytes left n so_far told = record {
+one_more before now after bytes left n so_far taken = record {
   portions = so_far.portions ++ take n left ∷ [];
-  told = told ∙ ap (λ p. and_portions p (take n left ∷ [])) so_far.told ∙
+  taken = taken ∙ ap (λ p. and_portions p (take n left ∷ [])) so_far.taken ∙
       and_portions_twice before so_far.portions (take n left ∷ []);
   joined = rw (between_to_end left n (length left) (search rules))
       (simp (concat-append, append_assoc, append-nil, take-append-drop) so_far.joined);
@@ -41,7 +41,7 @@ pub all_taken : (before after : Portions) (bytes : List ℕ) → TakesAllBut bef
 all_taken before after bytes all one =
     record {
       portions = all.portions;
-      told = all.told;
+      taken = all.taken;
       joined = sym (append-nil (concat all.portions)) ∙ all.joined;
       one = one;
     }
@@ -50,14 +50,14 @@ all_taken before after bytes all one =
 pub none_left : (before after : Portions) (bytes : List ℕ) → Takes before after bytes →
     TakesAllBut before after bytes []
 none_left before after bytes all =
-    record { portions = all.portions; told = all.told; joined = append-nil (concat all.portions) ∙ all.joined }
+    record { portions = all.portions; taken = all.taken; joined = append-nil (concat all.portions) ∙ all.joined }
 
 -- what was left is taken, all but some
 pub all_but_then : (before now after : Portions) (bytes left rest : List ℕ) → TakesAllBut before now bytes left
     → TakesAllBut now after left rest → TakesAllBut before after bytes rest
 all_but_then before now after bytes left rest first second = record {
   portions = first.portions ++ second.portions;
-  told = second.told ∙ ap (λ p. and_portions p second.portions) first.told ∙
+  taken = second.taken ∙ ap (λ p. and_portions p second.portions) first.taken ∙
       and_portions_twice before first.portions second.portions;
   joined = simp (concat-append, append_assoc, second.joined) first.joined;
 }
@@ -73,7 +73,7 @@ pub all_but_more : (before after : Portions) (bytes left more : List ℕ) → Ta
     → TakesAllBut before after (bytes ++ more) (left ++ more)
 all_but_more before after bytes left more so_far = record {
   portions = so_far.portions;
-  told = so_far.told;
+  taken = so_far.taken;
   joined = sym (append_assoc (concat so_far.portions) left more) ∙ ap (λ l. l ++ more) so_far.joined;
 }
 
@@ -92,11 +92,11 @@ pub one_call : (before now after : Portions) (bytes left : List ℕ) (n : ℕ) �
     (TakesWhole before → InOneCall before now bytes left)
     → 0 < length left → (TakesWhole now → n ≡ length left) → after ≡ and_portions now (take n left ∷ [])
     → TakesWhole before → InOneCall before after bytes (between n (length left) left)
-one_call before now after bytes left n so_far some all told whole = elim (so_far whole) [
+one_call before now after bytes left n so_far some all taken whole = elim (so_far whole) [
   | inl (same, none) ↦
       let every : n ≡ length left = all (rw same whole) in
       inr (
-        rw (told, same, every, none)
+        rw (taken, same, every, none)
             (ap (λ l. and_portions before (l ∷ [])) (take_all (length bytes) bytes (search rules))),
         rw (every, between_to_end left (length left) (length left) (search rules))
             (drop_all (length left) left (search rules)),

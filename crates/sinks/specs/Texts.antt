@@ -2,7 +2,7 @@
 use Rattle.std.specs.Prelude.{ℕ, ◌-◌, List, ◌++◌, length, replicate, decimal, ◌==◌}
 use Rattle.std.specs.List.{after_last}
 
--- the name of a file in all texts: the part of its word after the last `/`
+-- how all texts name a file: the part of its word after the last `/`
 abbrev pub file_name : List ℕ → List ℕ
 file_name word = after_last (λ b. b == 47) word
 

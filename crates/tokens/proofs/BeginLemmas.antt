@@ -6,7 +6,8 @@ use Rattle.std.proofs.lemmas.Bool.{eqb-true, ne_eqb}
 use Rattle.tokens.specs.Characters.{is_blank, is_letter, is_digit, is_name_byte}
 use Rattle.tokens.specs.Punctuators.{longest_punctuator, spelling, punctuator_of}
 use Rattle.tokens.specs.InputElement.{InputElement, token_span, comment_element, punctuator_element, up_to_close, begins_with, name_token, constant_token, input_element}
-use Rattle.tokens.specs.Tokens.{FitsToken, UnreadSource, ahead_after_byte, line_after, ahead_after, last_located_token, followed_by, is_last, tokens_of_element, located_tokens}
+use Rattle.tokens.specs.Tokens.{UnreadSource, ahead_after_byte, line_after, ahead_after, last_located_token, followed_by, is_last, tokens_of_element, located_tokens}
+use Rattle.tokens.specs.Cursors.{FitsToken}
 use Rattle.tokens.specs.Window.{Window, ahead, IsAtHandOrEnd}
 use Rattle.tokens.specs.Lexing.{to_read, followed, token_ending, in_token_span, in_name, name_going_on, in_constant, constant_going_on, in_punctuator, extended, in_comment, closed_at}
 use Rattle.tokens.specs.declared.located_tokens.Punctuator.{Punctuator}

@@ -1,10 +1,11 @@
 -- The punctuators by their spellings: a punctuator's beginnings are punctuators.
-use Rattle.std.proofs.Common.{◌≡◌, ◌∙◌, ℕ, ◌+◌, ◌<◌, ◌≤◌, Bool, true, false, cond, Option, Some, None, List, [], ◌∷◌, map, ◌++◌, length, take, refl, sym, ap, subst, arith, lit<, lit≤}
+use Rattle.std.proofs.Common.{◌≡◌, ◌∙◌, ℕ, ◌+◌, ◌<◌, ◌≤◌, Bool, true, false, cond, Option, Some, None, List, [], ◌∷◌, ◌++◌, length, take, refl, sym, ap, subst, arith, lit<, lit≤}
 use Rattle.std.specs.Str.{bytes_eq}
 use Rattle.std.proofs.lemmas.Slice.Eq.{bytes_eq-Decides}
 use Rattle.std.proofs.lemmas.Bool.{agree_below_at, lt-leb}
 use Rattle.std.specs.Prelude.{◌&&◌, is_some, nat_le, slice_index}
-use Rattle.tokens.specs.Punctuators.{spelling, row, entry, all_punctuators, punctuator_of}
+use Rattle.std.specs.List.{find}
+use Rattle.tokens.specs.Punctuators.{spelling, all_punctuators, punctuator_of}
 use Rattle.tokens.specs.Tokens.{UnreadSource, located, ahead_after}
 use Rattle.tokens.specs.Lexing.{token_ending, IsOfSingleByte}
 use Rattle.tokens.specs.Characters.{is_digit}
@@ -13,22 +14,23 @@ use Rattle.tokens.specs.declared.located_tokens.Token.TheVariants as variant
 use Rattle.tokens.specs.declared.located_tokens.Punctuator.{Punctuator}
 use Rattle.tokens.specs.declared.located_tokens.Punctuator.TheVariants.{Plus, Minus, Star, Slash, Percent, And, Or, Xor, Tilde, Not, Less, Greater, Equals, ShiftLeft, ShiftRight, LessEquals, GreaterEquals, EqualsEquals, NotEquals, AndAnd, OrOr, PlusPlus, MinusMinus, PlusEquals, MinusEquals, StarEquals, SlashEquals, PercentEquals, ShiftLeftEquals, ShiftRightEquals, AndEquals, XorEquals, OrEquals, OpenRound, CloseRound, OpenCurly, CloseCurly, Comma, Semicolon}
 
-entry-spelled : (bytes : List ℕ) (punctuator : Punctuator) (punctuators : List Punctuator) →
-    entry bytes (map row punctuators) ≡ Some punctuator → bytes ≡ spelling punctuator
-entry-spelled bytes punctuator [] e = absurd cc
-entry-spelled bytes punctuator (m ∷ punctuators) e =
-    by (bytes_eq bytes (spelling m)) refl (entry-spelled bytes punctuator punctuators) e
+find-spelled : (bytes : List ℕ) (punctuator : Punctuator) (punctuators : List Punctuator) →
+    find (λ p. bytes_eq bytes (spelling p)) punctuators ≡ Some punctuator → bytes ≡ spelling punctuator
+find-spelled bytes punctuator [] e = absurd cc
+find-spelled bytes punctuator (m ∷ punctuators) e =
+    by (bytes_eq bytes (spelling m)) refl (find-spelled bytes punctuator punctuators) e
   where
     by : (t : Bool) → bytes_eq bytes (spelling m) ≡ t →
-        (entry bytes (map row punctuators) ≡ Some punctuator → bytes ≡ spelling punctuator) →
-        cond t (Some m) (entry bytes (map row punctuators)) ≡ Some punctuator → bytes ≡ spelling punctuator
+        (find (λ p. bytes_eq bytes (spelling p)) punctuators ≡ Some punctuator → bytes ≡ spelling punctuator) →
+        cond t (Some m) (find (λ p. bytes_eq bytes (spelling p)) punctuators) ≡ Some punctuator →
+        bytes ≡ spelling punctuator
     by true q f e = let d : m ≡ punctuator = cc in (bytes_eq-Decides bytes (spelling m)).0 q ∙ ap spelling d
     by false q f e = f e
 
 pub punctuator_of-spelled : (bytes : List ℕ) (punctuator : Punctuator) → punctuator_of bytes ≡ Some punctuator →
     bytes ≡ spelling punctuator
 unfolding punctuator_of
-punctuator_of-spelled bytes punctuator e = entry-spelled bytes punctuator all_punctuators e
+punctuator_of-spelled bytes punctuator e = find-spelled bytes punctuator all_punctuators e
 
 pub spelling-nonempty : (m : Punctuator) → 0 < length (spelling m)
 spelling-nonempty Plus = lit< tt

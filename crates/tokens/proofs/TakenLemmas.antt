@@ -3,12 +3,14 @@ use Rattle.std.proofs.Common.{◌≡◌, refl, ℕ, zero, suc, ◌+◌, ◌*◌,
 use Rattle.std.specs.Prelude.{IsErrAnd, OnErr, fold, nat_le}
 use Rattle.std.specs.List.{prefix_len}
 use Rattle.std.proofs.lemmas.Option.{same_Some}
-use Rattle.tokens.specs.Feed.{FailureCount, Device, failed_again}
+use Rattle.tokens.specs.Feed.{failed_again}
+use Rattle.tokens.specs.Device.{FailureCount, Device}
 use Rattle.tokens.specs.Punctuators.{punctuator_of, spelling}
 use Rattle.tokens.specs.Keywords.{keyword_of}
 use Rattle.tokens.specs.Ends.{is_decided_by_last_byte, undecided_until}
 use Rattle.tokens.specs.InputElement.{InputElement, Nothing, Space, Unclosed, Lexeme, input_element, up_to_close, begins_with, name_or}
-use Rattle.tokens.specs.Tokens.{UnreadSource, ahead_after_byte, ahead_after, at_end, located, last_located_token, tokens_within, tokens_of_element, located_tokens, FitsToken}
+use Rattle.tokens.specs.Tokens.{UnreadSource, ahead_after_byte, ahead_after, at_end, located, last_located_token, tokens_within, tokens_of_element, located_tokens}
+use Rattle.tokens.specs.Cursors.{FitsToken}
 use Rattle.tokens.specs.Window.{LeavesAsked, Window, TakesBytes, HasReadOn, ahead}
 use Rattle.tokens.specs.Lexing.{to_read, followed, token_ending, in_token_span, name_going_on, constant_going_on, value_token, in_punctuator, extended, in_comment, closed_at, LeavesUnread, StopsWithin, FindsToken, IsFound, IsRead, ReadsToken}
 use Rattle.tokens.specs.declared.devices.DeviceFault.{DeviceFault}

@@ -8,6 +8,17 @@ use Rattle.tokens.specs.Ends.{undecided_until}
 use Rattle.tokens.specs.Window.{Window, KnowsEnd, ahead}
 use Rattle.tokens.specs.declared.located_tokens.LocatedToken.{LocatedToken}
 use Rattle.tokens.specs.declared.windows.Beyond.{Beyond}
+use Rattle.tokens.specs.declared.located_tokens.Token.TheVariants as variant
+use Rattle.tokens.specs.declared.located_tokens.Token.{Token}
+
+-- a constant is within its limit
+abbrev pub FitsToken : Token → Type 0
+FitsToken (variant.Constant value) = value ≤ 2147483647
+FitsToken (variant.Name name) = Unit {0}
+FitsToken (variant.Keyword word) = Unit {0}
+FitsToken (variant.Punctuator punctuator) = Unit {0}
+FitsToken variant.End = Unit {0}
+FitsToken (variant.Fault lexical_error) = Unit {0}
 
 pub record Cursor : Type 0 where
   pub next : LocatedToken

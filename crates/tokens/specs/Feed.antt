@@ -2,22 +2,11 @@
 use Rattle.std.specs.Prelude.{◌≡◌, ◌==◌, ℕ, ◌+◌, ◌-◌, ◌^◌, ◌<◌, ◌≤◌, Bool, false}
 use Rattle.std.specs.Prelude.{List, [], length, take, drop, Option, Some, None, Result, Ok, Err}
 use Rattle.tokens.specs.declared.devices.DeviceFault.{DeviceFault}
-
--- which device it is, by a number that it keeps, and how often a read of it has failed
-pub record FailureCount : Type 0 where
-  pub device : ℕ
-  pub failures : ℕ
+use Rattle.tokens.specs.Device.{FailureCount, Device}
 
 -- the same device, of which one more read has failed
 abbrev pub failed_again : FailureCount → FailureCount
 failed_again account = record account { failures = account.failures + 1 }
-
--- what is said of a device: which one it is and how often it has failed, the bytes still to come, if they are known,
--- and whether a read has given none
-pub record Device : Type 0 where
-  pub account : FailureCount
-  pub to_come : Option (List ℕ)
-  pub ended : Bool
 
 -- a device may be asked: a further failure can be counted, and it has not ended
 pub record MayRead (device : Device) : Type 0 where

@@ -1,7 +1,7 @@
 -- What a read of a real file leaves.
 use Rattle.std.specs.Prelude.{◌≡◌, ℕ, Bool, List, Option, Result, IfOk, OnErr, take}
 use Rattle.std.specs.Io.KnownBytes.{Consumes, IsAtEnd, Keeps}
-use Rattle.tokens.specs.Feed.{FailureCount, Device}
+use Rattle.tokens.specs.Device.{FailureCount, Device}
 
 -- a real device that has failed this often; all have the same number
 abbrev pub real_account : ℕ → FailureCount

@@ -13,20 +13,18 @@ use Rattle.tokens.specs.declared.located_tokens.LexicalError.TheVariants.{BadCha
 use Rattle.tokens.specs.declared.located_tokens.Token.{Token}
 use Rattle.tokens.specs.declared.located_tokens.Token.TheVariants as variant
 
--- an input element: nothing, a blank or a comment of this many bytes, a comment that isn't closed, or a token of this
--- many bytes
+-- with how many bytes it has
 pub data InputElement : Type 0 where
   Nothing : InputElement
-  Space : (count : ℕ) → InputElement
-  Unclosed : InputElement
+  Space : (count : ℕ) → InputElement  -- a blank or a comment
+  Unclosed : InputElement  -- a comment that isn't closed
   Lexeme : (sign : Token) (count : ℕ) → InputElement
 
--- whether the first byte is this one
 abbrev pub begins_with : ℕ → List ℕ → Bool
 begins_with c [] = false
 begins_with c (b ∷ rest) = b == c
 
--- how many bytes there are up to the first `*/`, with it
+-- how many bytes, with the first `*/`
 abbrev pub up_to_close : List ℕ → Option ℕ
 up_to_close [] = None
 up_to_close (b ∷ rest) = if (b == 42) && begins_with 47 rest then Some 2 else option_map suc (up_to_close rest)
@@ -45,7 +43,6 @@ abbrev pub name_token : List ℕ → Token
 name_token name =
     if nat_le (length name) most_name_bytes then name_or name (keyword_of name) else variant.Fault NameTooLong
 
--- the value of decimal digits
 abbrev pub value_of_digits : List ℕ → ℕ
 value_of_digits digits = fold (λ value digit. 10 * value + (digit - 48)) 0 digits
 

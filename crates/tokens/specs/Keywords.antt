@@ -4,12 +4,10 @@ use Rattle.std.specs.Str.{bytes_eq}
 use Rattle.tokens.specs.declared.located_tokens.Keyword.{Keyword}
 use Rattle.tokens.specs.declared.located_tokens.Keyword.TheVariants as keyword
 
--- whether a name is one of these
 abbrev pub is_one_of : List (List ℕ) → List ℕ → Bool
 is_one_of [] name = false
 is_one_of (this ∷ others) name = bytes_eq name this || is_one_of others name
 
--- the names of types
 abbrev pub type_words : List (List ℕ)
 type_words = codes "int" ∷ codes "long" ∷ codes "auto" ∷ codes "register" ∷ []
 
@@ -22,7 +20,6 @@ refused_words =
     ∷ codes "sizeof"
     ∷ codes "static" ∷ codes "extern" ∷ codes "short" ∷ codes "unsigned" ∷ []
 
--- the keyword that a name is, if it is one
 unfoldable pub keyword_of : List ℕ → Option Keyword
 keyword_of name =
     if bytes_eq name (codes "if") then Some keyword.If

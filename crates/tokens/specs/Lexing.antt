@@ -6,10 +6,11 @@ use Rattle.std.specs.Option.{option_map}
 use Rattle.tokens.specs.Characters.{is_blank, is_name_byte, is_digit}
 use Rattle.tokens.specs.Punctuators.{punctuator_of, spelling}
 use Rattle.tokens.specs.InputElement.{up_to_close, name_token}
-use Rattle.tokens.specs.Tokens.{UnreadSource, FitsToken, is_last, ahead_after_byte, ahead_after, at_end, located, last_located_token}
+use Rattle.tokens.specs.Tokens.{UnreadSource, is_last, ahead_after_byte, ahead_after, at_end, located, last_located_token}
+use Rattle.tokens.specs.Cursors.{FitsToken}
 use Rattle.tokens.specs.Tokens.{followed_by, located_tokens}
 use Rattle.tokens.specs.Ends.{undecided_until}
-use Rattle.tokens.specs.Feed.{Device}
+use Rattle.tokens.specs.Device.{Device}
 use Rattle.tokens.specs.Window.{Window, seen}
 use Rattle.tokens.specs.declared.devices.DeviceFault.{DeviceFault}
 use Rattle.tokens.specs.declared.located_tokens.Punctuator.{Punctuator}

@@ -1,4 +1,5 @@
 pub mod Feed
+pub mod Device
 pub mod FileFeeds
 pub mod Name
 pub mod Characters

@@ -1,6 +1,6 @@
 -- A device in memory.
 use Rattle.std.specs.Prelude.{◌≡◌, ◌↔◌, ◌≤◌, ◌-◌, ℕ, Bool, IfOk, IsErr, List, Result, Some}
-use Rattle.tokens.specs.Feed.{Device}
+use Rattle.tokens.specs.Device.{Device}
 use Rattle.tokens.specs.declared.devices.DeviceFault.{DeviceFault}
 
 -- the bytes that it has still to give, how many it gave, how many it gives at most at a read, how often it failed,

@@ -1,5 +1,6 @@
 -- Punctuators: operators, brackets, comma and semicolon.
-use Rattle.std.specs.Prelude.{ℕ, List, [], ◌∷◌, map, Option, Some, None, codes, take, if◌then◌else◌}
+use Rattle.std.specs.Prelude.{ℕ, List, [], ◌∷◌, Option, codes, take}
+use Rattle.std.specs.List.{find}
 use Rattle.std.specs.Option.{option_or}
 use Rattle.std.specs.Str.{bytes_eq}
 use Rattle.tokens.specs.declared.located_tokens.Punctuator.{Punctuator}
@@ -55,16 +56,6 @@ spelling CloseCurly = codes "}"
 spelling Comma = codes ","
 spelling Semicolon = codes ";"
 
--- the entry of a table under this spelling
-abbrev pub entry : {T : Type 0} → List ℕ → List (List ℕ × T) → Option T
-entry bytes [] = None
-entry bytes (row ∷ table) = if bytes_eq bytes row.0 then Some row.1 else entry bytes table
-
--- a punctuator under its spelling
-abbrev pub row : Punctuator → List ℕ × Punctuator
-row punctuator = (spelling punctuator, punctuator)
-
--- each punctuator
 abbrev pub all_punctuators : List Punctuator
 all_punctuators =
     Plus ∷ Minus ∷ Star ∷ Slash ∷ Percent ∷ And ∷ Or ∷ Xor ∷ Tilde ∷ Not ∷ Less ∷ Greater ∷ Equals
@@ -73,11 +64,10 @@ all_punctuators =
     ∷ PlusEquals ∷ MinusEquals ∷ StarEquals ∷ SlashEquals ∷ PercentEquals ∷ ShiftLeftEquals ∷ ShiftRightEquals
     ∷ AndEquals ∷ XorEquals ∷ OrEquals ∷ OpenRound ∷ CloseRound ∷ OpenCurly ∷ CloseCurly ∷ Comma ∷ Semicolon ∷ []
 
--- the punctuator with this spelling, if there is one
 unfoldable pub punctuator_of : List ℕ → Option Punctuator
-punctuator_of bytes = entry bytes (map row all_punctuators)
+punctuator_of bytes = find (λ m. bytes_eq bytes (spelling m)) all_punctuators
 
--- the punctuator that these bytes begin with: the longest, and none is longer than three bytes
+-- the one that these bytes begin with: none is longer than three bytes
 abbrev pub longest_punctuator : List ℕ → Option Punctuator
 longest_punctuator bytes = option_or (punctuator_of (take 3 bytes))
     (option_or (punctuator_of (take 2 bytes)) (punctuator_of (take 1 bytes)))

@@ -6,7 +6,8 @@ use Rattle.std.specs.Option.{option_map}
 use Rattle.tokens.specs.TokenLimits.{most_source_bytes}
 use Rattle.tokens.specs.WindowLimits.{most_taken_bytes, window_bytes}
 use Rattle.tokens.specs.Characters.{is_blank}
-use Rattle.tokens.specs.Feed.{FailureCount, Device, failed_again}
+use Rattle.tokens.specs.Feed.{failed_again}
+use Rattle.tokens.specs.Device.{FailureCount, Device}
 use Rattle.tokens.specs.Source.{source}
 use Rattle.tokens.specs.Tokens.{UnreadSource, line_after}
 use Rattle.tokens.specs.declared.devices.DeviceFault.{DeviceFault}

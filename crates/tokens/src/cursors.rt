@@ -2,7 +2,8 @@
 
 ghost use Rattle.std.specs.Prelude.{◌≡◌, ◌-◌, ◌^◌, ◌<◌, ◌≤◌, ◌∷◌, ℕ, List, Some, drop, false, IfOk, OnOk, OnErr};
 ghost use Rattle.tokens.specs.Feed.{Counts};
-ghost use Rattle.tokens.specs.Tokens.{FitsToken, tokens, is_last};
+ghost use Rattle.tokens.specs.Tokens.{tokens, is_last};
+ghost use Rattle.tokens.specs.Cursors.{FitsToken};
 ghost use Rattle.tokens.specs.Window.{MayHaveAsked, MayAsk};
 ghost use Rattle.tokens.specs.declared.located_tokens.LocatedToken.{LocatedToken};
 ghost use Rattle.tokens.specs.Cursors.{OpensCursor, AdvancesCursor, shown, bytes_taken, undecided_reach_of};
@@ -24,7 +25,7 @@ pub struct Cursor {
 
 impl Model for Cursor {
     ghost use Rattle.tokens.specs.Cursors.{Cursor};
-    ghost use Rattle.tokens.specs.Tokens.{FitsToken};
+    ghost use Rattle.tokens.specs.Cursors.{FitsToken};
     ghost use Rattle.tokens.specs.Window.{IsBounded};
 
     ghost Value = { Cursor };

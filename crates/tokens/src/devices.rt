@@ -1,7 +1,8 @@
 //! Devices that give bytes.
 
 ghost use Rattle.std.specs.Prelude.{◌≡◌, ◌<◌, length};
-ghost use Rattle.tokens.specs.Feed.{Counts, Device, MayRead, Reads, gives_none};
+ghost use Rattle.tokens.specs.Feed.{Counts, MayRead, Reads, gives_none};
+ghost use Rattle.tokens.specs.Device.{Device};
 
 /// A read that failed.
 #[derive(Clone, Copy, Debug, PartialEq, Eq)]

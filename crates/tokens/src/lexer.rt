@@ -4,7 +4,8 @@ ghost use Rattle.std.specs.Prelude.{◌≡◌, ◌≢◌, ◌∷◌, [], ◌-◌
 ghost use Rattle.std.specs.Prelude.{IfOk, IfSome, OnOk, OnErr};
 ghost use Rattle.tokens.specs.Characters.{is_blank, is_digit};
 ghost use Rattle.tokens.specs.InputElement.{name_token};
-ghost use Rattle.tokens.specs.Tokens.{FitsToken, located_tokens, last_located_token};
+ghost use Rattle.tokens.specs.Tokens.{located_tokens, last_located_token};
+ghost use Rattle.tokens.specs.Cursors.{FitsToken};
 ghost use Rattle.tokens.specs.Window.{MayHaveAsked, IsNextByte, MayAsk, ahead, untouched};
 ghost use Rattle.tokens.specs.Lexing.{BeginsConstant, BeginsToken, FindsToken, LeavesUnread, ReadsSlash, ReadsToken};
 ghost use Rattle.tokens.specs.Lexing.{StopsWithin, after_comment, in_comment, in_constant, in_name, in_punctuator};

@@ -1,6 +1,6 @@
 -- What a source compiles to.
 use Rattle.std.specs.Prelude.{◌≡◌, ℕ, List, Result, Ok, Err}
-use Rattle.code.specs.Generation.{IsProgramOf}
+use Rattle.code.specs.Codes.{IsProgramOf}
 use Rattle.grammar.specs.declared.diagnostics.Diagnostic.{Diagnostic}
 use Rattle.grammar.specs.Compiled.{compiled}
 use Rattle.grammar.specs.Pools.{pools_of}

@@ -13,7 +13,8 @@ use Rattle.grammar.specs.Actions.{ends_function, instructions, code_length}
 use Rattle.grammar.specs.Building.{MayFollow, Appends, FitsWithin, IsOver}
 use Rattle.grammar.specs.Following.{Open, InFunction, AValue, BeforeRight, InCall, InBranch, InElse, BeforeTest, InLoopBody, Opened, Computed, few_open, follow, follow_all, then_follow, opens_within, only_on, may_take_statement, statement_done, call_done, is_var_numbered, is_callee_numbered}
 use Rattle.arith.specs.Op.{is_logic}
-use Rattle.grammar.specs.Profile.{Profile, first_profile, second_profile, IsProfile}
+use Rattle.grammar.specs.Profile.{Profile}
+use Rattle.grammar.specs.ProfileNumbers.{first_profile, second_profile, IsProfile}
 use Rattle.grammar.proofs.Beginnings.{beginning_follows}
 use Rattle.grammar.proofs.FollowingLaws.{follow_append}
 use Rattle.grammar.proofs.Lengths.{code_length-last}

@@ -4,7 +4,8 @@ use Rattle.grammar.specs.declared.actions.Action.{Action}
 use Rattle.grammar.specs.declared.actions.Action.TheVariants.{BeginFunction, EndFunction}
 use Rattle.grammar.specs.Actions.{code_length}
 use Rattle.grammar.specs.Following.{follow_all}
-use Rattle.grammar.specs.Profile.{Profile, IsProfile}
+use Rattle.grammar.specs.Profile.{Profile}
+use Rattle.grammar.specs.ProfileNumbers.{IsProfile}
 use Rattle.trees.specs.Opened.{opened_of, open_actions}
 use Rattle.trees.specs.Trees.{made_actions}
 use Rattle.trees.specs.declared.tree_stack.OpenItem.{OpenItem}

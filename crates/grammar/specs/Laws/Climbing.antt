@@ -2,7 +2,7 @@
 use Rattle.std.specs.Prelude.{ℕ, Option, Some, None, nat_le, if◌then◌else◌}
 use Rattle.tokens.specs.declared.located_tokens.Token.{Token}
 use Rattle.grammar.specs.declared.operators.BinaryOperator.{BinaryOperator}
-use Rattle.grammar.specs.Operators.{operator_of}
+use Rattle.grammar.specs.Laws.OperatorTokens.{operator_of}
 
 abbrev pub if_from : ℕ → Option BinaryOperator → Option BinaryOperator
 if_from n None = None

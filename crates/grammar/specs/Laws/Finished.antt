@@ -2,11 +2,12 @@
 use Rattle.std.specs.Prelude.{◌≡◌, ℕ, List, [], Some, None, Ok, Err, true, false}
 use Rattle.std.specs.Option.{is_some}
 use Rattle.tokens.specs.declared.located_tokens.LocatedToken.{LocatedToken}
-use Rattle.grammar.specs.declared.diagnostics.Code.TheVariants as code
+use Rattle.grammar.specs.declared.diagnostics.Code.TheVariants as fault_code
 use Rattle.grammar.specs.Actions.{actions}
 use Rattle.grammar.specs.Compiled.{compiled_tokens, diagnostic, last_line, main_name}
-use Rattle.grammar.specs.Derivation.{Definition, initial_state, state}
-use Rattle.grammar.specs.Faults.{definitions_actions}
+use Rattle.grammar.specs.Derivation.{Definition, initial_state}
+use Rattle.grammar.specs.Laws.StateParts.{state}
+use Rattle.grammar.specs.Beginning.{definitions_actions}
 use Rattle.grammar.specs.Laws.Naming.{line_of_undefined}
 use Rattle.grammar.specs.Laws.Parsing.{DerivesWithoutFault}
 use Rattle.grammar.specs.Pools.{Pools, pools_of}
@@ -20,11 +21,11 @@ abbrev pub PassesAll : Profile → List LocatedToken → Scope → List Definiti
 PassesAll profile located_tokens scope ds =
     DerivesWithoutFault profile (initial_state located_tokens) (state [] [] [] scope ds)
 
--- the names of externals and functions that are known
+-- the names of externals and functions that are in scope
 abbrev pub known_names : Scope → Pools
 known_names scope = record { externals = scope.externals; functions = scope.functions }
 
--- the source is a file: its names are those known, and its actions those of the functions as they were defined
+-- the source is a file: its names are those in scope, and its actions those of the functions as they were defined
 pub record IsFinished (profile : Profile) (located_tokens : List LocatedToken) (scope : Scope) (ds : List Definition)
     : Type 0 where
   pub file : File
@@ -46,11 +47,11 @@ abbrev pub Undefined : Type 0
 Undefined = (profile : Profile) (located_tokens : List LocatedToken) (scope : Scope) (ds : List Definition) (line : ℕ)
     → PassesAll profile located_tokens scope ds →
     line_of_undefined 0 scope.lines scope.begun ≡ Some line
-    → compiled_tokens profile located_tokens ≡ Err (diagnostic line code.FunctionNotDefined)
+    → compiled_tokens profile located_tokens ≡ Err (diagnostic line fault_code.FunctionNotDefined)
 
 -- main isn't among them: the fault is on the last line
 abbrev pub WithoutMain : Type 0
 WithoutMain = (profile : Profile) (located_tokens : List LocatedToken) (scope : Scope) (ds : List Definition)
     → PassesAll profile located_tokens scope ds →
     line_of_undefined 0 scope.lines scope.begun ≡ None → is_some (function_number main_name scope) ≡ false →
-    compiled_tokens profile located_tokens ≡ Err (diagnostic (last_line located_tokens) code.NoMainFunction)
+    compiled_tokens profile located_tokens ≡ Err (diagnostic (last_line located_tokens) fault_code.NoMainFunction)

@@ -1,4 +1,4 @@
--- What a name in a role does to what is known, and what may be wrong with it.
+-- What a name in a role does to the names in scope, and what may be wrong with it.
 use Rattle.std.specs.Prelude.{◌≡◌, ℕ, ◌+◌, ◌<◌, ◌≤◌, List, [], ◌∷◌, ◌++◌, Option, Some, None, length, true, eqb, ◌==◌}
 use Rattle.std.specs.Prelude.{if◌then◌else◌}
 use Rattle.std.specs.List.{IsDistinct, list_any}

@@ -3,8 +3,8 @@ use Rattle.std.specs.Prelude.{nat_le}
 use Rattle.arena.specs.Field.{live_count}
 use Rattle.battles.specs.Battle.{Behaviour, BattleState, state_after}
 use Rattle.battles.specs.Carrying.{AreRobotsOf, HasReached}
-use Rattle.battles.proofs.Cycles.{stage_none, first_begins}
-use Rattle.battles.proofs.Spans.{stage_segment, stage_segments, stage_rest, first_decided, first_undecided, first_skipped, first_limit}
+use Rattle.battles.proofs.Cycles.{state_none, first_begins}
+use Rattle.battles.proofs.Spans.{state_segment, state_segments, state_rest, first_decided, first_undecided, first_skipped, first_limit}
 use Rattle.battles.proofs.Manned.{have_places}
 use Rattle.battles.proofs.scheduler.play_cycles.Goals as goal
 
@@ -13,22 +13,22 @@ loop-number-init c = record {
   within = omega arith;
   manned = c.requires.manned;
   updates = c.requires.updates;
-  stage = λ robots s are reached. rw stage_none reached;
+  state = λ robots s are reached. rw state_none reached;
   cycles = λ robots s are reached. first_begins robots s c.args.limit;
 }
 
-pub returns-then-play_period-clause-stage : goal.returns-then-play_period-clause-stage
-returns-then-play_period-clause-stage c = λ robots s are reached.
-    rw (stage_segment robots s c.loop-number.number)
-    (c.play_period.ensures.stage robots _ are (c.loop-number.invariant.stage robots s are reached)).reached
+pub returns-then-play_period-clause-state : goal.returns-then-play_period-clause-state
+returns-then-play_period-clause-state c = λ robots s are reached.
+    rw (state_segment robots s c.loop-number.number)
+    (c.play_period.ensures.state robots _ are (c.loop-number.invariant.state robots s are reached)).reached
 
 pub returns-then-play_period-clause-cycles : goal.returns-then-play_period-clause-cycles
 returns-then-play_period-clause-cycles c = λ robots s are reached.
     let within : c.loop-number.number < c.args.limit / 15 = c.loop-number-test.true in
-    let now = c.loop-number.invariant.stage robots s are reached in
+    let now = c.loop-number.invariant.state robots s are reached in
     first_decided robots s c.loop-number.number c.args.limit _ (omega arith)
     (c.loop-number.invariant.cycles robots s are reached)
-    (sym (c.if-play_period.ensures.stage robots _ are now).decided)
+    (sym (c.if-play_period.ensures.state robots _ are now).decided)
 
 pub skip_intervals-number-requires-clause-places : goal.skip_intervals-number-requires-clause-places
 skip_intervals-number-requires-clause-places c =
@@ -45,8 +45,8 @@ loop-number-preserved c =
     HasReached c.args.runners.now exes c.args.arena.now s
     → HasReached c.play_period.new.runners exes c.play_period.new.arena (state_after robots s (15 * (n + 1))) =
     λ robots s are reached.
-    rw (stage_segment robots s n)
-    (c.play_period.ensures.stage robots _ are (c.loop-number.invariant.stage robots s are reached)).reached in
+    rw (state_segment robots s n)
+    (c.play_period.ensures.state robots _ are (c.loop-number.invariant.state robots s are reached)).reached in
     record {
       within = most;
       manned = c.skip_intervals-number.ensures.manned exes c.play_period.ensures.manned;
@@ -56,27 +56,27 @@ loop-number-preserved c =
         c.play_period.ensures.updates,
         c.loop-number.invariant.updates,
       );
-      stage = λ robots s are reached.
-          rw (stage_segments robots s (n + 1) k)
-          (c.skip_intervals-number.ensures.stage exes robots _ are (segmented robots s are reached)).reached;
+      state = λ robots s are reached.
+          rw (state_segments robots s (n + 1) k)
+          (c.skip_intervals-number.ensures.state exes robots _ are (segmented robots s are reached)).reached;
       cycles = λ robots s are reached.
-          let now = c.loop-number.invariant.stage robots s are reached in
-          let undecided = sym (c.if-play_period.ensures.stage robots _ are now).decided in
+          let now = c.loop-number.invariant.state robots s are reached in
+          let undecided = sym (c.if-play_period.ensures.state robots _ are now).decided in
           let next =
           first_undecided robots s n c.args.limit _ (omega arith)
           (c.loop-number.invariant.cycles robots s are reached) undecided in
           let few = λ (t : BattleState). nat_le (live_count t.field) 1 in
           first_skipped robots s (n + 1) k c.args.limit _ (omega arith) next
           (λ j low. ap (λ count. nat_le count 1)
-          ((c.skip_intervals-number.ensures.stage exes robots _ are (segmented robots s are reached)).alive j low)
-          ∙ ap few (stage_segment robots s n) ∙ undecided);
+          ((c.skip_intervals-number.ensures.state exes robots _ are (segmented robots s are reached)).alive j low)
+          ∙ ap few (state_segment robots s n) ∙ undecided);
     }
 
-pub returns-clause-stage : goal.returns-clause-stage
-returns-clause-stage c = λ robots s are reached.
+pub returns-clause-state : goal.returns-clause-state
+returns-clause-state c = λ robots s are reached.
     let all : c.loop-number.number ≡ c.args.limit / 15 = omega arith in
-    rw (stage_rest robots s c.loop-number.number c.args.limit all)
-    (c.play_interval.ensures.stage robots _ are (c.loop-number.invariant.stage robots s are reached))
+    rw (state_rest robots s c.loop-number.number c.args.limit all)
+    (c.play_interval.ensures.state robots _ are (c.loop-number.invariant.state robots s are reached))
 
 pub returns-clause-cycles : goal.returns-clause-cycles
 returns-clause-cycles c = λ robots s are reached.

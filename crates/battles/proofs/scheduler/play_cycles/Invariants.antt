@@ -9,7 +9,7 @@ invariant-loop-number l = record {
   within : l.number ≤ l.intervals;
   manned : HaveMachines l.executables l.runners l.arena;
   updates : l.arena.updates ≡ l.number;
-  stage : (robots : List Behaviour) (s : BattleState) → AreRobotsOf l.executables robots
+  state : (robots : List Behaviour) (s : BattleState) → AreRobotsOf l.executables robots
       → HasReached l.initial.runners l.executables l.initial.arena s
       → HasReached l.runners l.executables l.arena (state_after robots s (15 * l.number));
   cycles : (robots : List Behaviour) (s : BattleState) → AreRobotsOf l.executables robots

@@ -26,16 +26,16 @@ turned : (c : goal.After-has_two_live) (robots : List Behaviour) (s : BattleStat
 turned c robots s are reached = elim c.if-not-advance_if_ahead.branch [
   | then-not-advance_if_ahead w ↦
       rw (w.runners-is, w.arena-is)
-      (w.play_interval.ensures.stage robots s are
+      (w.play_interval.ensures.state robots s are
       (rw (c.advance_if_ahead.ensures.stays w.if-not-advance_if_ahead.true) reached))
   | else-not-advance_if_ahead w ↦
       rw (w.runners-is, w.arena-is)
-      (c.advance_if_ahead.ensures.stage w.if-not-advance_if_ahead.false c.args.executables.now robots s are reached)
+      (c.advance_if_ahead.ensures.state w.if-not-advance_if_ahead.false c.args.executables.now robots s are reached)
 ]
 
-pub returns-clause-stage : goal.returns-clause-stage
+pub returns-clause-state : goal.returns-clause-state
 unfolding period
-returns-clause-stage c = λ robots s are reached.
+returns-clause-state c = λ robots s are reached.
     let now = turned c robots s are reached in
     record {
       reached = updated_reached _ c.args.executables.now _ _ (cycles_without_updates robots 15 s) now

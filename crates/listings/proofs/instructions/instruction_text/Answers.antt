@@ -7,4 +7,4 @@ pub returns-in-Ok : goal.returns-in-Ok
 returns-in-Ok c =
     let took = (c.in-Ok.ensures _ _ (c.add_instruction.ensures.text _ _ (c.new-pen.ensures.text _))).0 in
     let nothing = ap (λ (sink : MemorySink). sink.portions) c.new-sink.ensures in
-    rw (all_taken _ _ took.portions _ nothing took.told took.joined) at c.joined.ensures
+    rw (all_taken _ _ took.portions _ nothing took.taken took.joined) at c.joined.ensures

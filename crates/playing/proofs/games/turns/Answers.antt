@@ -1,6 +1,6 @@
 use Rattle.std.proofs.Common.{◌≡◌, ◌∙◌, ap, arith, length, refl}
 use Rattle.std.proofs.lemmas.List.{length-map, length-set}
-use Rattle.battles.proofs.Stages.{robots_length, turns_none}
+use Rattle.battles.proofs.States.{robots_length, turns_none}
 use Rattle.playing.specs.Pilot.{Pilot}
 use Rattle.playing.specs.Played.{codes_of, exes_of, plainly}
 use Rattle.playing.proofs.Playing.{codes_length, codes_stay, lives_are, one_turned}
@@ -12,7 +12,7 @@ loop-robot-init g c = record {
   updates = refl;
   codes = refl;
   pilots = refl;
-  stage = λ robots s are played. rw (turns_none robots s) played;
+  state = λ robots s are played. rw (turns_none robots s) played;
 }
 
 pub loop-robot-preserved : goal.loop-robot-preserved
@@ -24,7 +24,7 @@ loop-robot-preserved g c = record {
       c.turn.ensures.program
       ∙ c.loop-robot.invariant.codes;
   pilots = length-set c.loop-robot.pilots c.loop-robot.robot c.turn.new.self ∙ c.loop-robot.invariant.pilots;
-  stage = λ robots s are played.
+  state = λ robots s are played.
       one_turned (codes_of c.args.pilots.now) robots c.loop-robot.pilots c.loop-robot.robot c.index-pilots-robot.result
       c.turn.new.self c.loop-robot.arena c.turn.new.arena s are c.loop-robot.invariant.codes (omega arith)
       (record {
@@ -32,11 +32,11 @@ loop-robot-preserved g c = record {
         dead = λ dead.
             let same = c.turn.ensures.dead dead in (ap (λ (seat : Pilot). seat.state) same.0, same.1);
         lives = c.turn.ensures.lives;
-      }) (c.loop-robot.invariant.stage robots s are played);
+      }) (c.loop-robot.invariant.state robots s are played);
 }
 
-pub returns-clause-stage : goal.returns-clause-stage
-returns-clause-stage g c = λ robots s are played.
+pub returns-clause-state : goal.returns-clause-state
+returns-clause-state g c = λ robots s are played.
     let all : c.loop-robot.robot ≡ length robots =
     omega (
       arith,
@@ -47,4 +47,4 @@ returns-clause-stage g c = λ robots s are played.
       c.loop-robot-test.false,
       c.loop-robot.auto,
     ) in
-    rw all at (c.loop-robot.invariant.stage robots s are played)
+    rw all at (c.loop-robot.invariant.state robots s are played)

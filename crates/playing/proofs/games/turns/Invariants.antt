@@ -11,7 +11,7 @@ invariant-loop-robot g l = record {
   updates : l.arena.updates ≡ l.initial.arena.updates;
   codes : codes_of l.pilots ≡ codes_of l.initial.pilots;
   pilots : length l.pilots ≡ length l.initial.pilots;
-  stage : (robots : List Behaviour) (s : BattleState) → AreRobotsOf (exes_of (codes_of l.initial.pilots)) robots
+  state : (robots : List Behaviour) (s : BattleState) → AreRobotsOf (exes_of (codes_of l.initial.pilots)) robots
       → HavePlayed (codes_of l.initial.pilots) l.initial.pilots l.initial.arena s
       → HavePlayed (codes_of l.initial.pilots) l.pilots l.arena (turns robots l.robot s);
 }

@@ -25,7 +25,7 @@ returns-in-Err-Write-clause-read g c = record {
       (omega arith) c.loop-file.invariant.0 c.loop-file.invariant.5
       (rw (c.in-Err-Write.field-0-is, c.profile-profile.ensures.value) at c.in-Err-Write.ensures.read));
   puts = λ sources are.
-      let told =
+      let contents =
       told_here (λ feed. (g.F.Feed.device feed).to_come) c.args.feeds.now c.loop-file.feeds sources
       c.args.settings.now.file_words
       c.loop-file.file c.index-feeds-file.result are c.requires.ready.files (omega arith) c.loop-file.invariant.0 in
@@ -36,7 +36,7 @@ returns-in-Err-Write-clause-read g c = record {
       (pieces_of (g.K.TakesPrograms.mode c.loop-file.keeper) c.profile-profile.result c.file_name-name.result.now
       (compiled c.profile-profile.result (get_or sources c.loop-file.file no_source).bytes))
       (c.loop-file.invariant.4 sources are).0
-      ((rw c.in-Err-Write.field-0-is at c.in-Err-Write.ensures.output) _ told).output;
+      ((rw c.in-Err-Write.field-0-is at c.in-Err-Write.ensures.output) _ contents).output;
 }
 
 pub returns-in-Err-Read-clause-read : goal.returns-in-Err-Read-clause-read
@@ -75,7 +75,7 @@ loop-file-preserved g c = (
       ) in
       let in_sources : c.loop-file.file < length sources =
       omega (arith, length_sources sources c.args.settings.now.file_words _ are) in
-      let told =
+      let contents =
       told_here (λ feed. (g.F.Feed.device feed).to_come) c.args.feeds.now c.loop-file.feeds sources
       c.args.settings.now.file_words
       c.loop-file.file c.index-feeds-file.result are c.requires.ready.files within c.loop-file.invariant.0 in (
@@ -92,17 +92,17 @@ loop-file-preserved g c = (
                   c.as_bytes.result.now
                   c.file_name-name.result.now
                   named in_words c.as_bytes.ensures.value c.file_name-name.ensures,
-            ) at (c.in-Ok.ensures.output _ told).output),
+            ) at (c.in-Ok.ensures.output _ contents).output),
         c.worse_status-status.ensures
             ∙
             status_more c.args.settings.now.profile sources c.loop-file.file c.loop-file.status c.in-Ok.compiled
             in_sources (c.loop-file.invariant.4 sources are).1
-            (rw c.profile-profile.ensures.value at (c.in-Ok.ensures.output _ told).status),
+            (rw c.profile-profile.ensures.value at (c.in-Ok.ensures.output _ contents).status),
         rw c.worse_status-status.ensures
             (kept_with c.args.settings.now.profile sources c.loop-file.file c.loop-file.status c.in-Ok.compiled _ _
             in_sources (c.loop-file.invariant.4 sources are).2
-            (rw c.profile-profile.ensures.value at (c.in-Ok.ensures.output _ told).status)
-            (rw c.profile-profile.ensures.value at (c.in-Ok.ensures.output _ told).keeps)),
+            (rw c.profile-profile.ensures.value at (c.in-Ok.ensures.output _ contents).status)
+            (rw c.profile-profile.ensures.value at (c.in-Ok.ensures.output _ contents).keeps)),
       ),
   reads_more (λ feed. (g.F.Feed.device feed).to_come) c.args.settings.now.profile c.args.feeds.now c.loop-file.feeds
       c.loop-file.file
@@ -152,7 +152,7 @@ returns-in-Err-Write-clause-output g c =
           in
           let in_sources : c.loop-file.file < length sources =
           omega (arith, length_sources sources c.args.settings.now.file_words _ are) in
-          let told =
+          let contents =
           told_here (λ feed. (g.F.Feed.device feed).to_come) c.args.feeds.now c.loop-file.feeds sources
           c.args.settings.now.file_words
           c.loop-file.file c.index-feeds-file.result are c.requires.ready.files within c.loop-file.invariant.0 in
@@ -169,7 +169,7 @@ returns-in-Err-Write-clause-output g c =
                 c.as_bytes.result.now
                 c.file_name-name.result.now
                 named in_words c.as_bytes.ensures.value c.file_name-name.ensures,
-          ) at ((rw c.in-Err-Write.field-0-is at c.in-Err-Write.ensures.output) _ told).output)
+          ) at ((rw c.in-Err-Write.field-0-is at c.in-Err-Write.ensures.output) _ contents).output)
           );
       programs = tt;
     }

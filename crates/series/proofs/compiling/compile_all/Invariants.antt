@@ -1,7 +1,8 @@
 use Rattle.std.proofs.Common.{◌≡◌, List, drop, take}
 use Rattle.std.specs.Prelude.{IfSome}
 use Rattle.battles.specs.Programs.{AreOfProfile}
-use Rattle.series.specs.Compiling.{SourceFile, compiling, programs_of, files_of, compile_status}
+use Rattle.series.specs.Compiling.{SourceFile, compiling, files_of, compile_status}
+use Rattle.series.specs.CompiledFiles.{programs_of}
 use Rattle.series.specs.Failures.{failures}
 use Rattle.series.specs.Pieces.{taken_by_sinks, Writes}
 use Rattle.series.specs.SourceReading.{TakesOfFirst}

@@ -31,17 +31,19 @@ returns-in-Err-clause-output g c =
 pub returns-in-Ok-Done-clause-read : goal.returns-in-Ok-Done-clause-read
 returns-in-Ok-Done-clause-read g c =
     let settings = c.args.settings.now in
-    let told = known_to_come g.F.Feed.device c.args.feeds.now in
+    let contents = known_to_come g.F.Feed.device c.args.feeds.now in
     let before = taken_by_sinks (g.O.Sink.written c.args.out.now) (g.E.Sink.written c.args.err.now) in
     let compiled = taken_by_sinks (g.O.Sink.written c.compile_all.new.out) (g.E.Sink.written c.compile_all.new.err) in
     let after = taken_by_sinks (g.O.Sink.written c.play_all.new.out) (g.E.Sink.written c.compile_all.new.err) in
-    reads_played settings c.play_all.result told (known_to_come g.F.Feed.device c.compile_all.new.feeds) before after
+    reads_played settings c.play_all.result contents (known_to_come g.F.Feed.device c.compile_all.new.feeds) before
+    after
     c.in-Ok-Done.ensures.read c.play_all.ensures.answer
     (λ failed sources are.
     let compiles = rw c.in-Ok-Done.field-0-is at (c.in-Ok-Done.ensures.output sources are).output in
     let codes = rw c.in-Ok-Done.field-0-is at (c.in-Ok-Done.ensures.output sources are).programs in
     let kept = kept_codes c.resolved_files.ensures settings.profile sources c.compile_all.new.keeper.programs codes in
-    cut_behind settings.mode settings.profile sources (length told - 1) before compiled after (playing settings kept.0)
+    cut_behind settings.mode settings.profile sources (length contents - 1) before compiled after
+    (playing settings kept.0)
     compiles.0
     (rw failed at (c.play_all.ensures.output kept.0 (g.E.Sink.written c.compile_all.new.err) kept.2)))
 

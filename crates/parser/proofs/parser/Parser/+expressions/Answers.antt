@@ -6,7 +6,7 @@ use Rattle.tokens.specs.declared.located_tokens.LocatedToken.{LocatedToken}
 use Rattle.tokens.specs.declared.located_tokens.Punctuator.TheVariants as punctuator
 use Rattle.grammar.specs.declared.diagnostics.ParseFault.TheVariants as parse_fault
 use Rattle.grammar.specs.Grammar.{Expression, Level, Part, Unary, is_lexical_error, is_punctuator}
-use Rattle.grammar.specs.Operators.{operator_of}
+use Rattle.grammar.specs.Laws.OperatorTokens.{operator_of}
 use Rattle.grammar.specs.Laws.Climbing.{operator_from}
 use Rattle.parser.specs.Room.{HasLeftSide, HasRoom, room}
 use Rattle.parser.proofs.Advances.{kept_then, on, on_then}

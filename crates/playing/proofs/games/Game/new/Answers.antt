@@ -2,7 +2,7 @@ use Rattle.std.proofs.Common.{◌≡◌, ◌∙◌, length, sym, ap}
 use Rattle.std.proofs.lemmas.List.{length-map}
 use Rattle.battles.specs.Battle.{first_state}
 use Rattle.battles.proofs.Beginnings.{opening_reached}
-use Rattle.battles.proofs.Cycles.{stage_none}
+use Rattle.battles.proofs.Cycles.{state_none}
 use Rattle.playing.specs.Played.{codes_of, exes_of, plainly, runners_of}
 use Rattle.playing.proofs.Playing.{codes_length, ends_begun}
 use Rattle.playing.proofs.games.Game.new.Goals as goal
@@ -17,4 +17,4 @@ returns-clause-battle c = λ robots are.
     opening_reached (runners_of c.begin.new.pilots) (exes_of codes) c.new.result robots (length c.begin.new.pilots)
     c.args.seed c.args.number are all (rw c.from.ensures at c.new.ensures.stands)
     (rw (length-map codes plainly, codes_length c.args.pilots.now) c.begin.ensures.begun) in
-    record { played = rw (stage_none robots s) reached; ends = ends_begun robots s c.args.limit }
+    record { played = rw (state_none robots s) reached; ends = ends_begun robots s c.args.limit }

@@ -10,6 +10,6 @@ returns-clause-battle g c = λ robots s are come.
     let old = the_view c.self.inside in
     let came : HasCome codes robots s c.args.pilots.now old = rw c.self.view_is come in
     record {
-      played = c.turns.ensures.stage robots (state_after robots s old.ending.cycles) are came.played;
+      played = c.turns.ensures.state robots (state_after robots s old.ending.cycles) are came.played;
       ends = came.ends;
     }

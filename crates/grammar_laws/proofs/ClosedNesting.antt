@@ -9,7 +9,7 @@ use Rattle.tokens.specs.declared.located_tokens.Keyword.TheVariants as keyword
 use Rattle.arith.specs.declared.operators.Op.{Op}
 use Rattle.grammar.specs.declared.operators.StoreOp.{StoreOp}
 use Rattle.grammar.specs.Grammar.{Symbol, Source, Types, Head, More, Parameters, ParameterTypes, FunctionBlock, Block, Declarations, Statements, Statement, ElsePart, Back, Expression, Level, Tail, Unary, Primary, Arguments, MoreArguments, Part, choice, enters, assignment_or, tail_production}
-use Rattle.grammar_laws.specs.ClosedLevels.{closes, entered_levels, LevelsAreClosed}
+use Rattle.grammar_laws.specs.ClosedNesting.{closes, nested_entered, NestedProductionsClose}
 use Rattle.grammar.specs.Operators.{operator_at, store_of}
 
 level_close : (n : ℕ) (b : Bool) →
@@ -22,31 +22,31 @@ tail_close n None m = refl
 tail_close n (Some op) m = refl
 
 assignment_close : (o : Option StoreOp) (m : Punctuator) →
-    closes (Some (assignment_or o m)) ≡ entered_levels (is_some o)
+    closes (Some (assignment_or o m)) ≡ nested_entered (is_some o)
 assignment_close None m = refl
 assignment_close (Some op) m = refl
 
 expression_close : (next after : Token) →
-    closes (choice Expression next after) ≡ entered_levels (enters Expression next after)
+    closes (choice Expression next after) ≡ nested_entered (enters Expression next after)
 expression_close (token.Name name) (token.Punctuator m) = assignment_close (store_of m) m
 expression_close next after = refl
 
-primary_close : (next after : Token) → closes (choice Primary next after) ≡ entered_levels (enters Primary next after)
+primary_close : (next after : Token) → closes (choice Primary next after) ≡ nested_entered (enters Primary next after)
 primary_close (token.Name name) (token.Punctuator punctuator.OpenRound) = refl
 primary_close (token.Name name) (token.Punctuator punctuator.PlusPlus) = refl
 primary_close (token.Name name) (token.Punctuator punctuator.MinusMinus) = refl
 primary_close (token.Punctuator punctuator.OpenRound) after = refl
 primary_close next after = refl
 
-head_close : (next after : Token) → closes (choice Head next after) ≡ entered_levels (enters Head next after)
+head_close : (next after : Token) → closes (choice Head next after) ≡ nested_entered (enters Head next after)
 head_close (token.Name name) (token.Punctuator punctuator.OpenRound) = refl
 head_close next after = refl
 
-pub levels_are_close : LevelsAreClosed
-levels_are_close symbol next after = close symbol next after
+pub nested_close : NestedProductionsClose
+nested_close symbol next after = close symbol next after
   where
     close : (symbol : Symbol) (next after : Token) →
-        closes (choice symbol next after) ≡ entered_levels (enters symbol next after)
+        closes (choice symbol next after) ≡ nested_entered (enters symbol next after)
     close Source token.End after = refl
     close Source (token.Keyword keyword.Type) after = refl
     close Source (token.Name name) after = refl

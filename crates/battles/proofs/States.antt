@@ -100,7 +100,7 @@ pub record HasStepped (i : ℕ) (exe : Executable) (runner after : Runner) (aren
       IsAheadOf runner exe trace
       → IsAheadOf after exe (robot_turn r i f trace).1
 
--- So the stage is that after the robot's turn.
+-- So the state is that after the robot's turn.
 pub turn_reached : (exes : List Executable) (robots : List Behaviour) (runners : List Runner) (arena grown : Arena)
     (s : BattleState) (i : ℕ)
     (exe : Executable) (none after : Runner)
