@@ -64,14 +64,7 @@ pub good_more : (program : Program) (kept after : Option (List Program)) → aft
 good_more program None after adds = rw adds refl
 good_more program (Some kept) after adds = rw (adds, length-append kept (program ∷ [])) refl
 
--- the programs kept so far are of a good file's profile
-pub alike : (profile : Profile) (file : File) (program : Program) (kept : Option (List Program)) →
-    program ≡ code_of profile file
-    → IfSome kept (λ k. AreOfProfile profile k) → IfSome kept (λ k. AreOfProfile program.profile k)
-alike profile file program None made each = tt
-alike profile file program (Some kept) made each = rw (ap (λ (c : Program). c.profile) made) each
-
--- and with its program they are
+-- with a good file's program those that are kept are of its profile
 pub alike_more : (profile : Profile) (file : File) (program : Program) (kept after : Option (List Program)) →
     program ≡ code_of profile file
     → IfSome kept (λ k. AreOfProfile profile k) → after ≡ and_program kept program →
