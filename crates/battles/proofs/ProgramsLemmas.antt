@@ -1,6 +1,6 @@
 -- How programs are kept, and looked up.
 use Rattle.std.proofs.Common.{◌≡◌, ℕ, ◌<◌, ◌+◌, zero, suc, List, [], ◌∷◌, ◌++◌, length, map, take, Option, Some, None, get_or, arith, refl, sym, ap, subst, ◌∙◌}
-use Rattle.std.proofs.lemmas.List.{map-append, take_more}
+use Rattle.std.proofs.lemmas.List.{length-map, map-append, take_more}
 use Rattle.std.proofs.lemmas.Grind.{flat_map-append}
 use Rattle.std.proofs.lemmas.Option.{get_or_from_slice_get, slice_get_within}
 use Rattle.std.specs.Prelude.{slice_get, flat_map}
@@ -45,51 +45,40 @@ kept_more {A} kept x all =
     ∙ sym (map-append (λ (x : A). Some x) (flat_map option_to_list kept) (x ∷ []))
     ∙ ap (λ l. map (λ (x : A). Some x) l) (sym (list_more kept x))
 
+-- as many are kept as there are
+pub kept_length : {A : Type 0} (kept : List (Option A)) (items : List A) → AllSome kept →
+    flat_map option_to_list kept ≡ items → length kept ≡ length items
+kept_length {A} kept items all are =
+    ap (λ l. length l) all ∙ length-map (flat_map option_to_list kept) (λ (x : A). Some x) ∙ ap (λ l. length l) are
+
 -- one more program, with its operations
-pub translated_more : (codes : List Program) (kept : List (Option Operations)) (program : Program)
-    (o : Operations) → AreTranslated codes kept → IsTranslated (executable_of program (translated o)) →
-    AreTranslated (codes ++ program ∷ []) (kept ++ Some o ∷ [])
+pub translated_more : (codes : List Program) (kept : List Operations) (program : Program) (o : Operations) →
+    AreTranslated codes kept → IsTranslated (executable_of program (translated o)) →
+    AreTranslated (codes ++ program ∷ []) (kept ++ o ∷ [])
 translated_more [] [] program o are one = (one, tt)
 translated_more [] (p ∷ others) program o are one = absurd are
 translated_more (c ∷ codes) [] program o are one = absurd are
-translated_more (c ∷ codes) (None ∷ others) program o are one = absurd are
-translated_more (c ∷ codes) (Some p ∷ others) program o are one =
-    (are.0, translated_more codes others program o are.1 one)
+translated_more (c ∷ codes) (p ∷ others) program o are one = (are.0, translated_more codes others program o are.1 one)
 
-pub translated_length : (codes : List Program) (kept : List (Option Operations)) → AreTranslated codes kept →
+pub translated_length : (codes : List Program) (kept : List Operations) → AreTranslated codes kept →
     length kept ≡ length codes
 translated_length [] [] are = refl
 translated_length [] (p ∷ others) are = absurd are
 translated_length (c ∷ codes) [] are = absurd are
-translated_length (c ∷ codes) (None ∷ others) are = absurd are
-translated_length (c ∷ codes) (Some p ∷ others) are = ap suc (translated_length codes others are.1)
+translated_length (c ∷ codes) (p ∷ others) are = ap suc (translated_length codes others are.1)
 
--- those of one program are there
-pub translated_there : (codes : List Program) (kept : List (Option Operations)) (place : ℕ)
-    (found : Option Operations) → AreTranslated codes kept → place < length kept → found ≡ get_or kept place found →
-    found ≡ None → ⊥
-translated_there [] [] place found are low there none = absurd (omega (arith, low))
-translated_there [] (p ∷ others) place found are low there none = absurd are
-translated_there (c ∷ codes) [] place found are low there none = absurd are
-translated_there (c ∷ codes) (None ∷ others) place found are low there none = absurd are
-translated_there (c ∷ codes) (Some p ∷ others) zero found are low there none = absurd (cc (there, none))
-translated_there (c ∷ codes) (Some p ∷ others) (suc place) found are low there none =
-    translated_there codes others place found are.1 (omega (arith, low)) there none
-
--- and they are its translation
-pub translated_at : (codes : List Program) (kept : List (Option Operations)) (place : ℕ) (program : Program)
-    (found : Option Operations) (o : Operations) → AreTranslated codes kept → slice_get codes place ≡ Some program →
-    found ≡ get_or kept place found → found ≡ Some o → IsTranslated (executable_of program (translated o))
-translated_at [] kept place program found o are here there is = absurd (cc)
-translated_at (c ∷ codes) [] place program found o are here there is = absurd are
-translated_at (c ∷ codes) (None ∷ others) place program found o are here there is = absurd are
-translated_at (c ∷ codes) (Some p ∷ others) zero program found o are here there is =
+-- those of one program are its translation
+pub translated_at : (codes : List Program) (kept : List Operations) (place : ℕ) (program : Program) (o : Operations) →
+    AreTranslated codes kept → slice_get codes place ≡ Some program → o ≡ get_or kept place o →
+    IsTranslated (executable_of program (translated o))
+translated_at [] kept place program o are here there = absurd (cc)
+translated_at (c ∷ codes) [] place program o are here there = absurd are
+translated_at (c ∷ codes) (p ∷ others) zero program o are here there =
     let same : c ≡ program = cc in
-    let alike : p ≡ o = cc (there, is) in
-    subst (λ (o : Operations). IsTranslated (executable_of program (translated o))) alike
+    subst (λ (o : Operations). IsTranslated (executable_of program (translated o))) (sym there)
     (subst (λ (c : Program). IsTranslated (executable_of c (translated p))) same are.0)
-translated_at (c ∷ codes) (Some p ∷ others) (suc place) program found o are here there is =
-    translated_at codes others place program found o are.1 here there is
+translated_at (c ∷ codes) (p ∷ others) (suc place) program o are here there =
+    translated_at codes others place program o are.1 here there
 
 -- one more is looked up
 pub looked_up : (exes : List Executable) (codes : List Program) (n : ℕ) (exe : Executable)

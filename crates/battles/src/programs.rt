@@ -20,16 +20,19 @@ use std::marker::Model;
 #[derive(Drop)]
 pub struct Programs {
     programs: ArrayVec<Option<Program>, MOST_FILES>,
-    // those of each program: none if it couldn't be translated
-    operations: ArrayVec<Option<Operations>, MOST_FILES>,
+    // those of each program: none if it couldn't be translated. They are translated where they stay
+    operations: [Operations; MOST_FILES],
 }
 
 impl Model for Programs {
+    ghost use Rattle.std.specs.Prelude.{take};
+
     ghost Value = { List Program };
 
     ghost view = { λ p. flat_map option_to_list p.programs.items };
 
-    ghost invariant = { λ p. AllSome p.programs.items × AreTranslated (view p) p.operations.items };
+    ghost invariant = { λ p. AllSome p.programs.items
+        × AreTranslated (view p) (take (length p.programs.items) p.operations) };
 }
 
 impl Programs {
@@ -39,7 +42,7 @@ impl Programs {
     {
         Programs {
             programs: ArrayVec::new(),
-            operations: ArrayVec::new(),
+            operations: Default::default(),
         }
     }
 
@@ -57,10 +60,13 @@ impl Programs {
         requires alike { AreOfProfile program.profile self.old }
         ensures { self.new ≡ self.old ++ program ∷ [] }
     {
-        let mut operations = Operations::default();
-        translate(&program, &mut operations);
-        self.operations.push(Some(operations));
+        let file = self.programs.len();
         self.programs.push(Some(program));
+        let place = &self.programs.as_slice()[file];
+        match place {
+            Some(program) => translate(program, &mut self.operations[file]),
+            None => unreachable!(),
+        }
     }
 
     /// Returns the program of the file with this index.
@@ -81,10 +87,7 @@ impl Programs {
         ensures { (code : Program) → slice_get self.now file ≡ Some code
             → IsTranslated (executable_of code (translated result.now)) }
     {
-        match &self.operations.as_slice()[file] {
-            Some(operations) => operations,
-            None => unreachable!(),
-        }
+        &self.operations[file]
     }
 
     /// Returns how many robots fight: one of each program, and two of a single one.

@@ -13,6 +13,7 @@ pub mod Open
 pub mod Told
 pub mod Finished
 pub mod Mains
+pub mod ShortestProgram
 pub mod Bounds
 pub mod ProgramLaws
 pub mod Frames

@@ -5,7 +5,7 @@ use grammar::{Callee, Op, StoreOp, Var};
 /// An instruction of the stack machine.
 ///
 /// If an instruction doesn't fit, the robot is restarted.
-#[derive(Clone, Copy, Debug, Default, PartialEq, Eq)]
+#[derive(Clone, Copy, Debug, PartialEq, Eq)]
 pub enum Instr {
     /// `FETCH variable`: pushes the variable's value. It doesn't fit if the stack is full.
     Fetch(Var),
@@ -33,6 +33,12 @@ pub enum Instr {
     /// `TRUTH`: takes a word and pushes 1 if it isn't 0, else 0. Only the second profile has it.
     Truth,
     /// `NOP`: ends the code.
-    #[default]
     Nop,
+}
+
+impl Default for Instr {
+    /// Makes an instruction of which blank code consists. It is all zeros, so blank code is cheap to make and never moved.
+    fn default() -> Instr {
+        Instr::Fetch(Var::External(0))
+    }
 }

@@ -44,6 +44,30 @@ impl Model for Program {
     ghost invariant = { λ p. IsProfile p.profile × IsOfSomeFile (view p) × (p.externals ≤ MOST_NAMES) };
 }
 
+impl Default for Program {
+    /// Makes the program of `main(){}` by the first profile, in whose place that of a file is put. It is large, and made
+    /// where it stays.
+    #[inline(always)]
+    fn default() -> Program {
+        let mut code = ArrayVec::new();
+        code.push(Instr::Const(0));
+        code.push(Instr::Retsub);
+        code.push(Instr::Nop);
+        let mut addresses = ArrayVec::new();
+        addresses.push(0);
+        let mut functions = ArrayVec::new();
+        functions.push(FunctionCounts::default());
+        Program {
+            profile: Profile::first(),
+            code,
+            addresses,
+            functions,
+            externals: 0,
+            main: 0,
+        }
+    }
+}
+
 impl Program {
     /// Returns the profile by which the program was made.
     #[inline(always)]

@@ -16,13 +16,21 @@ pub(crate) struct Index {
 }
 
 impl Index {
-    /// Makes an index of no functions.
+    /// Makes an index of no functions, by which each search begins at the first one until the index is cleared. It is
+    /// all zeros, so that blank names are cheap to make and never moved.
     pub(crate) fn new() -> Index
         ensures { IsIndexed [] result.earliest }
     {
         Index {
-            earliest: [MOST_NAMES as u8; BUCKETS],
+            earliest: [0; BUCKETS],
         }
+    }
+
+    /// Forgets all functions.
+    pub(crate) fn clear(&mut self)
+        ensures { IsIndexed [] self.new.earliest }
+    {
+        self.earliest = [MOST_NAMES as u8; BUCKETS];
     }
 
     /// Returns a number before which no function has this name.

@@ -120,7 +120,7 @@ impl Scope {
         self.begun.clear();
         self.number = 0;
         self.current.become_new(&Name::new());
-        self.index = Index::new();
+        self.index.clear();
     }
 
     /// Resolves a mentioned name to its variable. A name that has none becomes the function's next local.

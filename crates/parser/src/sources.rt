@@ -45,6 +45,7 @@ pub fn parse<F: Feed, B: Build>(feed: &mut F, build: &mut B) -> Result<Pools, Pa
     ensures counted { CountsRefusal result (F.device feed.old).account (F.device feed.new).account }
 {
     let mut scope = Scope::new();
+    scope.clear();
     let read = parse_into(feed, build, &mut scope);
     let pools = scope.into_pools();
     read?;

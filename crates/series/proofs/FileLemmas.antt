@@ -26,13 +26,13 @@ file_of_names : (before after : Representation) (contents : Option (List ℕ)) (
     ParsesToFile before after contents kept → ParsesToFile before after contents names
 file_of_names before after contents kept names same file = rw same file
 
--- a parsed file, whose bytes the device may have contents: the maker was contents it, and these are its names
+-- a parsed file, whose bytes may be known: the maker was told it, and these are its names
 pub record IsGood (maker : Maker) (profile : Profile) (bytes_told : Option (List ℕ)) (names : Pools) : Type 0 where
   pub file : File
-  pub contents : MakerRepresentsFile maker profile names file
+  pub told : MakerRepresentsFile maker profile names file
   pub is : (bytes : List ℕ) → bytes_told ≡ Some bytes → compiled profile bytes ≡ Ok file
 
--- what a new maker was contents of a file
+-- what a new maker was told of a file
 pub good_file : (before after : Maker) (profile : Profile) (bytes_told : Option (List ℕ)) (kept names : Pools) →
     MakerRepresents before profile [] → names ≡ kept →
     ParsesToFile (λ p acts. MakerRepresents before p acts) (λ p acts. MakerRepresents after p acts) bytes_told kept →
@@ -43,7 +43,7 @@ good_file before after profile bytes_told kept names new same file =
     names same file in
     record {
       file = f.file;
-      contents = record { resolved = f.resolved; stands = f.built profile new; named = f.named; main = f.main };
+      told = record { resolved = f.resolved; stands = f.built profile new; named = f.named; main = f.main };
       is = λ bytes are. f.is bytes are profile new;
     }
 
@@ -65,14 +65,7 @@ pub good_more : (program : Program) (kept after : Option (List Program)) → aft
 good_more program None after adds = rw adds refl
 good_more program (Some kept) after adds = rw (adds, length-append kept (program ∷ [])) refl
 
--- the programs kept so far are of a good file's profile
-pub alike : (profile : Profile) (file : File) (program : Program) (kept : Option (List Program)) →
-    program ≡ code_of profile file
-    → IfSome kept (λ k. AreOfProfile profile k) → IfSome kept (λ k. AreOfProfile program.profile k)
-alike profile file program None made each = tt
-alike profile file program (Some kept) made each = rw (ap (λ (c : Program). c.profile) made) each
-
--- and with its program they are
+-- with a good file's program those that are kept are of its profile
 pub alike_more : (profile : Profile) (file : File) (program : Program) (kept after : Option (List Program)) →
     program ≡ code_of profile file
     → IfSome kept (λ k. AreOfProfile profile k) → after ≡ and_program kept program →

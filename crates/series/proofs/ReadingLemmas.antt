@@ -18,7 +18,7 @@ use Rattle.series.proofs.PiecesLemmas.{begins_then, writes_split}
 use Rattle.series.proofs.RunsLemmas.{feed_here, rest_more}
 
 module _ {X : Type 0} where
-  -- what a feed tells, and what it contents at the start
+  -- what a feed tells, and what it told at the start
   told_there : (tells : X → Option (List ℕ)) (start feeds : List X) (file : ℕ) (x : X) → file < length start →
       drop file feeds ≡ drop file start
       → get_or (map tells start) file None ≡ tells (get_or feeds file x)

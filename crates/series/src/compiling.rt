@@ -55,8 +55,9 @@ pub(crate) fn compile_all<K: TakesPrograms, F: Feed, O: Sink, E: Sink>(
     let words = settings.file_words();
     let profile = settings.profile();
     let mut status = Status::Done;
-    // Names are large: those of one file have the room of those before.
+    // Names and code are large: those of one file have the room of those before.
     let mut names = Scope::new();
+    let mut maker = Maker::new(profile);
     for file in 0..feeds.len() {
         let name = file_name(words[file].as_bytes());
         let compiled = match compile_file(
@@ -64,6 +65,7 @@ pub(crate) fn compile_all<K: TakesPrograms, F: Feed, O: Sink, E: Sink>(
             profile,
             name,
             &mut names,
+            &mut maker,
             &mut feeds[file],
             out,
             err,
@@ -88,14 +90,15 @@ pub(crate) fn worse_status(first: Status, second: Status) -> Status
 }
 
 /// Compiles the file of a feed, and answers whether it is good. The keeper takes a good file's program; of a faulty one
-/// puts the diagnostic. The file's names take the place of those in the scope: they are large, so they stay where the
-/// caller made them.
+/// puts the diagnostic. The file's names take the place of those in the scope, and the maker begins anew: both are large,
+/// so they stay where the caller made them.
 #[inline(never)]
 fn compile_file<K: TakesPrograms, F: Feed, O: Sink, E: Sink>(
     keeper: &mut K,
     profile: Profile,
     name: &[u8],
     names: &mut Scope,
+    maker: &mut Maker,
     feed: &mut F,
     out: &mut O,
     err: &mut E,
@@ -114,11 +117,10 @@ fn compile_file<K: TakesPrograms, F: Feed, O: Sink, E: Sink>(
         (O.written out.old) (E.written err.old) (O.written out.new) (E.written err.new) }
 {
     names.clear();
-    let mut maker = Maker::new(profile);
-    match parse_into(feed, &mut maker, names) {
+    maker.restart(profile);
+    match parse_into(feed, maker, names) {
         Ok(()) => {
-            let names = names.pools();
-            match keeper.take_program(name, names, maker.finish(names), out) {
+            match keeper.take_program(name, names.pools(), maker, out) {
                 Ok(()) => Ok(Status::Done),
                 Err(DeviceFault) => Err(CompileFault::Write),
             }

@@ -1,7 +1,10 @@
 //! What becomes of the program of a good file: it is kept with those of the other files, or let go.
 
 ghost use Rattle.std.specs.Prelude.{◌≡◌, ◌-◌, ◌^◌, ◌<◌, List, [], Option, Some, None};
-ghost use Rattle.code.specs.Generation.{Program};
+ghost use Rattle.code.specs.Finishing.{MakerRepresentsFile, RepresentsSomeFile};
+ghost use Rattle.code.specs.Generation.{Program, code_of};
+ghost use Rattle.grammar.specs.Profile.{Profile};
+ghost use Rattle.grammar.specs.Tree.{File};
 ghost use Rattle.series.specs.Compiling.{listed, listing_piece};
 ghost use Rattle.series.specs.Pieces.{taken_by_sinks};
 ghost use Rattle.series.specs.ProgramKeeping.{CanKeep, and_program};
@@ -12,7 +15,7 @@ ghost use Rattle.sinks.specs.Portions.{SinkState};
 ghost use Rattle.sinks.specs.Puts.{CanFail, CountsSink};
 
 use battles::Programs;
-use code::Program;
+use code::{Maker, Program};
 use grammar::Pools;
 use listings::put_listing;
 use settings::Mode;
@@ -27,21 +30,24 @@ pub(crate) trait TakesPrograms {
     /// Whether it puts listings.
     ghost mode: { Self → Mode };
 
-    /// Takes the program of the file with this name. Puts its listing with these names, if listings are asked for.
+    /// Takes the program of the file that was reported to the maker, of this name and with these names in it. Puts its
+    /// listing, if listings are asked for.
     fn take_program<S: Sink>(
         &mut self,
         name: &[u8],
         names: &Pools,
-        program: Program,
+        maker: &mut Maker,
         out: &mut S,
     ) -> Result<(), DeviceFault>
-        requires keeps { CanKeep program.profile (kept self.old) }
+        requires made { RepresentsSomeFile maker.old names.now }
+        requires keeps { CanKeep maker.old.profile (kept self.old) }
         requires countable { CanFail (S.written out.old) }
         ensures mode { mode self.new ≡ mode self.old }
-        ensures kept { kept self.new ≡ and_program (kept self.old) program }
-        ensures output { (faults : SinkState)
+        ensures kept { (p : Profile) (file : File) → MakerRepresentsFile maker.old p names.now file
+            → kept self.new ≡ and_program (kept self.old) (code_of p file) }
+        ensures output { (p : Profile) (file : File) (faults : SinkState) → MakerRepresentsFile maker.old p names.now file
             → PutsPieces result (taken_by_sinks (S.written out.old) faults) (taken_by_sinks (S.written out.new) faults)
-            (listed (mode self.old) (listing_piece name.now names.now program)) }
+            (listed (mode self.old) (listing_piece name.now names.now (code_of p file))) }
         ensures count { CountsSink result (S.written out.old) (S.written out.new) };
 }
 
@@ -75,10 +81,12 @@ impl TakesPrograms for Keeper {
         &mut self,
         name: &[u8],
         names: &Pools,
-        program: Program,
+        maker: &mut Maker,
         out: &mut S,
     ) -> Result<(), DeviceFault> {
         let file = self.programs.len();
+        let mut program = Program::default();
+        maker.finish_into(names, &mut program);
         self.programs.push(program);
         match self.mode {
             Mode::Listing => put_listing(out, name, names, self.programs.program(file)),
@@ -89,7 +97,18 @@ impl TakesPrograms for Keeper {
 
 /// Lists each program and lets it go, so that only one program takes room at a time.
 #[derive(Drop)]
-pub(crate) struct Lister;
+pub(crate) struct Lister {
+    program: Program,
+}
+
+impl Lister {
+    /// Makes a lister, with a place for the program that it lists.
+    pub(crate) fn new() -> Lister {
+        Lister {
+            program: Program::default(),
+        }
+    }
+}
 
 impl TakesPrograms for Lister {
     ghost kept = { λ lister. None };
@@ -100,9 +119,10 @@ impl TakesPrograms for Lister {
         &mut self,
         name: &[u8],
         names: &Pools,
-        program: Program,
+        maker: &mut Maker,
         out: &mut S,
     ) -> Result<(), DeviceFault> {
-        put_listing(out, name, names, &program)
+        maker.finish_into(names, &mut self.program);
+        put_listing(out, name, names, &self.program)
     }
 }

@@ -14,7 +14,7 @@ ghost use Rattle.sinks.specs.Puts.{CanFail, CountsSink};
 ghost use Rattle.series.specs.SourceReading.{ReadsSources};
 ghost use Rattle.series.specs.CompiledFiles.{Compiles, PutsPieces};
 ghost use Rattle.series.specs.SourceContents.{AreSources, known_to_come};
-ghost use Rattle.settings.specs.declared.settings.Mode.TheVariants.{Matches};
+ghost use Rattle.settings.specs.declared.settings.Mode.TheVariants.{Listing, Matches};
 
 use crate::compiling::compile_all;
 use crate::keeping::{Keeper, Lister};
@@ -52,9 +52,34 @@ pub fn run<F: Feed, O: Sink, E: Sink>(
         (failures F.device feeds.new (O.written out.new) (E.written err.new)) }
 {
     match settings.mode() {
-        Mode::Listing => compile_all(&mut Lister, settings, feeds, out, err),
+        Mode::Listing => list_files(settings, feeds, out, err),
         Mode::Matches => play_files(settings, feeds, out, err),
     }
+}
+
+/// Compiles the files and lists them.
+///
+/// A program is large: it has a frame of its own, which a run that plays matches doesn't need.
+#[inline(never)]
+fn list_files<F: Feed, O: Sink, E: Sink>(
+    settings: &Settings,
+    feeds: &mut [F],
+    out: &mut O,
+    err: &mut E,
+) -> Result<Status, RunFault>
+    requires listing { settings.now.mode ≡ Listing }
+    requires ready { AreReady F.device (length settings.now.file_words) feeds.old
+        (O.written out.old) (E.written err.old) }
+    ensures output { (sources : List SourceFile) → AreSources sources settings.now.file_words (known_to_come F.device feeds.old)
+        → Runs settings.now sources result (taken_by_sinks (O.written out.old) (E.written err.old))
+        (taken_by_sinks (O.written out.new) (E.written err.new)) }
+    ensures read { ReadsSources settings.now result (known_to_come F.device feeds.old) (known_to_come F.device feeds.new)
+        (taken_by_sinks (O.written out.old) (E.written err.old)) (taken_by_sinks (O.written out.new) (E.written err.new)) }
+    ensures failures { FailsAsAnswered result
+        (failures F.device feeds.old (O.written out.old) (E.written err.old))
+        (failures F.device feeds.new (O.written out.new) (E.written err.new)) }
+{
+    compile_all(&mut Lister::new(), settings, feeds, out, err)
 }
 
 /// Compiles the files, and plays the matches of their programs if no file has a fault.
