@@ -276,7 +276,7 @@ impl Arena {
     pub(crate) fn prove_two_missiles(&self)
         ensures { All (λ s. length s ≤ MOST_MISSILES) self.now.slots }
     {
-        // For the proof alone: a field that is read brings what holds of every arena.
+        // For the proof alone: a field that is read brings the arena's invariant.
         let _ = &self.updates;
     }
 
@@ -284,7 +284,7 @@ impl Arena {
     pub(crate) fn prove_slots(&self)
         ensures { length self.now.slots ≡ length self.now.robots }
     {
-        // For the proof alone: a field that is read brings what holds of every arena.
+        // For the proof alone: a field that is read brings the arena's invariant.
         let _ = &self.updates;
     }
 

@@ -123,7 +123,7 @@ fn near_root(square: u32) -> u32
     newton_step(square, newton_step(square, power))
 }
 
-/// Returns the mean of a guess and of how often it goes into a square: that is no less than the root.
+/// Returns the mean of a guess and of a square divided by it, which is at least the root.
 fn newton_step(square: u32, guess: u32) -> u32
     requires some { 0 < guess }
     requires square { square ≤ MOST_SQUARE }

@@ -45,7 +45,7 @@ pub record KeepsPlayable (exe : Executable) (machine : Engine) (before after : A
   pub robots : length after.robots ≡ length before.robots
   pub updates : after.updates ≡ before.updates
 
--- How far from the begin of an interval of n cycles a machine may run: to its end at least, and no further than
+-- How far from the start of an interval of n cycles a machine may run: to its end at least, and no further than
 -- any machine runs that asks nothing. An interval is at most the cycles between two updates.
 pub record MayRunAhead (cycles farthest : ℕ) : Type 0 where
   pub within : cycles ≤ update_cycles

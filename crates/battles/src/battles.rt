@@ -45,7 +45,7 @@ pub fn battle(
     Outcome::new(cycles, damages(&arena, robots))
 }
 
-/// Starts each robot's runner at the begin of its program.
+/// Starts each robot's runner at the beginning of its program.
 fn begin_runners(runners: &mut [Runner], executables: &Executables)
     requires { length runners.old ≡ length executables.now }
     ensures fits { EachFits runners.new executables.now }

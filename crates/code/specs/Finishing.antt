@@ -16,8 +16,8 @@ use Rattle.code.specs.Reported.{MakerRepresents}
 abbrev pub IsMain : Pools → ℕ → Type 0
 IsMain names number = number_of_name main_name (map (λ (f : FunctionNames). f.name) names.functions) ≡ Some number
 
--- the maker was told the actions of a resolved file, the names are that file's, and its main is the function of that
--- name
+-- the actions of a resolved file were reported to the maker, the names are that file's, and its main is the function
+-- of that name
 pub record MakerRepresentsFile (maker : Maker) (p : Profile) (names : Pools) (file : File) : Type 0 where
   pub resolved : IsResolved file
   pub stands : MakerRepresents maker p (actions file)

@@ -1,4 +1,4 @@
-//! What statements take up to each of their ends.
+//! How many cycles statements take up to each of their ends.
 
 ghost use Rattle.std.specs.Prelude.{◌≡◌, ℕ};
 ghost use Rattle.grammar.specs.Tree.{Body};

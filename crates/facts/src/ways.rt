@@ -70,7 +70,7 @@ pub struct Ways {
 }
 
 impl Ways {
-    /// Makes the way of so many cycles that ask nothing.
+    /// Makes the way of this number of cycles that ask nothing.
     pub fn cycles(number: u32) -> Ways {
         Ways {
             quiet: Some(Stretch::of(Span::exactly(number))),

@@ -10,7 +10,7 @@ use arena::Arena;
 /// What a film has of a robot after an update.
 #[derive(Clone, Copy, Drop)]
 pub struct Stance {
-    /// The cycle of the update, 0 at the begin.
+    /// The cycle of the update, 0 at the start.
     pub cycle: u32,
     /// The place to the east, in tenths of a metre.
     pub x: u16,

@@ -51,7 +51,7 @@ abbrev pub diagnostics : Order → List RobotFile → List ℕ
 diagnostics order robots = bytes_on Faults (compiling (mode_by order.mode) (profile_numbered order.profile)
     (map source_of robots))
 
--- the stretch of a subject: what is told of a robot has none
+-- the stretch of a subject: what is reported of a robot has none
 abbrev pub stretch_in : Subject → Option Stretch
 stretch_in (Film stretch skipped) = stretch
 stretch_in (Moment target) = None

@@ -19,7 +19,7 @@ use findings::{Event, Field};
 use grammar::{ParseFault, Profile};
 use parser::parse;
 
-/// What is told of a source without a fault.
+/// What is reported of a source without a fault.
 #[derive(Clone, Copy, PartialEq, Eq)]
 pub enum Topic {
     /// The warnings about it.
@@ -31,7 +31,7 @@ pub enum Topic {
 /// What was explained.
 #[derive(Clone, Copy, PartialEq, Eq)]
 pub enum Explained {
-    /// A source without a fault: the sheet has what was to be told of it.
+    /// A source without a fault: the sheet has what was asked of it.
     Good,
     /// A source with a fault: the sheet has its explanation.
     Faulty,
@@ -129,7 +129,7 @@ fn tell_turns(tokens: &[Located], profile: Profile, sheet: &mut Sheet) {
     }
 }
 
-/// Returns the event that a loop takes so many cycles.
+/// Returns the event that a loop takes this number of cycles.
 fn turn_event(found: &Loop) -> Event<'static> {
     let mut event = Event::new("turn", &[]);
     if let Some(turn) = found.turn {

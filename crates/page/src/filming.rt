@@ -1,4 +1,4 @@
-//! What is told of the matches of robots in memory: films and moments, and where instructions come from.
+//! What is reported of the matches of robots in memory: films and moments, and where instructions come from.
 
 ghost use Rattle.std.specs.Prelude.{◌≡◌, ◌≢◌, ℕ, ◌<◌, All, IfErr, IfOk, IfSome, IsSome, List, None, Some, false, length, map};
 ghost use Rattle.grammar.specs.Tree.{File};
@@ -33,8 +33,8 @@ use parser::parse;
 use playing::{PlayEnd, UPDATE_CYCLES, play};
 use series::{MOST_FILES, Mode, Programs, RunFault, Settings, compile_files};
 
-/// Plays the first match that the order asks for of one to four robots, and writes on a sheet what the subject tells of
-/// it; if it asks for listings, writes where their instructions come from. The other sheet takes the diagnostics of
+/// Plays the first match that the order asks for of one to four robots, and writes on a sheet what the subject reports
+/// of it; if it asks for listings, writes where their instructions come from. The other sheet takes the diagnostics of
 /// faulty sources. Both are blank before.
 ///
 /// `None` if a number of the order is not within its limits, a name is no text, or there is no robot or over four.
@@ -134,8 +134,8 @@ fn functions_in(profile: Profile, source: &[u8]) -> Functions {
     functions
 }
 
-/// Plays the first match of these programs, and writes on a blank sheet what the subject tells of it. `None` if it was
-/// cut off, since the sheet is full.
+/// Plays the first match of these programs, and writes on a blank sheet what the subject reports of it. `None` if it
+/// was cut off, since the sheet is full.
 fn tell_match(
     settings: &Settings<'_>,
     programs: &Programs,

@@ -161,7 +161,7 @@ impl<'a> Film<'a> {
         }
     }
 
-    /// Writes what the film shows of the robots after an update, or at the begin.
+    /// Writes what the film shows of the robots after an update, or at the start.
     fn look(&mut self, cycle: u32, arena: &Arena) {
         for robot in 0..self.robots.min(arena.robot_count()) {
             let stance = Stance::of(cycle, robot, arena);

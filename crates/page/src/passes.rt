@@ -166,12 +166,12 @@ impl<'a> Pass<'a> {
         let _ = self.open.try_push(open);
     }
 
-    /// Opens a value that takes so many cycles.
+    /// Opens a value that takes this number of cycles.
     fn value(&mut self, cycles: u32) {
         self.open(Open::Value(Span::exactly(cycles)));
     }
 
-    /// Lets the last value take so many cycles more.
+    /// Lets the last value take this number of cycles more.
     fn lengthen(&mut self, cycles: u32) {
         let value = self.take_value().plus(Span::exactly(cycles));
         self.open(Open::Value(value));

@@ -1,9 +1,9 @@
-//! Subjects: what is told of a match.
+//! Subjects: what is reported of a match.
 
 use crate::stretches::Stretch;
 use crate::targets::Target;
 
-/// What is told of the first match that an order asks for.
+/// What is reported of the first match that an order asks for.
 #[derive(Clone, Copy)]
 pub enum Subject<'a> {
     /// Its film, of a stretch or of all of it, without the given number of its first rows.

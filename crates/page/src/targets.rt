@@ -11,7 +11,7 @@ pub const MARKS: usize = MOST_INSTRUCTIONS;
 pub struct Target {
     /// The robot's number, from 0.
     pub robot: u32,
-    /// The cycle after which the robot is looked at, or before or after which it is looked for.
+    /// The cycle after which the robot is shown, or before or after which it is searched for.
     pub cycle: u32,
     /// How many frames are open at most where it is looked for.
     pub frames: u32,

@@ -1,4 +1,4 @@
--- What the parse of an expression did: the builder was told the actions of a tree, and the derivation made the same
+-- What the parse of an expression did: a tree's actions were reported to the builder, and the derivation made the same
 -- tree.
 use Rattle.std.specs.Prelude.{ℕ, ◌+◌, ◌≡◌, ◌≤◌, List, [], ◌∷◌, ◌++◌, None, Result, Ok, Err}
 use Rattle.grammar.specs.declared.diagnostics.ParseFault.{ParseFault}

@@ -35,8 +35,8 @@ use Rattle.parser.specs.ScopedCursors.{MayContinue, UnreadPosition, Lookahead, S
 use Rattle.parser.specs.Stopping.{Stop, Stops}
 use Rattle.parser.specs.Segment.{Derives, FailsAt, Refused, TakesTokens}
 
--- From one position between functions to another the builder was told further functions, and the derivation, which goes
--- from these items to those, defines them. It consumes the same tokens whether the device's bytes are known or not.
+-- Between two positions between functions further functions were reported to the builder, and the derivation, which
+-- goes from these items to those, defines them. It consumes the same tokens whether the device's bytes are known or not.
 pub record ReadsOn (before after : Representation) (front pending : List Item) (here there : UnreadPosition) : Type 0
   where
     pub consumed : List LocatedToken
@@ -56,7 +56,7 @@ pub record HasReported (after : Representation) (profile : Profile) (functions :
   pub more : List Action
   pub stands : after profile (definitions_actions functions ++ more)
 
--- The derivation from s stops so. If the device failed, the builder was told the functions defined up to there.
+-- The derivation from s stops so. If the device failed, the functions defined up to there were reported to the builder.
 pub record StopsTelling (after : Representation) (profile : Profile) (s : State) (stop : Stop) : Type 0 where
   pub stops : Stops profile s stop
   pub told : parse_fault.Device ≡ stop.fault → HasReported after profile (derived stops.steps s).functions
@@ -88,8 +88,8 @@ at_definition =
 abbrev pub at_brace : List Item
 at_brace = Make Define ∷ Exactly punctuator.CloseCurly ∷ Close ∷ []
 
--- A function's block was read up to its closing brace: the builder was told its statements, and the function that is
--- being defined stayed the same.
+-- A function's block was read up to its closing brace: its statements were reported to the builder, and the function
+-- that is being defined stayed the same.
 pub record AddsBlock (before after : Representation) (here there : UnreadPosition) : Type 0 where
   pub tree : Body
   pub numbered : InBody MOST_NAMES MOST_NAMES MOST_NAMES tree
@@ -107,7 +107,7 @@ pub record MayEnd (before : Representation) (variables : ℕ) : Type 0 where
   pub within : parameters ≤ variables
   pub few : variables ≤ MOST_NAMES
 
--- The builder was told the last return and the function's end, and the code is within the limit.
+-- The last return and the function's end were reported to the builder, and the code is within the limit.
 pub record ClosesFunction (before after : Representation) (variables : ℕ) : Type 0 where
   pub added : AppendsAll before after (last_return ++ EndFunction variables ∷ [])
   pub fits : (profile : Profile) (acts : List Action) → before profile acts →

@@ -1,5 +1,5 @@
--- What the parse of statements did: the builder was told their actions, and the derivation put them after the body so
--- far.
+-- What the parse of statements did: their actions were reported to the builder, and the derivation put them after the
+-- body so far.
 use Rattle.std.specs.Prelude.{ℕ, ◌≤◌, List, [], ◌∷◌, Result, Ok, Err}
 use Rattle.tokens.specs.declared.located_tokens.Punctuator.TheVariants as punctuator
 use Rattle.parser.specs.Stopping.{Stop}

@@ -1,4 +1,4 @@
-//! Matches that are watched: pilots, games that are played cycle by cycle, and what a watcher is told.
+//! Matches that are watched: pilots, games that are played cycle by cycle, and what a watcher gets.
 #![tactic(auto)]
 
 mod games;

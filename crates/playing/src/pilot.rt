@@ -99,7 +99,7 @@ impl<'a> Pilot<'a> {
         }
     }
 
-    /// Restarts the machine, and tells the watcher why.
+    /// Restarts the machine, and reports the cause to the watcher.
     fn restart<W: Watcher>(&mut self, turn: Turn, watcher: &mut W)
         ensures program { self.new.code ≡ self.old.code }
         ensures restarts { IsReached self.new.state self.old.code [] }

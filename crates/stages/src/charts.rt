@@ -117,7 +117,7 @@ impl<'a> Chart<'a> {
         self.top(number.saturating_add(1)).saturating_sub(GAP)
     }
 
-    /// Adds the begin of the graph.
+    /// Adds the head of the graph.
     fn add_begin(&self, text: &mut Draft, name: &str) {
         let right = self.left.saturating_add(WIDTH);
         let width = right.saturating_add(self.room(false));
@@ -131,7 +131,7 @@ impl<'a> Chart<'a> {
         text.add("\">\n");
     }
 
-    /// Adds the begin of a block: its edge, in the colour of its first line.
+    /// Adds the first part of a block: its edge, in the colour of its first line.
     fn add_box(&self, text: &mut Draft, number: usize, block: &Block, origins: &Origins) {
         let line = origins.line(block.begin).unwrap_or(0);
         add_number(text, "<g class=\"k", origins.rank(line) % COLOURS);

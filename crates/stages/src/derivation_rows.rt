@@ -47,7 +47,7 @@ pub fn derivation_rows(
     text.finish()
 }
 
-/// Adds the begin of a step's line: its number, and the next token with its line and column.
+/// Adds the first part of a step's line: its number, and the next token with its line and column.
 fn add_next(
     text: &mut Draft,
     alloc: Global,

@@ -14,7 +14,7 @@ pub struct Block {
     pub goes_on: bool,
     /// The address of the block that it may jump to.
     pub jump: Option<usize>,
-    /// Whether the begin of its function leads to it.
+    /// Whether the entry of its function leads to it.
     pub is_reached: bool,
 }
 
@@ -91,7 +91,7 @@ fn mark_begins(program: &Program, begins: &mut [bool]) {
 }
 
 /// Returns the block of these addresses. What comes before it in its function decides whether it is reached: a jump back
-/// leads to the begin of a loop, which is reached from above.
+/// leads to the head of a loop, which is reached from above.
 fn block_of(code: &[Instr], begin: usize, last: usize, reached: &[bool]) -> Block {
     let (goes_on, jump) = match code.get(last).copied() {
         Some(Instr::Branch(to)) => match constant_before(code, begin, last) {

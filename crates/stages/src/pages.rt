@@ -80,7 +80,7 @@ fn add_source(
     Ok(())
 }
 
-/// Adds the begin of a line's row: its number, which leads to the first instruction that comes from it.
+/// Adds the first part of a line's row: its number, which leads to the first instruction that comes from it.
 fn add_begin_of_line(text: &mut Draft, origins: &Origins, number: u32) {
     match origins.of_line(number) {
         [(_, address), ..] => {
@@ -98,7 +98,7 @@ fn add_begin_of_line(text: &mut Draft, origins: &Origins, number: u32) {
     }
 }
 
-/// Adds the begin of a row in the colour of a line.
+/// Adds the first part of a row in the colour of a line.
 fn add_colour(text: &mut Draft, origins: &Origins, line: u32) {
     add_number(text, "<div class=\"k k", origins.rank(line) % COLOURS);
     add_line(text, " l", line);
@@ -211,7 +211,7 @@ fn add_stretches(text: &mut Draft, part: &Part) {
     }
 }
 
-/// Adds the begin of a row of a function or a loop: the number of its line, which leads there.
+/// Adds the first part of a row of a function or a loop: the number of its line, which leads there.
 fn add_begin_of_part(text: &mut Draft, part: &Part) {
     add_line(text, "<div><a href=\"#s", part.line);
     add_line(text, "\">", part.line);

@@ -25,7 +25,7 @@ pub struct Events<'a> {
     is_film: bool,
     seen: [Seen; MOST_ROBOTS],
     aims: Aims,
-    /// What is known of the robots from inside, if that is told.
+    /// What is known of the robots from inside, if that is reported.
     insides: Option<Insides<'a>>,
     robots: usize,
 }
@@ -57,7 +57,7 @@ impl<'a> Events<'a> {
         }
     }
 
-    /// Writes what happened to the robots in an update, or where they are at the begin, up to the span's last cycle.
+    /// Writes what happened to the robots in an update, or where they are at the start, up to the span's last cycle.
     fn look(&mut self, cycle: u32, arena: &Arena) {
         if cycle <= self.rows.span.to {
             for robot in 0..self.robots.min(arena.robot_count()) {
@@ -67,7 +67,7 @@ impl<'a> Events<'a> {
         self.rows.pass();
     }
 
-    /// Writes what happened to a robot in an update, or where it is at the begin.
+    /// Writes what happened to a robot in an update, or where it is at the start.
     fn look_at(&mut self, cycle: u32, robot: usize, arena: &Arena)
         requires { robot < length arena.now.robots }
     {

@@ -13,7 +13,7 @@ struct Asked {
     question: Exchange,
 }
 
-/// What is known of a robot: its last question, the cycle of the one that was told last, and the address that was.
+/// What is known of a robot: its last question, the cycle of the one that was reported last, and the address that was.
 #[derive(Clone, Copy, Default)]
 struct Inside {
     asked: Option<Asked>,
@@ -47,7 +47,7 @@ impl<'a> Insides<'a> {
         }
     }
 
-    /// Returns where a robot is before a turn, if that is another instruction than the one that was told last.
+    /// Returns where a robot is before a turn, if that is another instruction than the one that was reported last.
     pub fn line(&mut self, turn: Turn, pilot: &Pilot<'_>) -> Option<Event<'a>> {
         let inside = self.robots.get_mut(turn.robot)?;
         let address = pilot.machine().address();
@@ -58,7 +58,7 @@ impl<'a> Insides<'a> {
         Some(line_event(self.notes, turn.robot, pilot.program(), address))
     }
 
-    /// Returns what a robot asked last, if that wasn't told.
+    /// Returns what a robot asked last, if that wasn't reported.
     pub fn question(&mut self, robot: usize) -> Option<Event<'static>> {
         let inside = self.robots.get_mut(robot)?;
         let asked = inside.asked?;

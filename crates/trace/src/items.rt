@@ -21,7 +21,7 @@ pub struct Items {
 
 impl Items {
     /// Makes the items of a line with this label, without any so far. The line belongs to a report, whose lines have at
-    /// most so many characters.
+    /// most this number of characters.
     pub fn new(label: &'static str, report: &Draft, columns: usize) -> Items {
         Items {
             label,
@@ -56,8 +56,8 @@ impl Items {
     }
 }
 
-/// Adds an item after this column, in lines of so many columns. One that is too long for any line is cut at its blanks.
-/// Returns the column after it.
+/// Adds an item after this column, in lines of this number of columns. One that is too long for any line is cut at its
+/// blanks. Returns the column after it.
 fn add_item(report: &mut Draft, item: &str, column: usize, columns: usize) -> usize {
     if item.chars().count() <= columns.saturating_sub(INDENT) {
         return add_piece(report, item, column, columns);

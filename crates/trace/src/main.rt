@@ -1,4 +1,4 @@
-//! Plays one match, and tells what happened in it: sums, events, questions, steps, a film, a moment, or changes of
+//! Plays one match, and reports what happened in it: sums, events, questions, steps, a film, a moment, or changes of
 //! variables.
 #![tactic(auto)]
 
@@ -70,7 +70,7 @@ impl Work for Trace {
     }
 }
 
-/// Plays the match before what tells it in the form that is asked for.
+/// Plays the match before what reports it in the form that is asked for.
 fn told(
     rt: &HostRuntime,
     request: &Request<'_>,

@@ -278,7 +278,7 @@ fn position(lines: &[u32], line: u32) -> usize {
     lines.len()
 }
 
-/// Adds the begin of a line of a source, without the blanks before it, in a line of so many columns.
+/// Adds the front of a line of a source, without the blanks before it, in a line of at most this number of columns.
 fn add_source(text: &mut Draft, bytes: &[u8], columns: usize) -> Result<(), AllocError> {
     let line = plain(text.alloc(), bytes)?;
     for c in line

@@ -9,8 +9,7 @@ use notes::{Note, NotedProgram, add_moment, note_of};
 use playing::Pilot;
 use tools::{Draft, Fault, Output, Text};
 
-/// Writes where each robot is that is looked at, after a cycle: its number and its file's name, the rows on it, and an
-/// empty line.
+/// Writes where each chosen robot is after a cycle: its number and its file's name, the rows on it, and an empty line.
 pub fn tell_moments(
     rt: &HostRuntime,
     request: &Request<'_>,

@@ -42,8 +42,8 @@ struct Nobody;
 
 impl Watcher for Nobody {}
 
-/// Writes a row for each cycle in which a watched variable of a robot that is looked at gets another value: one of a
-/// function within one call of it.
+/// Writes a row for each cycle in which a watched variable of a chosen robot gets another value: one of a function
+/// within one call of it.
 pub fn tell_changes(
     rt: &HostRuntime,
     request: &Request<'_>,

@@ -48,7 +48,7 @@ pub fn add_track(text: &mut Draft, robot: &Robot<'_>, period: Period) {
     text.add("</g>\n");
 }
 
-/// Adds the begin of a circle at a place.
+/// Adds the first part of a circle at a place.
 fn add_circle(text: &mut Draft, place: Place) {
     text.add("<circle");
     add_number(text, "cx", column(place));

@@ -68,7 +68,7 @@ fn add_line(text: &mut Draft, shot: &Shot, period: Period) {
     text.add("</title></path>\n");
 }
 
-/// Adds the begin of a shot's title: who shot, and the cycle of an update.
+/// Adds the first part of a shot's title: who shot, and the cycle of an update.
 fn add_title(text: &mut Draft, shot: &Shot, words: &str, update: u32) {
     text.add("><title>");
     text.number(shot.robot.saturating_add(1) as u64);
