@@ -36,7 +36,8 @@ use Rattle.parser.specs.Stopping.{Stop, Stops}
 use Rattle.parser.specs.Segment.{Derives, FailsAt, Refused, TakesTokens}
 
 -- Between two positions between functions further functions were reported to the builder, and the derivation, which
--- goes from these items to those, defines them. It consumes the same tokens whether the device's bytes are known or not.
+-- goes from these items to those, defines them. It consumes the same tokens whether the device's bytes are known or
+-- not.
 pub record ReadsOn (before after : Representation) (front pending : List Item) (here there : UnreadPosition) : Type 0
   where
     pub consumed : List LocatedToken
