@@ -4,7 +4,9 @@ anything that isn't known here is refused.
 A word is a variable's name unless it follows a point or is the name of a member. It stands for what the innermost function around it
 declares by that name; if none does, it is the browser's or the whole script's, and stays. Variables of one function, and of those around
 it, get different names; those of others may share one. A variable that isn't found here, as that of a `catch`, keeps its name, or shares
-the new one of a variable outside whose name it had before too. So what is in doubt declares nothing."""
+the new one of a variable outside whose name it had before too. So what is in doubt declares nothing.
+
+Programs that others wrote do this too, but then the page's bytes would depend on which version is installed. One of them is a test."""
 
 from __future__ import annotations
 
