@@ -1,5 +1,5 @@
 """Makes scripts and styles short: without comments, and without the blanks and line ends that nothing needs. Names and all else
-stay, so that a script does the same, and a fault is still found in it."""
+stay, so that a script does the same, and a fault is still found in it. Names of the editor's scripts are made short by `renaming`."""
 
 from __future__ import annotations
 
