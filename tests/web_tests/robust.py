@@ -56,7 +56,7 @@ def no_data(page: Page, folder: str) -> list[str]:
 
 
 def dying(page: Page) -> list[str]:
-    """A worker that dies is told of, and the next battle runs."""
+    """The page says that a worker died, and the next battle runs."""
     keep = "window.workers = []; const Plain = Worker; window.Worker = class extends Plain { constructor(...words) { super(...words); workers.push(this); } }"
     with page.before(keep):
         page.open()
