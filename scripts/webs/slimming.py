@@ -1,5 +1,6 @@
 """Makes scripts and styles short: without comments, and without the blanks and line ends that nothing needs. Names and all else
-stay, so that a script works as before, and a fault is still found in it."""
+stay, so that a script works as before, and a fault is still found in it. `renaming` makes the names of the editor's scripts
+short."""
 
 from __future__ import annotations
 

@@ -424,6 +424,7 @@ def results(crobots: str, stages: str, folder: str) -> Iterator[tuple[str, list[
     """The tests' names, and what is wrong."""
     yield "parts of the page", units()
     yield "short scripts", slimmed.wrong()
+    yield "short names", slimmed.wrong_names(folder)
     yield "size", size(folder)
     yield "blocks of any bytes", any_blocks(folder)
     yield "samples", differing(crobots, folder, sample_battles())
