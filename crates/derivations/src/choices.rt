@@ -458,8 +458,8 @@ fn more_arguments(next: &Token) -> Production
     }
 }
 
-/// Reports whether the production chosen is nested in others: a block, an `if`, a `while`, an assignment, a unary `-`, `!` or
-/// `~`, an expression in brackets, or a call.
+/// Reports whether the production chosen is nested in others: a block, an `if`, a `while`, an assignment, a unary `-`,
+/// `!` or `~`, an expression in brackets, or a call.
 pub fn enters(symbol: Symbol, next: &Token, after: &Token) -> bool
     ensures { result ≡ table.enters (symbol_of symbol) next.now after.now }
 {

@@ -14,7 +14,7 @@ use grammar::laws::derivations;
 
 /// Proves the round-trip law: for tokens spelled with each compound part in brackets and each body in braces the
 /// derivation returns what was spelled. It holds for every expression followed by `;`, and for every statement, as the
-/// one statement of `main`, on any lines and for any depth: a level too many is a fault of the source, and the
+/// one statement of `main`, on any lines and for any depth: nesting too deep is a fault of the source, and the
 /// derivation goes on after it.
 pub fn bracketed()
     ensures expressions { GivesBackExpressions }

@@ -120,7 +120,7 @@ impl<'a> Film<'a> {
         self.tell(stance.cycle, robot, &Event::stance("at", stance));
     }
 
-    /// Writes where the robots are at a border of the stretch, and which missiles are in the air at its begin.
+    /// Writes where the robots are at a border of the stretch, and which missiles are in the air at its start.
     fn tell_border(&mut self, cycle: u32, arena: &Arena) {
         let Some(stretch) = self.stretch else {
             return;

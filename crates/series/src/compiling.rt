@@ -28,7 +28,7 @@ pub(crate) enum CompileFault {
     Write,
 }
 
-/// Compiles each file. The keeper takes the program of a good one; of a faulty one puts the diagnostic.
+/// Compiles each file: gives the program of a good one to the keeper, and puts the diagnostic of a faulty one.
 ///
 /// It isn't inlined: a caller that lists files would have room for their names in its frame while matches are played.
 #[inline(never)]
@@ -89,9 +89,9 @@ pub(crate) fn worse_status(first: Status, second: Status) -> Status
     }
 }
 
-/// Compiles the file of a feed, and answers whether it is good. The keeper takes a good file's program; of a faulty one
-/// puts the diagnostic. The file's names take the place of those in the scope, and the maker begins anew: both are large,
-/// so they stay where the caller made them.
+/// Compiles the file of a feed, and answers whether it is good. Gives a good file's program to the keeper, and puts the
+/// diagnostic of a faulty one. The file's names take the place of those in the scope, and the maker begins anew: both
+/// are large, so they stay where the caller made them.
 #[inline(never)]
 fn compile_file<K: TakesPrograms, F: Feed, O: Sink, E: Sink>(
     keeper: &mut K,

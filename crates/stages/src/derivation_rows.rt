@@ -75,7 +75,7 @@ fn add_step(text: &mut Draft, derivation: &Derivation<'_>, item: Item) {
             add_production(text, derivation);
         }
         Item::Make(action) => text.add(action_word(action)),
-        Item::Close => text.add("closes a level"),
+        Item::Close => text.add("ends a nested construct"),
         Item::Exactly(_) | Item::AKeyword(_) | Item::Naming(_) | Item::Number | Item::Ending => {
             text.add("takes ");
             add_item(text, item);
