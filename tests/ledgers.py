@@ -5,7 +5,7 @@ over. The file further-edits.tried has a line a crate that has such edits:
 
     NAME DIGEST DAY REFUSED SECONDS
 
-REFUSED is how many edits were refused on that DAY, in a run of so many SECONDS. The digest is of all that decides
+REFUSED is how many edits were refused on that DAY, in a run of SECONDS seconds. The digest is of all that decides
 whether an edit is refused: the edits themselves with their names, the crate's definitions, its code without bodies, and
 what the crates below promise. So if a contract changes, the line is out of date, and the edits are to be tried again; if
 only bodies and proofs do, it isn't."""

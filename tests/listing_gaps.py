@@ -13,7 +13,7 @@ from listing_machine import USED, Listing
 Place = tuple[int, tuple[int, ...]]
 # The fewest and the most cycles between two questions; no most if nothing bounds it.
 Cycles = tuple[int, int | None]
-# So many calls inside one another are followed, and so many places. Beyond, nothing is said.
+# The most calls inside one another that are followed, and the most places. Beyond, nothing is said.
 CALLS, PLACES = 40, 30_000
 
 

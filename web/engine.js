@@ -124,7 +124,7 @@ export class Engine {
     }
 
     /**
-     * Plays the first match of the settings, and tells where their `robot`, counted from 0, is after their `cycle`. Returns
+     * Plays the first match of the settings, and reports where their `robot`, counted from 0, is after their `cycle`. Returns
      * {ending, text, faults}; the text has rows, as a film has.
      */
     moment(settings, robots) {
@@ -133,8 +133,8 @@ export class Engine {
     }
 
     /**
-     * Plays the first match of the settings, and tells the first cycle after their `cycle`, or the last one before it if it is to go
-     * `backwards`, after which their `robot` is at one of the addresses of their `marks`, with so many `frames` at most. Returns
+     * Plays the first match of the settings, and finds the first cycle after their `cycle`, or the last one before it if it is to go
+     * `backwards`, after which their `robot` is at one of the addresses of their `marks`, with at most `frames` frames. Returns
      * {ending, text, faults}; the text has a row `found` if there is one.
      */
     find(settings, robots) {

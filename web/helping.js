@@ -1,7 +1,7 @@
 // Help where one writes: the arguments of the function at the cursor, and what a word that is begun may become.
 import {WORDS} from "./language.js";
 
-// how much before the cursor is looked at
+// how many characters before the cursor are read
 const MOST_LOOKED_AT = 2000;
 const MOST_NAMES = 500;
 const SHORTEST_BEGIN = 2;

@@ -9,7 +9,7 @@ export function linesOf(places) {
     return rows.map(row => Number(row.split("\t")[3]));
 }
 
-/** Returns what is known of the turns of loops, as the module tells it: {line, text} of each. */
+/** Returns what is known of the turns of loops, as the module reports it: {line, text} of each. */
 export function turnsOf({ending, text}) {
     const rows = ending === Ending.DONE ? text.split("\n").slice(0, -1) : [];
     return rows.map(row => {

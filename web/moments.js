@@ -61,7 +61,7 @@ export class Code {
     }
 }
 
-/** Reads where a robot is, as the module tells it: null if it tells nothing. */
+/** Reads where a robot is, as the module reports it: null if it reports nothing. */
 export function momentOf(text) {
     const moment = {frames: [], words: [], externals: []};
     const kinds = {

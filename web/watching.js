@@ -16,7 +16,7 @@ export class Wish {
 }
 
 export class Watcher {
-    /** `runner` calls the engine, `screen` shows films, `say` tells how it goes. */
+    /** `runner` calls the engine, `screen` shows films, `say` shows how it goes. */
     constructor(runner, screen, say) {
         Object.assign(this, {runner, screen, say});
     }

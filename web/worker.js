@@ -13,7 +13,7 @@ function start(module) {
     bytes = module;
     engine = Engine.load(bytes);
     engine.catch(() => {
-        // each call tells of it
+        // each call reports it
     });
 }
 

@@ -1,6 +1,6 @@
 """The database of a league: one file of SQLite, which is whole after a kill at any instant.
 
-It is written ahead (WAL) and forced to the disk with each transaction. So what was told as done stays done, also when
+It is written ahead (WAL) and forced to the disk with each transaction. So what was reported as done stays done, also when
 the power fails. Readers never wait for a writer."""
 
 from __future__ import annotations

@@ -3,6 +3,7 @@
 from __future__ import annotations
 
 import base64
+import contextlib
 import glob
 import hashlib
 import html
@@ -20,6 +21,7 @@ from replays.pages import framed_script, put_together
 
 from .helping import functions, panel, steps, text_of, whole
 from .manuals import Page
+from .renaming import renamed
 from .slimming import Unclear, short, short_style
 from .texts import pages
 
@@ -77,11 +79,15 @@ def policy() -> str:
 
 
 def slim(text: str) -> str:
-    """A script of the editor without its comments and needless blanks, if that is clear; the notice of its licence stays."""
+    """A script of the editor without its comments and needless blanks, and with short names, as far as that is clear; the notice of
+    its licence stays."""
     try:
-        return text.split("\n\n")[0] + "\n" + short(text)
+        made = short(text)
     except Unclear:
         return text
+    with contextlib.suppress(Unclear):
+        made = renamed(made)
+    return text.split("\n\n")[0] + "\n" + made
 
 
 def version() -> str:

@@ -1,11 +1,12 @@
 """Makes scripts and styles short: without comments, and without the blanks and line ends that nothing needs. Names and all else
-stay, so that a script does the same, and a fault is still found in it."""
+stay, so that a script works as before, and a fault is still found in it. `renaming` makes the names of the editor's scripts
+short."""
 
 from __future__ import annotations
 
 import re
 
-# A piece of a script. A slash that begins a regular expression isn't told from one that divides by the piece alone, and a
+# A piece of a script. A slash that begins a regular expression can't be distinguished from one that divides by the piece alone, and a
 # template may have templates in it: for both see `pieces`.
 PIECE = re.compile(r"""(?P<comment>//[^\n]*|/\*(?:.|\n)*?\*/)|(?P<text>"(?:\\(?:.|\n)|[^"\\\n])*"|'(?:\\(?:.|\n)|[^'\\\n])*')
     |(?P<word>[\w$#@]+)|(?P<blank>[ \t]+)|(?P<end>\n)|(?P<sign>\+\+|--|=>|[^'"])""", re.VERBOSE)

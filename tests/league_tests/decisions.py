@@ -17,7 +17,7 @@ PAIRS = 3000
 
 
 def played(source: random.Random, chance: float, ties: float, favour: float) -> tuple[str, int]:
-    """A made pair, looked at as a league does: what is decided, and after how many matches.
+    """A made pair, judged as a league does: what is decided, and after how many matches.
 
     If it isn't a tie the first robot wins by this chance, more by the favour from one seat, less from the other.
     """

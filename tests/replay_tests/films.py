@@ -136,7 +136,7 @@ class Films:
         return [] if seen == wanted else [f"{seen}, not {wanted}"]
 
     def a_film_of_windows(self) -> list[str]:
-        """Names are given; missiles that fly at the beginning are those that burst, in their order; where a robot stands is told once."""
+        """Names are given; missiles that fly at the beginning are those that burst, in their order; where a robot stands is written once."""
         answer = self._answer(WINDOWS, names=["a.r", "b.r"], moments=[[205, 60], [210, 60]])
         match = answer["film"]
         shots = match["shots"]

@@ -1,4 +1,4 @@
-"""Tests of films in a frame, by Chromium: the parts of the page in the browser that show a match, with an engine that tells films
+"""Tests of films in a frame, by Chromium: the parts of the page in the browser that show a match, with an engine that gives films
 made by hand."""
 
 from __future__ import annotations
@@ -15,7 +15,7 @@ from replays.pages import framed
 from .made import FILM, tabbed
 
 WEB = os.path.join(os.path.dirname(os.path.abspath(__file__)), "..", "..", "web")
-# What a test takes of the page, and what the engine tells: at once some windows, from cycle 150 to 165, and all of the match when the
+# What a test takes of the page, and what the engine gives: at once some windows, from cycle 150 to 165, and all of the match when the
 # test has it `finish`.
 SCRIPT = """\
 import {filmOf} from "./player/films.js";

@@ -154,7 +154,7 @@ def links(page: Page, crobots: str) -> list[str]:
 
 
 def second_tab(page: Page) -> list[str]:
-    """A link is made without a change to what is seen; one that can't be read is told of, at the begin and later."""
+    """A link is made without a change to what is seen; the page says so if one can't be read, at the start and later."""
     page.show(Battle(samples()[:2]))
     page.js("document.getElementById('tab-1').click(); document.getElementById('link').click()")
     page.wait("return document.getElementById('said').textContent.startsWith('The link')")
@@ -367,7 +367,7 @@ def older(page: Page, folder: str) -> list[str]:
     return wrong
 
 
-# the first draw comes within so many milliseconds on a machine with nothing else to do: of some openings the fastest tells of it
+# the most milliseconds until the first draw on a machine with nothing else to do: of some openings the fastest counts
 MOST_TO_DRAW, OPENINGS = 300, 20
 
 

@@ -20,7 +20,7 @@ PARAMETERS: dict[str, list[str]] = {"scan": ["degree", "resolution"], "cannon": 
 LADDER = os.path.join(os.path.dirname(os.path.abspath(__file__)), "..", "..", "robots", "README.md")
 # the pages to read to which the page links
 READ = ("robots", "exercises", "mistakes", "language", "field", "web")
-# sentences of the manual, one for each thing that the panel tells of
+# sentences of the manual, one for each thing that the panel shows
 SENTENCES = ("A robot wins a match if it is the only one that is left alive.", "A condition holds if it isn't 0.",
              "The second profile leaves out the right side if the left side decides, as C does.", "A robot never fails: it restarts.",
              "if (e) statement else statement", "Of the three rings of a burst only the smallest that holds the robot counts.")

@@ -89,7 +89,7 @@ def twenty(page: Page) -> list[str]:
 
 
 def two_tabs(page: Page) -> list[str]:
-    """Two tabs with the same battle: the second change is told of, and both are kept."""
+    """Two tabs with the same battle: the page says that there is a second change, and both are kept."""
     driver = page.driver
     page.fresh()
     page.write(OWN)
@@ -130,7 +130,7 @@ def removing(page: Page) -> list[str]:
 
 
 def full(page: Page) -> list[str]:
-    """A full storage is told of, and again a place in it."""
+    """The page says that the storage is full, and that there is room again."""
     page.fresh()
     page.write(OWN)
     page.js("let text = 'x'.repeat(1 << 20); while (text) try { localStorage.setItem('filler' + localStorage.length, text); }"
@@ -161,7 +161,7 @@ def dropped(page: Page, files: dict[str, str]) -> None:
 
 
 def opening(page: Page) -> list[str]:
-    """Files become robots: several at once, by the button or dropped; what doesn't fit is told of."""
+    """Files become robots: several at once, by the button or dropped; the page says what doesn't fit."""
     page.fresh()
     with tempfile.TemporaryDirectory() as folder:
         paths = [os.path.join(folder, name) for name in ("one.r", "two.r")]

@@ -317,7 +317,7 @@ def lines_of_code(stages: str, name: str, source: bytes, profile: int) -> list[i
 
 
 def places(crobots: str, stages: str, folder: str) -> list[str]:
-    """Each instruction comes from a token that makes it, and from the line that stages tells."""
+    """Each instruction comes from a token that makes it, and from the line that stages names."""
     robots = samples() + [it for battle in random_battles(60, 11) for it in battle.robots]
     sources = [(robot, profile) for robot in robots for profile in (1, 2)] + [(("deep.r", deepest()), 2)]
     sources += [(it.robots[0], it.settings.profile) for it in hostile_battles() if it.told(crobots)[0] == 0]
@@ -424,6 +424,7 @@ def results(crobots: str, stages: str, folder: str) -> Iterator[tuple[str, list[
     """The tests' names, and what is wrong."""
     yield "parts of the page", units()
     yield "short scripts", slimmed.wrong()
+    yield "short names", slimmed.wrong_names(folder)
     yield "size", size(folder)
     yield "blocks of any bytes", any_blocks(folder)
     yield "samples", differing(crobots, folder, sample_battles())

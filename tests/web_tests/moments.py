@@ -1,4 +1,4 @@
-"""Tests of what the module tells of robots from inside: as another machine works it out (histories.py), and by plain searches."""
+"""Tests of what the module reports of robots from inside: as another machine works it out (histories.py), and by plain searches."""
 
 from __future__ import annotations
 
@@ -124,7 +124,7 @@ def moments(folder: str, histories: list[History]) -> list[str]:
 
 
 def finds(folder: str, histories: list[History]) -> list[str]:
-    """The next cycle, and the last one, after which a robot is at one of some addresses, with so many frames at most."""
+    """The next cycle, and the last one, after which a robot is at one of some addresses, with at most a number of frames."""
     draw, wrong = random.Random(SEED), []
     for history in histories:
         wanted: list[tuple[dict[str, Any], Rows]] = []

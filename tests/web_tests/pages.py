@@ -230,5 +230,5 @@ class Page:
 
 
 def console(page: Page) -> list[str]:
-    """What the page wrote on the console, of which Chromium alone tells."""
+    """What the page wrote on the console, which Chromium alone reports."""
     return [entry["message"] for entry in page.driver.get_log("browser")] if page.driver.name == "chrome" else []

@@ -20,7 +20,7 @@ BOMB = 60_000_000
 LARGEST = (" " * 999 + "\n") * 1048 + " " * 577
 DISGUISED = "live.r\n  1) won 9 tied 0 lost 0 \u202egnp.evil\u2066\x07"
 # what a browser loads to play, and what else lies beside it to be read
-MOST_BYTES, MOST_PACKED = 800_000, 246_000
+MOST_BYTES, MOST_PACKED = 800_000, 240_000
 MOST_READ, MOST_READ_PACKED = 200_000, 70_000
 # pages to read that lie beside the page, and not in the folder of the others
 BESIDE = ("manual.html", "about.html")
@@ -56,7 +56,7 @@ def no_data(page: Page, folder: str) -> list[str]:
 
 
 def dying(page: Page) -> list[str]:
-    """A worker that dies is told of, and the next battle runs."""
+    """The page says that a worker died, and the next battle runs."""
     keep = "window.workers = []; const Plain = Worker; window.Worker = class extends Plain { constructor(...words) { super(...words); workers.push(this); } }"
     with page.before(keep):
         page.open()

@@ -59,7 +59,7 @@ def messages(page: Page) -> list[str]:
 
 
 def out_of_sight(page: Page) -> list[str]:
-    """A storage that is full is told of where one writes."""
+    """Where one writes, the page says that the storage is full."""
     page.size(360, 640)
     page.fresh()
     page.js("Storage.prototype.setItem = () => { throw new DOMException('full', 'QuotaExceededError'); };"

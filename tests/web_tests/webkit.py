@@ -1,4 +1,4 @@
-"""Tests of the whole page, by WebKit, which Safari has: those of Chromium, but for what only Chromium's driver tells."""
+"""Tests of the whole page, by WebKit, which Safari has: those of Chromium, but for what only Chromium's driver reports."""
 
 from __future__ import annotations
 

@@ -6,7 +6,7 @@ import {summed, unpacked} from "./packing.js";
 import {Player} from "./player.js";
 import {Sources} from "./sources.js";
 
-/** Shows the film that the page carries, and robots from inside if it tells of these. */
+/** Shows the film that the page carries, and robots from inside if it has these. */
 async function show() {
     const bytes = await unpacked(element("film").textContent);
     const match = new Match(filmOf(summed(new TextDecoder().decode(bytes))));

@@ -303,7 +303,7 @@ export class FieldDrawing {
     }
 }
 
-/** A step between lines of a chart: a round number, so that at most so many fit. */
+/** A step between lines of a chart: a round number, so that at most `most` fit. */
 function roundStep(span, most) {
     const least = span / most, power = 10 ** Math.floor(Math.log10(Math.max(least, 1)));
     return [1, 2, 5, 10].map(factor => factor * power).find(step => step >= least);

@@ -1,8 +1,8 @@
-// Films of matches: what there is to see of one, as crobots-trace and the module of the page tell it.
+// Films of matches: what there is to see of one, as crobots-trace and the module of the page write it.
 //
 // A film is lines of tab-separated fields: cycle, robot, kind, and up to five values. Robots count from 1. Places are in
 // tenths of a metre, angles in degrees, ranges in metres, damage and speed in percent, times in cycles. A film of some windows
-// of a match has also where the robots stand at their begin and end, and which missiles fly at their begin.
+// of a match has also where the robots stand at their start and end, and which missiles fly at their start.
 import {Kind, UPDATE_CYCLES} from "./terms.js";
 
 const HEADER = "cycle\trobot\tkind\ta\tb\tc\td\te";
@@ -87,7 +87,7 @@ class Rows {
         }
     }
 
-    /** Where a robot is at the begin or the end of some windows. */
+    /** Where a robot is at the start or the end of some windows. */
     stands(cycle, robot, values) {
         this.at(cycle, robot, values);
     }
@@ -174,7 +174,7 @@ class Rows {
         this.robots[robot - 1].asked.push([cycle, Number(reply), Number(when), `${name}(${used.join(", ")})`]);
     }
 
-    /** The shots, sorted by their cycles: one that was in the air at the begin of a window was fired before. */
+    /** The shots, sorted by their cycles: one that was in the air at the start of a window was fired before. */
     shotRows() {
         const harmOf = it => this.harms.get(placeOf(it.burst, it.robot, it.toX, it.toY)) ?? 0;
         return this.shots.sort((a, b) => a.cycle - b.cycle)
@@ -203,15 +203,15 @@ export function cyclesOf(text) {
     return Number(text.slice(text.lastIndexOf("\n", text.length - 2) + 1).split("\t")[0]);
 }
 
-/** Returns whether a film has where robots are at its begin: that of windows after a match's end has none. */
+/** Returns whether a film has where robots are at its start: that of windows after a match's end has none. */
 export function isFilm(text) {
     return /\tstands\t|^0\t1\tat\t/m.test(text);
 }
 
 /**
- * Reads a film. Robots have these names, or else those that the film tells. Returns the film's `first` and last cycle, `cycles`;
+ * Reads a film. Robots have these names, or else those that the film names. Returns the film's `first` and last cycle, `cycles`;
  * whether the match `goesOn` after it; and what happened, as a list for each column: of each of the `robots` its `path`, `damage`,
- * `scans` and the cycles of its `restarts`, and if it tells robots from inside its `source`, `lines` and questions `asked`; `shots`,
+ * `scans` and the cycles of its `restarts`, and if it shows robots from inside its `source`, `lines` and questions `asked`; `shots`,
  * `hurts` and `restarts`, and the `whys` of these.
  */
 export function filmOf(text, names = []) {

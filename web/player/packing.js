@@ -2,7 +2,7 @@
 
 const WORDED = new Set(["name", "restart", "source", "line", "asked"]);
 
-/** Reads a stream's bytes, and no more than so many: a stream that has more is given up at once. */
+/** Reads a stream's bytes, and no more than `most`: a stream that has more is given up at once. */
 export async function bytesOf(stream, most = Infinity) {
     const reader = stream.getReader();
     const parts = [];
@@ -26,7 +26,7 @@ function toBytes(text) {
     return Uint8Array.from(binary, letter => letter.charCodeAt(0));
 }
 
-/** Returns the bytes that a text in base 64 packs, if they aren't more than so many. */
+/** Returns the bytes that a text in base 64 packs, if they aren't more than `most`. */
 export function unpacked(text, most = Infinity) {
     const packed = new Blob([toBytes(text)]).stream();
     return bytesOf(packed.pipeThrough(new DecompressionStream("deflate-raw")), most);

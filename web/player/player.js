@@ -13,7 +13,7 @@ const SHORTEST_SHOW = 6;
 const LEAST_GLOW = 60;
 const MOST_GLOW = 1200;
 const SECONDS_OF_GLOW = 0.35;
-// For those who want no motion the match plays by still pictures, so many milliseconds apart.
+// For those who want no motion the match plays by still pictures, this many milliseconds apart.
 const CALM = matchMedia("(prefers-reduced-motion: reduce)");
 const MILLISECONDS_OF_A_STILL = 500;
 // How long the address stays as it is: browsers refuse to change it more often.

@@ -14,7 +14,7 @@ pub record FieldRobot : Type 0 where
   pub leg : Leg
   pub damages : List ℕ
 
--- the seed and the match's number choose the generator, of which n words were drawn
+-- the seed and the match's number choose the generator, of which `drawn` words were used
 pub record Field : Type 0 where
   pub seed : ℕ
   pub match_number : ℕ

@@ -4,7 +4,7 @@ use Rattle.std.specs.Prelude.{ℕ, ◌+◌, ◌-◌, min, max, Bool, ◌||◌, �
 use Rattle.arith.specs.Circle.{sine_at, cosine_at}
 use Rattle.arena.specs.Rules.{last_place, turning_speed, acceleration}
 
--- places and distances are in tenths of a metre, headings in degrees
+-- in tenths of a metre and degrees; a speed of 1 percent is a tenth an update
 pub record Leg : Type 0 where
   pub origin_x : ℕ
   pub origin_y : ℕ
@@ -34,7 +34,7 @@ unfoldable pub clamped : ℕ → ℤ → ℕ
 clamped most (pos n) = min n most
 clamped most (negsuc n) = 0
 
--- a way in hundred-thousandths of a tenth from an origin, rounded towards it
+-- where a way, in hundred-thousandths of a tenth, leads from an origin, rounded towards it
 unfoldable pub along : ℕ → ℤ → ℤ
 along origin way = pos origin +ℤ int_div way (pos 100000)
 

@@ -1,5 +1,5 @@
 -- One update, `moved`. Every robot and every pair is judged on the same old field and the same candidates. Its steps:
--- 1. Heading, speed and distance: `steered`, `sped` and `travelled` (Leg) make the leg that a robot has `tried`.
+-- 1. Heading, speed and distance: `steered`, `sped` and `travelled` (Leg) make the `tried` leg.
 -- 2. Walls: `stopped_by_walls` (Leg), the candidate.
 -- 3. Collisions: `collision_count` (Collisions) counts the pairs; `leg_after` puts those back that are in one.
 -- 4. Bursts: `bursts` (Shots), of the shots that are due, at the place of the leg after that.
@@ -19,7 +19,7 @@ put_back old leg = stopped_at (place_x old) (place_y old) leg
 unfoldable pub leg_after : Leg → ℕ → Leg
 leg_after leg touched = if nat_lt 0 touched then put_back leg (stopped_by_walls leg) else stopped_by_walls leg
 
--- a wall takes something, once, and so does each collision
+-- a wall does damage, once, and so does each collision
 unfoldable pub knock_damages : Leg → ℕ → List ℕ
 knock_damages leg touched = (if hits_wall (tried leg) then wall_damage ∷ [] else []) ++ replicate touched knock_damage
 

@@ -30,7 +30,7 @@ acceleration = 10
 abbrev pub near : ℕ
 near = 10
 
--- what makes a robot dead, what a wall takes, and what each collision takes
+-- the damage that makes a robot dead, that of a wall, and that of a collision
 abbrev pub deadly : ℕ
 deadly = 100
 
@@ -55,7 +55,7 @@ missile_speed = 50
 abbrev pub most_missiles : ℕ
 most_missiles = 2
 
--- how far the three rings of a burst reach, and what a burst takes in each
+-- how far the three rings of a burst reach, and the damage in each
 abbrev pub inner_ring : ℕ
 inner_ring = 50
 

@@ -41,6 +41,6 @@ ring square =
     else if nat_le square (last_ring * last_ring) then last_ring_damage
     else 0
 
--- what each burst of an update takes from a robot at a place
+-- the damage that each burst of an update does at a place
 unfoldable pub bursts : ℕ → List Shot → ℕ → ℕ → List ℕ
 bursts update shots x y = map (λ s. ring (square x y s.x s.y)) (due_at update shots)

@@ -9,7 +9,7 @@ use Rattle.arena.specs.Random.{random_word}
 unfoldable pub robot_at_rest : ℕ → ℕ → FieldRobot
 robot_at_rest x y = record { leg = leg_at_rest x y; damages = [] }
 
--- in the low half or in the high half of an axis
+-- a word's place in the low half of an axis, 0, or in the high
 unfoldable pub drawn_place : ℕ → ℕ → ℕ
 drawn_place half w = (if half == 0 then first_low_start else first_high_start) + w % start_places
 

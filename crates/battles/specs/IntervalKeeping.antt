@@ -64,7 +64,7 @@ pub record IsInterval (exes : List Executable) (next : List ℕ) (w : ℕ) (runn
   pub turn_numbers : AreTurnNumbers next
   pub past : (i : ℕ) → length exes ≤ i → i < MOST_ROBOTS → MOST_ROBOTS * w ≤ slice_index_or next i 0
 
--- at its begin each robot has all its turns before it
+-- at its start each robot has all its turns before it
 pub record BeginsInterval (exes : List Executable) (next : List ℕ) (w : ℕ) (runners : List Runner)
     (arena : Arena) : Type 0 where
   pub interval : IsInterval exes next w runners arena

@@ -1,6 +1,6 @@
 //! The programs of a series.
 
-ghost use Rattle.std.specs.Prelude.{◌≡◌, ◌<◌, ◌≤◌, [], ◌∷◌, ◌++◌, List, length, flat_map, slice_get, Some};
+ghost use Rattle.std.specs.Prelude.{◌≡◌, ◌<◌, ◌≤◌, [], ◌∷◌, ◌++◌, List, length, flat_map, slice_get, take, Some};
 ghost use Rattle.std.specs.Option.{option_to_list};
 ghost use Rattle.battles.specs.Pairing.{paired};
 ghost use Rattle.battles.specs.Programs.{AllSome, AreOfProfile};
@@ -25,8 +25,6 @@ pub struct Programs {
 }
 
 impl Model for Programs {
-    ghost use Rattle.std.specs.Prelude.{take};
-
     ghost Value = { List Program };
 
     ghost view = { λ p. flat_map option_to_list p.programs.items };
@@ -61,12 +59,8 @@ impl Programs {
         ensures { self.new ≡ self.old ++ program ∷ [] }
     {
         let file = self.programs.len();
+        translate(&program, &mut self.operations[file]);
         self.programs.push(Some(program));
-        let place = &self.programs.as_slice()[file];
-        match place {
-            Some(program) => translate(program, &mut self.operations[file]),
-            None => unreachable!(),
-        }
     }
 
     /// Returns the program of the file with this index.
@@ -87,6 +81,7 @@ impl Programs {
         ensures { (code : Program) → slice_get self.now file ≡ Some code
             → IsTranslated (executable_of code (translated result.now)) }
     {
+        prove!(self.len() <= MOST_FILES);
         &self.operations[file]
     }
 

@@ -1,5 +1,5 @@
 -- The program of `main(){}` is that of a file.
-use Rattle.std.specs.Prelude.{ℕ, zero, suc, ◌≡◌, ◌<◌, List, [], ◌∷◌, Some, slice_get}
+use Rattle.std.specs.Prelude.{ℕ, zero, suc, ◌≡◌, ◌<◌, [], ◌∷◌, Some, slice_get}
 use Rattle.std.proofs.Common.{refl, subst, arith, inl, inr}
 use Rattle.grammar.specs.KnownSources.{file_of_main, main_of}
 use Rattle.grammar.specs.ProfileNumbers.{first_profile}

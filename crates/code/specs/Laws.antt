@@ -18,7 +18,8 @@ abbrev pub WantsWhatTreesWant : Type 0
 WantsWhatTreesWant = (p : Profile) (file : File) → IsResolved file
     → (trace : List ℤ) → want_code (code_of p file) trace ≡ want p file trace
 
--- What a file wants along some replies is the same with any bound on turns and calls that is greater than their number.
+-- What a file wants along some replies is the same with any bound on iterations and calls that is greater than their
+-- number.
 abbrev pub MoreIterationsChangeNothing : Type 0
 MoreIterationsChangeNothing = (p : Profile) (file : File) → IsResolved file
     → (trace : List ℤ) (n : ℕ) → length trace < n → want_within p file n trace ≡ want p file trace

@@ -1,5 +1,5 @@
--- What a program's trees want along the replies that it got. There are no instructions, addresses and stack here:
--- only the trees, the variables, the depth of the stack, how many frames are open, and the replies.
+-- What a program's trees want along the replies that it got. There are no instructions and no addresses here:
+-- only the trees, the variables, the stack's depth, how many frames are open, and the replies.
 use Rattle.std.specs.Prelude.{ℕ, ℤ, pos, zero, suc, ◌+◌, List, [], ◌∷◌, Bool, true, false, length, map, replicate, get_or, slice_set, nat_lt, nat_le, if◌then◌else◌}
 use Rattle.std.specs.List.{range_with_len}
 use Rattle.arith.specs.Op.{holds, truth}
@@ -80,7 +80,7 @@ first_locals f arguments =
     map (λ j. if nat_lt j f.parameters then get_or arguments j (pos 0) else pos 0)
     (range_with_len 0 (length f.variables))
 
--- the value of a call, with the caller's variables again
+-- the value of a call, with the caller's locals again
 abbrev pub returned : Vars → ℤ → Vars → Along ℤ
 returned caller x vars = Gives x (record caller { externals = vars.externals })
 
@@ -103,7 +103,7 @@ module _ (p : Profile) where
   abbrev pub push : {A : Type 0} → ℕ → List ℤ → Along A → EvaluationResult A
   push depth trace go = tick (nat_lt depth p.words) Quiet trace (λ reply. go)
 
-  -- the end of a first branch, and of each turn: a push of 0, and a cycle that takes it
+  -- the end of a first branch, and of each iteration: a push of 0, and a cycle that takes it
   abbrev pub end_of_branch_or_iteration : {A : Type 0} → ℕ → List ℤ → Along A → EvaluationResult A
   end_of_branch_or_iteration depth trace go =
       push depth trace (λ rest.
@@ -227,12 +227,12 @@ module _ (p : Profile) where
           tick (nat_lt 1 frames) Quiet rest_of_value (λ reply.
           Gives (Returns x) vars))
 
-    -- with at most n turns and calls inside one another
+    -- with at most n iterations and calls inside one another
     abbrev pub effect_within : ℕ → BodyMeaning
     effect_within zero body vars depth frames trace = Awaits Restart
     effect_within (suc n) body vars depth frames trace = effect (effect_within n) body vars depth frames trace
 
-    -- what main's run wants, with at most n turns and calls inside one another
+    -- what main's run wants, with at most n iterations and calls inside one another
     abbrev pub want_within : ℕ → List ℤ → Want
     want_within n trace =
         let main = function_at file file.main in
@@ -243,7 +243,7 @@ module _ (p : Profile) where
         end_of_function depth 1 flow vars rest_of_main (λ x vars rest.
         Awaits Restart)))
 
-    -- What a file wants along the replies. Each turn and each call uses up a reply, so a greater bound changes nothing
-    -- (the law `MoreIterationsChangeNothing` in `Laws.antt`).
+    -- What a file wants along the replies. Each iteration and each call uses up a reply, so a greater bound changes
+    -- nothing (the law `MoreIterationsChangeNothing` in `Laws.antt`).
     abbrev pub want : List ℤ → Want
     want trace = want_within (suc (length trace)) trace

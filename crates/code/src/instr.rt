@@ -37,7 +37,8 @@ pub enum Instr {
 }
 
 impl Default for Instr {
-    /// Makes an instruction of which blank code consists. It is all zeros, so blank code is cheap to make and never moved.
+    /// Makes an instruction of which blank code consists. It is all zeros, so blank code is cheap to make and never
+    /// moved.
     fn default() -> Instr {
         Instr::Fetch(Var::External(0))
     }

@@ -45,8 +45,8 @@ impl Model for Program {
 }
 
 impl Default for Program {
-    /// Makes the program of `main(){}` by the first profile, in whose place that of a file is put. It is large, and made
-    /// where it stays.
+    /// Makes the program of `main(){}` by the first profile, in whose place that of a file is put. It is large, and
+    /// made where it stays.
     #[inline(always)]
     fn default() -> Program {
         let mut code = ArrayVec::new();

@@ -75,7 +75,7 @@ nesting_faults symbol s =
 abbrev pub no_room : Bool → ℕ → Code → List LocatedToken → List Fault
 no_room new count c rest = only_if new (only_if (nat_le most_names count) (fault rest c ∷ []))
 
--- of an intrinsic function, a second definition, or one function too many
+-- a definition of an intrinsic function, a second one, or one function too many
 abbrev pub definition_faults : List ℕ → Scope → List LocatedToken → List Fault
 definition_faults name scope rest =
     if is_intrinsic name then fault rest fault_code.IntrinsicRedefined ∷ []

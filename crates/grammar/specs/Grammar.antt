@@ -196,7 +196,7 @@ choice MoreArguments (token.Punctuator punctuator.Comma) after =
     Some (Exactly punctuator.Comma ∷ Part Expression ∷ Make AddArgument ∷ Part MoreArguments ∷ [])
 choice MoreArguments next after = Some []
 
--- whether the production chosen is nested in others: it ends in `Close`
+-- whether the production chosen counts as nested: it ends in `Close`
 abbrev pub enters : Symbol → Token → Token → Bool
 enters FunctionBlock (token.Punctuator punctuator.OpenCurly) after = true
 enters Block (token.Punctuator punctuator.OpenCurly) after = true

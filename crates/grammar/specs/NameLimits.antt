@@ -1,7 +1,7 @@
 -- How many names a source may have, and how many nested constructs at once.
 use Rattle.std.specs.Prelude.{ℕ}
 
--- the most externals, the most variables of a function, and the most functions: actions go by their numbers
+-- the most externals, the most variables of a function, and the most functions
 abbrev pub most_names : ℕ
 most_names = 64
 

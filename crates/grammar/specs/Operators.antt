@@ -63,7 +63,7 @@ abbrev pub operator_at : ℕ → Token → Option Op
 operator_at n (token.Punctuator m) = if_at n (binary_of m)
 operator_at n _ = None
 
--- the same of assignments
+-- the assignment that a punctuator spells
 abbrev pub store_of : Punctuator → Option StoreOp
 store_of punctuator.Equals = Some store_op.Set
 store_of punctuator.PlusEquals = Some store_op.Add

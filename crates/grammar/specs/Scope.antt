@@ -110,7 +110,7 @@ begin_definition name line scope =
       current = only_named name;
     }
 
--- it ends: the function's parameters and variables are known
+-- it ends: the function keeps its parameters and variables
 abbrev pub end_definition : Scope → Scope
 end_definition scope = record scope {
   functions = set scope.functions scope.number scope.current;

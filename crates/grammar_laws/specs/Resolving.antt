@@ -12,15 +12,15 @@ use Rattle.grammar_laws.specs.Written.{Signed, Assign, StepBefore, StepBehind, C
 use Rattle.grammar_laws.specs.Written.{Statement, Nothing, Evaluate, If, IfElse, While, Return, ReturnValue, Block}
 use Rattle.grammar_laws.specs.Written.{Statements, Done, Next}
 
--- what is known after a variable's name
+-- the scope after a variable's name
 abbrev pub mentioned : List ℕ → Scope → Scope
 mentioned name scope = scope_after_name Mentioned name 0 scope
 
--- what is known after the name of a call; lines are left aside, so it is mentioned on line 0
+-- the scope after the name of a call; lines are left aside, so it is mentioned on line 0
 abbrev pub called : List ℕ → Scope → Scope
 called name scope = scope_after_name Called name 0 scope
 
--- what is known after an expression
+-- the scope after an expression
 abbrev mutual
   pub behind : Expression → Scope → Scope
   behind (Constant value) scope = scope
@@ -46,7 +46,7 @@ abbrev pub step_op : Step → StoreOp
 step_op Up = store_op.Add
 step_op Down = store_op.Subtract
 
--- an expression's tree, if these names are known before it
+-- an expression's tree, in the scope before it
 abbrev mutual
   pub tree_of : Expression → Scope → Expr
   tree_of (Constant value) scope = tree.Constant (pos value)
@@ -62,7 +62,7 @@ abbrev mutual
   trees_of NoMore scope = tree.NoMore
   trees_of (Argument e rest) scope = tree.Argument (tree_of e scope) (trees_of rest (behind e scope))
 
--- what is known after a statement
+-- the scope after a statement
 abbrev mutual
   pub behind_statement : Statement → Scope → Scope
   behind_statement Nothing scope = scope

@@ -19,7 +19,7 @@ tokens_of located_tokens = map (λ (l : LocatedToken). l.token) located_tokens
 abbrev pub without_lines : Scope → Scope
 without_lines scope = record scope { lines = [] }
 
--- what is known at the beginning of the body of main
+-- the scope at the beginning of the body of main
 abbrev pub in_body : Scope
 in_body = begin_definition main_name 0 no_names
 

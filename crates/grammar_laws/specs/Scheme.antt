@@ -21,7 +21,7 @@ use Rattle.grammar.specs.Grammar.{Define, Item, Exactly, AKeyword, AName, AConst
 use Rattle.grammar.specs.Grammar.{choice}
 use Rattle.grammar_laws.specs.Productions.{Row, rows}
 
--- a symbol, a production of it, and its semantic actions, each after this many words; the end of a level is one of them
+-- a symbol, a production of it, and its semantic actions, each after this many words; `Close` is one of them
 abbrev pub ActionRow : Type 0
 ActionRow = String × String × List (ℕ × Item)
 

@@ -1,5 +1,5 @@
-//! Laws on the grammar: the round-trip law, names are numbered by the rules on names, nested productions close, productions
-//! are those of the plain grammar, and derivations emit the actions of the functions that they define.
+//! Laws on the grammar: the round-trip law, names are numbered by the rules on names, nested productions close,
+//! productions are those of the plain grammar, and derivations emit the actions of the functions that they define.
 
 ghost use Rattle.grammar_laws.specs.ClosedNesting.{NestedProductionsClose};
 ghost use Rattle.grammar_laws.specs.Emitted.{BeginningsAreNumbered, EmitsABeginning, EmitsAPart, EmitsItsFile};

@@ -27,8 +27,8 @@ use grammar::{Callee, Code, Diagnostic, MOST_NAMES, ParseFault, Scope, Var, lexi
 use std::marker::Model;
 use tokens::{Cursor, Feed, Keyword, LocatedToken, Name, Punctuator, Token};
 
-/// The next tokens of a device's bytes, and the names in scope there. Neither the next token nor one that was consumed is
-/// a lexical error. A device that has ended is not asked again.
+/// The next tokens of a device's bytes, and the names in scope there. Neither the next token nor one that was consumed
+/// is a lexical error. A device that has ended is not asked again.
 ///
 /// After an `Err` a scoped cursor is of no more use.
 #[derive(Drop)]

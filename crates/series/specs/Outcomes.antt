@@ -10,10 +10,11 @@ use Rattle.series.specs.Reports.{report}
 use Rattle.series.specs.Totals.{score_of, totals}
 
 module _ (settings : Settings) (files : List File) where
+  -- of the match of this number
   unfoldable pub outcome_of : ℕ → Outcome
   outcome_of k = battle (robots_of settings.profile files) settings.seed k settings.limit
 
-  -- the outcomes of n matches, from the first on
+  -- of `count` matches, from the first on
   abbrev pub outcomes : ℕ → List Outcome
   outcomes count = map outcome_of (range_with_len settings.first count)
 

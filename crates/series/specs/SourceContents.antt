@@ -3,7 +3,7 @@ use Rattle.std.specs.Prelude.{◌≡◌, ℕ, List, Option, Some, map}
 use Rattle.tokens.specs.Device.{Device}
 use Rattle.series.specs.Compiling.{SourceFile}
 
--- of each feed, if its contents are known
+-- the bytes that each feed still has, if they are known
 abbrev pub known_to_come : {F : Type 0} → (F → Device) → List F → List (Option (List ℕ))
 known_to_come device feeds = map (λ feed. (device feed).to_come) feeds
 

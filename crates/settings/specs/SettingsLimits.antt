@@ -1,5 +1,4 @@
--- The limits of what a run may be asked to do, and what it does when it isn't asked. Each least number is 1, but a
--- seed may be 0.
+-- The limits of what a run may be asked to do. Each least number is 1, but a seed may be 0.
 use Rattle.std.specs.Prelude.{ℕ}
 
 abbrev pub most_matches : ℕ

@@ -1,4 +1,4 @@
--- What is said of a sink. A portion is what one call took; all portions joined, in the order of the calls, are the
+-- What is known of a sink. A portion is what one call took; all portions joined, in the order of the calls, are the
 -- bytes that the sink took.
 use Rattle.std.specs.Prelude.{◌≡◌, ℕ, ◌<◌, ◌≤◌, Bool, true, List, [], ◌∷◌, ◌++◌, length, Option, Some, None}
 use Rattle.std.specs.List.{concat}

@@ -1,4 +1,4 @@
--- What is said of a device that gives bytes.
+-- What is known of a device that gives bytes.
 use Rattle.std.specs.Prelude.{ℕ, Bool, List, Option}
 
 pub record FailureCount : Type 0 where

@@ -24,7 +24,7 @@ abbrev pub begins_with : ℕ → List ℕ → Bool
 begins_with c [] = false
 begins_with c (b ∷ rest) = b == c
 
--- how many bytes, with the first `*/`
+-- how many bytes, with the first `*/`: 42 and 47
 abbrev pub up_to_close : List ℕ → Option ℕ
 up_to_close [] = None
 up_to_close (b ∷ rest) = if (b == 42) && begins_with 47 rest then Some 2 else option_map suc (up_to_close rest)

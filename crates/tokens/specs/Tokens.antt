@@ -55,7 +55,7 @@ last_located_token token line end =
 abbrev pub end_token : Token → UnreadSource → LocatedToken
 end_token token ahead = last_located_token token ahead.line (at_end ahead)
 
--- of this many bytes
+-- a token of this many bytes
 abbrev pub located : Token → ℕ → UnreadSource → LocatedToken
 located token count ahead = record { token = token; line = ahead.line; end = ahead.offset + count }
 

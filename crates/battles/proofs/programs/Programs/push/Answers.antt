@@ -1,4 +1,4 @@
-use Rattle.std.proofs.Common.{◌≡◌, ◌+◌, List, [], ◌∷◌, ◌++◌, Option, Some, length, set, take, sym, ap, subst, ◌∙◌, arith}
+use Rattle.std.proofs.Common.{◌≡◌, ℕ, ◌+◌, List, [], ◌∷◌, ◌++◌, Option, Some, length, set, take, sym, ap, subst, ◌∙◌, arith, rules}
 use Rattle.std.proofs.lemmas.List.{length-append, take_more_set}
 use Rattle.std.specs.Prelude.{flat_map}
 use Rattle.std.specs.Option.{option_to_list}
@@ -23,6 +23,7 @@ invariant_of-self c =
     let ops = c.self.inside.operations in
     let codes = flat_map option_to_list kept in
     let n = length kept in
+    let place : c.len-file.result ≡ n = search rules in
     let all : AllSome c.push.new.self.items =
     subst (λ (l : List (Option Program)). AllSome l) (sym c.push.ensures.items)
     (kept_more kept c.args.program c.self.invariant.0) in
@@ -32,9 +33,10 @@ invariant_of-self c =
     let count : length c.push.new.self.items ≡ n + 1 =
     ap (λ (l : List (Option Program)). length l) c.push.ensures.items ∙ length-append kept (Some c.args.program ∷ [])
     in
-    let put : take (length c.push.new.self.items) (set ops n c.translate.new.operations)
+    let put : take (length c.push.new.self.items) (set ops c.len-file.result c.translate.new.operations)
     ≡ take n ops ++ c.translate.new.operations ∷ [] =
-    ap (λ (k : _). take k (set ops n c.translate.new.operations)) count
+    ap (λ (k : ℕ). take (length c.push.new.self.items) (set ops k c.translate.new.operations)) place
+    ∙ ap (λ (k : ℕ). take k (set ops n c.translate.new.operations)) count
     ∙ take_more_set ops n c.translate.new.operations (omega (
       arith,
       c.requires.room,

@@ -1,7 +1,14 @@
-use Rattle.std.proofs.Common.{arith}
+use Rattle.std.specs.Prelude.{ℕ, ◌≡◌}
+use Rattle.std.proofs.Common.{ap, arith, inl, refl, ◌∙◌}
 use Rattle.grammar.specs.ProfileNumbers.{first_profile}
+use Rattle.code.specs.declared.counts.FunctionCounts.{FunctionCounts}
 use Rattle.code.proofs.ShortestProgram.{shortest}
 use Rattle.code.proofs.program.ProgramDefault.default.Goals as goal
+
+none : (f : FunctionCounts) → f.parameters ≡ 0 → f.variables ≡ 0 → f ≡ record { parameters = 0; variables = 0 }
+none f parameters variables =
+    ap (λ (n : ℕ). record f { parameters = n }) parameters ∙
+    ap (λ (n : ℕ). let none : FunctionCounts = record { parameters = 0; variables = n } in none) variables
 
 pub invariant_of-result : goal.invariant_of-result
 unfolding first_profile
@@ -11,9 +18,10 @@ invariant_of-result c =
       c.push-3.ensures.items,
       c.push-2.ensures.items,
       c.push.ensures.items,
-      c.new.ensures,
+      c.new-code.ensures,
       c.push-4.ensures.items,
-      c.new-2.ensures,
+      c.new-addresses.ensures,
       c.push-5.ensures.items,
-      c.new-3.ensures,
-    ) (tt, shortest, omega arith)
+      c.new-functions.ensures,
+      none c.default.result c.default.ensures.0 c.default.ensures.1,
+    ) (inl refl, shortest, omega arith)
