@@ -6,8 +6,6 @@ use crate::events::{Event, Field, Listener};
 use crate::runs::Stance;
 use crate::seen::Seen;
 use arena::{Arena, MOST_ROBOTS};
-use code::Cause;
-use playing::{Exchange, Turn, word_of};
 
 /// The names of a film's columns, with tabs between them.
 pub const FILM_COLUMNS: &str = "cycle\trobot\tkind\ta\tb\tc\td\te";
@@ -84,42 +82,45 @@ impl<R: FilmRows> Camera<R> {
         }
     }
 
-    /// Films a shot: a missile and where it is fired, or that the shot is refused.
-    pub fn shoot(&mut self, turn: Turn, question: Exchange, arena: &Arena)
-        requires { turn.robot < length arena.now.robots }
+    /// Films a shot, by these arguments of `cannon` and its reply: a missile and where it is fired, or a refused shot.
+    pub fn shoot(
+        &mut self,
+        cycle: u32,
+        robot: usize,
+        arguments: [i32; 2],
+        reply: i32,
+        arena: &Arena,
+    )
+        requires { robot < length arena.now.robots }
     {
-        let [degree, range] = question.arguments;
-        let event = if question.reply == 0 {
+        let [degree, range] = arguments;
+        let event = if reply == 0 {
             Event::of_numbers("refused", &[degree, range])
         } else {
-            let (x, y) = arena.place(turn.robot);
+            let (x, y) = arena.place(robot);
             Event::of_numbers("shot", &[degree, range, i32::from(x), i32::from(y)])
         };
-        self.rows.tell(turn.cycle, turn.robot, &event);
+        self.rows.tell(cycle, robot, &event);
     }
 
-    /// Films a scan, if it is the robot's first one since the last update.
-    pub fn scan(&mut self, turn: Turn, question: Exchange) {
-        let Turn { cycle, robot } = turn;
+    /// Films a scan, by these arguments and this reply, if it is the robot's first one since the last update.
+    pub fn scan(&mut self, cycle: u32, robot: usize, arguments: [i32; 2], reply: i32) {
         let Some(seen) = self.seen.get_mut(robot) else {
             return;
         };
         if seen.scan() && self.rows.follows(cycle, robot) {
-            let [degree, resolution] = question.arguments;
-            let event = Event::of_numbers("scan", &[degree, resolution, question.reply]);
+            let [degree, resolution] = arguments;
+            let event = Event::of_numbers("scan", &[degree, resolution, reply]);
             self.rows.tell(cycle, robot, &event);
         }
     }
 
-    /// Films that a robot restarts: why, and in which line of which function it is.
-    pub fn restart(&mut self, turn: Turn, cause: Cause, line: u32, function: &str) {
-        let fields = [
-            Field::Text(word_of(cause)),
-            Field::Text(function),
-            Field::Number(i64::from(line)),
-        ];
+    /// Films that a robot restarts: the word of what for, the function and the line that it is in.
+    pub fn restart(&mut self, cycle: u32, robot: usize, cause: &str, function: &str, line: u32) {
+        let line = Field::Number(i64::from(line));
+        let fields = [Field::Text(cause), Field::Text(function), line];
         self.rows
-            .tell(turn.cycle, turn.robot, &Event::new("restart", &fields));
+            .tell(cycle, robot, &Event::new("restart", &fields));
     }
 
     /// Films where the robots' ways end, and their damages after a cycle, as events of this kind.

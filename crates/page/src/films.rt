@@ -10,7 +10,7 @@ use code::Cause;
 use derivations::SourcePositions;
 use findings::{Camera, Event, FILM_COLUMNS, FilmRows, Listener, Stance, function_at};
 use grammar::MOST_NAMES;
-use playing::{Exchange, Pilot, Turn, UPDATE_CYCLES, Watcher};
+use playing::{Exchange, Pilot, Turn, UPDATE_CYCLES, Watcher, word_of};
 use std::str;
 use tokens::Name;
 use trails::Place;
@@ -177,14 +177,18 @@ impl Watcher for Film<'_> {
         if question.reply == 0 {
             return;
         }
-        self.camera.shoot(turn, question, arena);
         let Turn { cycle, robot } = turn;
+        let arguments = question.arguments;
+        self.camera
+            .shoot(cycle, robot, arguments, question.reply, arena);
         let place = Place::of(arena, robot);
-        self.keep(FiredMissile::new(robot, cycle, place, question.arguments));
+        self.keep(FiredMissile::new(robot, cycle, place, arguments));
     }
 
     fn scanned(&mut self, turn: Turn, question: Exchange) {
-        self.camera.scan(turn, question);
+        let Turn { cycle, robot } = turn;
+        self.camera
+            .scan(cycle, robot, question.arguments, question.reply);
     }
 
     fn restarts(&mut self, turn: Turn, pilot: &Pilot<'_>, cause: Cause) {
@@ -195,7 +199,8 @@ impl Watcher for Film<'_> {
         let number = function_at(pilot.program().addresses(), address);
         let function = function_name(self.functions, turn.robot, number);
         let line = self.line(turn.robot, address);
-        self.camera.restart(turn, cause, line, function);
+        self.camera
+            .restart(turn.cycle, turn.robot, word_of(cause), function, line);
     }
 
     fn updates(&mut self, cycle: u32, arena: &Arena) {

@@ -9,7 +9,7 @@ use arena::{Arena, MOST_ROBOTS};
 use code::{Cause, Intrinsic};
 use findings::{Camera, Event, FILM_COLUMNS, Field, FilmRows, Listener};
 use notes::{Note, note_of, place_of};
-use playing::{Exchange, Pilot, Turn, Watcher};
+use playing::{Exchange, Pilot, Turn, Watcher, word_of};
 use tools::Fault;
 
 /// What writes events as they happen: for a film with the robots' names, ways and scans.
@@ -90,9 +90,15 @@ impl Watcher for Events<'_> {
         if let Some(insides) = &mut self.insides {
             insides.hear(turn, question);
         }
-        match question.intrinsic {
-            Intrinsic::Cannon => self.camera.shoot(turn, question, arena),
-            Intrinsic::Scan => self.camera.scan(turn, question),
+        let Turn { cycle, robot } = turn;
+        let Exchange {
+            intrinsic,
+            arguments,
+            reply,
+        } = question;
+        match intrinsic {
+            Intrinsic::Cannon => self.camera.shoot(cycle, robot, arguments, reply, arena),
+            Intrinsic::Scan => self.camera.scan(cycle, robot, arguments, reply),
             Intrinsic::Drive
             | Intrinsic::Damage
             | Intrinsic::Speed
@@ -110,7 +116,8 @@ impl Watcher for Events<'_> {
     fn restarts(&mut self, turn: Turn, pilot: &Pilot<'_>, cause: Cause) {
         let address = pilot.machine().address();
         let (line, function) = place_of(self.notes, turn.robot, pilot.program(), address);
-        self.camera.restart(turn, cause, line, function);
+        self.camera
+            .restart(turn.cycle, turn.robot, word_of(cause), function, line);
     }
 
     fn updates(&mut self, cycle: u32, arena: &Arena) {
