@@ -1,6 +1,6 @@
 //! Cameras: what films a match as it is played.
 
-ghost use Rattle.std.specs.Prelude.{◌<◌, length};
+ghost use Rattle.std.specs.Prelude.{◌≡◌, ◌<◌, length};
 
 use crate::events::{Event, Field, Listener};
 use crate::runs::Stance;
@@ -30,7 +30,9 @@ pub struct Camera<R> {
 
 impl<R: FilmRows> Camera<R> {
     /// Makes the camera of a match that was not begun.
-    pub fn new(rows: R) -> Camera<R> {
+    pub fn new(rows: R) -> Camera<R>
+        ensures { result.rows ≡ rows }
+    {
         Camera {
             rows,
             robots: 0,

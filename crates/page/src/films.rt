@@ -1,5 +1,7 @@
 //! Films of matches: what there is to see of one, row by row.
 
+ghost use Rattle.std.specs.Prelude.{◌≡◌};
+
 use crate::missiles::FiredMissile;
 use crate::rows::Row;
 use crate::sheets::Sheet;
@@ -95,7 +97,9 @@ impl<'a> Film<'a> {
         places: &'a [Option<SourcePositions>],
         stretch: Option<Stretch>,
         skipped: u32,
-    ) -> Film<'a> {
+    ) -> Film<'a>
+        ensures { result.camera.rows.stretch ≡ stretch }
+    {
         add_columns(sheet);
         let rows = SheetRows {
             sheet,
@@ -147,10 +151,11 @@ impl<'a> Film<'a> {
 
     /// Writes which missiles are in the air.
     fn tell_missiles(&mut self) {
-        let rows = &mut self.camera.rows;
-        for missile in &self.missiles {
+        for slot in 0..MOST_BURSTS {
+            let missile = self.missiles[slot];
+            let rows = &mut self.camera.rows;
             if missile.flies(rows.updates) {
-                rows.put(missile.cycle, missile.robot, &missile_event(missile));
+                rows.put(missile.cycle, missile.robot, &missile_event(&missile));
             }
         }
     }
