@@ -1,7 +1,7 @@
-//! What is found out about a match: its events, runs of a film, what a robot lost by, where its time went, and where it
-//! waits.
+//! What is found out about a match: its events, its film, what a robot lost by, where its time went, and where it waits.
 #![tactic(auto)]
 
+mod cameras;
 mod counts;
 mod directions;
 mod events;
@@ -11,6 +11,7 @@ mod seen;
 mod shares;
 mod streaks;
 
+pub use cameras::{Camera, FILM_COLUMNS, FilmRows};
 pub use counts::{function_at, largest};
 pub use directions::{DIRECTION_DEGREES, DIRECTIONS, direction_of};
 pub use events::{Event, Field, Listener, MOST_FIELDS};

@@ -6,19 +6,16 @@ use crate::missiles::FiredMissile;
 use crate::rows::Row;
 use crate::sheets::Sheet;
 use crate::stretches::Stretch;
-use arena::{Arena, MOST_BURSTS, MOST_ROBOTS};
+use arena::{Arena, MOST_BURSTS};
 use arrayvec::ArrayVec;
 use code::Cause;
 use derivations::SourcePositions;
-use findings::{Event, Field, Listener, Seen, Stance, function_at};
+use findings::{Camera, Event, FILM_COLUMNS, FilmRows, Listener, Stance, function_at};
 use grammar::MOST_NAMES;
 use playing::{Exchange, Pilot, Turn, UPDATE_CYCLES, Watcher, word_of};
 use std::str;
 use tokens::Name;
 use trails::Place;
-
-/// The first line of a film: the names of its columns.
-pub(crate) const COLUMNS: &[u8] = b"cycle\trobot\tkind\ta\tb\tc\td\te\n";
 
 /// The names of the functions of a file, by number.
 pub(crate) type Functions = ArrayVec<Name, MOST_NAMES>;
@@ -34,60 +31,16 @@ pub enum Shown {
     Faulty,
 }
 
-/// What writes a film on a sheet as its match is played: of all of it, or of a stretch. A full sheet takes no more of
-/// it.
+/// The rows of a film on a sheet: of all of it, or of a stretch. A full sheet takes no more.
 #[derive(Drop)]
-pub(crate) struct Film<'a> {
+struct SheetRows<'a> {
     sheet: &'a mut Sheet,
-    functions: &'a [Functions],
-    places: &'a [Option<SourcePositions>],
     stretch: Option<Stretch>,
-    skipped: u32,
-    seen: [Seen; MOST_ROBOTS],
-    missiles: [FiredMissile; MOST_BURSTS],
-    robots: usize,
     updates: u32,
+    skipped: u32,
 }
 
-impl<'a> Film<'a> {
-    /// Begins a film of a stretch, or of a whole match, on a sheet. These are the functions of each file, and the
-    /// places of its instructions. The given number of rows are left out.
-    pub(crate) fn new(
-        sheet: &'a mut Sheet,
-        functions: &'a [Functions],
-        places: &'a [Option<SourcePositions>],
-        stretch: Option<Stretch>,
-        skipped: u32,
-    ) -> Film<'a>
-        ensures { result.stretch ≡ stretch }
-    {
-        sheet.add(COLUMNS);
-        Film {
-            sheet,
-            functions,
-            places,
-            stretch,
-            skipped,
-            seen: [Seen::default(); MOST_ROBOTS],
-            missiles: [FiredMissile::default(); MOST_BURSTS],
-            robots: 0,
-            updates: 0,
-        }
-    }
-
-    /// Ends the film of a match that was over after this cycle: writes where the robots' ways end, and their damages.
-    pub(crate) fn end(mut self, cycle: u32) {
-        self.stretch = None;
-        for robot in 0..self.robots.min(MOST_ROBOTS) {
-            let seen = self.seen[robot];
-            if let Some(end) = seen.run.end() {
-                self.tell_stance(robot, &end);
-            }
-            let damage = i32::from(seen.damage);
-            self.tell(cycle, robot, &Event::of_numbers("end", &[damage]));
-        }
-    }
-
+impl SheetRows<'_> {
     /// Reports whether the film shows what happens now.
     fn is_told(&self) -> bool {
         match &self.stretch {
@@ -104,6 +57,69 @@ impl<'a> Film<'a> {
         }
         self.sheet.add(Row::new(cycle, robot, event).as_slice());
     }
+}
+
+impl Listener for SheetRows<'_> {
+    /// Writes a row of an event, if the film shows what happens now.
+    fn tell(&mut self, cycle: u32, robot: usize, event: &Event<'_>) {
+        if self.is_told() {
+            self.put(cycle, robot, event);
+        }
+    }
+}
+
+impl FilmRows for SheetRows<'_> {
+    fn follows(&self, _: u32, _: usize) -> bool {
+        true
+    }
+
+    /// Writes the row behind those of the update: the page keeps the rows of each kind apart.
+    fn tell_before(&mut self, cycle: u32, robot: usize, event: &Event<'_>) {
+        self.tell(cycle, robot, event);
+    }
+}
+
+/// What writes a film on a sheet as its match is played.
+#[derive(Drop)]
+pub(crate) struct Film<'a> {
+    camera: Camera<SheetRows<'a>>,
+    functions: &'a [Functions],
+    places: &'a [Option<SourcePositions>],
+    missiles: [FiredMissile; MOST_BURSTS],
+}
+
+impl<'a> Film<'a> {
+    /// Begins a film of a stretch, or of a whole match, on a sheet. These are the functions of each file, and the
+    /// places of its instructions. The given number of rows are left out.
+    pub(crate) fn new(
+        sheet: &'a mut Sheet,
+        functions: &'a [Functions],
+        places: &'a [Option<SourcePositions>],
+        stretch: Option<Stretch>,
+        skipped: u32,
+    ) -> Film<'a>
+        ensures { result.camera.rows.stretch ≡ stretch }
+    {
+        add_columns(sheet);
+        let rows = SheetRows {
+            sheet,
+            stretch,
+            updates: 0,
+            skipped,
+        };
+        Film {
+            camera: Camera::new(rows),
+            functions,
+            places,
+            missiles: [FiredMissile::default(); MOST_BURSTS],
+        }
+    }
+
+    /// Ends the film of a match that was over after this cycle: writes where the robots' ways end, and their damages.
+    pub(crate) fn end(mut self, cycle: u32) {
+        self.camera.rows.stretch = None;
+        self.camera.end(cycle, "end");
+    }
 
     /// Returns the line that the instruction of an address comes from, 0 if it isn't known. A single file's program is
     /// that of both robots.
@@ -115,24 +131,20 @@ impl<'a> Film<'a> {
         }
     }
 
-    /// Writes where a robot is.
-    fn tell_stance(&mut self, robot: usize, stance: &Stance) {
-        self.tell(stance.cycle, robot, &Event::stance("at", stance));
-    }
-
     /// Writes where the robots are at a border of the stretch, and which missiles are in the air at its start.
     fn tell_border(&mut self, cycle: u32, arena: &Arena) {
-        let Some(stretch) = self.stretch else {
+        let rows = &mut self.camera.rows;
+        let Some(stretch) = rows.stretch else {
             return;
         };
-        if !stretch.is_bordered(self.updates) {
+        if !stretch.is_bordered(rows.updates) {
             return;
         }
         for robot in 0..arena.robot_count() {
             let stance = Stance::of(cycle, robot, arena);
-            self.put(cycle, robot, &Event::stance("stands", &stance));
+            rows.put(cycle, robot, &Event::stance("stands", &stance));
         }
-        if self.updates == stretch.from {
+        if rows.updates == stretch.from {
             self.tell_missiles();
         }
     }
@@ -141,12 +153,9 @@ impl<'a> Film<'a> {
     fn tell_missiles(&mut self) {
         for slot in 0..MOST_BURSTS {
             let missile = self.missiles[slot];
-            if missile.flies(self.updates) {
-                self.put(
-                    missile.cycle,
-                    missile.robot,
-                    &missile_event("flies", &missile),
-                );
+            let rows = &mut self.camera.rows;
+            if missile.flies(rows.updates) {
+                rows.put(missile.cycle, missile.robot, &missile_event(&missile));
             }
         }
     }
@@ -154,113 +163,77 @@ impl<'a> Film<'a> {
     /// Keeps a missile that is fired, in the place of one that has burst: of each robot two are in the air at most.
     fn keep(&mut self, missile: FiredMissile) {
         for slot in 0..MOST_BURSTS {
-            if !self.missiles[slot].flies(self.updates) {
+            if !self.missiles[slot].flies(self.camera.rows.updates) {
                 self.missiles[slot] = missile;
                 return;
             }
-        }
-    }
-
-    /// Writes what the film shows of the robots after an update, or at the start.
-    fn look(&mut self, cycle: u32, arena: &Arena) {
-        for robot in 0..self.robots.min(arena.robot_count()) {
-            let stance = Stance::of(cycle, robot, arena);
-            self.follow(robot, stance, arena.alive(robot));
-        }
-    }
-
-    /// Writes what the film shows of a robot after an update: its death, and where its runs end and begin.
-    fn follow(&mut self, robot: usize, stance: Stance, is_alive: bool) {
-        let Some(seen) = self.seen.get_mut(robot) else {
-            return;
-        };
-        let died = seen.look(stance.damage, is_alive);
-        let news = seen.run.go_on(stance);
-        if died {
-            self.tell(stance.cycle, robot, &Event::new("death", &[]));
-        }
-        if let Some(end) = news.end {
-            self.tell_stance(robot, &end);
-        }
-        if let Some(begin) = news.begin {
-            self.tell_stance(robot, &begin);
-        }
-    }
-}
-
-impl Listener for Film<'_> {
-    /// Writes a row of an event, if the film shows what happens now.
-    fn tell(&mut self, cycle: u32, robot: usize, event: &Event<'_>) {
-        if self.is_told() {
-            self.put(cycle, robot, event);
         }
     }
 }
 
 impl Watcher for Film<'_> {
     fn begins(&mut self, arena: &Arena) {
-        self.robots = arena.robot_count();
         self.tell_border(0, arena);
-        self.look(0, arena);
+        self.camera.begin(arena);
     }
 
-    /// Keeps and writes a missile that a robot fires: refused shots are left out.
+    /// Writes and keeps a missile that a robot fires: refused shots are left out.
     fn shot(&mut self, turn: Turn, question: Exchange, arena: &Arena) {
         if question.reply == 0 {
             return;
         }
         let Turn { cycle, robot } = turn;
-        let missile = FiredMissile::new(robot, cycle, Place::of(arena, robot), question.arguments);
-        self.tell(cycle, robot, &missile_event("shot", &missile));
-        self.keep(missile);
+        let arguments = question.arguments;
+        self.camera
+            .shoot(cycle, robot, arguments, question.reply, arena);
+        let place = Place::of(arena, robot);
+        self.keep(FiredMissile::new(robot, cycle, place, arguments));
     }
 
-    /// Writes the first scan of a robot since the last update.
     fn scanned(&mut self, turn: Turn, question: Exchange) {
-        let Some(seen) = self.seen.get_mut(turn.robot) else {
-            return;
-        };
-        if seen.scan() {
-            let [degree, resolution] = question.arguments;
-            let event = Event::of_numbers("scan", &[degree, resolution, question.reply]);
-            self.tell(turn.cycle, turn.robot, &event);
-        }
+        let Turn { cycle, robot } = turn;
+        self.camera
+            .scan(cycle, robot, question.arguments, question.reply);
     }
 
     fn restarts(&mut self, turn: Turn, pilot: &Pilot<'_>, cause: Cause) {
-        if !self.is_told() {
+        if !self.camera.rows.is_told() {
             return;
         }
         let address = pilot.machine().address();
         let number = function_at(pilot.program().addresses(), address);
         let function = function_name(self.functions, turn.robot, number);
-        let fields = [
-            Field::Text(word_of(cause)),
-            Field::Text(function),
-            Field::Number(i64::from(self.line(turn.robot, address))),
-        ];
-        self.tell(turn.cycle, turn.robot, &Event::new("restart", &fields));
+        let line = self.line(turn.robot, address);
+        self.camera
+            .restart(turn.cycle, turn.robot, word_of(cause), function, line);
     }
 
     fn updates(&mut self, cycle: u32, arena: &Arena) {
-        if self.is_told() {
-            self.tell_update(cycle, arena);
+        if self.camera.rows.is_told() {
+            self.camera.rows.tell_update(cycle, arena);
         }
     }
 
     fn updated(&mut self, cycle: u32, arena: &Arena) {
-        self.look(cycle, arena);
-        self.updates = cycle / UPDATE_CYCLES;
+        self.camera.look(cycle, arena);
+        self.camera.rows.updates = cycle / UPDATE_CYCLES;
         self.tell_border(cycle, arena);
     }
 
     fn wants_more(&self) -> bool {
-        let is_past = match &self.stretch {
+        let rows = &self.camera.rows;
+        let is_past = match &rows.stretch {
             None => false,
-            Some(stretch) => stretch.is_past(self.updates),
+            Some(stretch) => stretch.is_past(rows.updates),
         };
-        !is_past && self.sheet.failures == 0
+        !is_past && rows.sheet.failures == 0
     }
+}
+
+/// Writes the first line of a film: the names of its columns.
+pub(crate) fn add_columns(sheet: &mut Sheet) {
+    sheet.add(FILM_COLUMNS.as_bytes());
+    sheet.add(b"\n");
 }
 
 /// Returns the name of a robot's function of this number. A single file is both robots'.
@@ -272,8 +245,8 @@ fn function_name(files: &[Functions], robot: usize, number: usize) -> &str {
     }
 }
 
-/// Returns the event of a missile: what it was fired with, and where.
-fn missile_event(kind: &'static str, missile: &FiredMissile) -> Event<'static> {
+/// Returns the event that a missile is in the air: what it was fired with, and where.
+fn missile_event(missile: &FiredMissile) -> Event<'static> {
     let (x, y) = (i32::from(missile.x), i32::from(missile.y));
-    Event::of_numbers(kind, &[missile.degree, missile.range, x, y])
+    Event::of_numbers("flies", &[missile.degree, missile.range, x, y])
 }

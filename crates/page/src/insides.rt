@@ -10,7 +10,7 @@ ghost use Rattle.playing.specs.Played.{codes_of};
 ghost use Rattle.moments.specs.Moments.{IsMoment};
 ghost use Rattle.moments.specs.Searches.{Happens, IsLast, IsNext};
 
-use crate::films::COLUMNS;
+use crate::films::add_columns;
 use crate::pilots::pilots_of;
 use crate::rows::Row;
 use crate::sheets::Sheet;
@@ -33,7 +33,7 @@ pub(crate) fn tell_moment(
 )
     requires { 0 < length programs.now }
 {
-    sheet.add(COLUMNS);
+    add_columns(sheet);
     let robot = target.robot as usize;
     if robot >= programs.robots() {
         return;
@@ -77,7 +77,7 @@ pub(crate) fn tell_run(
 )
     requires { 0 < length programs.now }
 {
-    sheet.add(COLUMNS);
+    add_columns(sheet);
     let robot = target.robot as usize;
     if robot >= programs.robots() {
         return;

@@ -1,46 +1,14 @@
-//! The programs of files.
+//! What a file compiles to, and what is said of one with a fault.
 
-ghost use Rattle.std.specs.Prelude.{◌≡◌, ◌-◌, ◌<◌, ◌≤◌, ◌^◌, ℕ, List, Some, IfOk, false, length};
+ghost use Rattle.std.specs.Prelude.{◌≡◌, ◌-◌, ◌<◌, ◌^◌, ℕ, List, Some, IfOk, false};
 ghost use Rattle.tokens.specs.Feed.{Counts};
 ghost use Rattle.tools.specs.Compiling.{CompilesTo};
 
-use crate::faults::Fault;
-use crate::files::opened;
 use crate::shown::Plain;
 use code::{Maker, Profile, Program};
 use grammar::{Diagnostic, ParseFault, Pools};
 use parser::parse;
-use settings::{MOST_FILES, Settings};
-use tokens::{DeviceFault, Feed, FileFeed};
-
-/// Compiles the files of a match. Writes the diagnostic of each faulty one, or a line about the first that can't be
-/// opened or read, which begins with the name of the program.
-pub fn programs(rt: &HostRuntime, program: &str, wish: &Settings<'_>) -> Result<Vec<Program>, Fault>
-    ensures each { IfOk result (λ programs. length programs.items ≡ length wish.now.file_words) }
-    ensures some { IfOk result (λ programs. 0 < length programs.items) }
-    ensures most { IfOk result (λ programs. length programs.items ≤ MOST_FILES) }
-{
-    let mut programs = Vec::new(rt.alloc());
-    let mut is_faulty = false;
-    for word in wish.file_words() {
-        let file = opened(rt, program, word)?;
-        match compile(wish.profile(), &mut FileFeed::new(file)) {
-            Ok(Ok(made)) => programs.push(made.program).map_err(|_| Fault::Memory)?,
-            Ok(Err(diagnostic)) => {
-                tell_diagnostic(rt, word, &diagnostic);
-                is_faulty = true;
-            }
-            Err(DeviceFault) => {
-                let _ = eprintln!(rt; "{program}: cannot read {}", Plain(word));
-                return Err(Fault::Read);
-            }
-        }
-    }
-    if is_faulty {
-        return Err(Fault::Source);
-    }
-    Ok(programs)
-}
+use tokens::{DeviceFault, Feed};
 
 /// What a file compiles to: its program, and its names, which the program hasn't.
 #[derive(Drop)]

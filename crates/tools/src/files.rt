@@ -8,7 +8,7 @@ use std::io::{ErrorKind, Read};
 use tokens::{MOST_SOURCE_BYTES, WINDOW_BYTES};
 
 /// Opens the file of a word. If it can't be opened, a line with the program's name and the word is written.
-pub fn opened(rt: &HostRuntime, program: &str, word: &str) -> Result<File, Fault> {
+fn opened(rt: &HostRuntime, program: &str, word: &str) -> Result<File, Fault> {
     match File::open(rt, word) {
         Ok(file) => Ok(file),
         Err(fault) if fault.kind() == ErrorKind::OutOfMemory => Err(Fault::Memory),

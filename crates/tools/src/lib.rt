@@ -18,9 +18,9 @@ mod texts;
 mod version;
 mod wishes;
 
-pub use compiling::{Compiled, compile, name_of, programs, tell_diagnostic};
+pub use compiling::{Compiled, compile, name_of, tell_diagnostic};
 pub use faults::{Fault, Wrong};
-pub use files::{opened, source_of};
+pub use files::source_of;
 pub use frames::{ProgramFrame, Work};
 pub use known::{COMMON_OPTIONS, Known, OUTPUT_OPTIONS};
 pub use options::{Misread, Options, read_options};

@@ -1,6 +1,6 @@
 //! Rows of fields with tabs between them, on standard output.
 
-use findings::{Event, Field, MOST_FIELDS};
+use findings::{Event, Field, FilmRows, Listener, MOST_FIELDS};
 use playing::Turn;
 use std::alloc::AllocError;
 use tools::{Draft, Fault, Output, Span, Text, add_signed};
@@ -12,6 +12,8 @@ pub struct Rows<'a> {
     rt: &'a HostRuntime,
     /// Which robot and which cycles have rows.
     pub span: Span,
+    /// Whether they are a film: have robots' ways and scans.
+    pub is_film: bool,
     output: Output,
     pending: Draft,
     fault: Option<Fault>,
@@ -23,6 +25,7 @@ impl<'a> Rows<'a> {
         let mut rows = Rows {
             rt,
             span,
+            is_film: false,
             output: Output::new(rt.alloc()),
             pending: Draft::new(rt.alloc()),
             fault: None,
@@ -41,14 +44,6 @@ impl<'a> Rows<'a> {
     /// Adds a row of an event: its cycle, its robot, its kind, and its fields.
     pub fn event(&mut self, cycle: u32, robot: usize, event: &Event<'_>) {
         add_event(&mut self.pending, Turn { cycle, robot }, event);
-    }
-
-    /// Adds a row of an event in front of those that were added since the last `pass`.
-    pub fn event_before(&mut self, cycle: u32, robot: usize, event: &Event<'_>) {
-        let mut row = Draft::new(self.rt.alloc());
-        add_event(&mut row, Turn { cycle, robot }, event);
-        let moved = row.move_behind(self.output.text());
-        self.note(moved);
     }
 
     /// Returns the text that further rows are added to.
@@ -89,6 +84,29 @@ impl<'a> Rows<'a> {
             Some(fault) => Err(fault),
             None => self.output.finish(rt),
         }
+    }
+}
+
+impl Listener for Rows<'_> {
+    /// Adds a row of an event, if its cycle and its robot are in the span.
+    fn tell(&mut self, cycle: u32, robot: usize, event: &Event<'_>) {
+        if self.span.has(cycle, robot) {
+            self.event(cycle, robot, event);
+        }
+    }
+}
+
+impl FilmRows for Rows<'_> {
+    fn follows(&self, cycle: u32, robot: usize) -> bool {
+        self.is_film && self.span.has(cycle, robot)
+    }
+
+    /// Adds a row of an event in front of those that were added since the last `pass`.
+    fn tell_before(&mut self, cycle: u32, robot: usize, event: &Event<'_>) {
+        let mut row = Draft::new(self.rt.alloc());
+        add_event(&mut row, Turn { cycle, robot }, event);
+        let moved = row.move_behind(self.output.text());
+        self.note(moved);
     }
 }
 

@@ -17,11 +17,11 @@ mod svg;
 use crate::matches::{Recording, record};
 use crate::picture::drawn;
 use crate::requests::{Request, VIEW_OPTIONS};
+use notes::compiled;
 use playing::pilots;
 use std::process::ExitCode;
 use tools::{
-    Fault, MATCH_OPTIONS, OUTPUT_OPTIONS, Options, ProgramFrame, SPAN_OPTIONS, Work, programs,
-    write_to,
+    Fault, MATCH_OPTIONS, OUTPUT_OPTIONS, Options, ProgramFrame, SPAN_OPTIONS, Work, write_to,
 };
 
 /// The program's name, its line of wrong usage, and its options.
@@ -57,7 +57,7 @@ impl Work for Tracks {
 
 /// Compiles the files and plays the match.
 fn recorded(rt: &HostRuntime, request: &Request<'_>) -> Result<Recording, Fault> {
-    let programs = programs(rt, FRAME.name, &request.wish)?;
-    let mut pilots = pilots(rt.alloc(), programs.as_slice())?;
+    let sources = compiled(rt, FRAME.name, &request.wish)?;
+    let mut pilots = pilots(rt.alloc(), sources.programs.as_slice())?;
     Ok(record(pilots.as_mut_slice(), &request.wish, request.view))
 }
