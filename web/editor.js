@@ -227,7 +227,7 @@ class ColouredEditor {
         return {line: handle, words: mirror.addLineWidget(handle, told)};
     }
 
-    /** Marks the lines of warnings, each {line, text}, of a source without a fault. */
+    /** Marks the lines of warnings, each {line, text}: others than that of a fault, which has its own mark. */
     warn(warnings) {
         const {mirror} = this;
         const words = new Map();

@@ -76,7 +76,7 @@ export class Engine {
 
     /**
      * Explains the first robot's source: the ending is DONE if it compiles, and the text has the warnings, or FAULTY, and the
-     * text explains its fault. It is FULL if there is no room. Returns {ending, text}.
+     * text has those before its fault and then explains that. It is FULL if there is no room. Returns {ending, text}.
      */
     explain(settings, robots, call = this.exports.explain) {
         this.putOrder(0, settings);

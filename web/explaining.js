@@ -1,26 +1,27 @@
-// What the engine says of a source: why it has a fault, or what compiles and is hardly meant.
+// What the engine says of a source: why it has a fault, and what fits and is hardly meant.
 import {buttonOf} from "./asking.js";
 import {Ending} from "./limits.js";
 
 const WARNING = /^(\d+):\d+: warning: (.*)$/;
 const MOST_SHOWN = 20;
 
-/** Returns the warnings of an explanation, each {line, text}. */
+/** Returns the warnings of an explanation, each {line, text}. Those of a source with a fault stand before that. */
 export function warningsOf({ending, text}) {
-    const found = ending === Ending.DONE ? text.split("\n").map(row => WARNING.exec(row)) : [];
+    const found = [Ending.DONE, Ending.FAULTY].includes(ending) ? text.split("\n").map(row => WARNING.exec(row)) : [];
     return found.filter(Boolean).map(([, line, words]) => ({line: Number(line), text: words}));
 }
 
 /** Returns what explains a fault: the source's line with a mark, and what was met, what fits there, and a hint. */
 export function reasonOf({ending, text}) {
-    const lines = ending === Ending.FAULTY ? text.trimEnd().split("\n").slice(1) : [];
+    const rows = ending === Ending.FAULTY ? text.trimEnd().split("\n") : [];
+    const lines = rows.filter(row => !WARNING.test(row)).slice(1);
     const isMarked = line => line.startsWith("    ");
     return {marked: lines.filter(isMarked).map(line => line.slice(4)), said: lines.filter(line => !isMarked(line)).map(line => line.trim())};
 }
 
 const made = (tag, textContent, more) => Object.assign(document.createElement(tag), {textContent, ...more});
 
-/** Shows in a place why a source has a fault, or the warnings, which lead to their lines by `goTo`. */
+/** Shows in a place why a source has a fault, and the warnings, which lead to their lines by `goTo`. */
 export function showExplanation(place, explained, goTo) {
     const {marked, said} = reasonOf(explained);
     const warnings = warningsOf(explained);

@@ -149,7 +149,7 @@ export class Workbench {
         return answered(this.compiler.call(call, {profile: this.battle.settings.profile}, [{name: "robot", source}]));
     }
 
-    /** Compiles the robot that is edited, and shows its diagnostic with what explains it, or its listing and warnings. */
+    /** Compiles the robot that is edited, and shows its warnings, and its listing or its diagnostic with what explains it. */
     async compile() {
         const {robot, battle} = this;
         const {source} = robot;
@@ -157,7 +157,7 @@ export class Workbench {
         if (robot === this.robot && battle === this.battle && source === robot.source) {
             const fault = this.take(robot, listed);
             this.editor.mark(fault?.line ?? null, fault ? `${fault.text}. ${adviceOf(fault.text)}` : "");
-            this.editor.warn(warningsOf(explained));
+            this.editor.warn(warningsOf(explained).filter(({line}) => line !== fault?.line));
             this.listing.show(listed.text, linesOf(places.text), turnsOf(turns));
             this.listing.mark(this.editor.line);
             this.showDiagnostic(fault, listed);

@@ -86,32 +86,45 @@ class Vector(Battle):
         return self.answer
 
 
+WARNING = re.compile(rb"^(\d+):\d+: warning: (.*)\n", re.MULTILINE)
+
+
 @dataclass
 class Mistake:
     """A source of docs/mistakes.md, its profile, and what the page has of crobots-why on it: not the file's name, nor the warning
-    on want of room."""
+    on want of room. Without --lint the warnings that stand before its fault aren't known."""
 
     source: bytes
     profile: int
     told: bytes
+    is_linted: bool
 
     @property
-    def is_faulty(self) -> bool:
-        """Whether it has a fault, and not warnings."""
-        return b": warning: " not in self.told
+    def warnings(self) -> list[tuple[int, str]]:
+        """The line and the text of each warning."""
+        return [(int(line), text.decode()) for line, text in WARNING.findall(self.told)]
+
+    @property
+    def fault(self) -> bytes:
+        """The explanation of its fault, if it has one."""
+        return WARNING.sub(b"", self.told)
+
+    def is_told(self, text: bytes) -> bool:
+        """Whether a text is what is said of it."""
+        return (text if self.is_linted else WARNING.sub(b"", text)) == self.told
 
 
 def mistakes() -> list[Mistake]:
-    """The examples of docs/mistakes.md on which crobots-why says all that it has to say."""
+    """The examples of docs/mistakes.md on which crobots-why says all that it has to say: of several faults the first alone."""
     with open(MISTAKES, encoding="utf-8") as file:
         text = file.read()
     found, sources = [], {}
     for command, output in re.findall(r"^\$ (.*)\n((?:(?!\$ |```).*\n)*)", text, re.MULTILINE):
         if made := re.fullmatch(r"printf '(.*)' > (\S+)", command):
             sources[made[2]] = made[1].replace("\\n", "\n").encode("ascii")
-        elif (asked := re.fullmatch(r"crobots-why ((?:-\S+ )*)(\S+)", command)) and output:
+        elif (asked := re.fullmatch(r"crobots-why ((?:-\S+ )*)(\S+)", command)) and output and "--all" not in asked[1]:
             told = re.sub(rf"^(?:.* for want of room\n|{re.escape(asked[2])}:)", "", output, flags=re.MULTILINE)
-            found.append(Mistake(sources[asked[2]], 2 if "-p2" in asked[1] else 1, told.encode("ascii")))
+            found.append(Mistake(sources[asked[2]], 2 if "-p2" in asked[1] else 1, told.encode("ascii"), "--lint" in asked[1]))
     return found
 
 

@@ -358,7 +358,7 @@ def explanations(folder: str) -> list[str]:
     cases = mistakes()
     battles = [Battle([("a.r", it.source)], Settings(profile=it.profile), call="explain") for it in cases]
     for it, (ending, text, _) in zip(cases, answers(folder, battles), strict=True):
-        if (ending, text) != (1 if it.is_faulty else 0, it.told):
+        if ending != (1 if it.fault else 0) or not it.is_told(text):
             wrong.append(f"{it.source!r}: {ending} {text.decode()}, not {it.told.decode()}")
     return wrong + ([] if len(cases) > 25 else [f"{len(cases)} cases"])
 

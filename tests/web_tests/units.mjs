@@ -15,6 +15,7 @@ const {completions, openCall, wordAt} = await load("helping");
 const {Series, ended} = await load("series");
 const {adviceOf} = await load("advice");
 const {turnsOf} = await load("listings");
+const {reasonOf, warningsOf} = await load("explaining");
 const {Code, callsOf, foundIn, momentOf, valuesOf} = await load("moments");
 
 function check(name, got, wanted) {
@@ -121,5 +122,11 @@ check("no moment, and what was found", [momentOf(ROWS), foundIn(ROWS), foundIn(`
 check("turns of loops", turnsOf({ending: 0, text: "3\t1\tturn\t14\t63\n4\t1\tturn\t14\n5\t1\tturn\t9\t9\n6\t1\tturn\n"}).map(({line, text}) => line + text),
     ["3Line 3: a turn takes 14 to 63 cycles", "4Line 4: a turn takes at least 14 cycles", "5Line 5: a turn takes 9 cycles", "6Line 6: the loop never begins again"]);
 check("no turns", [turnsOf({ending: 1, text: "x"}), turnsOf({ending: 0, text: ""})], [[], []]);
+const FAULTY = {ending: 1, text: "3:3: warning: `a` is set\n5:12: syntax error\n      cannon(0 50);\n               ^\n  met: the number 50\n  hint: a warning: none\n"};
+check("a fault behind a warning", [warningsOf(FAULTY), reasonOf(FAULTY)],
+    [[{line: 3, text: "`a` is set"}], {marked: ["  cannon(0 50);", "           ^"], said: ["met: the number 50", "hint: a warning: none"]}]);
+check("warnings without a fault", [warningsOf({ending: 0, text: "3:3: warning: x\n"}), reasonOf({ending: 0, text: "3:3: warning: x\n"})],
+    [[{line: 3, text: "x"}], {marked: [], said: []}]);
+check("nothing explained", [warningsOf({ending: 4, text: "3:3: warning: x\n"}), reasonOf({ending: 4, text: ""})], [[], {marked: [], said: []}]);
 check("no advice", adviceOf("nonsense"), "");
 console.log(JSON.stringify(wrong));

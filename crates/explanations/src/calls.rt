@@ -31,8 +31,9 @@ pub fn warn_of_call(
     let Some(node) = nodes.get(index) else {
         return;
     };
-    let wanted = parameters(nodes, callee);
-    if wanted != arguments {
+    if let Some(wanted) = parameters(nodes, callee)
+        && wanted != arguments
+    {
         out.warn(node.token, Said::Arguments(wanted, arguments));
     } else if let (Callee::Intrinsic(intrinsic), 2) = (callee, arguments) {
         warn_of_pair(out, subject, index, intrinsic);
@@ -53,22 +54,22 @@ pub fn warn_of_call(
     }
 }
 
-/// Returns how many parameters a function has.
-fn parameters(nodes: &Nodes, callee: Callee) -> usize {
+/// Returns how many parameters a function has. One that isn't defined before the source's fault has none that are known.
+fn parameters(nodes: &Nodes, callee: Callee) -> Option<usize> {
     match callee {
-        Callee::Intrinsic(intrinsic) => usize::from(intrinsic.argument_count()),
+        Callee::Intrinsic(intrinsic) => Some(usize::from(intrinsic.argument_count())),
         Callee::Function(number) => parameters_of(nodes, number),
     }
 }
 
 /// Returns how many parameters the function of this number has.
-fn parameters_of(nodes: &Nodes, number: u8) -> usize {
+fn parameters_of(nodes: &Nodes, number: u8) -> Option<usize> {
     for body in nodes.bodies() {
         if body.number == number {
-            return body.parameters;
+            return Some(body.parameters);
         }
     }
-    0
+    None
 }
 
 /// Reports whether the function of this number has a `return`.

@@ -12,8 +12,8 @@ pub fn behind_brackets(tokens: &[Located], before: usize) -> Option<usize> {
     for (number, located) in from(tokens, open).iter().enumerate() {
         match located.token {
             Token::Punctuator(Punctuator::OpenRound) => depth = depth.saturating_add(1),
-            Token::Punctuator(Punctuator::CloseRound) => depth = depth.saturating_sub(1),
             _ if number == 0 => return None,
+            Token::Punctuator(Punctuator::CloseRound) => depth = depth.saturating_sub(1),
             _ => {}
         }
         if depth == 0 {

@@ -32,5 +32,7 @@ mod warnings;
 
 pub use compiling::compile;
 pub use explaining::explain;
+pub use heads::is_head;
 pub use notes::Note;
-pub use warnings::{Warning, Warnings, warnings_of};
+pub use searches::fault_token;
+pub use warnings::{Warning, Warnings, warnings_before, warnings_of};

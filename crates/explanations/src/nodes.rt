@@ -151,12 +151,15 @@ pub struct Nodes {
     begun: Body,
 }
 
-/// Makes the nodes of a source that compiles.
+/// Makes the nodes of a source, up to its first fault if it has one. Of the function with the fault these are the nodes
+/// of the statements that end before it, and the function itself is none of the bodies.
 pub fn nodes_of(tokens: &[Located], profile: Profile) -> Nodes {
     let mut nodes = Nodes::new();
     let mut walk = Walk::start(tokens, profile);
     for _ in 0..u64::MAX {
         match walk.step() {
+            // a source that compiles has fewer nodes
+            _ if nodes.is_full() => break,
             Event::Passed => {}
             Event::Named { token, meaning } => nodes.name(tokens, token, meaning),
             Event::Number { token, value } => nodes.constant(value, token),
@@ -168,6 +171,7 @@ pub fn nodes_of(tokens: &[Located], profile: Profile) -> Nodes {
             Event::Refused { .. } | Event::Done => break,
         }
     }
+    nodes.drop_open();
     nodes
 }
 
@@ -183,6 +187,23 @@ impl Nodes {
             variables: ArrayVec::new(),
             calls: ArrayVec::new(),
             begun: Body::default(),
+        }
+    }
+
+    /// Reports whether there is no room for a further node.
+    fn is_full(&self) -> bool {
+        self.list.len() >= MOST_NODES
+    }
+
+    /// Drops the nodes after the last statement: those of one that a fault cut off.
+    fn drop_open(&mut self) {
+        for _ in 0..self.list.len() {
+            match self.list.as_slice().last() {
+                Some(node) if !is_statement(node.kind) => {
+                    let _ = self.list.pop();
+                }
+                _ => return,
+            }
         }
     }
 
@@ -562,6 +583,11 @@ impl Nodes {
             _ => Var::Local(0),
         }
     }
+}
+
+/// Reports whether a node of this kind is a statement.
+fn is_statement(kind: Kind) -> bool {
+    matches!(kind, Kind::Evaluate | Kind::If | Kind::While | Kind::Return)
 }
 
 /// Reports whether a value is known, and isn't 0.

@@ -2,8 +2,14 @@
 
 use crate::walks::{Event, Meaning, Walk};
 use arrayvec::ArrayVec;
-use derivations::Derivation;
-use grammar::{Callee, Code, Diagnostic, MOST_NAMES};
+use derivations::{Derivation, Located};
+use grammar::{Callee, Code, Diagnostic, MOST_NAMES, Profile};
+
+/// Returns the index of the token of a source's fault, which `compile` found by the same profile; the tokens are the
+/// source's.
+pub fn fault_token(tokens: &[Located], profile: Profile, fault: &Diagnostic) -> usize {
+    Search::along(Walk::start(tokens, profile)).find(fault)
+}
 
 /// A search: how far it has come, which functions are defined up to there, and which ones are mentioned.
 #[derive(Drop)]

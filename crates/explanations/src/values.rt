@@ -8,7 +8,7 @@ use grammar::{Callee, Intrinsic, Op};
 use tokens::{Punctuator, Token};
 
 /// What sine, cosine and tangent are multiplied by.
-const PARTS: i32 = 100_000;
+const PARTS: u32 = 100_000;
 
 /// Warns of the operator of a node's index.
 pub fn warn_of_operator(out: &mut Warnings, subject: &Subject<'_>, index: usize, op: Op) {
@@ -28,9 +28,9 @@ pub fn warn_of_operator(out: &mut Warnings, subject: &Subject<'_>, index: usize,
     if is_masked(nodes, op, node, left, right) {
         out.tell(right.token, "this is compared first: write `(a & b) == c`");
     }
-    if op == Op::Multiply && !has_value(nodes, PARTS) {
-        warn_of_parts(out, left);
-        warn_of_parts(out, right);
+    if op == Op::Multiply && !has_value(nodes, PARTS as i32) {
+        warn_of_parts(out, subject.tokens, left);
+        warn_of_parts(out, subject.tokens, right);
     }
 }
 
@@ -120,17 +120,30 @@ fn has_value(nodes: &Nodes, value: i32) -> bool {
 }
 
 /// Warns of a factor that is a sine, a cosine or a tangent, if nothing divides.
-fn warn_of_parts(out: &mut Warnings, factor: &Node) {
+fn warn_of_parts(out: &mut Warnings, tokens: &[Located], factor: &Node) {
     if let Kind::Call(
         Callee::Intrinsic(Intrinsic::Sin | Intrinsic::Cos | Intrinsic::Tan),
         _,
     ) = factor.kind
+        && !may_have_parts(tokens)
     {
         out.warn(
             factor.token,
             Said::Named(" answers in 100,000ths: divide the product by 100000"),
         );
     }
+}
+
+/// Reports whether the number of parts is among the tokens of a source, or may be after the last one, which is a lexical
+/// error. Behind a fault there are tokens, but no nodes.
+fn may_have_parts(tokens: &[Located]) -> bool {
+    let parts = Token::Constant(PARTS);
+    for located in tokens {
+        if located.token == parts || matches!(located.token, Token::Fault(_)) {
+            return true;
+        }
+    }
+    false
 }
 
 /// Warns of an assignment with `=-`.

@@ -1,4 +1,4 @@
-//! The warnings about a source that compiles.
+//! The warnings about a source that compiles, or about what stands before the fault of one that doesn't.
 
 use crate::branches::warn_of_branch;
 use crate::calls::warn_of_call;
@@ -6,18 +6,19 @@ use crate::flow::{warn_of_main, warn_of_recursion};
 use crate::misnamed::name_at;
 use crate::nodes::{Kind, Node, Nodes, nodes_of};
 use crate::notes::Note;
+use crate::searches::fault_token;
 use crate::statements::warn_of_statement;
 use crate::told::text_of;
 use crate::values::{warn_of_operator, warn_of_store};
 use crate::variables::warn_of_variables;
 use arrayvec::ArrayVec;
 use derivations::Located;
-use grammar::Profile;
+use grammar::{Diagnostic, Profile};
 
 /// The most warnings of a source: those that are found after this many are left out.
 const MOST_WARNINGS: usize = 1000;
 
-/// A source that compiles: its tokens, and the nodes that were made of them.
+/// A source: its tokens, and the nodes that were made of them, up to its fault if it has one.
 #[derive(Clone, Copy)]
 pub struct Subject<'a> {
     /// Its tokens.
@@ -153,6 +154,8 @@ fn add_arguments(note: &mut Note, wanted: usize, given: usize) {
 #[derive(Drop)]
 pub struct Warnings {
     list: ArrayVec<Warning, MOST_WARNINGS>,
+    /// The index of the token before which those are that they are about.
+    end: usize,
 }
 
 impl Warnings {
@@ -161,10 +164,13 @@ impl Warnings {
         self.list.as_slice()
     }
 
-    /// Adds a warning. Those about a token are in the order in which they are found. It isn't inlined, since the page's
-    /// module is to be small.
+    /// Adds a warning, unless its token is behind those that warnings are about. Those about a token are in the order in
+    /// which they are found. It isn't inlined, since the page's module is to be small.
     #[inline(never)]
     pub(crate) fn warn(&mut self, token: usize, said: Said) {
+        if token >= self.end {
+            return;
+        }
         let found = self.list.len();
         let order = token.saturating_mul(MOST_WARNINGS).saturating_add(found);
         let _ = self.list.try_push(Warning { token, order, said });
@@ -206,6 +212,20 @@ impl Warnings {
 /// Finds the warnings about a source that compiles by this profile; the tokens are the source's. Those after the first
 /// thousand that are found are left out.
 pub fn warnings_of(tokens: &[Located], profile: Profile) -> Warnings {
+    warnings_up_to(tokens, profile, tokens.len())
+}
+
+/// Finds the warnings about what stands before the fault of a source, which `compile` found by the same profile; the
+/// tokens are the source's. Those that go by a whole function are about functions that end before the fault. They are at
+/// most a thousand, as those of `warnings_of`.
+pub fn warnings_before(tokens: &[Located], profile: Profile, fault: &Diagnostic) -> Warnings {
+    warnings_up_to(tokens, profile, fault_token(tokens, profile, fault))
+}
+
+/// Finds the warnings about the tokens of a source before the one of an index, which is that of its fault if it has one.
+/// It isn't inlined, since the page's module is to be small.
+#[inline(never)]
+fn warnings_up_to(tokens: &[Located], profile: Profile, end: usize) -> Warnings {
     let nodes = nodes_of(tokens, profile);
     let subject = Subject {
         tokens,
@@ -214,6 +234,7 @@ pub fn warnings_of(tokens: &[Located], profile: Profile) -> Warnings {
     };
     let mut warnings = Warnings {
         list: ArrayVec::new(),
+        end,
     };
     warn_of_variables(&mut warnings, &subject);
     warnings.warn_of_nodes(&subject);

@@ -1,4 +1,5 @@
-//! Explanations of sources in memory: a fault's; or of a source without one the warnings, or what its loops take.
+//! Explanations of sources in memory: a fault's, with the warnings before it; or of a source without one the warnings, or
+//! what its loops take.
 
 ghost use Rattle.std.specs.Prelude.{◌≡◌, IfErr, IfSome, IsSome, OnOk};
 ghost use Rattle.explanations.specs.Compiling.{Compiles, IsFirstFault};
@@ -14,17 +15,17 @@ use crate::sheets::{FRAME_BYTES, Sheet};
 use crate::sources::SourceFeed;
 use code::Maker;
 use derivations::{Located, Tokens, locate_in};
-use explanations::{explain, warnings_of};
+use explanations::{Warnings, explain, warnings_before, warnings_of};
 use findings::{Event, Field};
 use grammar::{ParseFault, Profile};
 use parser::parse;
 
-/// What is reported of a source without a fault.
+/// What is reported of a source beside a fault.
 #[derive(Clone, Copy, PartialEq, Eq)]
 pub enum Topic {
-    /// The warnings about it.
+    /// The warnings about it, or about what stands before its fault.
     Warnings,
-    /// What the turns of its loops take.
+    /// What the turns of its loops take, if it has no fault.
     Turns,
 }
 
@@ -39,8 +40,8 @@ pub enum Explained {
     Cut,
 }
 
-/// Explains the source of the first robot in the profile that an order asks for, on a sheet that is blank before: its
-/// first fault, or a line for each warning, or a row for each loop.
+/// Explains the source of the first robot in the profile that an order asks for, on a sheet that is blank before: a line
+/// for each warning, up to the first fault, or a row for each loop; and the first fault.
 ///
 /// `None` if a number of the order is not within its limits, a name is no text, or there is no robot or over four.
 pub fn explain_robot(
@@ -75,12 +76,16 @@ fn explain_source(profile: Profile, source: &[u8], topic: Topic, sheet: &mut She
     match compile(source, profile) {
         Ok(()) => {
             match topic {
-                Topic::Warnings => tell_warnings(tokens, profile, sheet),
+                Topic::Warnings => tell_warnings(&warnings_of(tokens, profile), tokens, sheet),
                 Topic::Turns => tell_turns(tokens, profile, sheet),
             }
             told(Explained::Good, sheet)
         }
         Err(ParseFault::Source(diagnostic)) => {
+            if topic == Topic::Warnings {
+                let warnings = warnings_before(tokens, profile, &diagnostic);
+                tell_warnings(&warnings, tokens, sheet);
+            }
             let note = explain(source, tokens, profile, &diagnostic);
             tell(note.as_str(), sheet);
             told(Explained::Faulty, sheet)
@@ -113,9 +118,8 @@ fn told(explained: Explained, sheet: &Sheet) -> Explained
     }
 }
 
-/// Writes the warnings about a source, a line each.
-fn tell_warnings(tokens: &[Located], profile: Profile, sheet: &mut Sheet) {
-    let warnings = warnings_of(tokens, profile);
+/// Writes warnings about a source, a line each.
+fn tell_warnings(warnings: &Warnings, tokens: &[Located], sheet: &mut Sheet) {
     for warning in warnings.list() {
         let note = warning.note(tokens);
         tell(note.as_str(), sheet);

@@ -133,7 +133,7 @@ pub extern "C" fn find(
 }
 
 /// Explains the source of the first robot in the language profile that the order asks for, as the program crobots-why
-/// does, but without a name in front: its first fault, or a line for each warning.
+/// --lint does, but without a name in front: a line for each warning, up to the first fault, and the fault.
 ///
 /// Answers 0 if it compiles, 1 if it has a fault, 2 as `run` does, and 4 if there is no room: the source has over
 /// 16,384 tokens, or the sheet is full.

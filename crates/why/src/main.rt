@@ -1,12 +1,18 @@
 //! Says what is wrong with robots' sources, in words for beginners: where, what fits there, and what may be meant.
 #![tactic(auto)]
 
+mod parts;
+mod recoveries;
 mod room_warnings;
+mod source_files;
 
+use crate::recoveries::add_later_faults;
 use crate::room_warnings::add_want_of_room;
-use derivations::locate;
-use explanations::{Note, compile, explain, warnings_of};
-use grammar::{ParseFault, Profile};
+use crate::source_files::SourceFile;
+use derivations::{Located, locate};
+use explanations::{Note, Warnings, compile, explain, warnings_before, warnings_of};
+use grammar::{Diagnostic, ParseFault, Profile};
+use std::alloc::Global;
 use std::process::ExitCode;
 use tools::{
     Fault, Known, Options, Output, PROFILE_OPTIONS, Plain, ProgramFrame, Work, profile, source_of,
@@ -16,13 +22,14 @@ use tools::{
 const FRAME: ProgramFrame = ProgramFrame {
     name: "crobots-why",
     about: "Explains the first fault of each robot, or warns about code that compiles but is probably a mistake.",
-    usage: "[-pPROFILE] [--lint [--strict]] FILE..",
-    known: &[&PROFILE_OPTIONS, &LINT_OPTIONS],
+    usage: "[-pPROFILE] [--all] [--lint [--strict]] FILE..",
+    known: &[&PROFILE_OPTIONS, &WHY_OPTIONS],
 };
 
-/// The options of warnings.
-const LINT_OPTIONS: [Known; 2] = [
-    Known::Flag("lint", "warn about files without a fault"),
+/// The options of this program alone.
+const WHY_OPTIONS: [Known; 3] = [
+    Known::Flag("all", "explain faults of several functions"),
+    Known::Flag("lint", "warn too, up to the first fault"),
     Known::Flag(
         "strict",
         "with --lint: end with status 1 if there is a warning",
@@ -59,6 +66,7 @@ impl Work for Why {
 #[derive(Clone, Copy)]
 struct Wish {
     profile: Profile,
+    all: bool,
     lint: bool,
     strict: bool,
 }
@@ -73,6 +81,7 @@ impl Wish {
         match profile(options) {
             Ok(profile) => Ok(Wish {
                 profile,
+                all: options.has("all"),
                 lint,
                 strict,
             }),
@@ -106,26 +115,69 @@ fn explain_file(
     let (bytes, alloc) = (source_of(rt, FRAME.name, path)?, rt.alloc());
     let name = format!(in alloc; "{}", Plain(path))?;
     let tokens = locate(alloc, bytes.as_slice())?;
-    let (path, source, tokens) = (name.as_str(), bytes.as_slice(), tokens.as_slice());
-    match compile(source, wish.profile) {
+    let file = SourceFile {
+        path: name.as_str(),
+        source: bytes.as_slice(),
+        profile: wish.profile,
+    };
+    match compile(file.source, file.profile) {
         Ok(()) if wish.lint => {
-            let warnings = warnings_of(tokens, wish.profile);
-            for warning in warnings.list() {
-                let note = warning.note(tokens);
-                tell(output, path, &note)?;
-            }
-            let lacks = add_want_of_room(output.text(), alloc, path, source, wish.profile)?;
-            Ok(wish.strict && (lacks || !warnings.list().is_empty()))
+            let is_warned = tell_all_warnings(output, alloc, &file, tokens.as_slice())?;
+            Ok(wish.strict && is_warned)
         }
         Ok(()) => Ok(false),
         Err(ParseFault::Source(diagnostic)) => {
-            let note = explain(source, tokens, wish.profile, &diagnostic);
-            tell(output, path, &note)?;
+            tell_fault(output, wish, &file, tokens.as_slice(), &diagnostic)?;
+            if wish.all {
+                add_later_faults(output.text(), alloc, &file, &diagnostic)?;
+            }
             Ok(true)
         }
         Err(ParseFault::Device) => Err(Fault::Read),
         Err(ParseFault::Memory) => Err(Fault::Memory),
     }
+}
+
+/// Tells the warnings about a file that compiles. Reports whether there are some.
+fn tell_all_warnings(
+    output: &mut Output,
+    alloc: Global,
+    file: &SourceFile<'_>,
+    tokens: &[Located],
+) -> Result<bool, Fault> {
+    let warnings = warnings_of(tokens, file.profile);
+    tell_warnings(output, file, tokens, &warnings)?;
+    let lacks = add_want_of_room(output.text(), alloc, file)?;
+    Ok(lacks || !warnings.list().is_empty())
+}
+
+/// Tells the first fault of a file, and the warnings before it if they are asked for.
+fn tell_fault(
+    output: &mut Output,
+    wish: &Wish,
+    file: &SourceFile<'_>,
+    tokens: &[Located],
+    fault: &Diagnostic,
+) -> Result<(), Fault> {
+    if wish.lint {
+        let warnings = warnings_before(tokens, file.profile, fault);
+        tell_warnings(output, file, tokens, &warnings)?;
+    }
+    let note = explain(file.source, tokens, file.profile, fault);
+    tell(output, file.path, &note)
+}
+
+/// Tells the warnings about a file.
+fn tell_warnings(
+    output: &mut Output,
+    file: &SourceFile<'_>,
+    tokens: &[Located],
+    warnings: &Warnings,
+) -> Result<(), Fault> {
+    for warning in warnings.list() {
+        tell(output, file.path, &warning.note(tokens))?;
+    }
+    Ok(())
 }
 
 /// Tells a note on a file of this name.

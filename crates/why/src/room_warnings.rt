@@ -1,20 +1,18 @@
 //! The warning about a robot that may restart for want of room.
 
+use crate::source_files::SourceFile;
 use facts::{Facts, add_room};
-use grammar::Profile;
 use std::alloc::Global;
 use tools::{Draft, Fault, Text};
 
-/// Adds the warning about the robot of a source that compiles by this profile, if it may restart for want of room: a
-/// line as those of other warnings, about its `main`. Reports whether it may. The only fault is that memory is refused.
+/// Adds the warning about the robot of a file that compiles, if it may restart for want of room: a line as those of other
+/// warnings, about its `main`. Reports whether it may. The only fault is that memory is refused.
 pub fn add_want_of_room(
     text: &mut String,
     alloc: Global,
-    path: &str,
-    source: &[u8],
-    profile: Profile,
+    file: &SourceFile<'_>,
 ) -> Result<bool, Fault> {
-    let Ok(facts) = Facts::of(alloc, source, profile) else {
+    let Ok(facts) = Facts::of(alloc, file.source, file.profile) else {
         return Err(Fault::Memory);
     };
     if facts.bound.has_room {
@@ -23,7 +21,7 @@ pub fn add_want_of_room(
     let mut room = Draft::new(alloc);
     add_room(&mut room, &facts);
     let mut line = Draft::new(alloc);
-    line.add(path);
+    line.add(file.path);
     add_place(&mut line, &facts);
     let room = room.finish()?;
     line.add(": warning: ");

@@ -1,5 +1,5 @@
 " :make explains the first fault of the robot of this buffer. Words behind :make are passed on: :make -p2 goes by the
-" second profile, and :make --lint warns too.
+" second profile, :make --lint warns too, and :make --all explains faults of several functions.
 if exists('current_compiler')
   finish
 endif
