@@ -118,7 +118,14 @@ impl<R: FilmRows> Camera<R> {
     }
 
     /// Films that a robot restarts: the word of what for, the function and the line that it is in.
-    pub fn restart(&mut self, cycle: u32, robot: usize, cause: &str, function: &str, line: u32) {
+    pub fn restart<'n>(
+        &mut self,
+        cycle: u32,
+        robot: usize,
+        cause: &'n str,
+        function: &'n str,
+        line: u32,
+    ) {
         let line = Field::Number(i64::from(line));
         let fields = [Field::Text(cause), Field::Text(function), line];
         self.rows
