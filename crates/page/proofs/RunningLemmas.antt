@@ -50,14 +50,14 @@ one_grows : (channel : Channel) (bytes : List ℕ) (t f : KnownPortions) (after 
 one_grows Text bytes t f after (takes, same) = record {
   new_text = record t { portions = t.portions ++ takes.portions };
   new_faults = f;
-  is = rw (sym takes.told, sym same) refl;
+  is = rw (sym takes.taken, sym same) refl;
   texts = grown t after.text bytes takes;
   lines = sym (append-nil (concat f.portions));
 }
 one_grows Faults bytes t f after (takes, same) = record {
   new_text = t;
   new_faults = record f { portions = f.portions ++ takes.portions };
-  is = rw (sym takes.told, sym same) refl;
+  is = rw (sym takes.taken, sym same) refl;
   texts = sym (append-nil (concat t.portions));
   lines = grown f after.faults bytes takes;
 }
