@@ -116,10 +116,9 @@ impl<'a> Film<'a> {
     }
 
     /// Ends the film of a match that was over after this cycle: writes where the robots' ways end, and their damages.
-    pub(crate) fn end(self, cycle: u32) {
-        let mut camera = self.camera;
-        camera.rows.stretch = None;
-        camera.end(cycle, "end");
+    pub(crate) fn end(&mut self, cycle: u32) {
+        self.camera.rows.stretch = None;
+        self.camera.end(cycle, "end");
     }
 
     /// Returns the line that the instruction of an address comes from, 0 if it isn't known. A single file's program is
