@@ -130,8 +130,8 @@ fn hurt_near_bursts(robots: &mut [Robot], missiles: &Missiles, update: u32)
     }
 }
 
-/// Returns the gap between a robot and the nearest of some others, as a difference of sums, if it is less than one so
-/// far.
+/// Returns the least of `so_far` and of the gaps between a robot and others, in hundred-thousandths of a tenth of a
+/// metre. A gap is the greater of the distances along x and along y.
 fn least_gap(robot: &Robot, others: &[Robot], so_far: u32) -> u32
     ensures less { result ≤ so_far }
     ensures least { All (λ other. result / 100000 ≤ gap robot.now.motion other.motion) others.now }

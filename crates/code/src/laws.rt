@@ -13,8 +13,8 @@ pub fn code_means_trees()
     ensures { WantsWhatTreesWant }
 {}
 
-/// Proves that what a file wants doesn't depend on the bound on turns and calls by which it is defined, if that is
-/// greater than the number of replies.
+/// Proves that what a file wants doesn't depend on the bound on iterations and calls by which it is defined, if that
+/// is greater than the number of replies.
 pub fn more_iterations()
     ensures { MoreIterationsChangeNothing }
 {}

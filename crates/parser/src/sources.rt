@@ -44,6 +44,7 @@ pub fn parse<F: Feed, B: Build>(feed: &mut F, build: &mut B) -> Result<Pools, Pa
     ensures taken { TakesEnough result (B.stands build.old) (F.device feed.old).to_come (F.device feed.new).to_come }
     ensures counted { CountsRefusal result (F.device feed.old).account (F.device feed.new).account }
 {
+    // (`parse_into` reads into a cleared scope: a caller with many files clears one scope for each)
     let mut scope = Scope::new();
     scope.clear();
     let read = parse_into(feed, build, &mut scope);

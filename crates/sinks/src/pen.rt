@@ -86,7 +86,7 @@ impl Pen {
         }
     }
 
-    /// Puts a fragment while the buffer is empty.
+    /// Puts a fragment that is longer than the buffer, which is empty, straight on the sink.
     fn put_unbuffered<S: Sink>(&mut self, sink: &mut S, bytes: &[u8])
         requires countable { MayFail self.old (S.written sink.old) }
         requires empty { self.old.failed ≡ false → self.old.buffer ≡ [] }

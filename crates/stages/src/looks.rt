@@ -1,6 +1,6 @@
 //! The fixed texts of a page: what it looks like, in a light and a dark theme and on a narrow screen.
 
-/// The page's begin, before its title.
+/// The start of the page, before its title.
 pub const BEFORE_TITLE: &str = "<!DOCTYPE html>
 <html lang=\"en\">
 <head>

@@ -1,4 +1,4 @@
--- What is still to be read, at a token's begin or inside of one.
+-- What is still to be read, where a token starts or inside of one.
 use Rattle.std.specs.Prelude.{ℕ, Bool, true, false, List, [], ◌∷◌, ◌++◌, Option, Some, None, length, take, fold, ◌+◌}
 use Rattle.std.specs.Prelude.{◌*◌, ◌-◌, ◌<◌, ◌≤◌, ◌≡◌, ◌≢◌, if◌then◌else◌, nat_le, slice_get, Result, Ok, Err}
 use Rattle.std.specs.List.{prefix_len}
