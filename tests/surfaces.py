@@ -36,6 +36,16 @@ def declared(lines: list[str]) -> Iterator[tuple[str, bool]]:
         at = after_body(lines, end, head[1]) if begins else end
 
 
+def bodies(text: str) -> Iterator[tuple[int, int, int]]:
+    """The functions of a file of code that have a body: the line of each one's head, its body's first line, and the one after it."""
+    lines = text.split("\n")
+    for at, line in enumerate(lines):
+        if head := HEAD.match(line):
+            end, begins = ending(lines, at, head[1])
+            if begins:
+                yield at, end, after_body(lines, end, head[1])
+
+
 def is_of_trait(lines: list[str], at: int, indent: str) -> bool:
     """Reports whether a function without `pub` is a trait's, or of an impl of one, so that others can call it."""
     above = (line for line in reversed(lines[:at]) if line.strip() and not line.startswith(indent)) if indent else iter(())

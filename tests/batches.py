@@ -1,0 +1,134 @@
+"""Edits that are tried in one check: which may be, and which of them the prover refused in it.
+
+A function is proved from its own body and from what the functions that it calls promise. So where each edit changes bodies
+alone, and those of other functions than the others do, what the prover says of a function is about the one edit of it."""
+
+from __future__ import annotations
+
+import re
+from dataclasses import dataclass
+from pathlib import Path
+
+import ledgers
+import surfaces
+
+CYCLE = re.compile(r"\s*#\[cycle\((\w+)\)\]")
+IMPL = re.compile(r"impl\b(?:<.*?>)? (?:(?:\w+::)*(\w+)(?:<.*>)? for )?(\w+)")
+NAME = re.compile(r"\bfn (\w+)")
+# a goal that the prover finds no proof of, and an error in a proof; none that only says that a name or another proof is gone
+GOAL = re.compile(r"note: (src/\S+?):(\d+):\d+: it is not proved ")
+GONE = "has no field|is not in scope|has no `|was not admitted|was rejected"
+ERROR = re.compile(rf"(?:\./)?(proofs/\S+)/\w+\.antt:\d+:\d+: error: (?!.*(?:{GONE}))")
+
+
+@dataclass(frozen=True)
+class Function:
+    """A function with a body."""
+
+    path: str  # its file
+    lines: range  # those of the function, from 1, with its attributes
+    proof: str  # the folder of its proof; functions of a cycle of calls have one
+
+
+@dataclass(frozen=True)
+class Change:
+    """A change of a file of code within a body."""
+
+    path: str
+    at: int
+    old: str
+    new: str
+
+
+@dataclass(frozen=True)
+class Edit:
+    """An edit of bodies alone."""
+
+    name: str
+    changes: tuple[Change, ...]
+    functions: frozenset[Function]
+
+    def proofs(self) -> set[str]:
+        """The proofs of its functions."""
+        return {it.proof for it in self.functions}
+
+
+def read(edit: Path) -> Edit | None:
+    """An edit that changes nothing but bodies; none if it changes more."""
+    crate, changes, functions = edit.parent.parent, list[Change](), set[Function]()
+    for path, old, new in ledgers.pairs(edit):
+        text = (crate / path).read_text(encoding="utf-8") if (crate / path).is_file() else ""
+        found = function(crate.name, path, text, text.find(old), old) if text.count(old) == 1 else None
+        if found is None:
+            return None
+        changes.append(Change(path, text.find(old), old, new))
+        functions.add(found)
+    spans = sorted((it.path, it.at, it.at + len(it.old)) for it in changes)
+    is_apart = all(one[0] != next_one[0] or one[2] <= next_one[1] for one, next_one in zip(spans, spans[1:]))
+    return Edit(edit.name, tuple(changes), frozenset(functions)) if is_apart else None
+
+
+def function(crate: str, path: str, text: str, at: int, old: str) -> Function | None:
+    """The function in whose body a text stands."""
+    if not path.startswith("src/"):
+        return None
+    first, last = text.count("\n", 0, at), text.count("\n", 0, at + len(old))
+    around = [it for it in surfaces.bodies(text) if it[1] <= first and last < it[2] - 1]
+    return described(path, text.split("\n"), around[-1][0], around[-1][2]) if around else None
+
+
+def described(path: str, lines: list[str], head: int, end: int) -> Function:
+    """The function whose head is in this line, and which ends before that one."""
+    module = path.removeprefix("src/").removesuffix(".rt").removesuffix("/mod")
+    folder = ["proofs", *([] if module in ("lib", "main") else module.split("/"))]
+    is_inside = lines[head].startswith(" ")
+    above = next((line for line in reversed(lines[:head]) if line.strip() and not line.startswith(" ")), "")
+    if is_inside and (block := IMPL.match(above)):
+        folder.append(f"{block[2]}{block[1] or ''}")
+    name = NAME.search(lines[head])
+    own = name[1] if name else ""
+    first = head
+    while first and lines[first - 1].strip().startswith(("#[", "//")):
+        first -= 1
+        if cycle := CYCLE.match(lines[first]):
+            own = f"+{cycle[1]}"
+    return Function(path, range(first + 1, end + 1), "/".join([*folder, own]))
+
+
+def together(edits: list[Edit], are_apart: bool = False) -> list[list[Edit]]:
+    """The edits in batches: no two of a batch change one function, nor, if they are to be apart, functions that are proved together."""
+    batches: list[tuple[list[Edit], set[object]]] = []
+    for edit in edits:
+        own: set[object] = set(edit.proofs() if are_apart else edit.functions)
+        fits = (it for it in batches if not own & it[1])
+        batch = next(fits, None)
+        if batch is None:
+            batches.append(([edit], own))
+        else:
+            batch[0].append(edit)
+            batch[1].update(own)
+    return [batch for batch, _ in batches]
+
+
+def edited(texts: dict[str, str], edits: list[Edit]) -> dict[str, str]:
+    """The files that edits change, as they are then."""
+    changes = sorted((it for edit in edits for it in edit.changes), key=lambda it: (it.path, -it.at))
+    found: dict[str, str] = {}
+    for it in changes:
+        text = found.get(it.path, texts[it.path])
+        found[it.path] = text[:it.at] + it.new + text[it.at + len(it.old):]
+    return found
+
+
+def refused(edits: list[Edit], said: str) -> set[str]:
+    """The names of the edits of a batch of which a check said that a goal of one of their functions isn't proved.
+
+    An error in a proof counts too, if no other edit of the batch is of functions with this proof."""
+    lines = said.split("\n")
+    if not any(line.startswith("logic=not-proved") for line in lines):
+        return set()
+    goals = {(it[1], int(it[2])) for line in lines if (it := GOAL.match(line))}
+    wrong = {it[1] for line in lines if (it := ERROR.match(line))}
+    wrong = {it for it in wrong if sum(it in edit.proofs() for edit in edits) == 1}
+    return {edit.name for edit in edits for it in edit.functions
+            if it.proof in wrong or any(path == it.path and line in it.lines for path, line in goals)}
