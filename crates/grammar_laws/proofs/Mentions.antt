@@ -2,7 +2,7 @@
 use Rattle.std.proofs.Common.{◌≡◌, ℕ, List, refl, ◌∙◌, Bool, true, false}
 use Rattle.std.specs.Prelude.{if◌then◌else◌}
 use Rattle.grammar.specs.Scope.{Scope, with_new_function, with_variable, is_function_new, is_variable_new}
-use Rattle.grammar_laws.specs.Written.{Expression, Constant, Variable, Binary, Signed, Assign, StepBefore, StepBehind, Call, Arguments, NoMore, Argument, Statement, Nothing, Evaluate, If, IfElse, While, Return, ReturnValue, Block, Statements, Done, Next}
+use Rattle.grammar_laws.specs.Written.{Expression, Constant, Variable, Binary, Signed, Assign, PreIncrement, PostIncrement, Call, Arguments, NoMore, Argument, Statement, Nothing, Evaluate, If, IfElse, While, Return, ReturnValue, Block, Statements, Done, Next}
 use Rattle.grammar_laws.specs.Resolving.{behind, behind_arguments, mentioned, called, behind_statement, behind_statements}
 
 pub record Keeps (scope learnt : Scope) : Type 0 where
@@ -39,8 +39,8 @@ mutual
   keeps (Signed sign e) scope = keeps e scope
   keeps (Assign o name e) scope =
       both scope (mentioned name scope) _ (mention name scope) (keeps e (mentioned name scope))
-  keeps (StepBefore step name) scope = mention name scope
-  keeps (StepBehind step name) scope = mention name scope
+  keeps (PreIncrement increment name) scope = mention name scope
+  keeps (PostIncrement increment name) scope = mention name scope
   keeps (Call name arguments) scope =
       both scope (called name scope) _ (call name scope) (all_keep arguments (called name scope))
 

@@ -159,15 +159,15 @@ stored : (o : StoreOp) (stack : List Item) (values : List PartialTree) (variable
 stored o stack (AnExpr e ∷ AVariable v ∷ values) variables = refl
 stored o stack values variables = refl
 
-stepped_before : (o : StoreOp) (stack : List Item) (values : List PartialTree) (variables : ℕ) →
+pre_incremented : (o : StoreOp) (stack : List Item) (values : List PartialTree) (variables : ℕ) →
     on_rule (PrefixIncrement o) stack values 0 ≡ on_rule (PrefixIncrement o) stack values variables
-stepped_before o stack (AVariable v ∷ values) variables = refl
-stepped_before o stack values variables = refl
+pre_incremented o stack (AVariable v ∷ values) variables = refl
+pre_incremented o stack values variables = refl
 
-stepped_behind : (o : StoreOp) (stack : List Item) (values : List PartialTree) (variables : ℕ) →
+post_incremented : (o : StoreOp) (stack : List Item) (values : List PartialTree) (variables : ℕ) →
     on_rule (PostfixIncrement o) stack values 0 ≡ on_rule (PostfixIncrement o) stack values variables
-stepped_behind o stack (AVariable v ∷ values) variables = refl
-stepped_behind o stack values variables = refl
+post_incremented o stack (AVariable v ∷ values) variables = refl
+post_incremented o stack values variables = refl
 
 invoked : (stack : List Item) (values : List PartialTree) (variables : ℕ) →
     on_rule Invoke stack values 0 ≡ on_rule Invoke stack values variables
@@ -257,10 +257,10 @@ step_tells A (Make (Store o) ∷ stack) rest values scope ds acts allows h =
     (stored o stack values (length scope.current.variables)) h
 step_tells A (Make (PrefixIncrement o) ∷ stack) rest values scope ds acts allows h =
     rule_tells A stack (trees_after (PrefixIncrement o) values) scope ds acts _ _
-    (stepped_before o stack values (length scope.current.variables)) h
+    (pre_incremented o stack values (length scope.current.variables)) h
 step_tells A (Make (PostfixIncrement o) ∷ stack) rest values scope ds acts allows h =
     rule_tells A stack (trees_after (PostfixIncrement o) values) scope ds acts _ _
-    (stepped_behind o stack values (length scope.current.variables)) h
+    (post_incremented o stack values (length scope.current.variables)) h
 step_tells A (Make AddArgument ∷ stack) rest values scope ds acts allows h =
     rule_tells A stack (trees_after AddArgument values) scope ds acts _ _ refl h
 step_tells A (Make Invoke ∷ stack) rest values scope ds acts allows h =

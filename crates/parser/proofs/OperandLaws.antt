@@ -157,12 +157,12 @@ name_enters_none : (at : UnreadPosition) → IsNamed (next_at at).token →
 name_enters_none at n call after more = rw (n.is, after_name at after n more) (name_enters n.name (after_at at) call)
 
 -- it isn't followed by ++ or --
-abbrev pub NoStep : UnreadPosition → Type 0
-NoStep at = (s : IncrementOp) → is_punctuator (increment_punctuator s) (after_at at) ≡ false
+abbrev pub NoIncrement : UnreadPosition → Type 0
+NoIncrement at = (s : IncrementOp) → is_punctuator (increment_punctuator s) (after_at at) ≡ false
 
 fetch_chooses : (at : UnreadPosition) → IsNamed (next_at at).token →
     is_punctuator punctuator.OpenRound (after_at at) ≡ false →
-    NoStep at → Chooses at Primary (AName Mentioned ∷ Make Fetch ∷ [])
+    NoIncrement at → Chooses at Primary (AName Mentioned ∷ Make Fetch ∷ [])
 fetch_chooses at n call none = record {
   sound = named_sound (next_at at).token n;
   is =
@@ -172,14 +172,14 @@ fetch_chooses at n call none = record {
 
 fetch_stands : (at : UnreadPosition) → IsNamed (next_at at).token →
     is_punctuator punctuator.OpenRound (after_at at) ≡ false →
-    NoStep at → (depth : ℕ) →
+    NoIncrement at → (depth : ℕ) →
     Derives depth (Part Primary ∷ []) (AName Mentioned ∷ Make Fetch ∷ []) [] [] at at
 fetch_stands at n call none depth =
     chosen at depth Primary (AName Mentioned ∷ Make Fetch ∷ []) [] (fetch_chooses at n call none)
     (name_enters_none at n call)
 
 pub fetch_ends : (used : ℕ) (at : UnreadPosition) (more : Type 0) (f : ParseFault) → IsNamed (next_at at).token →
-    is_punctuator punctuator.OpenRound (after_at at) ≡ false → NoStep at →
+    is_punctuator punctuator.OpenRound (after_at at) ≡ false → NoIncrement at →
     Refused (FailsItem (AName Mentioned) at) ⊥ used f → Refused (FailsItem (Part Primary) at) more used f
 fetch_ends used at more f n call none =
     item_exit used (Part Primary) (AName Mentioned) (Make Fetch ∷ []) [] at at more f (fetch_stands at n call none)
@@ -195,7 +195,7 @@ fetch_makes v =
     }
 
 pub fetch_adds : (before after : Representation) (at there : UnreadPosition) (v : Var) → IsNamed (next_at at).token →
-    is_punctuator punctuator.OpenRound (after_at at) ≡ false → NoStep at →
+    is_punctuator punctuator.OpenRound (after_at at) ≡ false → NoIncrement at →
     DerivesItem (AName Mentioned) [] (AVariable v ∷ []) at there → IsVariable 64 64 v →
     is_lexical_error (next_at there).token ≡ false → AppendsAll before after (FetchVariable v ∷ []) → (depth : ℕ) →
     AddsExpr before after depth 11 (Part Primary ∷ []) [] at there

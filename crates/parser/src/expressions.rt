@@ -126,8 +126,8 @@ impl<F: Feed, B: Build> Parser<'_, '_, '_, F, B> {
     {
         if let Some(sign) = unary_op_of(&self.tokens.peek().token) {
             self.unary_operation(sign)?;
-        } else if let Some(step) = increment_op_of(&self.tokens.peek().token) {
-            self.prefix_increment(step)?;
+        } else if let Some(increment) = increment_op_of(&self.tokens.peek().token) {
+            self.prefix_increment(increment)?;
         } else {
             self.primary()?;
         }

@@ -44,8 +44,9 @@ pub fn unary_op_of(token: &Token) -> Option<UnaryOp>
 
 /// Returns which of `++` and `--` a token is, if it is one.
 pub fn increment_op_of(token: &Token) -> Option<IncrementOp>
-    ensures spelled { IfSome result (λ step. is_punctuator (increment_punctuator step) token.now ≡ true) }
-    ensures none { IfNone result ((step : IncrementOp) → is_punctuator (increment_punctuator step) token.now ≡ false) }
+    ensures spelled { IfSome result (λ increment. is_punctuator (increment_punctuator increment) token.now ≡ true) }
+    ensures none { IfNone result ((increment : IncrementOp)
+        → is_punctuator (increment_punctuator increment) token.now ≡ false) }
 {
     match *token {
         Token::Punctuator(Punctuator::PlusPlus) => Some(IncrementOp::Increment),

@@ -13,7 +13,7 @@ const EMPTY_MAIN: &[&str] = &[
 ];
 
 /// What the parse of `main(){ x = a+++b; }` makes.
-const STEP: &[&str] = &[
+const POSTFIX: &[&str] = &[
     "externals",
     "main x a b: Function { number: 0, parameters: 0, variables: 3, body: [\
      ExpressionStatement(Assign(Set, Local(0), Binary(Add, Postfix(Add, Local(1)), Variable(Local(2)))))] }",
@@ -47,7 +47,7 @@ const SHOT_MADE: &[&str] = &[
 #[test]
 fn files_have_their_names_and_trees(rt: HostRuntime) -> Result<(), Fail> {
     check_trees(&rt, b"main(){}", EMPTY_MAIN)?;
-    check_trees(&rt, b"main(){ x = a+++b; }", STEP)?;
+    check_trees(&rt, b"main(){ x = a+++b; }", POSTFIX)?;
     let parameters = b"d(x,y) int x,y; {return(x*x+y*y);} main(){d(3);}";
     check_trees(&rt, parameters, PARAMETERS)?;
     check_trees(&rt, SHOT, SHOT_MADE)?;

@@ -657,7 +657,7 @@ unary_from_punctuator-returns-in_err-primary-clause-parses g t c =
     let none : NoOperator c.args.self.now.tokens.position.lookahead.cursor.next.token = record {
       sound = rw c.peek.ensures.value at c.peek.ensures.sound;
       signs = λ s. rw c.peek.ensures.value at (c.in_default.ensures.none s);
-      steps = λ s. rw c.peek-in_default.ensures.value at (c.in_default-increment_op_of.ensures.none s);
+      increments = λ s. rw c.peek-in_default.ensures.value at (c.in_default-increment_op_of.ensures.none s);
     } in
     let p = err_from_is_err_and c.from_residual-in_err-primary.result c.from_residual-in_err-primary.ensures.1 in
     rw (p.1, p.2) (record {
@@ -673,7 +673,7 @@ unary_from_punctuator-returns-in_ok-primary-clause-parses g t c =
     let none : NoOperator c.args.self.now.tokens.position.lookahead.cursor.next.token = record {
       sound = rw c.peek.ensures.value at c.peek.ensures.sound;
       signs = λ s. rw c.peek.ensures.value at (c.in_default.ensures.none s);
-      steps = λ s. rw c.peek-in_default.ensures.value at (c.in_default-increment_op_of.ensures.none s);
+      increments = λ s. rw c.peek-in_default.ensures.value at (c.in_default-increment_op_of.ensures.none s);
     } in
     primary_adds _ _ c.args.self.now.tokens.position _ c.args.self.now.depth none c.in_ok-primary.ensures.parses
 
