@@ -169,8 +169,8 @@ module _ (scope : Scope) (ds : List Definition) (s : Sound (at_end scope ds)) (a
   each_at k less =
       let at : 0 + k ≡ k = omega arith in a.each k (omega (arith, s.known.lines)) ∙ ap (λ n. defined_as n ds) at
 
-  told_at : functions_actions a.functions (order_of ds) ≡ definitions_actions ds
-  told_at =
+  reported_at : functions_actions a.functions (order_of ds) ≡ definitions_actions ds
+  reported_at =
       actions_there a.functions ds (there a.functions ds
       (subst (λ (ns : List ℕ). AreDistinct ns) (begun_at_end scope ds s) s.known.begun)
       (λ k i. each_at k (order_below _ _ k ds s.known.definitions i)))
@@ -239,7 +239,7 @@ finished profile located_tokens scope ds p e has =
       named = names_same scope ds a.functions main.value
           (names_at scope ds s a (named_of_passes profile located_tokens (at_end scope ds) p));
       main = main.is;
-      told = told_at scope ds s a;
+      reported = reported_at scope ds s a;
     }
 
 pub undefined : Undefined

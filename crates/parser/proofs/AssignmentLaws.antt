@@ -273,6 +273,6 @@ assignment_adds before mid after at now next there depth o v a shallow item goes
 pub store_follows : (before now : Representation) (depth : ℕ) (o : StoreOp) (v : Var) (e : Expr) → depth < 64 →
     HasRoom before (room depth 1) → IsVariable 64 64 v → InExpr 64 64 64 e → nesting e ≤ room (depth + 1) 1 →
     AppendsAll before now (expr_actions e) → MayFollow now (StoreVariable v o)
-store_follows before now depth o v e shallow h variable numbered narrow told =
+store_follows before now depth o v e shallow h variable numbered narrow reported =
     next_follows before now (expr_actions e) (StoreVariable v o) []
-    (tree_follows before (room depth 1) (Assign o v e) h (variable, numbered) (omega arith)) told
+    (tree_follows before (room depth 1) (Assign o v e) h (variable, numbered) (omega arith)) reported

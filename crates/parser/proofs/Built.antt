@@ -277,13 +277,13 @@ front_step : (count n place : ℕ) (s : State) → IsCut place s.rest → IsFron
     IsFront count (suc n) s
 front_step count n place s cut further =
     let d : Defines count s = defines count place s.stack s.rest s.values s.scope s.functions cut in
-    let told : definitions_actions (derived n (stepped s)).functions ≡
+    let reported : definitions_actions (derived n (stepped s)).functions ≡
     (definitions_actions s.functions ++ definitions_actions d.more) ++
     (built_in count n (stepped s) ++ further.more) =
     further.is ∙
     ap (λ (xs : List Action). xs ++ (built_in count n (stepped s) ++ further.more))
     (ap definitions_actions d.functions ∙ definitions_actions-append s.functions d.more) in
-    by d.more told d.built
+    by d.more reported d.built
   where
     by : (more : List Definition) →
         definitions_actions (derived n (stepped s)).functions ≡
@@ -292,10 +292,10 @@ front_step count n place s cut further =
         (built_of count s.stack s ≡ definitions_actions more) ⊎
         ((built_of count s.stack s ≡ []) × (is_behind_brace count s.rest ≡ false)) →
         IsFront count (suc n) s
-    by more told (inl same) = record {
+    by more reported (inl same) = record {
       more = further.more;
       is =
-          told ∙
+          reported ∙
           four (definitions_actions s.functions) (definitions_actions more) (built_in count n (stepped s))
           further.more
           ∙
@@ -303,7 +303,7 @@ front_step count n place s cut further =
           (λ (xs : List Action). definitions_actions s.functions ++
           ((xs ++ built_in count n (stepped s)) ++ further.more)) (sym same);
     }
-    by more told (inr none) =
+    by more reported (inr none) =
         let t : IsStepped count s = steps_on count place s cut in
         let later : built_in count n (stepped s) ≡ [] = none_in count n t.position (stepped s) t.cut (t.later none.1) in
         let nothing : built_of count s.stack s ++ built_in count n (stepped s) ≡ [] =
@@ -311,7 +311,7 @@ front_step count n place s cut further =
         record {
           more = definitions_actions more ++ further.more;
           is =
-              told ∙
+              reported ∙
               ap
               (λ (xs : List Action). (definitions_actions s.functions ++ definitions_actions more) ++
               (xs ++ further.more)) later

@@ -434,10 +434,10 @@ begin_follows before depth shallow h =
 
 pub arguments_room : (before begun : Representation) (depth : ℕ) → depth < 64 → HasRoom before (room depth 11) →
     AppendsAll before begun (BeginCall ∷ []) → HasRoom begun (room (depth + 1) 1)
-arguments_room before begun depth shallow h told =
+arguments_room before begun depth shallow h reported =
     let few : open_count (h.outer ∷ h.opened) + room depth 11 ≤ 200 = h.few in
     room_behind before begun (room (depth + 1) 1) (BeginCall ∷ []) (h.outer ∷ h.opened) InCall (h.outer ∷ h.opened)
-    h.stands told
+    h.stands reported
     (act BeginCall (h.outer ∷ h.opened) (InCall ∷ h.outer ∷ h.opened) refl (omega arith)) (omega arith)
 
 pub end_follows : (before begun now : Representation) (depth : ℕ) (callee : Callee) (args : Args) → depth < 64 →

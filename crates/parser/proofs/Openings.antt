@@ -163,9 +163,10 @@ inside_behind inner before now n b places same h numbered narrow added =
 
 -- Branches.
 
-none_told : (before now : Representation) (inner : Open) (n : ℕ) → HasInside inner before n → AppendsAll before now [] →
+none_reported : (before now : Representation) (inner : Open) (n : ℕ) → HasInside inner before n →
+    AppendsAll before now [] →
     HasInside inner now n
-none_told before now inner n h added = record {
+none_reported before now inner n h added = record {
   opened = h.opened;
   position = h.position;
   stands = stands_then before now [] (inner ∷ h.opened) (inner ∷ h.opened) added h.stands refl;
@@ -176,7 +177,7 @@ pub may_end_if : (before now : Representation) (n : ℕ) (t : Option Body) → H
     IsElseNumbered t →
     else_nesting t ≤ n → AppendsAll before now (else_actions t) → MayFollow now EndIf
 may_end_if before now n None h numbered narrow added =
-    may_end EndIf InBranch false now n (λ o. refl) (none_told before now InBranch n h added)
+    may_end EndIf InBranch false now n (λ o. refl) (none_reported before now InBranch n h added)
 may_end_if before now n (Some t) h numbered narrow added =
     let leads : Leads (else_actions (Some t)) (InBranch ∷ h.opened) (behind_body t (InElse ∷ h.opened)) =
     also ElsePart _ _ (InElse ∷ h.opened) _ refl (omega (arith, h.few))

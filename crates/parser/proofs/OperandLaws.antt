@@ -111,11 +111,11 @@ pub constant_adds : (before after : Representation) (at there : UnreadPosition) 
     (next_at at).token ≡ token.Constant value → GoesPast at there →
     AppendsAll before after (PushConstant (pos value) ∷ []) → (depth : ℕ) →
     AddsExpr before after depth 11 (Part Primary ∷ []) [] at there
-constant_adds before after at there value is goes told depth = record {
+constant_adds before after at there value is goes reported depth = record {
   tree = Constant (pos value);
   numbered = tt;
   narrow = omega arith;
-  added = told;
+  added = reported;
   derives =
       item_done depth depth (Part Primary ∷ []) AConstant [] [] (AnExpr (Constant (pos value)) ∷ []) [] at at there
       (constant_stands at value is depth) (constant_past at there value is goes depth) (λ stack same. same);
@@ -199,11 +199,11 @@ pub fetch_adds : (before after : Representation) (at there : UnreadPosition) (v 
     DerivesItem (AName Mentioned) [] (AVariable v ∷ []) at there → IsVariable 64 64 v →
     is_lexical_error (next_at there).token ≡ false → AppendsAll before after (FetchVariable v ∷ []) → (depth : ℕ) →
     AddsExpr before after depth 11 (Part Primary ∷ []) [] at there
-fetch_adds before after at there v n call none item numbered sound told depth = record {
+fetch_adds before after at there v n call none item numbered sound reported depth = record {
   tree = Variable v;
   numbered = numbered;
   narrow = omega arith;
-  added = told;
+  added = reported;
   derives =
       joined depth depth (Part Primary ∷ []) (Make Fetch ∷ []) [] [] [] (AVariable v ∷ []) (AnExpr (Variable v) ∷ []) []
       at there there

@@ -33,7 +33,7 @@ pub record IsFinished (profile : Profile) (located_tokens : List LocatedToken) (
   pub resolved : IsResolved file
   pub named : known_names scope ≡ pools_of file
   pub main : function_number main_name scope ≡ Some file.main
-  pub told : actions file ≡ definitions_actions ds
+  pub reported : actions file ≡ definitions_actions ds
 
 -- each function that was mentioned is defined, and main is among them: the source is a file
 abbrev pub Finished : Type 0

@@ -1,5 +1,5 @@
 -- What each exit _ leaves _ to show: the fault goes back to the start, or the segments join; and what a builder may be
--- told.
+-- reported.
 use Rattle.std.proofs.Common.{◌∙◌, ◌≡◌, ◌+◌, ◌<◌, [], ◌∷◌, le_refl, refl, true, false, rules}
 use Rattle.std.proofs.lemmas.Result.{err_from_is_err_and}
 use Rattle.tokens.specs.declared.located_tokens.Punctuator.TheVariants as punctuator
@@ -18,7 +18,7 @@ use Rattle.parser.proofs.Depths.{as_deep, body_at, body_fails_at, deeper, else_a
 use Rattle.parser.proofs.Segments.{halts, halts_here, refused_map}
 use Rattle.parser.proofs.BodyLaws.{block_adds, block_too_deep, brace_fails, brace_stops, branch_adds, declarations_fail, else_adds, else_fails, else_stops, first_fails, if_past, if_closes, if_stops, if_too_deep, no_else_adds, repetition_adds, second_fails, statements_begin, statements_end, statements_fail, statements_more, test_fails, while_past, while_closes, while_stops, while_too_deep, within_fails}
 use Rattle.parser.proofs.SimpleLaws.{empty_adds, empty_fails}
-use Rattle.parser.proofs.Tellings.{branch_kept, branch_open, branch_place, else_place, loop_open, loop_room, may_begin_loop, may_end_branch, may_end_loop, may_tell_else, may_test_if, may_test_loop, place_deeper, place_kept, room_in_brackets, turn_open, turn_place}
+use Rattle.parser.proofs.StatementReports.{branch_kept, branch_open, branch_place, else_place, loop_open, loop_room, may_begin_loop, may_end_branch, may_end_loop, may_report_else, may_test_if, may_test_loop, place_deeper, place_kept, room_in_brackets, turn_open, turn_place}
 use Rattle.parser.proofs.parser.Parser.+statements.Goals as goal
 
 -- Blocks.
@@ -306,7 +306,7 @@ while_statement-returns-clause-parses g t c =
     c.in_ok-condition.ensures.parses c.in_ok-condition.ensures.kept.tokens.ready.sound c.in_ok-act-2.ensures.ok
     body c.in_ok-statement.ensures.kept.tokens.ready.sound c.in_ok-act-3.ensures.ok
 
--- What a builder may be told, and what is open in it at a call.
+-- What may be reported to a builder, and what is open in it at a call.
 
 pub block-statements-requires : goal.block-statements-requires
 block-statements-requires g t c κs within =
@@ -392,7 +392,7 @@ if_statement-act-requires-2 g t c =
     }
 
 pub else_part-act-requires : goal.else_part-act-requires
-else_part-act-requires g t c = record { follows = may_tell_else _ _ c.requires.at.builder }
+else_part-act-requires g t c = record { follows = may_report_else _ _ c.requires.at.builder }
 
 pub else_part-statement-requires : goal.else_part-statement-requires
 else_part-statement-requires g t c κs within =

@@ -6,7 +6,7 @@ use Rattle.grammar.specs.Grammar.{FunctionBlock, Part}
 use Rattle.parser.proofs.Growing.{refuses}
 use Rattle.parser.proofs.Segments.{refused_map}
 use Rattle.parser.proofs.Advances.{kept_then, on, on_then, stopped_then}
-use Rattle.parser.proofs.Blocks.{block_refused, brace_refused, closing_sound, definition_halts, ended, function_advances, headed, heading_refused, renamed, short, told_function, too_much_refused}
+use Rattle.parser.proofs.Blocks.{block_refused, brace_refused, closing_sound, definition_halts, ended, function_advances, headed, heading_refused, renamed, short, reported_function, too_much_refused}
 use Rattle.parser.proofs.Closing.{begun, closed, has_place, may_begin, may_end}
 use Rattle.parser.proofs.parser.Parser.function.Goals as goal
 
@@ -127,7 +127,7 @@ returns-clause-reads g c =
           c.in_ok-number.ensures.begun.few (omega (arith, same, c.variable_count-variables.ensures.first))
           c.variable_count-variables.ensures.most
           c.in_ok-function_block.ensures.parses.numbered c.in_ok-function_block.ensures.parses.narrow
-          (told_function (g.B.Build.stands c.args.self.now.builder.now) (g.B.Build.stands c.act.new.self)
+          (reported_function (g.B.Build.stands c.args.self.now.builder.now) (g.B.Build.stands c.act.new.self)
           (g.B.Build.stands c.function_block.new.self.builder.now)
           (g.B.Build.stands c.end_function.new.self.builder.now)
           c.in_ok-number.number

@@ -9,7 +9,7 @@ finish-requires c =
     record {
       profile = _;
       file = file.file;
-      told = record {
+      reported = record {
         resolved = file.resolved;
         stands =
             c.in-Ok-replay.ensures.ok _ (actions file.file) (file.built _ c.new-trees.ensures) _ [] c.new-maker.ensures;

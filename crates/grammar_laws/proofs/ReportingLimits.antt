@@ -21,8 +21,8 @@ use Rattle.grammar.proofs.ResolvedLaws.{Busy, Sound, among_last, ended}
 use Rattle.grammar.proofs.Runs.{append_empty}
 use Rattle.grammar.proofs.Soundness.{Clean, Grows, Known, callee_in, role_grows, variable_in}
 use Rattle.grammar.proofs.Widening.{IsWider, callable_wider, variable_wider}
-use Rattle.grammar_laws.proofs.TellingOperands.{Begins}
-use Rattle.grammar_laws.proofs.TellingSteps.{Allows, NameAllows}
+use Rattle.grammar_laws.proofs.ReportingOperands.{Begins}
+use Rattle.grammar_laws.proofs.ReportingSteps.{Allows, NameAllows}
 
 -- Levels.
 

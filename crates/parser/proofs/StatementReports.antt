@@ -1,4 +1,4 @@
--- What may be told while branches, loops and rows of statements are read.
+-- What may be reported while branches, loops and rows of statements are read.
 use Rattle.std.proofs.Common.{ℕ, ◌+◌, ◌<◌, ◌≤◌, List, [], refl, false, arith}
 use Rattle.grammar.specs.declared.actions.Action.TheVariants.{BeginWhile, ElsePart, EndIf, EndWhile, IfTest, WhileTest}
 use Rattle.grammar.specs.Building.{Appends, MayFollow, Representation}
@@ -60,10 +60,10 @@ pub branch_open : (before mid now : Representation) (depth : ℕ) (front : List 
     depth < 64 →
     HasStatementRoom before (room depth 1) → AddsExpr before mid (depth + 1) 1 front [] at there →
     Appends mid now IfTest → HasInside InBranch now (room (depth + 1) 1)
-branch_open before mid now depth front at there shallow h c told =
+branch_open before mid now depth front at there shallow h c reported =
     turn IfTest (AValue (origin_of c.tree)) InBranch mid now (room depth 1) (room (depth + 1) 1) (λ o is. rw is refl)
     (omega (arith, room_deeper depth shallow))
-    (condition_inside before mid depth front at there shallow h c) told
+    (condition_inside before mid depth front at there shallow h c) reported
 
 pub branch_place : (before : Representation) (n : ℕ) → HasInside InBranch before n → HasStatementRoom before n
 branch_place before n h = inside_place InBranch before n (λ o. refl) h
@@ -80,14 +80,14 @@ pub may_end_branch : (before now : Representation) (depth : ℕ) (at there : Unr
     AddsElse before now depth at there → MayFollow now EndIf
 may_end_branch before now depth at there h e = may_end_if before now (room depth 1) e.tree h e.numbered e.narrow e.added
 
-pub may_tell_else : (before : Representation) (n : ℕ) → HasInside InBranch before n → MayFollow before ElsePart
-may_tell_else before n h = may_turn ElsePart InBranch InElse before n (λ o is. refl) (omega arith) h
+pub may_report_else : (before : Representation) (n : ℕ) → HasInside InBranch before n → MayFollow before ElsePart
+may_report_else before n h = may_turn ElsePart InBranch InElse before n (λ o is. refl) (omega arith) h
 
 pub else_place : (before now : Representation) (n : ℕ) → HasInside InBranch before n → Appends before now ElsePart →
     HasStatementRoom now n
-else_place before now n h told =
+else_place before now n h reported =
     inside_place InElse now n (λ o. refl)
-    (turn ElsePart InBranch InElse before now n n (λ o is. refl) (omega arith) h told)
+    (turn ElsePart InBranch InElse before now n n (λ o is. refl) (omega arith) h reported)
 
 -- Loops.
 
@@ -97,8 +97,8 @@ may_begin_loop before depth h = may_begin before (room depth 1) (omega arith) h
 
 pub loop_open : (before now : Representation) (depth : ℕ) → depth < 64 → HasStatementRoom before (room depth 1) →
     Appends before now BeginWhile → HasInside BeforeTest now (room (depth + 1) 1)
-loop_open before now depth shallow h told =
-    loop_begun before now (room depth 1) (room (depth + 1) 1) (omega (arith, room_deeper depth shallow)) h told
+loop_open before now depth shallow h reported =
+    loop_begun before now (room depth 1) (room (depth + 1) 1) (omega (arith, room_deeper depth shallow)) h reported
 
 pub loop_room : (before : Representation) (n : ℕ) → HasInside BeforeTest before n → HasRoom before n
 loop_room before n h = inside_room BeforeTest before n h
@@ -111,8 +111,8 @@ may_test_loop before mid depth front at there h c =
 pub turn_open : (before mid now : Representation) (depth : ℕ) (front : List Item) (at there : UnreadPosition) →
     HasInside BeforeTest before (room depth 1) → AddsExpr before mid depth 1 front [] at there →
     Appends mid now WhileTest → HasInside InLoopBody now (room depth 1)
-turn_open before mid now depth front at there h c told =
-    turn_begun before mid now (room depth 1) c.tree h c.numbered c.narrow c.added told
+turn_open before mid now depth front at there h c reported =
+    turn_begun before mid now (room depth 1) c.tree h c.numbered c.narrow c.added reported
 
 pub turn_place : (before : Representation) (n : ℕ) → HasInside InLoopBody before n → HasStatementRoom before n
 turn_place before n h = inside_place InLoopBody before n (λ o. refl) h
