@@ -60,7 +60,7 @@ pub record HasReported (after : Representation) (profile : Profile) (functions :
 -- The derivation from s stops so. If the device failed, the functions defined up to there were reported to the builder.
 pub record StopsReporting (after : Representation) (profile : Profile) (s : State) (stop : Stop) : Type 0 where
   pub stops : Stops profile s stop
-  pub told : parse_fault.Device ≡ stop.fault → HasReported after profile (derived stops.steps s).functions
+  pub reported : parse_fault.Device ≡ stop.fault → HasReported after profile (derived stops.steps s).functions
 
 -- if the tokens are known, the derivation from these items on stops so
 abbrev pub StopsPart : (before after : Representation) → List Item → UnreadPosition → Stop → Type 0

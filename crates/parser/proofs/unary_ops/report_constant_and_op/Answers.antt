@@ -25,8 +25,8 @@ act-requires-2 g c = record {
       (PushConstant v ∷ [])) (to_z-of_z w32 c.args.value c.ranges.value) c.in_ok-act.ensures.ok);
 }
 
-pub returns-clause-told : goal.returns-clause-told
-returns-clause-told g c =
+pub returns-clause-reported : goal.returns-clause-reported
+returns-clause-reported g c =
     appends_both (g.B.Build.stands c.args.build.now) (g.B.Build.stands c.act.new.self)
     (g.B.Build.stands c.act-2.new.self) (PushConstant c.args.value ∷ []) (ApplyBinop c.args.op ∷ [])
     (subst

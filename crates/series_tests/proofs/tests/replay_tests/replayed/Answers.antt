@@ -2,7 +2,7 @@ use Rattle.std.proofs.Common.{[]}
 use Rattle.grammar.specs.Actions.{actions}
 use Rattle.series_tests.proofs.tests.replay_tests.replayed.Goals as goal
 
--- the trees are told to a maker that represented nothing
+-- the trees are reported to a maker that represented nothing
 pub finish-requires : goal.finish-requires
 finish-requires c =
     let file = c.in-Ok.ensures.file in
