@@ -20,7 +20,7 @@ use Rattle.grammar.specs.Scope.{Scope, function_number}
 use Rattle.grammar.specs.Tree.{Function, File}
 use Rattle.grammar.proofs.ResolvedLaws.{Sound, compiled_is_resolved, order_below}
 use Rattle.grammar.proofs.Verdicts.{clean_verdict}
-use Rattle.grammar.specs.Laws.Finished.{PassesAll, Finished, Undefined, WithoutMain, known_names}
+use Rattle.grammar.specs.Laws.Finished.{PassesAll, Finished, Undefined, WithoutMain, names_in_scope}
 use Rattle.grammar.proofs.NamedFunctions.{AreNamed, sound_of_passes, named_of_passes}
 use Rattle.grammar.proofs.Indices.{map_of_places}
 
@@ -167,20 +167,20 @@ verdict_at_end profile located_tokens scope ds p = clean_verdict profile located
 module _ (scope : Scope) (ds : List Definition) (s : Sound (at_end scope ds)) (a : AreAll 0 scope.lines ds) where
   each_at : (k : ℕ) → k < length scope.functions → slice_get a.functions k ≡ defined_as k ds
   each_at k less =
-      let at : 0 + k ≡ k = omega arith in a.each k (omega (arith, s.known.lines)) ∙ ap (λ n. defined_as n ds) at
+      let at : 0 + k ≡ k = omega arith in a.each k (omega (arith, s.scoped.lines)) ∙ ap (λ n. defined_as n ds) at
 
   reported_at : functions_actions a.functions (order_of ds) ≡ definitions_actions ds
   reported_at =
       actions_there a.functions ds (there a.functions ds
-      (subst (λ (ns : List ℕ). AreDistinct ns) (begun_at_end scope ds s) s.known.begun)
-      (λ k i. each_at k (order_below _ _ k ds s.known.definitions i)))
+      (subst (λ (ns : List ℕ). AreDistinct ns) (begun_at_end scope ds s) s.scoped.begun)
+      (λ k i. each_at k (order_below _ _ k ds s.scoped.definitions i)))
 
   names_at : AreNamed scope.functions ds → map names_of_function a.functions ≡ scope.functions
-  names_at h = map_of_places names_of_function a.functions scope.functions (a.count ∙ s.known.lines)
+  names_at h = map_of_places names_of_function a.functions scope.functions (a.count ∙ s.scoped.lines)
       (λ k f e. named_at scope.functions k f ds h (sym (each_at k (below k f e)) ∙ e))
     where
       below : (k : ℕ) (f : Function) → slice_get a.functions k ≡ Some f → k < length scope.functions
-      below k f e = omega (arith, slice_get_within a.functions k f e, a.count, s.known.lines)
+      below k f e = omega (arith, slice_get_within a.functions k f e, a.count, s.scoped.lines)
 
 abbrev file_at : Scope → List Definition → List Function → ℕ → File
 file_at scope ds functions main =
@@ -200,7 +200,8 @@ without_main_at : (located_tokens : List LocatedToken) (scope : Scope) (ds : Lis
 without_main_at located_tokens scope ds functions all named = rw (all, named) refl
 
 names_same : (scope : Scope) (ds : List Definition) (functions : List Function) (main : ℕ) →
-    map names_of_function functions ≡ scope.functions → known_names scope ≡ pools_of (file_at scope ds functions main)
+    map names_of_function functions ≡ scope.functions →
+    names_in_scope scope ≡ pools_of (file_at scope ds functions main)
 names_same scope ds functions main e = rw e refl
 
 -- main has a number or hasn't

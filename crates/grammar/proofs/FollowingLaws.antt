@@ -323,10 +323,10 @@ function_finishes parameters variables h k = rw (le-leb parameters variables h, 
 pub definition_leads : (number parameters variables : ℕ) (body : Body) → number < 64 → parameters ≤ variables →
     variables ≤ 64 → InBody 64 64 64 body → body_nesting body ≤ 200 →
     Leads (BeginFunction number parameters ∷ (body_actions body ++ (last_return ++ EndFunction variables ∷ []))) [] []
-definition_leads number parameters variables body known within most h small =
+definition_leads number parameters variables body below within most h small =
     let k : KeepsFunction body parameters false = keeps_function body parameters false in
     also (BeginFunction number parameters) _ _ (InFunction parameters false ∷ []) _
-    (function_begins number parameters known (omega arith)) (omega arith)
+    (function_begins number parameters below (omega arith)) (omega arith)
     (chain (body_actions body) _ _ (InFunction parameters k.returned ∷ []) _
     (leads_to _ _ _ _ k.is (body_leads body (InFunction parameters false ∷ []) refl h (omega arith)))
     (also (PushConstant (pos 0)) _ _ (AValue (Number (pos 0)) ∷ InFunction parameters k.returned ∷ []) _ refl
@@ -336,27 +336,27 @@ definition_leads number parameters variables body known within most h small =
 
 pub function_leads : (number : ℕ) (f : Function) → number < 64 → FitsFile 64 64 f → body_nesting f.body ≤ 200 →
     Leads (function_actions number f) [] []
-function_leads number f known h small =
+function_leads number f below h small =
     let within : InBody 64 64 64 f.body =
     body_wider 64 (length f.variables) 64 64 64 64
     (record { externals = omega arith; locals = h.variables; functions = omega arith }) f.body h.body in
-    definition_leads number f.parameters (length f.variables) f.body known h.parameters h.variables within small
+    definition_leads number f.parameters (length f.variables) f.body below h.parameters h.variables within small
 
 -- Files.
 
 numbered_leads : (functions : List Function) (numbers : List ℕ) →
     ((k : ℕ) (f : Function) → slice_get functions k ≡ Some f → FitsFile 64 64 f × (body_nesting f.body ≤ 200)) →
     ((k : ℕ) → IsAmong k numbers → k < 64) → Leads (functions_actions functions numbers) [] []
-numbered_leads functions [] each known = record { is = refl }
-numbered_leads functions (k ∷ ks) each known =
+numbered_leads functions [] each below = record { is = refl }
+numbered_leads functions (k ∷ ks) each below =
     chain (numbered_actions k (slice_get functions k)) _ _ [] _ (one (slice_get functions k) refl)
-    (numbered_leads functions ks each (λ j h. known j (inr h)))
+    (numbered_leads functions ks each (λ j h. below j (inr h)))
   where
     one : (f : Option Function) → slice_get functions k ≡ f → Leads (numbered_actions k f) [] []
     one None e = record { is = refl }
     one (Some f) e =
         let h : FitsFile 64 64 f × (body_nesting f.body ≤ 200) = each k f e in
-        function_leads k f (known k (inl refl)) h.0 h.1
+        function_leads k f (below k (inl refl)) h.0 h.1
 
 pub file_leads : EachFileFollows
 file_leads file resolved nested = (numbered_leads file.functions file.order

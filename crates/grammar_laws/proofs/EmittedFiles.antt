@@ -92,11 +92,11 @@ file_reported : (s : State) (functions : List Function) (main : ℕ) → Sound s
 file_reported s functions main h found =
     let a : AreDefined 0 s.scope.lines s.functions functions =
     are_defined 0 s.scope.lines s.functions functions found in
-    let count : length functions ≡ length s.scope.functions = a.count ∙ h.known.lines in
+    let count : length functions ≡ length s.scope.functions = a.count ∙ h.scoped.lines in
     sym (actions_there functions s.functions
-    (there functions s.functions (distinct_of (phase_of s.stack) s.values s.scope s.functions h.known.begun h.tied)
+    (there functions s.functions (distinct_of (phase_of s.stack) s.values s.scope s.functions h.scoped.begun h.tied)
     (λ k i. each_by_number s.scope.lines s.functions functions a k
-    (let low : k < length s.scope.functions = order_below _ _ k s.functions h.known.definitions i in omega
+    (let low : k < length s.scope.functions = order_below _ _ k s.functions h.scoped.definitions i in omega
     (arith, low, count)))))
 
 pub emits_its_file : EmitsItsFile

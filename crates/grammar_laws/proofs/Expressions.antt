@@ -178,15 +178,15 @@ assignment_begins o name tokens stack values scope functions = record { steps = 
 assignment : (o : StoreOp) (name : List ℕ) (e : Expression) → IsOperand e → IsTaken (Assign o name e)
 assignment o name e is c rest stack values scope functions =
     let variable : PartialTree = AVariable (variable_of name scope) in
-    let known : Scope = mentioned name scope in
+    let in_scope : Scope = mentioned name scope in
     let whole : Expr = tree_of (Assign o name e) scope in
     then _ _ _
     (assignment_begins o name (spell_part e ++ token.Punctuator (closing_punctuator c) ∷ rest) stack values scope
     functions)
-    (then _ _ _ (part_alone e is c rest (Make (Store o) ∷ Close ∷ stack) (variable ∷ values) known functions)
+    (then _ _ _ (part_alone e is c rest (Make (Store o) ∷ Close ∷ stack) (variable ∷ values) in_scope functions)
     (then _ _ _
     (make (Store o) (Close ∷ stack) (token.Punctuator (closing_punctuator c) ∷ rest) _ (AnExpr whole ∷ values)
-    (behind e known) functions refl refl refl refl)
+    (behind e in_scope) functions refl refl refl refl)
     (record { steps = 1; leads = refl })))
 
 -- a call
@@ -323,7 +323,7 @@ call_of_none name c rest stack values scope functions =
 call : (name : List ℕ) (e : Expression) (more : Arguments) → IsOperand e → AreTaken more →
     IsTaken (Call name (Argument e more))
 call name e more is others c rest stack values scope functions =
-    let known : Scope = called name scope in
+    let in_scope : Scope = called name scope in
     let callee : Callee = callee_of name scope in
     let close : List Token = token.Punctuator punctuator.CloseRound ∷ token.Punctuator (closing_punctuator c) ∷ rest in
     let end : List Item = Exactly punctuator.CloseRound ∷ Make Invoke ∷ Close ∷ tails 10 1 stack in
@@ -335,16 +335,16 @@ call name e more is others c rest stack values scope functions =
     )
     (then _ _ _ (call_begins name inner stack values scope functions)
     (then _ _ _ (part grammar.Arguments (Part grammar.Expression ∷ Make AddArgument ∷ Part MoreArguments ∷ []) end inner
-    (ACall callee tree.NoMore ∷ values) known functions
+    (ACall callee tree.NoMore ∷ values) in_scope functions
     (part_sound e (spell_more more ++ close)) (arguments_begin e (spell_more more ++ close)))
     (then _ _ _
     (passed e is (spell_more more ++ close) (stops more (token.Punctuator (closing_punctuator c) ∷ rest))
-    (Part MoreArguments ∷ end) callee tree.NoMore values known functions)
+    (Part MoreArguments ∷ end) callee tree.NoMore values in_scope functions)
     (then _ _ _
-    (others (token.Punctuator (closing_punctuator c) ∷ rest) end callee (tree.Argument (tree_of e known) tree.NoMore)
-    values (behind e known) functions)
-    (call_ends callee (tree.Argument (tree_of e known) (trees_of more (behind e known))) c rest stack values
-    (behind_arguments more (behind e known)) functions)))))
+    (others (token.Punctuator (closing_punctuator c) ∷ rest) end callee (tree.Argument (tree_of e in_scope) tree.NoMore)
+    values (behind e in_scope) functions)
+    (call_ends callee (tree.Argument (tree_of e in_scope) (trees_of more (behind e in_scope))) c rest stack values
+    (behind_arguments more (behind e in_scope)) functions)))))
 
 mutual
   pub taken : (e : Expression) → IsTaken e

@@ -13,8 +13,8 @@ pub record Keeps (scope learnt : Scope) : Type 0 where
 same : (scope : Scope) → Keeps scope scope
 same scope = record { number = refl; name = refl; parameters = refl }
 
-both : (scope known learnt : Scope) → Keeps scope known → Keeps known learnt → Keeps scope learnt
-both scope known learnt k l =
+both : (scope in_scope learnt : Scope) → Keeps scope in_scope → Keeps in_scope learnt → Keeps scope learnt
+both scope in_scope learnt k l =
     record { number = l.number ∙ k.number; name = l.name ∙ k.name; parameters = l.parameters ∙ k.parameters }
 
 either : (b : Bool) (scope learnt : Scope) → Keeps scope learnt → Keeps scope (if b then learnt else scope)

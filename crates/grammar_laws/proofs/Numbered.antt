@@ -319,7 +319,7 @@ stepped_counts profile s h clean sound c = kept_counting s (said s) h (step s) c
     (unexpected_tokens s.stack s.rest (stack_step s.stack s))
     (stack_step s.stack s) clean
     (λ e. step_counts profile s.stack s.rest s.values s.scope s.functions h e
-    (record { known = sound.known; tied = sound.tied }) c))
+    (record { scoped = sound.scoped; tied = sound.tied }) c))
 
 run_counts : (profile : Profile) (n : ℕ) (s : State) (h : History) → faults_in profile n s ≡ [] → Sound s →
     Counts h s.scope s.functions →
@@ -414,7 +414,7 @@ files profile located_tokens file e =
     in
     let same : map names_of_function m.all ≡ s.scope.functions =
     functions_named s.scope s.functions m.all (are_defined 0 s.scope.lines s.functions m.all m.found) named
-    sound.known.lines in
+    sound.scoped.lines in
     record {
       externals = ap (λ (f : File). f.externals) (sym m.is) ∙
           (agrees_at located_tokens (enough_steps located_tokens)).externals;

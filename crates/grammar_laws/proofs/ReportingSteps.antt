@@ -77,7 +77,7 @@ constant_reports : (A : Type 0) (value : Option ℕ) (stack : List Item) (rest :
 constant_reports A None stack rest values scope ds acts h = refl
 constant_reports A (Some value) stack rest values scope ds acts h = h value
 
--- a name that is known leaves the scope as it is
+-- a name that is in scope leaves the scope as it is
 by_test : (P : Scope → Type 0) (new : Bool) (more same : Scope) → P more → P same → P (if new then more else same)
 by_test P true more same h k = h
 by_test P false more same h k = k

@@ -125,14 +125,14 @@ short_enough profile second third fourth functions scope body number parameters 
     within_limit profile _ _ (code_with profile functions scope body parameters number)
     (c.fits profile _ (b profile _ h))
 
-define_step : (profile : Profile) (located_tokens : List LocatedToken) (known learnt : Scope)
+define_step : (profile : Profile) (located_tokens : List LocatedToken) (in_scope learnt : Scope)
     (functions : List Definition) (body : Body) (stack : List Item) (next : LocatedToken) (tail : List LocatedToken) →
-    located_tokens ≡ next ∷ tail → is_lexical_error next.token ≡ false → learnt ≡ end_definition known →
-    is_too_long profile (functions ++ definition_of known body ∷ []) ≡ false →
-    DerivesWithoutFault profile (state (Make Define ∷ stack) located_tokens (ABody body ∷ []) known functions)
-    (state stack located_tokens [] learnt (functions ++ definition_of known body ∷ []))
-define_step profile located_tokens known learnt functions body stack next tail e sound ended short =
-    rw (e, ended) (make profile Define stack (next ∷ tail) (ABody body ∷ []) known functions sound (rw short refl))
+    located_tokens ≡ next ∷ tail → is_lexical_error next.token ≡ false → learnt ≡ end_definition in_scope →
+    is_too_long profile (functions ++ definition_of in_scope body ∷ []) ≡ false →
+    DerivesWithoutFault profile (state (Make Define ∷ stack) located_tokens (ABody body ∷ []) in_scope functions)
+    (state stack located_tokens [] learnt (functions ++ definition_of in_scope body ∷ []))
+define_step profile located_tokens in_scope learnt functions body stack next tail e sound ended short =
+    rw (e, ended) (make profile Define stack (next ∷ tail) (ABody body ∷ []) in_scope functions sound (rw short refl))
 
 close_step : (profile : Profile) (located_tokens : List LocatedToken) (scope : Scope) (functions : List Definition)
     (stack : List Item) (next : LocatedToken) (tail : List LocatedToken) → located_tokens ≡ next ∷ tail →

@@ -19,17 +19,17 @@ use Rattle.parser.specs.Progress.{ClosesFunction, MayEnd}
 pub may_begin : (before : Representation) (number parameters : ℕ) → LeavesOpen before [] → number < 64 →
     parameters ≤ 64 →
     MayFollow before (BeginFunction number parameters)
-may_begin before number parameters s known few =
+may_begin before number parameters s below few =
     may_follow before [] (InFunction parameters false ∷ []) (BeginFunction number parameters) s
-    (function_begins number parameters known few) (omega arith)
+    (function_begins number parameters below few) (omega arith)
 
 pub begun : (before behind : Representation) (number parameters : ℕ) → LeavesOpen before [] → number < 64 →
     parameters ≤ 64 →
     Appends before behind (BeginFunction number parameters) → LeavesOpen behind (InFunction parameters false ∷ [])
-begun before behind number parameters s known few reported =
+begun before behind number parameters s below few reported =
     stands_then before behind (BeginFunction number parameters ∷ []) [] (InFunction parameters false ∷ []) reported s
     (follow_one (BeginFunction number parameters) [] (InFunction parameters false ∷ [])
-    (function_begins number parameters known few) (omega arith))
+    (function_begins number parameters below few) (omega arith))
 
 pub has_place : (before : Representation) (parameters : ℕ) → LeavesOpen before (InFunction parameters false ∷ []) →
     HasStatementRoom before (room 1 1)
@@ -118,6 +118,6 @@ pub closed : (before after : Representation) (number parameters variables : ℕ)
     AppendsAll before after
     (BeginFunction number parameters ∷ (body_actions body ++ (last_return ++ EndFunction variables ∷ []))) →
     LeavesOpen after []
-closed before after number parameters variables body s known within few numbered narrow reported =
+closed before after number parameters variables body s below within few numbered narrow reported =
     stands_then before after _ [] [] reported s
-    (definition_leads number parameters variables body known within few numbered narrow).is
+    (definition_leads number parameters variables body below within few numbered narrow).is

@@ -75,13 +75,14 @@ constant_enters : (at : UnreadPosition) (value : ℕ) → (next_at at).token ≡
 constant_enters at value is after more = rw is refl
 
 constant_leads : (located_token : LocatedToken) (value : ℕ) → located_token.token ≡ token.Constant value →
-    (depth : ℕ) (known : Scope) (rest : List LocatedToken) →
-    Leads depth (AConstant ∷ []) [] [] (AnExpr (Constant (pos value)) ∷ []) known known (located_token ∷ rest) rest
-constant_leads located_token value is depth known rest = record {
+    (depth : ℕ) (in_scope : Scope) (rest : List LocatedToken) →
+    Leads depth (AConstant ∷ []) [] [] (AnExpr (Constant (pos value)) ∷ []) in_scope in_scope (located_token ∷ rest)
+    rest
+constant_leads located_token value is depth in_scope rest = record {
   passes = λ profile stack values functions depths.
       let sound : is_lexical_error located_token.token ≡ false = rw is refl in
       let found : constant_value located_token.token ≡ Some value = rw is refl in
-      constant profile value stack (located_token ∷ rest) values known functions sound found;
+      constant profile value stack (located_token ∷ rest) values in_scope functions sound found;
 }
 
 constant_past : (at there : UnreadPosition) (value : ℕ) → (next_at at).token ≡ token.Constant value →

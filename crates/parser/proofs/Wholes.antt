@@ -139,7 +139,8 @@ whole_file before after told at there names new w complete same closed =
       resolved = f.resolved;
       named = same ∙ f.named;
       main = rw same f.main;
-      built = λ profile h. subst (λ (acts : List Action). after profile acts) (sym f.told) (w.reads.added profile [] h);
+      built =
+          λ profile h. subst (λ (acts : List Action). after profile acts) (sym f.reported) (w.reads.added profile [] h);
       closed = closed;
       is =
           λ bytes shows profile h. compiled_as profile bytes (all_of before after told at there w) (Ok f.file)
@@ -247,7 +248,7 @@ stops_reading : (before after : Representation) (told : Option (List ℕ)) (at :
     (bytes : List ℕ) → told ≡ Some bytes → (profile : Profile) → before profile [] →
     Stops profile (initial_state (tokens bytes)) stop
 stops_reading before after told at stop nothing tells stops bytes shows profile h =
-    subst (λ (known : Scope). Stops profile (state at_source (tokens bytes) [] known []) stop) nothing
+    subst (λ (in_scope : Scope). Stops profile (state at_source (tokens bytes) [] in_scope []) stop) nothing
     (stops (tokens bytes) (tells ∙ ap (option_map tokens) shows) profile [] h).stops
 
 pub stops_taking : (used : ℕ) (before after : Representation) (told to_come : Option (List ℕ)) (at : UnreadPosition)
@@ -302,7 +303,7 @@ whole_takes used before after told to_come at there w near taken bytes shows pro
     let reached : DerivesWithoutFault profile (state at_source (w.reads.consumed ++ t.rest) [] no_names [])
     (state at_source t.rest [] (scope_at there) w.reads.more) =
     subst
-    (λ (known : Scope). DerivesWithoutFault profile (state at_source (w.reads.consumed ++ t.rest) [] known [])
+    (λ (in_scope : Scope). DerivesWithoutFault profile (state at_source (w.reads.consumed ++ t.rest) [] in_scope [])
     (state at_source t.rest [] (scope_at there) w.reads.more)) w.nothing
     (w.reads.passes t.rest (told_goes there t.rest t.shows) profile [] h) in
     let none : NoFaultBefore profile (initial_state (tokens bytes)) t.rest =
@@ -349,7 +350,7 @@ stops_building : (used : ℕ) (before after : Representation) (told to_come : Op
 stops_building used before after told to_come at nothing tells taken stops bytes shows profile h =
     let s : StopsReporting after profile (initial_state (tokens bytes)) (stop_with parse_fault.Device used) =
     subst
-    (λ (known : Scope). StopsReporting after profile (state at_source (tokens bytes) [] known [])
+    (λ (in_scope : Scope). StopsReporting after profile (state at_source (tokens bytes) [] in_scope [])
     (stop_with parse_fault.Device used)) nothing
     (stops (tokens bytes) (tells ∙ ap (option_map tokens) shows) profile [] h) in
     builds_by after profile bytes to_come used s.stops (taken.took bytes shows) (s.reported refl)
