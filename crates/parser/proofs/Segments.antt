@@ -141,7 +141,7 @@ takes_past cursor in_scope learnt more there goes located_tokens is =
     told_begins (position_of (record { cursor = cursor; scope = in_scope }) more) located_tokens is in
     record { rest = b.tail; is = b.is; shows = goes.told cursor.next b.tail (is ∙ ap Some b.is) }
 
--- one token is passed, after which these names are in_scope
+-- one token is passed, after which these names are in scope
 pub past : (cursor : Cursor) (in_scope learnt : Scope) (more : Option (List ℕ)) (there : UnreadPosition) (depth : ℕ)
     (front pending : List Item) (taken left : List PartialTree) →
     GoesPast (position_of (record { cursor = cursor; scope = learnt }) more) there →
