@@ -92,7 +92,7 @@ impl<'s, 'a, F: Feed> ScopedCursor<'s, 'a, F> {
     pub fn new(cursor: Cursor, scope: &'s mut Scope, feed: &'a mut F) -> ScopedCursor<'s, 'a, F>
         requires ready { IsReadable cursor }
         requires known { KnowsEnd (beyond cursor) (F.device feed.old).ended }
-        ensures place { result.position ≡ position_of (record { cursor = cursor; scope = scope.old }) (F.device feed.old).to_come }
+        ensures position { result.position ≡ position_of (record { cursor = cursor; scope = scope.old }) (F.device feed.old).to_come }
         ensures account { result.account ≡ (F.device feed.old).account }
         ensures scope { result.borrows.0 ≡ scope.entry.ghost_name }
         ensures device { result.borrows.1 ≡ feed.entry.ghost_name }

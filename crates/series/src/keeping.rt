@@ -102,7 +102,7 @@ pub(crate) struct Lister {
 }
 
 impl Lister {
-    /// Makes a lister, with a place for the program that it lists.
+    /// Makes a lister, with room for the program that it lists.
     pub(crate) fn new() -> Lister {
         Lister {
             program: Program::default(),

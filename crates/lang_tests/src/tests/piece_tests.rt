@@ -84,18 +84,18 @@ const ONE: &[&str] = &[
 
 #[test]
 fn tokens_may_lie_across_the_end_of_the_window(rt: HostRuntime) -> Result<(), Fail> {
-    for place in [4_094, 4_095, 4_096] {
-        let punctuator = [Once(b"main(){x"), Times(b" ", place - 8), Once(b"<<=1;}")];
+    for offset in [4_094, 4_095, 4_096] {
+        let punctuator = [Once(b"main(){x"), Times(b" ", offset - 8), Once(b"<<=1;}")];
         check_trees(&rt, &source_of(rt.alloc(), &punctuator)?, SHIFTED)?;
         let name = [
             Once(b"main(){"),
-            Times(b" ", place - 7),
+            Times(b" ", offset - 7),
             Once(b"abcdefghijklmnopqrstuvwxyz_1234;}"),
         ];
         check_trees(&rt, &source_of(rt.alloc(), &name)?, LONG_NAME)?;
         let comment = [
             Once(b"main(){"),
-            Times(b" ", place - 7),
+            Times(b" ", offset - 7),
             Once(b"/* x; */1;}"),
         ];
         check_trees(&rt, &source_of(rt.alloc(), &comment)?, ONE)?;
