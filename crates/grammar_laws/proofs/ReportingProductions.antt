@@ -40,7 +40,7 @@ abbrev pub Produced : Type 0 → Production → List Item → Fact
 Produced A None stack values n k ds acts = Unit {0}
 Produced A (Some items) stack values n k ds acts = Reports A (items ++ stack) values n k ds acts
 
--- the level that a production enters is one of those that there are
+-- a nested production is one of as many as may be open
 abbrev pub Enters : Type 0 → Symbol → Token → Token → List Item → Type 0
 Enters A symbol next after stack = A → enters symbol next after ≡ true → nested_count stack < 64
 
@@ -220,7 +220,7 @@ decides : (A : Type 0) (stack : List Item) (values : List PartialTree) (n k : �
     (A → nested_count stack < 64) → Stated A (room_in stack + 2) (Reports A stack) values n k ds acts →
     Reports A (Part Expression ∷ Exactly punctuator.CloseRound ∷ Make Empty ∷ Part Statement ∷ Part
     ElsePart ∷ Close ∷ stack) values n k ds acts
-decides A stack (ABody b ∷ below) n k ds acts level h = λ c f. record {
+decides A stack (ABody b ∷ below) n k ds acts nested h = λ c f. record {
   base = (acts ++ expr_actions c) ++ IfTest ∷ [];
   room = 3 * (64 - (nested_count stack + 1)) + 2;
   enough = λ a. omega arith;
@@ -229,7 +229,7 @@ decides A stack (ABody b ∷ below) n k ds acts level h = λ c f. record {
   on = λ s g. record {
     base = h.base;
     room = h.room;
-    enough = λ a. omega (arith, level a, h.enough a);
+    enough = λ a. omega (arith, nested a, h.enough a);
     reported = branch_actions h.base (body_actions b) acts (expr_actions c) IfTest (body_actions s) h.reported;
     fits = h.fits;
     condition = f;
@@ -237,7 +237,7 @@ decides A stack (ABody b ∷ below) n k ds acts level h = λ c f. record {
     on = h.on;
   };
 }
-decides A stack values n k ds acts level h = absurd h
+decides A stack values n k ds acts nested h = absurd h
 
 turn_actions : (acts c s : List Action) → acts ++ (BeginWhile ∷ (c ++ WhileTest ∷ (s ++ EndWhile ∷ []))) ≡
     ((((acts ++ BeginWhile ∷ []) ++ c) ++ WhileTest ∷ []) ++ s) ++ EndWhile ∷ []
@@ -248,7 +248,7 @@ repeats : (A : Type 0) (stack : List Item) (values : List PartialTree) (n k : �
     (A → nested_count stack < 64) → Stated A (room_in stack + 2) (Reports A stack) values n k ds acts →
     Reports A (Part Expression ∷ Exactly punctuator.CloseRound ∷ Make Empty ∷ Part Statement ∷ Make
     Repeat ∷ Close ∷ stack) values n k ds (acts ++ BeginWhile ∷ [])
-repeats A stack (ABody b ∷ below) n k ds acts level h = λ c f. record {
+repeats A stack (ABody b ∷ below) n k ds acts nested h = λ c f. record {
   base = ((acts ++ BeginWhile ∷ []) ++ expr_actions c) ++ WhileTest ∷ [];
   room = 3 * (64 - (nested_count stack + 1)) + 2;
   enough = λ a. omega arith;
@@ -256,10 +256,10 @@ repeats A stack (ABody b ∷ below) n k ds acts level h = λ c f. record {
   fits = done_fits A (3 * (64 - (nested_count stack + 1)) + 2);
   on = λ s g. added A (room_in stack + 2) (λ x more. Reports A stack (ABody x ∷ below) n k ds more) b acts h
       (tree.While c s tree.Done)
-      (while_fits A (3 * (64 - (nested_count stack + 1)) + 2) h.room c s (λ a. omega (arith, level a, h.enough a)) f g)
+      (while_fits A (3 * (64 - (nested_count stack + 1)) + 2) h.room c s (λ a. omega (arith, nested a, h.enough a)) f g)
       _ (turn_actions acts (expr_actions c) (body_actions s));
 }
-repeats A stack values n k ds acts level h = absurd h
+repeats A stack values n k ds acts nested h = absurd h
 
 pub block_reports : (A : Type 0) (next after : Token) (stack : List Item) (values : List PartialTree) (n k : ℕ)
     (ds : List Definition) (acts : List Action) →
@@ -283,16 +283,16 @@ pub statement_reports : (A : Type 0) (next after : Token) (stack : List Item) (v
     (n k : ℕ) (ds : List Definition) (acts : List Action) → Enters A Statement next after stack →
     Stated A (room_in stack + 2) (Reports A stack) values n k ds acts →
     Produced A (choice Statement next after) stack values n k ds (and_then acts (on_choice Statement next scope))
-statement_reports A (token.Punctuator punctuator.Semicolon) after stack values scope n k ds acts level h =
+statement_reports A (token.Punctuator punctuator.Semicolon) after stack values scope n k ds acts nested h =
     no_more_statements A (room_in stack + 2) (Reports A stack) values n k ds acts h
-statement_reports A (token.Punctuator punctuator.OpenCurly) after stack values scope n k ds acts level h = h
-statement_reports A (token.Keyword keyword.If) after stack values scope n k ds acts level h =
-    decides A stack values n k ds acts (λ a. level a refl) h
-statement_reports A (token.Keyword keyword.While) after stack values scope n k ds acts level h =
-    repeats A stack values n k ds acts (λ a. level a refl) h
-statement_reports A (token.Keyword keyword.Return) after stack values scope n k ds acts level h =
+statement_reports A (token.Punctuator punctuator.OpenCurly) after stack values scope n k ds acts nested h = h
+statement_reports A (token.Keyword keyword.If) after stack values scope n k ds acts nested h =
+    decides A stack values n k ds acts (λ a. nested a refl) h
+statement_reports A (token.Keyword keyword.While) after stack values scope n k ds acts nested h =
+    repeats A stack values n k ds acts (λ a. nested a refl) h
+statement_reports A (token.Keyword keyword.Return) after stack values scope n k ds acts nested h =
     gives_back A stack values n k ds acts h
-statement_reports A next after stack values scope n k ds acts level h = evaluates A stack values n k ds acts h
+statement_reports A next after stack values scope n k ds acts nested h = evaluates A stack values n k ds acts h
 
 -- The end of an if.
 

@@ -34,7 +34,7 @@ use Rattle.grammar.proofs.RepresentationLaws.{appends_both, appends_none}
 use Rattle.grammar.proofs.Joins.{join_done, join_assoc}
 use Rattle.tokens.specs.Cursors.{IsNearTo}
 
--- a level is open below these items
+-- a nested production is open below these items
 deeper : (depth : ℕ) (stack : List Item) → nested_count stack ≡ depth → nested_count stack + 1 ≡ depth + 1
 deeper depth stack same = ap (λ n. n + 1) same
 
@@ -215,7 +215,7 @@ while_too_deep at used near depth sound is deep b =
     word_too_deep at used near depth Statement keyword.While (in_brackets ++ behind_while) (ABody b ∷ []) sound
     (while_chosen _ is) is (while_enters _ is) deep
 
--- the items after the first statement keep one level open
+-- the items after the first statement keep one nested production open
 abbrev pub ClosesOne : List Item → Type 0
 ClosesOne items = (stack : List Item) → nested_count (items ++ stack) ≡ nested_count stack + 1
 

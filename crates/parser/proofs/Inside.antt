@@ -45,11 +45,11 @@ not_open (token.Constant value) after other = refl
 not_open token.End after other = refl
 not_open (token.Fault lexical_error) after other = refl
 
-first_level : (opened : Bool) (n : ℕ) (rest : List LocatedToken) → n ≡ 0 →
+first_nested : (opened : Bool) (n : ℕ) (rest : List LocatedToken) → n ≡ 0 →
     only_if opened (only_if (nat_le most_nested n) (fault rest fault_code.NestedTooDeeply ∷ [])) ≡ []
 unfolding most_nested
-first_level false n rest e = refl
-first_level true n rest e = rw e refl
+first_nested false n rest e = refl
+first_nested true n rest e = rw e refl
 
 brace_leads : (located_token : LocatedToken) → is_punctuator punctuator.OpenCurly located_token.token ≡ true →
     (in_scope : Scope) (rest : List LocatedToken) →
@@ -61,7 +61,7 @@ brace_leads located_token is in_scope rest = record {
       then profile _ _ _
       (part profile FunctionBlock (Exactly punctuator.OpenCurly ∷ Make Empty ∷ inside_items) stack
       (located_token ∷ rest) values in_scope functions (rw at refl) (rw at refl)
-      (first_level _ (nested_count stack) (located_token ∷ rest) depths))
+      (first_nested _ (nested_count stack) (located_token ∷ rest) depths))
       (punctuator_step profile punctuator.OpenCurly (Make Empty ∷ (inside_items ++ stack)) (located_token ∷ rest)
       values in_scope functions (rw at refl) is);
 }
@@ -87,7 +87,7 @@ pub brace_misfits : (at : UnreadPosition) (used : ℕ) (near : IsNearTo at.looka
 brace_misfits at used near sound other =
     fails_at_next 0 (Part FunctionBlock ∷ []) [] at _ used near (λ tail b profile stack values functions depths.
     no_part profile FunctionBlock stack (next_at at ∷ tail) values (scope_at at) functions sound
-    (not_open (next_at at).token _ other) (first_level _ (nested_count stack) (next_at at ∷ tail) depths))
+    (not_open (next_at at).token _ other) (first_nested _ (nested_count stack) (next_at at ∷ tail) depths))
 
 pub brace_stops : (cursor : Cursor) (in_scope : Scope) (more : Option (List ℕ)) →
     is_punctuator punctuator.OpenCurly cursor.next.token ≡ true → (d : Stop) →

@@ -26,7 +26,7 @@ use Rattle.parser.specs.declared.unary_ops.IncrementOp.TheVariants as increment_
 use Rattle.parser.specs.Expressions.{AddsExpr}
 use Rattle.parser.specs.UnaryOps.{unary_punctuator, increment_punctuator}
 use Rattle.parser.proofs.Parts.{punctuator_is, close_stands}
-use Rattle.parser.proofs.Productions.{Chooses, EntersLevel, chosen, chosen_within, item_done, punctuator_ends, punctuator_past, punctuator_sound, punctuator_too_deep, none_chosen}
+use Rattle.parser.proofs.Productions.{Chooses, IsNested, chosen, chosen_within, item_done, punctuator_ends, punctuator_past, punctuator_sound, punctuator_too_deep, none_chosen}
 use Rattle.parser.proofs.ReportingLaws.{room_within}
 use Rattle.tokens.specs.Cursors.{IsNearTo}
 
@@ -42,7 +42,7 @@ open_chooses at fits = record {
 }
 
 open_enters : (at : UnreadPosition) → is_punctuator punctuator.OpenRound (next_at at).token ≡ true →
-    EntersLevel at Primary
+    IsNested at Primary
 open_enters at fits after more =
     let t : (next_at at).token ≡ token.Punctuator punctuator.OpenRound =
     punctuator_is punctuator.OpenRound (next_at at).token fits in

@@ -48,15 +48,15 @@ word_is w (token.Constant value) is = absurd (cc)
 word_is w token.End is = absurd (cc)
 word_is w (token.Fault lexical_error) is = absurd (cc)
 
--- Levels.
+-- Nesting.
 
--- with `depth` levels open the symbol enters none beyond the last
+-- with `depth` constructs open the symbol's production isn't nested too deeply
 abbrev pub IsFree : ℕ → Symbol → LocatedToken → Type 0
 IsFree depth symbol located_token =
     (stack : List Item) (rest : List LocatedToken) → nested_count stack ≡ depth →
     nesting_faults symbol (state stack (located_token ∷ rest) [] no_names []) ≡ []
 
--- while a level is left there is no fault
+-- while one more may be open there is no fault
 pub within : (opened : Bool) (n : ℕ) (rest : List LocatedToken) → n < 64 →
     only_if opened (only_if (nat_le most_nested n) (fault rest fault_code.NestedTooDeeply ∷ [])) ≡ []
 unfolding most_nested
@@ -66,7 +66,7 @@ within true n rest small = let test : nat_le 64 n ≡ false = below n small in r
     below : (n : ℕ) → n < 64 → nat_le 64 n ≡ false
     below n small = grind (arith, nat_tests)
 
--- a level beyond the last one is a fault
+-- one beyond the most is a fault
 pub beyond : (opened : Bool) (n : ℕ) (rest : List LocatedToken) → opened ≡ true → 64 ≤ n →
     only_if opened (only_if (nat_le most_nested n) (fault rest fault_code.NestedTooDeeply ∷ [])) ≡
     fault rest fault_code.NestedTooDeeply ∷ []
@@ -178,7 +178,7 @@ punctuator_stops at d depth symbol m items trees sound chosen fits free stop =
     stops at.lookahead.cursor (scope_at at) (scope_at at) at.to_come d depth (Part symbol ∷ []) items trees trees
     (λ rest b. punctuator_leads (next_at at) depth symbol m items trees (scope_at at) rest sound chosen fits free) stop
 
--- A level beyond the last one.
+-- Nested too deeply.
 
 pub word_too_deep : (at : UnreadPosition) (n : ℕ) (near : IsNearTo at.lookahead.cursor n) (depth : ℕ) (symbol : Symbol)
     (w : Keyword) (items : List Item) (trees : List PartialTree) → is_lexical_error (next_at at).token ≡ false →

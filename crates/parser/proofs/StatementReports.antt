@@ -12,7 +12,7 @@ use Rattle.parser.specs.Expressions.{AddsExpr}
 use Rattle.parser.specs.Statements.{AddsBody}
 use Rattle.parser.proofs.Openings.{inside_behind, inside_place, inside_room, loop_begun, may_begin, may_end, may_end_if, may_test, may_turn, place_behind, place_room, turn, turn_begun, value_inside}
 
--- One level of nesting further, there is room for all that may be opened there.
+-- With one more construct open, there is room for all that may be opened there.
 
 room_deeper : (depth : ℕ) → depth < 64 → room (depth + 1) 1 + 3 ≤ room depth 1
 room_deeper depth shallow = omega (arith, shallow)

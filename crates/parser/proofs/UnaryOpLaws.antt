@@ -28,7 +28,7 @@ use Rattle.parser.specs.declared.unary_ops.UnaryOp.TheVariants as unary_op
 use Rattle.parser.specs.Expressions.{AddsExpr}
 use Rattle.parser.specs.UnaryOps.{actions_before_operand, actions_after_operand, unary_punctuator, unary_action, unary_tree}
 use Rattle.parser.proofs.Parts.{MakesOnly, punctuator_is}
-use Rattle.parser.proofs.Productions.{Chooses, EntersLevel, chosen_within, item_done, makes_and_closes, punctuator_ends, punctuator_past, punctuator_sound, punctuator_too_deep}
+use Rattle.parser.proofs.Productions.{Chooses, IsNested, chosen_within, item_done, makes_and_closes, punctuator_ends, punctuator_past, punctuator_sound, punctuator_too_deep}
 use Rattle.parser.proofs.ReportingLaws.{all_follow, room_behind}
 use Rattle.grammar.proofs.RepresentationLaws.{appends_both, may_then}
 use Rattle.tokens.specs.Cursors.{IsNearTo}
@@ -57,9 +57,9 @@ sign_chooses at s fits = record {
       (sign_choice s after);
 }
 
-sign_enters_level : (at : UnreadPosition) (s : UnaryOp) → is_punctuator (unary_punctuator s) (next_at at).token ≡ true →
-    EntersLevel at Unary
-sign_enters_level at s fits after more =
+sign_is_nested : (at : UnreadPosition) (s : UnaryOp) → is_punctuator (unary_punctuator s) (next_at at).token ≡ true →
+    IsNested at Unary
+sign_is_nested at s fits after more =
     let t : (next_at at).token ≡ token.Punctuator (unary_punctuator s) =
     punctuator_is (unary_punctuator s) (next_at at).token fits in
     rw t (sign_enters s after)
@@ -94,7 +94,7 @@ pub sign_too_deep : (at : UnreadPosition) (used : ℕ) (near : IsNearTo at.looka
     (stop_with (parse_fault.Source (diagnostic (next_at at).line fault_code.NestedTooDeeply)) used)
 sign_too_deep at used near depth s fits deep =
     punctuator_too_deep at used near depth Unary (unary_punctuator s) (Part Unary ∷ Make (unary_action s) ∷ Close ∷ [])
-    (sign_chooses at s fits) (sign_enters_level at s fits) fits deep
+    (sign_chooses at s fits) (sign_is_nested at s fits) fits deep
 
 sign_stands : (at : UnreadPosition) (depth : ℕ) (s : UnaryOp) →
     is_punctuator (unary_punctuator s) (next_at at).token ≡ true →
