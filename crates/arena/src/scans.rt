@@ -5,7 +5,7 @@ ghost use Rattle.arith.specs.Root.{root_of};
 ghost use Rattle.arena.specs.Field.{FieldRobot, Field, robot_at};
 ghost use Rattle.arena.specs.Collisions.{others};
 ghost use Rattle.arena.specs.Scan.{sees, scanned};
-ghost use Rattle.arena.specs.Nearer.{IsAtMetres, IsLeast, IsSquare, arc_contains, range_at, square_of, square_to};
+ghost use Rattle.arena.specs.Nearer.{IsAtMetres, IsLeast, IsSquare, arc_contains, range_at, squared_length, square_to};
 ghost use Rattle.arena.specs.Arena.{robot_of};
 
 use crate::arcs::Arc;
@@ -73,7 +73,7 @@ fn nearer(from: &MetrePoint, arc: &Arc, other: &Robot, so_far: u32) -> u32
 fn shorter(way: &Way, arc: &Arc, so_far: u32) -> u32
     requires so_far { IsSquare so_far }
     ensures value { result ≡ (if arc_contains way.now.east way.now.north arc.now.degree arc.now.resolution
-        then min so_far (square_of way.now.east way.now.north) else so_far) }
+        then min so_far (squared_length way.now.east way.now.north) else so_far) }
     ensures square { IsSquare result }
     ensures seen { arc_contains way.now.east way.now.north arc.now.degree arc.now.resolution ≡ true
         → result ≤ MOST_SQUARE }

@@ -6,7 +6,7 @@ use Rattle.std.specs.List.{position_from}
 use Rattle.std.specs.Prelude.{Option, Some, None, not, is_none, slice_get, if◌then◌else◌}
 use Rattle.std.specs.Str.{bytes_eq}
 use Rattle.grammar.specs.Scope.{number_of_name}
-use Rattle.grammar_laws.specs.Numbering.{is_among, without, distinct}
+use Rattle.grammar_laws.specs.Numbering.{is_among, all_but, distinct}
 
 -- Names that are tested to be the same.
 
@@ -28,7 +28,7 @@ turned x y = by (bytes_eq x y) (bytes_eq y x) refl refl
 -- Members.
 
 among_without : (y x : List ℕ) (zs : List (List ℕ)) →
-    is_among y (without x zs) ≡ (if bytes_eq x y then false else is_among y zs)
+    is_among y (all_but x zs) ≡ (if bytes_eq x y then false else is_among y zs)
 among_without y x [] = by (bytes_eq x y)
   where
     by : (b : Bool) → false ≡ (if b then false else false)
@@ -37,8 +37,8 @@ among_without y x [] = by (bytes_eq x y)
 among_without y x (z ∷ zs) = by (bytes_eq x z) (bytes_eq x y) (bytes_eq y z) refl refl refl (among_without y x zs)
   where
     by : (a b c : Bool) → bytes_eq x z ≡ a → bytes_eq x y ≡ b → bytes_eq y z ≡ c →
-        is_among y (without x zs) ≡ (if bytes_eq x y then false else is_among y zs) →
-        is_among y (if a then without x zs else z ∷ without x zs) ≡
+        is_among y (all_but x zs) ≡ (if bytes_eq x y then false else is_among y zs) →
+        is_among y (if a then all_but x zs else z ∷ all_but x zs) ≡
         (if b then false else (if c then true else is_among y zs))
     by true true c e f g again = again ∙ rw f refl
     by true false true e f g again =
@@ -55,20 +55,20 @@ among_distinct y [] = refl
 among_distinct y (x ∷ xs) = by (bytes_eq y x) refl (among_distinct y xs)
   where
     by : (b : Bool) → bytes_eq y x ≡ b → is_among y (distinct xs) ≡ is_among y xs →
-        (if b then true else is_among y (without x (distinct xs))) ≡ (if b then true else is_among y xs)
+        (if b then true else is_among y (all_but x (distinct xs))) ≡ (if b then true else is_among y xs)
     by true e again = refl
     by false e again = among_without y x (distinct xs) ∙ rw (turned x y ∙ e) again
 
 -- A name more.
 
-without_last : (x : List ℕ) (zs : List (List ℕ)) (y : List ℕ) →
-    without x (zs ++ y ∷ []) ≡ without x zs ++ (if bytes_eq x y then [] else y ∷ [])
-without_last x [] y = refl
-without_last x (z ∷ zs) y = by (bytes_eq x z) (without_last x zs y)
+all_but_last : (x : List ℕ) (zs : List (List ℕ)) (y : List ℕ) →
+    all_but x (zs ++ y ∷ []) ≡ all_but x zs ++ (if bytes_eq x y then [] else y ∷ [])
+all_but_last x [] y = refl
+all_but_last x (z ∷ zs) y = by (bytes_eq x z) (all_but_last x zs y)
   where
-    by : (b : Bool) → without x (zs ++ y ∷ []) ≡ without x zs ++ (if bytes_eq x y then [] else y ∷ []) →
-        (if b then without x (zs ++ y ∷ []) else z ∷ without x (zs ++ y ∷ [])) ≡
-        (if b then without x zs else z ∷ without x zs) ++ (if bytes_eq x y then [] else y ∷ [])
+    by : (b : Bool) → all_but x (zs ++ y ∷ []) ≡ all_but x zs ++ (if bytes_eq x y then [] else y ∷ []) →
+        (if b then all_but x (zs ++ y ∷ []) else z ∷ all_but x (zs ++ y ∷ [])) ≡
+        (if b then all_but x zs else z ∷ all_but x zs) ++ (if bytes_eq x y then [] else y ∷ [])
     by true again = again
     by false again = ap (λ names. z ∷ names) again
 
@@ -79,16 +79,16 @@ distinct_last (x ∷ xs) y = by (is_among y xs) (bytes_eq y x) refl refl (distin
   where
     by : (a b : Bool) → is_among y xs ≡ a → bytes_eq y x ≡ b →
         distinct (xs ++ y ∷ []) ≡ (if is_among y xs then distinct xs else distinct xs ++ y ∷ []) →
-        x ∷ without x (distinct (xs ++ y ∷ [])) ≡
-        (if (if b then true else a) then x ∷ without x (distinct xs) else (x ∷ without x (distinct xs)) ++ y ∷ [])
-    by true true e f again = ap (λ names. x ∷ without x names) (again ∙ rw e refl)
-    by true false e f again = ap (λ names. x ∷ without x names) (again ∙ rw e refl)
-    by false true e f again = ap (λ names. x ∷ without x names) (again ∙ rw e refl)
+        x ∷ all_but x (distinct (xs ++ y ∷ [])) ≡
+        (if (if b then true else a) then x ∷ all_but x (distinct xs) else (x ∷ all_but x (distinct xs)) ++ y ∷ [])
+    by true true e f again = ap (λ names. x ∷ all_but x names) (again ∙ rw e refl)
+    by true false e f again = ap (λ names. x ∷ all_but x names) (again ∙ rw e refl)
+    by false true e f again = ap (λ names. x ∷ all_but x names) (again ∙ rw e refl)
         ∙
         ap (λ names. x ∷ names)
-        (without_last x (distinct xs) y ∙ rw (turned x y ∙ f) (append-nil (without x (distinct xs))))
-    by false false e f again = ap (λ names. x ∷ without x names) (again ∙ rw e refl)
-        ∙ ap (λ names. x ∷ names) (without_last x (distinct xs) y ∙ rw (turned x y ∙ f) refl)
+        (all_but_last x (distinct xs) y ∙ rw (turned x y ∙ f) (append-nil (all_but x (distinct xs))))
+    by false false e f again = ap (λ names. x ∷ all_but x names) (again ∙ rw e refl)
+        ∙ ap (λ names. x ∷ names) (all_but_last x (distinct xs) y ∙ rw (turned x y ∙ f) refl)
 
 -- Indices.
 

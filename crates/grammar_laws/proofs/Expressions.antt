@@ -17,7 +17,7 @@ use Rattle.grammar.specs.Tree.{Expr, Args, add_argument}
 use Rattle.grammar_laws.specs.Written.{Sign, Minus, Not, Tilde, Increment, Up, Down, Expression, Constant, Variable, Binary, Signed, Assign, PreIncrement, PostIncrement, Call, Arguments, NoMore, Argument}
 use Rattle.grammar.specs.Operators.{binary_punctuator, store_punctuator}
 use Rattle.grammar_laws.specs.Spelling.{sign_punctuator, spelled_increment, spell_more}
-use Rattle.grammar_laws.specs.Resolving.{tree_of, trees_of, behind, behind_arguments, mentioned, called, signed, increment_operator}
+use Rattle.grammar_laws.specs.Resolving.{tree_of, trees_of, behind, behind_arguments, mentioned, behind_callee, signed, increment_operator}
 use Rattle.grammar_laws.proofs.Leading.{Leads, then, at, first, second, part, make}
 use Rattle.grammar_laws.proofs.Levels.{tails, down, up, Closing, Round, Comma, closing_punctuator, Operates, operates}
 use Rattle.grammar_laws.proofs.Parts.{IsTaken, IsOperand, operand, a_constant, a_name, operator_ends, closing_ends, spell_part, part_sound, part_begins, part_at_level, part_alone}
@@ -284,7 +284,7 @@ call_begins : (name : List ℕ) (tokens : List Token) (stack : List Item) (value
     (at (Part grammar.Expression ∷ stack) (token.Name name ∷ token.Punctuator punctuator.OpenRound ∷ tokens) values
     scope functions)
     (at (Part grammar.Arguments ∷ Exactly punctuator.CloseRound ∷ Make Invoke ∷ Close ∷ tails 10 1 stack) tokens
-    (ACall (callee_of name scope) tree.NoMore ∷ values) (called name scope) functions)
+    (ACall (callee_of name scope) tree.NoMore ∷ values) (behind_callee name scope) functions)
 call_begins name tokens stack values scope functions = record { steps = 16; leads = refl }
 
 -- from the bracket after the arguments
@@ -316,14 +316,14 @@ call_of_none name c rest stack values scope functions =
     (then _
     (at (Exactly punctuator.CloseRound ∷ Make Invoke ∷ Close ∷ tails 10 1 stack)
     (token.Punctuator punctuator.CloseRound ∷ token.Punctuator (closing_punctuator c) ∷ rest)
-    (ACall (callee_of name scope) tree.NoMore ∷ values) (called name scope) functions) _
+    (ACall (callee_of name scope) tree.NoMore ∷ values) (behind_callee name scope) functions) _
     (record { steps = 1; leads = refl })
-    (call_ends (callee_of name scope) tree.NoMore c rest stack values (called name scope) functions))
+    (call_ends (callee_of name scope) tree.NoMore c rest stack values (behind_callee name scope) functions))
 
 call : (name : List ℕ) (e : Expression) (more : Arguments) → IsOperand e → AreTaken more →
     IsTaken (Call name (Argument e more))
 call name e more is others c rest stack values scope functions =
-    let in_scope : Scope = called name scope in
+    let in_scope : Scope = behind_callee name scope in
     let callee : Callee = callee_of name scope in
     let close : List Token = token.Punctuator punctuator.CloseRound ∷ token.Punctuator (closing_punctuator c) ∷ rest in
     let end : List Item = Exactly punctuator.CloseRound ∷ Make Invoke ∷ Close ∷ tails 10 1 stack in

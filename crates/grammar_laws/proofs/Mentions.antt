@@ -3,7 +3,7 @@ use Rattle.std.proofs.Common.{◌≡◌, ℕ, List, refl, ◌∙◌, Bool, true,
 use Rattle.std.specs.Prelude.{if◌then◌else◌}
 use Rattle.grammar.specs.Scope.{Scope, with_new_function, with_variable, is_function_new, is_variable_new}
 use Rattle.grammar_laws.specs.Written.{Expression, Constant, Variable, Binary, Signed, Assign, PreIncrement, PostIncrement, Call, Arguments, NoMore, Argument, Statement, Nothing, Evaluate, If, IfElse, While, Return, ReturnValue, Block, Statements, Done, Next}
-use Rattle.grammar_laws.specs.Resolving.{behind, behind_arguments, mentioned, called, behind_statement, behind_statements}
+use Rattle.grammar_laws.specs.Resolving.{behind, behind_arguments, mentioned, behind_callee, behind_statement, behind_statements}
 
 pub record Keeps (scope learnt : Scope) : Type 0 where
   pub number : learnt.number ≡ scope.number
@@ -26,7 +26,7 @@ mention name scope =
     either (is_variable_new name scope) scope (with_variable name scope)
     (record { number = refl; name = refl; parameters = refl })
 
-call : (name : List ℕ) (scope : Scope) → Keeps scope (called name scope)
+call : (name : List ℕ) (scope : Scope) → Keeps scope (behind_callee name scope)
 call name scope =
     either (is_function_new name scope) scope (with_new_function name 0 scope)
     (record { number = refl; name = refl; parameters = refl })
@@ -42,7 +42,7 @@ mutual
   keeps (PreIncrement increment name) scope = mention name scope
   keeps (PostIncrement increment name) scope = mention name scope
   keeps (Call name arguments) scope =
-      both scope (called name scope) _ (call name scope) (all_keep arguments (called name scope))
+      both scope (behind_callee name scope) _ (call name scope) (all_keep arguments (behind_callee name scope))
 
   all_keep : (arguments : Arguments) (scope : Scope) → Keeps scope (behind_arguments arguments scope)
   all_keep NoMore scope = same scope

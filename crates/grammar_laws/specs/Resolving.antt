@@ -17,8 +17,8 @@ abbrev pub mentioned : List ℕ → Scope → Scope
 mentioned name scope = scope_after_name Mentioned name 0 scope
 
 -- the scope after the name of a call; lines are left aside, so it is mentioned on line 0
-abbrev pub called : List ℕ → Scope → Scope
-called name scope = scope_after_name Called name 0 scope
+abbrev pub behind_callee : List ℕ → Scope → Scope
+behind_callee name scope = scope_after_name Called name 0 scope
 
 -- the scope after an expression
 abbrev mutual
@@ -30,7 +30,7 @@ abbrev mutual
   behind (Assign o name e) scope = behind e (mentioned name scope)
   behind (PreIncrement increment name) scope = mentioned name scope
   behind (PostIncrement increment name) scope = mentioned name scope
-  behind (Call name arguments) scope = behind_arguments arguments (called name scope)
+  behind (Call name arguments) scope = behind_arguments arguments (behind_callee name scope)
 
   pub behind_arguments : Arguments → Scope → Scope
   behind_arguments NoMore scope = scope
@@ -57,7 +57,7 @@ abbrev mutual
   tree_of (PreIncrement increment name) scope =
       tree.Assign (increment_operator increment) (variable_of name scope) (tree.Constant (pos 1))
   tree_of (PostIncrement increment name) scope = tree.Postfix (increment_operator increment) (variable_of name scope)
-  tree_of (Call name arguments) scope = tree.Call (callee_of name scope) (trees_of arguments (called name scope))
+  tree_of (Call name arguments) scope = tree.Call (callee_of name scope) (trees_of arguments (behind_callee name scope))
 
   pub trees_of : Arguments → Scope → Args
   trees_of NoMore scope = tree.NoMore
