@@ -7,7 +7,7 @@ use Rattle.operations.specs.declared.labels.Operations.{Operations}
 use Rattle.battles.specs.Programs.{AllSome}
 use Rattle.battles.specs.Translated.{AreTranslated}
 use Rattle.battles.proofs.ProgramsLemmas.{kept_length, kept_more, list_more, translated_more}
-use Rattle.battles.proofs.programs.Programs.push.Goals as goal
+use Rattle.battles.proofs.programs.Programs.add_translated.Goals as goal
 
 pub push-requires : goal.push-requires
 push-requires c =
