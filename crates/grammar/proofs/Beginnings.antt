@@ -20,7 +20,7 @@ use Rattle.grammar.specs.Laws.Origins.{origin_of, ends_in_return}
 use Rattle.grammar.specs.Resolved.{InBody}
 use Rattle.grammar.specs.Tree.{Expr, Constant, Binary, Call, NoMore, Argument, Body, Done, ExpressionStatement, IfStatement, IfElseStatement, While, Return, join}
 use Rattle.grammar.proofs.FollowingLaws.{Leads, chain, definition_leads}
-use Rattle.grammar.proofs.Unfinished.{Place, InFun, InFirst, InSecond, InLoop, Hole, Statement, Test, Behind, RightSide, Arguments, open_hole, place_actions, hole_actions, place_count, hole_count, ExprFits, BodyFits, PlaceFits, HoleFits, fits-join, body_actions-join}
+use Rattle.grammar.proofs.Unfinished.{Context, InFun, InFirst, InSecond, InLoop, Hole, Statement, Test, Behind, RightSide, Arguments, open_hole, context_actions, hole_actions, context_count, hole_count, ExprFits, BodyFits, ContextFits, HoleFits, fits-join, body_actions-join}
 use Rattle.grammar.proofs.UnfinishedSteps.{IsWithin, Steps, number_is, step}
 
 -- What begins actions that may follow may follow.
@@ -69,14 +69,14 @@ begins_with xs ys b =
 
 -- Functions that are finished.
 
-count_fits : (p : Place) → PlaceFits p → place_count p ≤ 200
+count_fits : (p : Context) → ContextFits p → context_count p ≤ 200
 count_fits (InFun n k b) fits = omega arith
 count_fits (InFirst c b outer) fits =
-    let few : 1 + place_count outer + body_nesting b ≤ 200 = fits.2.few in omega (arith, few)
+    let few : 1 + context_count outer + body_nesting b ≤ 200 = fits.2.few in omega (arith, few)
 count_fits (InSecond c t b outer) fits =
-    let few : 1 + place_count outer + body_nesting b ≤ 200 = fits.3.few in omega (arith, few)
+    let few : 1 + context_count outer + body_nesting b ≤ 200 = fits.3.few in omega (arith, few)
 count_fits (InLoop c b outer) fits =
-    let few : 1 + place_count outer + body_nesting b ≤ 200 = fits.2.few in omega (arith, few)
+    let few : 1 + context_count outer + body_nesting b ≤ 200 = fits.2.few in omega (arith, few)
 
 record Closes (acts : List Action) : Type 0 where
   definition : Definition
@@ -115,37 +115,37 @@ definition_reported n k v b h l m f =
       few = omega (arith, f.few);
     }
 
--- a place, with these statements more
-close_place : (p : Place) (s : Body) → PlaceFits p → BodyFits (place_count p) s →
-    Closes (place_actions p ++ body_actions s)
-close_place (InFun n k b) s fits more = record {
+-- a context, with these statements more
+close_context : (p : Context) (s : Body) → ContextFits p → BodyFits (context_count p) s →
+    Closes (context_actions p ++ body_actions s)
+close_context (InFun n k b) s fits more = record {
   definition = definition n k k (join b s);
   reportable = definition_reported n k k (join b s) fits.0 (omega arith) fits.1 (fits-join 0 b s fits.2 more);
   rest = last_return ++ EndFunction k ∷ [];
   is = rw (body_actions-join b s) refl ∙ sym (definition_actions n k k (join b s));
 }
-close_place (InFirst c b outer) s fits more =
-    let both : BodyFits (1 + place_count outer) (join b s) = fits-join (1 + place_count outer) b s fits.2 more in
-    let few_test : place_count outer + nesting c ≤ 200 = fits.1.few in
-    let few : 1 + place_count outer + body_nesting (join b s) ≤ 200 = both.few in
+close_context (InFirst c b outer) s fits more =
+    let both : BodyFits (1 + context_count outer) (join b s) = fits-join (1 + context_count outer) b s fits.2 more in
+    let few_test : context_count outer + nesting c ≤ 200 = fits.1.few in
+    let few : 1 + context_count outer + body_nesting (join b s) ≤ 200 = both.few in
     closes_with (EndIf ∷ []) _ _ (rw (body_actions-join b s) (simp append_assoc refl))
-    (close_place outer (IfStatement c (join b s) Done) fits.0
+    (close_context outer (IfStatement c (join b s) Done) fits.0
     (record { names = (fits.1.names, both.names, tt); few = omega (arith, few_test, few) }))
-close_place (InSecond c t b outer) s fits more =
-    let both : BodyFits (1 + place_count outer) (join b s) = fits-join (1 + place_count outer) b s fits.3 more in
-    let few_test : place_count outer + nesting c ≤ 200 = fits.1.few in
-    let few_first : 1 + place_count outer + body_nesting t ≤ 200 = fits.2.few in
-    let few : 1 + place_count outer + body_nesting (join b s) ≤ 200 = both.few in
+close_context (InSecond c t b outer) s fits more =
+    let both : BodyFits (1 + context_count outer) (join b s) = fits-join (1 + context_count outer) b s fits.3 more in
+    let few_test : context_count outer + nesting c ≤ 200 = fits.1.few in
+    let few_first : 1 + context_count outer + body_nesting t ≤ 200 = fits.2.few in
+    let few : 1 + context_count outer + body_nesting (join b s) ≤ 200 = both.few in
     closes_with (EndIf ∷ []) _ _ (rw (body_actions-join b s) (simp append_assoc refl))
-    (close_place outer (IfElseStatement c t (join b s) Done) fits.0
+    (close_context outer (IfElseStatement c t (join b s) Done) fits.0
     (record
     { names = (fits.1.names, fits.2.names, both.names, tt); few = omega (arith, few_test, few_first, few) }))
-close_place (InLoop c b outer) s fits more =
-    let both : BodyFits (1 + place_count outer) (join b s) = fits-join (1 + place_count outer) b s fits.2 more in
-    let few_test : 1 + place_count outer + nesting c ≤ 200 = fits.1.few in
-    let few : 1 + place_count outer + body_nesting (join b s) ≤ 200 = both.few in
+close_context (InLoop c b outer) s fits more =
+    let both : BodyFits (1 + context_count outer) (join b s) = fits-join (1 + context_count outer) b s fits.2 more in
+    let few_test : 1 + context_count outer + nesting c ≤ 200 = fits.1.few in
+    let few : 1 + context_count outer + body_nesting (join b s) ≤ 200 = both.few in
     closes_with (EndWhile ∷ []) _ _ (rw (body_actions-join b s) (simp append_assoc refl))
-    (close_place outer (While c (join b s) Done) fits.0
+    (close_context outer (While c (join b s) Done) fits.0
     (record { names = (fits.1.names, both.names, tt); few = omega (arith, few_test, few) }))
 
 abbrev zero : Expr
@@ -154,13 +154,13 @@ zero = Constant (pos 0)
 -- a value in a hole
 close_value : (h : Hole) (e : Expr) → HoleFits h → ExprFits (hole_count h) e → Closes (hole_actions h ++ expr_actions e)
 close_value (Statement p) e fits f =
-    let few : place_count p + nesting e ≤ 200 = f.few in
-    closes_with (Chop ∷ []) _ _ (append_assoc (place_actions p) (expr_actions e) (Chop ∷ []))
-    (close_place p (ExpressionStatement e Done) fits (record { names = (f.names, tt); few = omega (arith, few) }))
+    let few : context_count p + nesting e ≤ 200 = f.few in
+    closes_with (Chop ∷ []) _ _ (append_assoc (context_actions p) (expr_actions e) (Chop ∷ []))
+    (close_context p (ExpressionStatement e Done) fits (record { names = (f.names, tt); few = omega (arith, few) }))
 close_value (Test p) e fits f =
-    let few : 1 + place_count p + nesting e ≤ 200 = f.few in
+    let few : 1 + context_count p + nesting e ≤ 200 = f.few in
     closes_with (WhileTest ∷ EndWhile ∷ []) _ _ (simp append_assoc refl)
-    (close_place p (While e Done Done) fits.0 (record { names = (f.names, tt, tt); few = omega (arith, few) }))
+    (close_context p (While e Done Done) fits.0 (record { names = (f.names, tt, tt); few = omega (arith, few) }))
 close_value (Behind l h) e fits f =
     let few_left : hole_count h + nesting l ≤ 200 = fits.1.few in
     let few_right : 0 + hole_count h + nesting e ≤ 200 = f.few in
@@ -188,7 +188,7 @@ close_zero h fits few =
 
 close_hole : (h : Hole) → HoleFits h → Closes (hole_actions h)
 close_hole (Statement p) fits =
-    closes_with [] _ _ refl (close_place p Done fits (record { names = tt; few = omega (arith, count_fits p fits) }))
+    closes_with [] _ _ refl (close_context p Done fits (record { names = tt; few = omega (arith, count_fits p fits) }))
 close_hole (Test p) fits = close_zero (Test p) fits fits.1
 close_hole (Behind e h) fits = close_value h e fits.0 fits.1
 close_hole (RightSide o e h) fits =
@@ -382,7 +382,7 @@ begun n k q acts ds e reported is =
 
 finished : (n k v : ℕ) (b : Body) (q : Opened) (acts : List Action) (ds : List Definition) →
     definitions_actions ds ++ (BeginFunction n k ∷ body_actions b) ≡ acts → AreReportable ds →
-    PlaceFits (InFun n k b) → follow (EndFunction v) (InFunction k (ends_in_return false b) ∷ []) ≡ Some q →
+    ContextFits (InFun n k b) → follow (EndFunction v) (InFunction k (ends_in_return false b) ∷ []) ≡ Some q →
     Makes (acts ++ EndFunction v ∷ []) q
 finished n k v b q acts ds e reported fits is =
     let f = finish_makes v k (ends_in_return false b) q is in

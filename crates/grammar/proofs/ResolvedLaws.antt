@@ -18,7 +18,7 @@ use Rattle.grammar.specs.Scope.{Scope, scope_after_name, end_definition, functio
 use Rattle.grammar.specs.Tree.{Function, File}
 use Rattle.grammar.proofs.Phases.{Phase, Outside, Before, Inside, Wrong, Stays, inside, outside_then, begun, by_role, phase_of, part_stays}
 use Rattle.grammar.proofs.DistinctNames.{distinct_front, HaveNames, names, names_append, names_kept}
-use Rattle.grammar.proofs.Indices.{map_of_places}
+use Rattle.grammar.proofs.Indices.{map_by_index}
 use Rattle.grammar.proofs.Runs.{append_empty}
 use Rattle.grammar.proofs.Soundness.{ValuesIn, values_wider, made_in, last_body_in, IsScoped, Grows, Clean, AllIn, all_append, BeginsWell, definition_begins, role_grows, callee_in, variable_in, function_below}
 
@@ -472,18 +472,19 @@ made_file scope order functions main =
 pub record IsMade (scope : Scope) (order : List ℕ) (functions : Result (List Function) ℕ) (main : Option ℕ)
     (file : File) : Type 0 where
   pub all : List Function
-  pub place : ℕ
+  pub number : ℕ
   pub found : functions ≡ Ok all
-  pub named : main ≡ Some place
-  pub is : made_file scope order all place ≡ file
+  pub named : main ≡ Some number
+  pub is : made_file scope order all number ≡ file
 
 pub is_made : (last : ℕ) (scope : Scope) (order : List ℕ) (functions : Result (List Function) ℕ) (main : Option ℕ)
     (file : File) → file_of last scope order functions main ≡ Ok file →
     IsMade scope order functions main file
 is_made last scope order (Err line) main file e = absurd (cc)
 is_made last scope order (Ok fs) None file e = absurd (cc)
-is_made last scope order (Ok fs) (Some place) file e =
-    record { all = fs; place = place; found = refl; named = refl; is = ok_same (made_file scope order fs place) file e }
+is_made last scope order (Ok fs) (Some number) file e =
+    record
+    { all = fs; number = number; found = refl; named = refl; is = ok_same (made_file scope order fs number) file e }
   where
     ok_at : File → Result File Diagnostic
     ok_at x = Ok x
@@ -522,7 +523,7 @@ defined_names : (functions : List FunctionNames) (lines : List ℕ) (ds : List D
     AreDefined 0 lines ds all → HaveNames (names functions) ds
     → length all ≡ length functions → map (λ (f : Function). f.name) all ≡ names functions
 defined_names functions lines ds all a h count =
-    map_of_places (λ (f : Function). f.name) all (names functions)
+    map_by_index (λ (f : Function). f.name) all (names functions)
     (count ∙ sym (length-map functions (λ (f : FunctionNames). f.name)))
     (λ k f e. named_as (names functions) k f ds h
     (subst (λ (n : ℕ). defined_as n ds ≡ Some f) (from_zero k) (a.each k f e)))
@@ -530,10 +531,10 @@ defined_names functions lines ds all a h count =
     from_zero : (k : ℕ) → 0 + k ≡ k
     from_zero k = omega arith
 
-resolved_of : (s : State) (all : List Function) (place : ℕ) → Sound s →
-    all_defined 0 s.scope.lines s.functions ≡ Ok all → function_number main_name s.scope ≡ Some place →
-    IsResolved (made_file s.scope (order_of s.functions) all place)
-resolved_of s all place h found named =
+resolved_of : (s : State) (all : List Function) (number : ℕ) → Sound s →
+    all_defined 0 s.scope.lines s.functions ≡ Ok all → function_number main_name s.scope ≡ Some number →
+    IsResolved (made_file s.scope (order_of s.functions) all number)
+resolved_of s all number h found named =
     let a : AreDefined 0 s.scope.lines s.functions all = are_defined 0 s.scope.lines s.functions all found in
     let count : length all ≡ length s.scope.functions = a.count ∙ h.scoped.lines in
     record {
@@ -550,7 +551,7 @@ resolved_of s all place h found named =
           (a.all k (omega (arith, a.count)));
       only = λ k i. subst (λ (n : ℕ). k < n) (sym count) (order_below _ _ k s.functions h.scoped.definitions i);
       once = distinct_of (phase_of s.stack) s.values s.scope s.functions h.scoped.begun h.tied;
-      main = subst (λ (n : ℕ). place < n) (sym count) (function_below main_name s.scope place named);
+      main = subst (λ (n : ℕ). number < n) (sym count) (function_below main_name s.scope number named);
     }
   where
     from_zero : (k : ℕ) → 0 + k ≡ k
@@ -583,4 +584,4 @@ compiled_is_resolved profile located_tokens file e =
     (order_of (last_state located_tokens).functions)
     (all_defined 0 (last_state located_tokens).scope.lines (last_state located_tokens).functions)
     (function_number main_name (last_state located_tokens).scope) file c.is in
-    subst (λ (x : File). IsResolved x) m.is (resolved_of (last_state located_tokens) m.all m.place s m.found m.named)
+    subst (λ (x : File). IsResolved x) m.is (resolved_of (last_state located_tokens) m.all m.number s m.found m.named)

@@ -132,9 +132,9 @@ chosen_below : (n m k : ℕ) (b : Bool) → nat_lt n m ≡ b → cond b (Some n)
 chosen_below n m k true less e = let same : n ≡ k = cc in subst (λ (x : ℕ). x < m) same (less_of n m less)
 chosen_below n m k false less e = absurd (cc)
 
-pub place_below : (name : List ℕ) (names : List (List ℕ)) (k : ℕ) → number_of_name name names ≡ Some k →
+pub index_below : (name : List ℕ) (names : List (List ℕ)) (k : ℕ) → number_of_name name names ≡ Some k →
     k < length names
-place_below name names k e =
+index_below name names k e =
     chosen_below (position_or_len (bytes_eq name) names) (length names) k
     (nat_lt (position_or_len (bytes_eq name) names) (length names)) refl e
 
@@ -143,7 +143,7 @@ pub function_below : (name : List ℕ) (scope : Scope) (k : ℕ) → function_nu
 function_below name scope k e =
     omega (
       arith,
-      place_below name (map (λ (f : FunctionNames). f.name) scope.functions) k e,
+      index_below name (map (λ (f : FunctionNames). f.name) scope.functions) k e,
       length-map scope.functions (λ (f : FunctionNames). f.name),
     )
 
@@ -325,12 +325,12 @@ room_if false count c rest clean is = absurd (cc)
 -- the number for a function is one of those in scope after its mention
 pub number_in : (name : List ℕ) (line : ℕ) (scope : Scope) → is_intrinsic name ≡ false →
     number_or_next name scope < length (with_function name line scope).functions
-number_in name line scope own = at_place (function_number name scope) refl
+number_in name line scope own = by_number (function_number name scope) refl
   where
-    at_place : (p : Option ℕ) → function_number name scope ≡ p →
+    by_number : (p : Option ℕ) → function_number name scope ≡ p →
         number_or_next name scope < length (with_function name line scope).functions
-    at_place (Some k) e = rw (own, e) (function_below name scope k e)
-    at_place None e =
+    by_number (Some k) e = rw (own, e) (function_below name scope k e)
+    by_number None e =
         rw (own, e)
         (let longer : length (scope.functions ++ only_named name ∷ []) ≡ length scope.functions + 1 =
         length-append scope.functions (only_named name ∷ []) in
@@ -353,15 +353,15 @@ pub variable_in : (name : List ℕ) (scope : Scope) →
     IsVariable (length (behind_mention name scope).externals) (length (behind_mention name scope).current.variables)
     (variable_of name scope)
 variable_in name scope =
-    at_places (number_of_name name scope.current.variables) (number_of_name name scope.externals) refl refl
+    by_numbers (number_of_name name scope.current.variables) (number_of_name name scope.externals) refl refl
   where
-    at_places : (p q : Option ℕ) → number_of_name name scope.current.variables ≡ p →
+    by_numbers : (p q : Option ℕ) → number_of_name name scope.current.variables ≡ p →
         number_of_name name scope.externals ≡ q →
         IsVariable (length (behind_mention name scope).externals) (length (behind_mention name scope).current.variables)
         (variable_of name scope)
-    at_places (Some k) q e f = rw e (place_below name scope.current.variables k e)
-    at_places None (Some j) e f = rw (e, f) (place_below name scope.externals j f)
-    at_places None None e f =
+    by_numbers (Some k) q e f = rw e (index_below name scope.current.variables k e)
+    by_numbers None (Some j) e f = rw (e, f) (index_below name scope.externals j f)
+    by_numbers None None e f =
         rw (e, f)
         (let longer : length (scope.current.variables ++ name ∷ []) ≡ length scope.current.variables + 1 =
         length-append scope.current.variables (name ∷ []) in
@@ -422,16 +422,16 @@ pub record BeginsWell (name : List ℕ) (line : ℕ) (scope : Scope) (ds : List 
 -- the name for a number is at it after its mention
 named_at : (name : List ℕ) (line : ℕ) (scope : Scope) → is_intrinsic name ≡ false →
     slice_get (names (with_function name line scope).functions) (number_or_next name scope) ≡ Some name
-named_at name line scope own = at_place (function_number name scope) refl
+named_at name line scope own = by_number (function_number name scope) refl
   where
     last_there : (all : List (List ℕ)) → slice_get (all ++ name ∷ []) (length all) ≡ Some name
     last_there [] = refl
     last_there (x ∷ all) = last_there all
 
-    at_place : (p : Option ℕ) → function_number name scope ≡ p →
+    by_number : (p : Option ℕ) → function_number name scope ≡ p →
         slice_get (names (with_function name line scope).functions) (number_or_next name scope) ≡ Some name
-    at_place (Some k) e = rw (own, e) (named_there name (names scope.functions) k e)
-    at_place None e =
+    by_number (Some k) e = rw (own, e) (named_there name (names scope.functions) k e)
+    by_number None e =
         rw (own, e, names_more scope.functions name, sym (length-map scope.functions (λ (f : FunctionNames). f.name)))
         (last_there (names scope.functions))
 

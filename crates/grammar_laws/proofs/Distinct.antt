@@ -93,9 +93,9 @@ distinct_last (x ∷ xs) y = by (is_among y xs) (bytes_eq y x) refl refl (distin
 -- Indices.
 
 record IsPlace (name : List ℕ) (first : ℕ) (names : List (List ℕ)) (k : ℕ) : Type 0 where
-  place : ℕ
-  at : k ≡ first + place
-  here : slice_get names place ≡ Some name
+  index : ℕ
+  at : k ≡ first + index
+  here : slice_get names index ≡ Some name
 
 abbrev Found : List ℕ → ℕ → List (List ℕ) → Option ℕ → Type 0
 Found name first names (Some k) = IsPlace name first names k
@@ -103,7 +103,7 @@ Found name first names None = is_among name names ≡ false
 
 further : (name x : List ℕ) (first : ℕ) (names : List (List ℕ)) (o : Option ℕ) → bytes_eq name x ≡ false →
     Found name (first + 1) names o → Found name first (x ∷ names) o
-further name x first names (Some k) other f = record { place = suc f.place; at = omega (arith, f.at); here = f.here }
+further name x first names (Some k) other f = record { index = suc f.index; at = omega (arith, f.at); here = f.here }
 further name x first names None other f = rw other f
 
 found_from : (name : List ℕ) (first : ℕ) (names : List (List ℕ)) →
@@ -114,7 +114,7 @@ found_from name first (x ∷ names) = by (bytes_eq name x) refl (found_from name
     by : (b : Bool) → bytes_eq name x ≡ b →
         Found name (first + 1) names (position_from (bytes_eq name) (first + 1) names) →
         Found name first (x ∷ names) (if b then Some first else position_from (bytes_eq name) (first + 1) names)
-    by true e again = record { place = 0; at = omega arith; here = ap (λ n. Some n) (sym (is_same name x e)) }
+    by true e again = record { index = 0; at = omega arith; here = ap (λ n. Some n) (sym (is_same name x e)) }
     by false e again = further name x first names (position_from (bytes_eq name) (first + 1) names) e again
 
 found : (name : List ℕ) (names : List (List ℕ)) → Found name 0 names (number_of_name name names)
@@ -127,7 +127,7 @@ pub number_found : (name : List ℕ) (names : List (List ℕ)) (k : ℕ) → num
     slice_get names k ≡ Some name
 number_found name names k e =
     let f : IsPlace name 0 names k = subst (λ (o : Option ℕ). Found name 0 names o) e (found name names) in
-    let at : k ≡ f.place = omega (arith, f.at) in
+    let at : k ≡ f.index = omega (arith, f.at) in
     ap (slice_get names) at ∙ f.here
 
 pub number_missing : (name : List ℕ) (names : List (List ℕ)) → number_of_name name names ≡ None →

@@ -102,7 +102,7 @@ file_reported s functions main h found =
 pub emits_its_file : EmitsItsFile
 emits_its_file profile located_tokens file compiled =
     emits_its_functions (enough_steps located_tokens) located_tokens (last_is_done profile located_tokens c.clean)
-    ∙ file_reported (last_state located_tokens) m.all m.place
+    ∙ file_reported (last_state located_tokens) m.all m.number
     (run_sound profile (enough_steps located_tokens) (initial_state located_tokens) c.clean
     (start_sound located_tokens)) m.found
     ∙ ap actions m.is

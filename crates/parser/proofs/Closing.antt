@@ -31,9 +31,10 @@ begun before behind number parameters s below few reported =
     (follow_one (BeginFunction number parameters) [] (InFunction parameters false ∷ [])
     (function_begins number parameters below few) (omega arith))
 
-pub has_place : (before : Representation) (parameters : ℕ) → LeavesOpen before (InFunction parameters false ∷ []) →
+pub has_room_for_statements : (before : Representation) (parameters : ℕ) →
+    LeavesOpen before (InFunction parameters false ∷ []) →
     HasStatementRoom before (room 1 1)
-has_place before parameters s =
+has_room_for_statements before parameters s =
     record { opened = InFunction parameters false ∷ []; position = refl; stands = s; few = omega arith }
 
 -- Its statements leave it open.

@@ -10,16 +10,17 @@ use Rattle.parser.specs.Room.{HasStatementRoom, HasRoom, room}
 use Rattle.parser.specs.Branches.{AddsElse, HasInside}
 use Rattle.parser.specs.Expressions.{AddsExpr}
 use Rattle.parser.specs.Statements.{AddsBody}
-use Rattle.parser.proofs.Openings.{inside_behind, inside_place, inside_room, loop_begun, may_begin, may_end, may_end_if, may_test, may_turn, place_behind, place_room, turn, turn_begun, value_inside}
+use Rattle.parser.proofs.Openings.{inside_behind, statement_room_inside, inside_room, loop_begun, may_begin, may_end, may_end_if, may_test, may_turn, statement_room_behind, value_room, turn, turn_begun, value_inside}
 
 -- With one more construct open, there is room for all that may be opened there.
 
 room_deeper : (depth : ℕ) → depth < 64 → room (depth + 1) 1 + 3 ≤ room depth 1
 room_deeper depth shallow = omega (arith, shallow)
 
-pub place_deeper : (before : Representation) (depth : ℕ) → depth < 64 → HasStatementRoom before (room depth 1) →
+pub statement_room_deeper : (before : Representation) (depth : ℕ) → depth < 64 →
+    HasStatementRoom before (room depth 1) →
     HasStatementRoom before (room (depth + 1) 1)
-place_deeper before depth shallow h =
+statement_room_deeper before depth shallow h =
     record {
       opened = h.opened;
       position = h.position;
@@ -30,14 +31,15 @@ place_deeper before depth shallow h =
 pub room_in_brackets : (before : Representation) (depth : ℕ) → depth < 64 → HasStatementRoom before (room depth 1) →
     HasRoom before (room (depth + 1) 1)
 room_in_brackets before depth shallow h =
-    place_room before (room depth 1) (room (depth + 1) 1) (omega (arith, room_deeper depth shallow)) h
+    value_room before (room depth 1) (room (depth + 1) 1) (omega (arith, room_deeper depth shallow)) h
 
 -- After statements there is the same room.
-pub place_kept : (before now : Representation) (depth : ℕ) (front pending : List Item) (at there : UnreadPosition) →
+pub statement_room_kept : (before now : Representation) (depth : ℕ) (front pending : List Item)
+    (at there : UnreadPosition) →
     HasStatementRoom before (room depth 1) → AddsBody before now depth front pending at there →
     HasStatementRoom now (room depth 1)
-place_kept before now depth front pending at there h s =
-    place_behind before now (room depth 1) s.tree h s.numbered s.narrow s.added
+statement_room_kept before now depth front pending at there h s =
+    statement_room_behind before now (room depth 1) s.tree h s.numbered s.narrow s.added
 
 -- Branches.
 
@@ -65,8 +67,8 @@ branch_open before mid now depth front at there shallow h c reported =
     (omega (arith, room_deeper depth shallow))
     (condition_inside before mid depth front at there shallow h c) reported
 
-pub branch_place : (before : Representation) (n : ℕ) → HasInside InBranch before n → HasStatementRoom before n
-branch_place before n h = inside_place InBranch before n (λ o. refl) h
+pub branch_statement_room : (before : Representation) (n : ℕ) → HasInside InBranch before n → HasStatementRoom before n
+branch_statement_room before n h = statement_room_inside InBranch before n (λ o. refl) h
 
 pub branch_kept : (before now : Representation) (depth : ℕ) (front : List Item) (at there : UnreadPosition) →
     HasInside InBranch before (room depth 1) → AddsBody before now depth front [] at there →
@@ -83,10 +85,11 @@ may_end_branch before now depth at there h e = may_end_if before now (room depth
 pub may_report_else : (before : Representation) (n : ℕ) → HasInside InBranch before n → MayFollow before ElsePart
 may_report_else before n h = may_turn ElsePart InBranch InElse before n (λ o is. refl) (omega arith) h
 
-pub else_place : (before now : Representation) (n : ℕ) → HasInside InBranch before n → Appends before now ElsePart →
+pub else_statement_room : (before now : Representation) (n : ℕ) → HasInside InBranch before n →
+    Appends before now ElsePart →
     HasStatementRoom now n
-else_place before now n h reported =
-    inside_place InElse now n (λ o. refl)
+else_statement_room before now n h reported =
+    statement_room_inside InElse now n (λ o. refl)
     (turn ElsePart InBranch InElse before now n n (λ o is. refl) (omega arith) h reported)
 
 -- Loops.
@@ -114,8 +117,8 @@ pub turn_open : (before mid now : Representation) (depth : ℕ) (front : List It
 turn_open before mid now depth front at there h c reported =
     turn_begun before mid now (room depth 1) c.tree h c.numbered c.narrow c.added reported
 
-pub turn_place : (before : Representation) (n : ℕ) → HasInside InLoopBody before n → HasStatementRoom before n
-turn_place before n h = inside_place InLoopBody before n (λ o. refl) h
+pub turn_statement_room : (before : Representation) (n : ℕ) → HasInside InLoopBody before n → HasStatementRoom before n
+turn_statement_room before n h = statement_room_inside InLoopBody before n (λ o. refl) h
 
 pub may_end_loop : (before now : Representation) (depth : ℕ) (front : List Item) (at there : UnreadPosition) →
     HasInside InLoopBody before (room depth 1) → AddsBody before now depth front [] at there → MayFollow now EndWhile
